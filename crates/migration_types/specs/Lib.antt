@@ -1,0 +1,5 @@
+pub mod Extents
+pub mod Pages
+pub mod Sessions
+pub mod Memory
+pub mod Certs

@@ -1,0 +1,70 @@
+//! Certificates.
+
+ghost use Rattle.std.specs.Prelude.{◌≡◌};
+ghost use Rattle.migration_types.specs.Certs.{IsCert};
+
+use crate::records::LogName;
+use crate::seq::Seq;
+use std::marker::Model;
+
+/// The next so many records of a log.
+#[derive(Clone, Copy, Debug, PartialEq, Eq)]
+pub struct Run {
+    pub log: LogName,
+    pub count: u32,
+}
+
+/// What a certificate says of a page.
+#[derive(Clone, Copy, Debug, PartialEq, Eq)]
+pub enum Entry {
+    /// It was not placed at the target, and not used there.
+    Nothing,
+}
+
+/// A certificate, within all limits: an entry for each page, and the runs of a merging.
+#[derive(Drop)]
+pub struct Cert {
+    entries: Seq<Entry>,
+    runs: Seq<Run>,
+}
+
+impl Model for Cert {
+    ghost use Rattle.migration_types.specs.Certs.{Certified, IsCert};
+
+    ghost Value = { Certified };
+
+    ghost view = { λ a. record { entries = a.entries; runs = a.runs } };
+
+    ghost invariant = { λ a. IsCert (record { entries = a.entries; runs = a.runs }) };
+}
+
+impl Cert {
+    /// The certificate of these parts. Takes no memory.
+    pub fn new(entries: Seq<Entry>, runs: Seq<Run>) -> Self
+        requires { IsCert (record { entries = entries; runs = runs }) }
+        ensures { result ≡ record { entries = entries; runs = runs } }
+    {
+        Cert { entries, runs }
+    }
+
+    /// The pages' entries, page 0 first.
+    pub fn entries(&self) -> &[Entry]
+        ensures { result.now ≡ self.now.entries }
+    {
+        self.entries.as_slice()
+    }
+
+    /// The runs of the merging.
+    pub fn runs(&self) -> &[Run]
+        ensures { result.now ≡ self.now.runs }
+    {
+        self.runs.as_slice()
+    }
+
+    /// Tells callers that it is within all limits.
+    pub fn keeps_limits(&self)
+        ensures { IsCert self.now }
+    {
+        let _entries = &self.entries;
+    }
+}

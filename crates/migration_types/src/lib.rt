@@ -1,0 +1,17 @@
+//! The values that a migration session is made of: its geometry, pages, records, certificates, and their limits.
+#![tactic(auto)]
+
+mod cert;
+mod geometry;
+mod pages;
+mod records;
+mod seq;
+mod session;
+
+pub use cert::{Cert, Entry, Run};
+pub use geometry::{Geometry, GeometryFault};
+pub use pages::{InitPage, PageNo};
+pub use records::{GuestRec, LogName};
+pub use seq::Seq;
+pub use session::Session;
+pub use text_lines::{FaultKind, TextFault};

@@ -1,0 +1,31 @@
+-- A page's contents: sixteen lower-case hexadecimal digits a cell.
+use Rattle.std.specs.Prelude.{◌≡◌, ℕ, ◌+◌, ◌*◌, ◌%◌, ◌^◌, ◌<◌, nat_lt, if◌then◌else◌, List, [], ◌∷◌, length}
+use Rattle.std.specs.List.{AllByRecursion, flat_map}
+use Rattle.std.specs.Int.{w64, to_be_bytes}
+use Rattle.hex.specs.Hex.{encode_lower}
+
+-- the text of a cell's value
+abbrev pub cell_text : ℕ → List ℕ
+cell_text x = encode_lower (to_be_bytes w64 x)
+
+-- the text of a page's content, cell 0 first
+abbrev pub contents_text : List ℕ → List ℕ
+contents_text cells = flat_map cell_text cells
+
+-- a page's content: a value of 64 bits for each of its cells
+pub record IsContent (cells : ℕ) (content : List ℕ) : Type 0 where
+  pub count : length content ≡ cells
+  pub each : AllByRecursion (λ x. x < 2 ^ 64) content
+
+-- the number of a lower-case hexadecimal digit, and 255 for another byte
+abbrev pub digit_number : ℕ → ℕ
+digit_number b =
+    if nat_lt ((b + 208) % 256) 10 then (b + 208) % 256
+    else if nat_lt ((b + 159) % 256) 6 then ((b + 159) % 256 + 10) % 256
+    else 255
+
+-- each two numbers as one byte
+abbrev pub pairs_of : List ℕ → List ℕ
+pairs_of [] = []
+pairs_of (high ∷ []) = []
+pairs_of (high ∷ low ∷ rest) = (high * 16 % 256 + low) % 256 ∷ pairs_of rest

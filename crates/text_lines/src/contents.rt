@@ -1,0 +1,86 @@
+//! A page's contents in hexadecimal.
+
+ghost use Rattle.std.specs.Prelude.{◌≡◌, ◌≢◌, ◌^◌, ◌<◌, ◌*◌, length, List, ℕ, MatchOption, IsTrue, ◌↔◌, map, take, IfOk, IfErr};
+ghost use Rattle.std.specs.List.{AllByRecursion};
+ghost use Rattle.text_lines.specs.Contents.{cell_text, contents_text, IsContent, digit_number, pairs_of};
+
+use crate::FaultKind;
+use std::alloc::Global;
+use std::simd::prelude::*;
+
+/// The number of each digit, and 255 for each byte that is no lower-case hexadecimal digit.
+#[inline(always)]
+fn digit_numbers(bytes: u8x16) -> u8x16
+    requires { length bytes ≡ 16 }
+    ensures { result ≡ map digit_number bytes }
+{
+    let digits = bytes - u8x16::splat(b'0');
+    let letters = bytes - u8x16::splat(b'a');
+    digits.simd_lt(u8x16::splat(10)).select(
+        digits,
+        letters
+            .simd_lt(u8x16::splat(6))
+            .select(letters + u8x16::splat(10), u8x16::splat(255)),
+    )
+}
+
+/// Whether each number is below a bound.
+#[inline(always)]
+pub(crate) fn are_below(numbers: u8x16, bound: u8) -> bool
+    requires { length numbers ≡ 16 }
+    ensures { IsTrue result ↔ AllByRecursion (λ n. n < bound) numbers }
+{
+    numbers.simd_lt(u8x16::splat(bound)).to_bitmask() == 65_535
+}
+
+/// Each two of the numbers as a byte.
+#[inline(always)]
+fn pairs(numbers: u8x16) -> u8x8
+    requires { length numbers ≡ 16 }
+    ensures { result ≡ pairs_of numbers }
+{
+    let high: u8x8 = numbers.swizzle([0, 2, 4, 6, 8, 10, 12, 14]);
+    let low: u8x8 = numbers.swizzle([1, 3, 5, 7, 9, 11, 13, 15]);
+    high * u8x8::splat(16) + low
+}
+
+/// The cell that sixteen lower-case digits spell.
+#[inline(always)]
+pub fn read_cell(text: &[u8]) -> Option<u64>
+    ensures { MatchOption result ((x : ℕ) → x < 2 ^ 64 → text.now ≢ cell_text x) (λ x. text.now ≡ cell_text x) }
+{
+    if text.len() != 16 {
+        return None;
+    }
+    let numbers = digit_numbers(u8x16::from_slice(text));
+    if !are_below(numbers, 16) {
+        return None;
+    }
+    Some(u64::from_be_bytes(pairs(numbers).to_array()))
+}
+
+/// The values of a page's cells that a text spells, cell 0 first. A text of another length takes no memory.
+pub fn read_contents(alloc: Global, text: &[u8], cells: u32) -> Result<Vec<u64>, FaultKind>
+    ensures found { IfOk result (λ v. IsContent cells v.items × (text.now ≡ contents_text v.items)) }
+    ensures refused { IfErr result (λ kind. kind ≢ FaultKind.Memory → (xs : List ℕ) → IsContent cells xs → text.now ≢ contents_text xs) }
+{
+    let count = cells as usize;
+    if text.len() != 16 * count {
+        return Err(FaultKind::Form);
+    }
+    let Ok(mut items) = Vec::with_capacity(alloc, count) else {
+        return Err(FaultKind::Memory);
+    };
+    let mut rest = text;
+    for _ in 0..cells {
+        let (word, after) = rest.split_at(16);
+        let Some(x) = read_cell(word) else {
+            return Err(FaultKind::Form);
+        };
+        let Ok(()) = items.push(x) else {
+            return Err(FaultKind::Memory);
+        };
+        rest = after;
+    }
+    Ok(items)
+}
