@@ -1,0 +1,18 @@
+-- The frames of a machine as a memory.
+use Rattle.std.specs.Prelude.{◌≡◌, ℕ, ◌+◌, ◌*◌, ◌&&◌, nat_lt, List, slice_index, if◌then◌else◌}
+use Rattle.migration_types.specs.Extents.{Extent}
+use Rattle.migration_types.specs.Memory.{Memory}
+
+-- a machine's geometry, and the values of its cells, page after page
+pub record Frames : Type 0 where
+  pub geometry : Extent
+  pub items : List ℕ
+
+-- the memory that frames hold; beyond them are zeros
+abbrev pub memory_of : Frames → Memory
+memory_of f page cell = if nat_lt page f.geometry.pages && nat_lt cell f.geometry.cells then slice_index f.items (page * f.geometry.cells + cell) else 0
+
+-- frames of the same geometry, which hold this memory
+pub record IsWith (before after : Frames) (memory : Memory) : Type 0 where
+  pub geometry : after.geometry ≡ before.geometry
+  pub memory_is : memory_of after ≡ memory

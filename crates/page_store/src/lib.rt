@@ -1,0 +1,143 @@
+//! The frames of one machine: a value for each cell of each page.
+#![tactic(auto)]
+
+ghost use Rattle.std.specs.Prelude.{◌≡◌, ◌<◌, ◌≤◌, ◌*◌, ◌^◌, ◌+◌, ◌-◌, ◌&&◌, ℕ, IfOk, length, replicate, slice_index, nat_le, nat_lt, if◌then◌else◌};
+
+use migration_types::{Geometry, InitPage, PageNo};
+use std::alloc::{AllocError, Global};
+use std::marker::Model;
+
+/// A value for each cell of each page of a machine. Only the constructors take memory, one block for all frames.
+#[derive(Drop)]
+pub struct Store {
+    geometry: Geometry,
+    items: Vec<u64>,
+}
+
+impl Model for Store {
+    ghost use Rattle.std.specs.Prelude.{◌≡◌, ◌*◌, length};
+    ghost use Rattle.page_store.specs.Frames.{Frames};
+
+    ghost Value = { Frames };
+
+    ghost view = { λ s. record { geometry = s.geometry; items = s.items.items } };
+
+    ghost invariant = { λ s. length s.items.items ≡ s.geometry.pages * s.geometry.cells };
+}
+
+impl Store {
+    ghost use Rattle.migration_types.specs.Memory.{initial, zeros, page_of, with_cell, with_content, with_zeros};
+    ghost use Rattle.migration_types.specs.Pages.{AreInitPages};
+    ghost use Rattle.page_store.specs.Frames.{memory_of, IsWith};
+
+    /// The frames of a machine whose cells are all 0.
+    pub fn zeroed(alloc: Global, geometry: Geometry) -> Result<Store, AllocError>
+        ensures geometry { IfOk result (λ s. s.geometry ≡ geometry) }
+        ensures memory { IfOk result (λ s. memory_of s ≡ zeros) }
+    {
+        geometry.keeps_limits();
+        let count = geometry.pages() as usize * geometry.cells() as usize;
+        let items = zeroed_cells(alloc, count)?;
+        Ok(Store { geometry, items })
+    }
+
+    /// The frames of a machine that begins with these pages, and with zeros elsewhere.
+    pub fn from_init(alloc: Global, geometry: Geometry, init: &[InitPage]) -> Result<Store, AllocError>
+        requires { AreInitPages geometry init.now }
+        ensures geometry { IfOk result (λ s. s.geometry ≡ geometry) }
+        ensures memory { IfOk result (λ s. memory_of s ≡ initial init.now) }
+    {
+        let mut store = Store::zeroed(alloc, geometry)?;
+        let mut left = init.len();
+        while left > 0 {
+            left -= 1;
+            let given = &init[left];
+            store.install(given.page, given.cells.as_slice());
+        }
+        Ok(store)
+    }
+
+    /// The value of a cell.
+    pub fn read(&self, page: PageNo, cell: u16) -> u64
+        requires page { page < self.now.geometry.pages }
+        requires cell { cell < self.now.geometry.cells }
+        ensures { result ≡ memory_of self.now page cell }
+    {
+        self.items[page.index() * self.geometry.cells() as usize + cell as usize]
+    }
+
+    /// Gives a cell a value.
+    pub fn write(&mut self, page: PageNo, cell: u16, value: u64)
+        requires page { page < self.old.geometry.pages }
+        requires cell { cell < self.old.geometry.cells }
+        ensures { IsWith self.old self.new (with_cell page cell value (memory_of self.old)) }
+    {
+        let at = page.index() * self.geometry.cells() as usize + cell as usize;
+        self.items[at] = value;
+    }
+
+    /// Gives each cell of a page the value 0.
+    pub fn release(&mut self, page: PageNo)
+        requires { page < self.old.geometry.pages }
+        ensures { IsWith self.old self.new (with_zeros page (memory_of self.old)) }
+    {
+        let cells = self.geometry.cells() as usize;
+        clear(&mut self.items, page.index() * cells, cells);
+    }
+
+    /// The values of a page, cell 0 first.
+    pub fn page(&self, page: PageNo) -> &[u64]
+        requires { page < self.now.geometry.pages }
+        ensures { result.now ≡ page_of self.now.geometry.cells (memory_of self.now) page }
+    {
+        let cells = self.geometry.cells() as usize;
+        let from = page.index() * cells;
+        &self.items[from..from + cells]
+    }
+
+    /// Gives a page these values, cell 0 first.
+    pub fn install(&mut self, page: PageNo, content: &[u64])
+        requires page { page < self.old.geometry.pages }
+        requires content { length content.now ≡ self.old.geometry.cells }
+        ensures { IsWith self.old self.new (with_content page content.now (memory_of self.old)) }
+    {
+        let from = page.index() * self.geometry.cells() as usize;
+        put(&mut self.items, from, content);
+    }
+
+    /// The machine's geometry.
+    pub fn geometry(&self) -> Geometry
+        ensures { result ≡ self.now.geometry }
+    {
+        self.geometry
+    }
+}
+
+/// So many zeros.
+fn zeroed_cells(alloc: Global, count: usize) -> Result<Vec<u64>, AllocError>
+    ensures { IfOk result (λ v. v.items ≡ replicate count 0) }
+{
+    vec![in alloc; 0; count]
+}
+
+/// Writes so many zeros from one place on.
+fn clear(items: &mut Vec<u64>, from: usize, count: usize)
+    requires { from + count ≤ length items.old.items }
+    ensures len { length items.new.items ≡ length items.old.items }
+    ensures each { (k : ℕ) → slice_index items.new.items k ≡ (if nat_le from k && nat_lt k (from + count) then 0 else slice_index items.old.items k) }
+{
+    for k in from..from + count {
+        items[k] = 0;
+    }
+}
+
+/// Writes values from one place on.
+fn put(items: &mut Vec<u64>, from: usize, content: &[u64])
+    requires { from + length content.now ≤ length items.old.items }
+    ensures len { length items.new.items ≡ length items.old.items }
+    ensures each { (k : ℕ) → slice_index items.new.items k ≡ (if nat_le from k && nat_lt k (from + length content.now) then slice_index content.now (k - from) else slice_index items.old.items k) }
+{
+    for k in 0..content.len() {
+        items[from + k] = content[k];
+    }
+}
