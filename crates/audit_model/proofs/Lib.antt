@@ -1,0 +1,4 @@
+pub mod Cuts
+pub mod Walked
+pub mod Lists
+pub mod Faithful
