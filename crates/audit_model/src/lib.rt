@@ -4,6 +4,8 @@
 //! at hand.
 #![tactic(auto)]
 
+mod flat;
 mod laws;
 
+pub use flat::flat_value;
 pub use laws::{certified_is_faithful, mergings_are_walks};

@@ -1,3 +1,4 @@
 pub mod Taken
 pub mod Misreads
 pub mod Verdicts
+pub mod Texts

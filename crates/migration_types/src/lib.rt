@@ -7,6 +7,8 @@ mod pages;
 mod records;
 mod seq;
 mod session;
+#[cfg(test)]
+mod tests;
 
 pub use cert::{Cert, Entry, Run};
 pub use geometry::{Geometry, GeometryFault};

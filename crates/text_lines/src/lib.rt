@@ -13,13 +13,17 @@ mod blocks;
 mod contents;
 mod fields;
 mod pieces;
+mod short;
 mod taking;
+#[cfg(test)]
+mod tests;
 mod writing;
 
 pub use pieces::TextReader;
 pub use taking::take_lines;
 pub use contents::{read_cell, read_contents};
-pub use fields::{after_key, front_number, is_line, number_then, read_decimal, read_keyed, short_then};
+pub use fields::{after_key, front_number, is_line, number_then, read_decimal, read_keyed};
+pub use short::short_then;
 pub use writing::{push_keyed, push_line};
 
 /// What is wrong with a text.

@@ -1,0 +1,42 @@
+//! The verdict on the texts of a session and a certificate.
+
+ghost use Rattle.std.specs.Prelude.{◌≡◌, ◌≢◌, IfOk, MatchResult};
+ghost use Rattle.cert_check.specs.Texts.{IsTextVerdict, SpellsFaithful};
+
+use crate::judge::check;
+use crate::verdict::Verdict;
+use cert_text::read_cert;
+use migration_types::{FaultKind, TextFault};
+use session_log::{read_session, session_texts_are_unambiguous};
+use std::alloc::{AllocError, Global};
+
+/// The verdict on a text that was refused, or want of memory where that is why.
+fn refused(fault: TextFault, verdict: Verdict) -> Result<Verdict, AllocError>
+    ensures { MatchResult result (λ v. (v ≡ verdict) × (fault.kind ≢ FaultKind.Memory)) (λ _. fault.kind ≡ FaultKind.Memory) }
+{
+    match fault.kind {
+        FaultKind::Memory => Err(AllocError),
+        _ => Ok(verdict),
+    }
+}
+
+/// The verdict on the texts of a session and of its certificate: the first that applies, of all that [`Verdict`] has.
+///
+/// On `Yes` the first text is the one spelling of exactly one session, its logs have a merging, and each of its reads
+/// gives what one machine that never moved gives. Nothing is assumed of who wrote the texts. The only error is want of
+/// memory, which may come before a text is judged.
+pub fn check_texts(alloc: Global, session: &[u8], cert: &[u8]) -> Result<Verdict, AllocError>
+    ensures verdict { IfOk result (IsTextVerdict session.now cert.now) }
+    ensures yes { result ≡ Ok Verdict.Yes → SpellsFaithful session.now }
+{
+    session_texts_are_unambiguous();
+    let recorded = match read_session(alloc, session) {
+        Ok(recorded) => recorded,
+        Err(fault) => return refused(fault, Verdict::SessionText(fault.line)),
+    };
+    let certified = match read_cert(alloc, cert) {
+        Ok(certified) => certified,
+        Err(fault) => return refused(fault, Verdict::CertText(fault.line)),
+    };
+    check(alloc, &recorded, &certified)
+}

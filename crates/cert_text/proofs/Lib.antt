@@ -1,0 +1,4 @@
+pub mod RunLaws
+pub mod EntryLaws
+pub mod Laws
+pub mod Goes

@@ -1,0 +1,8 @@
+use Rattle.cert_text.specs.Draft.{draft_of}
+use Rattle.cert_text.proofs.Goes.{not_whole}
+use Rattle.cert_text.proofs.lines.CertLinesLineReader.text.Goals as goal
+
+pub returns-in_default : goal.returns-in_default
+returns-in_default c =
+    let i = c.self.inside in
+    record { found = tt; none = not_whole i.stage (draft_of i) c.args.self c.self.view_is c.self.invariant c.in_default.not-Done }

@@ -1,0 +1,5 @@
+pub mod Runs
+pub mod Grammar
+pub mod Held
+pub mod Draft
+pub mod Plain

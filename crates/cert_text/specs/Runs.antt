@@ -1,0 +1,33 @@
+-- The text of a merging's runs. Numbers are in decimal, with no sign and no leading zero.
+use Rattle.std.specs.Prelude.{ℕ, List, [], ◌∷◌, ◌++◌, length, map, codes}
+use Rattle.std.specs.Fmt.{decimal}
+use Rattle.migration_types.specs.declared.records.LogName.{LogName}
+use Rattle.migration_types.specs.declared.records.LogName.TheVariants.{Guest, Source, Link, Pager}
+use Rattle.migration_types.specs.declared.cert.Run.{Run}
+
+abbrev pub runs_key : List ℕ
+runs_key = codes "runs "
+
+abbrev pub closing : List ℕ
+closing = codes "end"
+
+-- a log's name
+abbrev pub log_word : LogName → List ℕ
+log_word Guest = codes "guest"
+log_word Source = codes "source"
+log_word Link = codes "link"
+log_word Pager = codes "pager"
+
+abbrev pub run_key : List ℕ
+run_key = codes "run "
+
+-- a run's log, a space, and its count
+abbrev pub run_text : Run → List ℕ
+run_text run = log_word run.log ++ 32 ∷ decimal run.count
+
+abbrev pub run_line : Run → List ℕ
+run_line run = run_key ++ run_text run
+
+-- the number of runs, a line for each, and a closing line
+abbrev pub runs_lines : List Run → List (List ℕ)
+runs_lines runs = (runs_key ++ decimal (length runs)) ∷ (map run_line runs ++ closing ∷ [])

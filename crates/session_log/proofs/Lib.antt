@@ -1,0 +1,5 @@
+pub mod Lists
+pub mod Taken
+pub mod Laws
+pub mod Goes
+pub mod Values

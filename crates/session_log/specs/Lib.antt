@@ -1,0 +1,7 @@
+pub mod Records
+pub mod Grammar
+pub mod InitPages
+pub mod Taken
+pub mod Held
+pub mod Draft
+pub mod Plain

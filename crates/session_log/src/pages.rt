@@ -1,0 +1,64 @@
+//! Lines of the initial memory's pages.
+
+ghost use Rattle.std.specs.Prelude.{◌≡◌, ◌≢◌, ◌≤◌, ◌<◌, ◌↔◌, List, ℕ, IsTrue, IfOk, IfErr};
+ghost use Rattle.text_lines.specs.Contents.{contents_text};
+ghost use Rattle.migration_types.specs.Pages.{AreZeros};
+ghost use Rattle.migration_types.specs.declared.pages.InitPage.{InitPage as Page};
+ghost use Rattle.session_log.specs.Grammar.{page_line};
+ghost use Rattle.session_log.specs.InitPages.{IsInitContent};
+
+use migration_types::{InitPage, PageNo, Seq};
+use std::alloc::Global;
+use text_lines::{FaultKind, after_key, number_then, read_contents};
+
+/// The page that a line spells, for a page from `low` to `high` with so many cells, not all of them zero.
+pub(crate) fn read_page(
+    alloc: Global,
+    line: &[u8],
+    low: u32,
+    high: u32,
+    cells: u32,
+) -> Result<InitPage, FaultKind>
+    requires { high < 65536 }
+    ensures found { IfOk result (λ p. (low ≤ p.page) × (p.page ≤ high) × IsInitContent cells p.cells × (line.now ≡ page_line p)) }
+    ensures refused { IfErr result (λ kind. kind ≢ FaultKind.Memory → (p : Page) → low ≤ p.page → p.page ≤ high → IsInitContent cells p.cells → line.now ≢ page_line p) }
+{
+    let Some(rest) = after_key(line, PAGE_KEY) else {
+        return Err(FaultKind::Form);
+    };
+    let Some((number, text)) = number_then(rest, u64::from(high)) else {
+        return Err(FaultKind::Form);
+    };
+    if number < u64::from(low) {
+        return Err(FaultKind::Range);
+    }
+    let cells = read_init_content(alloc, text, cells)?;
+    Ok(InitPage {
+        page: PageNo::new(number as u16),
+        cells,
+    })
+}
+
+const PAGE_KEY: &[u8] = b"page ";
+
+/// The values of a page's cells, not all of them zero, that a text spells.
+fn read_init_content(alloc: Global, text: &[u8], cells: u32) -> Result<Seq<u64>, FaultKind>
+    ensures found { IfOk result (λ xs. IsInitContent cells xs × (text.now ≡ contents_text xs)) }
+    ensures refused { IfErr result (λ kind. kind ≢ FaultKind.Memory → (xs : List ℕ) → IsInitContent cells xs → text.now ≢ contents_text xs) }
+{
+    let values = match read_contents(alloc, text, cells) {
+        Ok(values) => values,
+        Err(kind) => return Err(kind),
+    };
+    if are_zeros(&values) {
+        return Err(FaultKind::Form);
+    }
+    Ok(Seq::from_vec(values))
+}
+
+/// Whether all cells are zero.
+fn are_zeros(cells: &[u64]) -> bool
+    ensures { IsTrue result ↔ AreZeros cells.now }
+{
+    cells.iter().all(|&value| value == 0)
+}

@@ -1,0 +1,238 @@
+//! Lines of the guest's records.
+
+ghost use Rattle.std.specs.Prelude.{◌≡◌, ◌≢◌, ◌<◌, ◌≤◌, ◌^◌, ◌∷◌, ◌++◌, ℕ, MatchOption, IfSome};
+ghost use Rattle.std.specs.Fmt.{decimal};
+ghost use Rattle.migration_types.specs.Extents.{IsExtent};
+ghost use Rattle.migration_types.specs.Sessions.{GuestRecFits};
+ghost use Rattle.migration_types.specs.declared.records.GuestRec.{GuestRec as Rec};
+ghost use Rattle.session_log.specs.Records.{access_text, release_text, record_line};
+ghost use Rattle.session_log.specs.Taken.{TakesRecords};
+
+use migration_types::{GuestRec, PageNo};
+use text_lines::{after_key, front_number, number_then, read_decimal, read_keyed, short_then};
+
+/// Virtual processors have the numbers 0 to 63.
+const LAST_VCPU: u32 = 63;
+
+const READ_KEY: &[u8] = b"r ";
+
+const WRITE_KEY: &[u8] = b"w ";
+
+const RELEASE_KEY: &[u8] = b"z ";
+
+/// The processor, page, cell and value of a read or a write, and nothing behind them.
+fn read_access(text: &[u8], pages: u32, cells: u32) -> Option<(u8, u16, u16, u64)>
+    requires extent { IsExtent (record { pages = pages; cells = cells }) }
+    ensures { MatchOption result
+        ((v p c x : ℕ) → v < 64 → p < pages → c < cells → x < 2 ^ 64 → text.now ≢ access_text v p c x)
+        (λ a. (a.0 < 64) × (a.1 < pages) × (a.2 < cells) × (text.now ≡ access_text a.0 a.1 a.2 a.3)) }
+{
+    let Some((vcpu, rest)) = number_then(text, u64::from(LAST_VCPU)) else {
+        return None;
+    };
+    let Some((page, rest)) = number_then(rest, u64::from(pages) - 1) else {
+        return None;
+    };
+    let Some((cell, rest)) = number_then(rest, u64::from(cells) - 1) else {
+        return None;
+    };
+    let Some(value) = read_decimal(rest) else {
+        return None;
+    };
+    Some((vcpu as u8, page as u16, cell as u16, value))
+}
+
+/// The processor and the page of a release, and nothing behind them.
+fn read_release(text: &[u8], pages: u32) -> Option<(u8, u16)>
+    requires some { 0 < pages }
+    requires few { pages ≤ 65536 }
+    ensures { MatchOption result
+        ((v p : ℕ) → v < 64 → p < pages → text.now ≢ release_text v p)
+        (λ a. (a.0 < 64) × (a.1 < pages) × (text.now ≡ release_text a.0 a.1)) }
+{
+    let Some((vcpu, rest)) = number_then(text, u64::from(LAST_VCPU)) else {
+        return None;
+    };
+    let Ok(page) = read_keyed(rest, b"", pages - 1) else {
+        return None;
+    };
+    Some((vcpu as u8, page as u16))
+}
+
+/// The record that a line spells, on a machine of so many pages and cells.
+pub(crate) fn read_record(line: &[u8], pages: u32, cells: u32) -> Option<GuestRec>
+    requires extent { IsExtent (record { pages = pages; cells = cells }) }
+    ensures { MatchOption result
+        ((r : Rec) → GuestRecFits (record { pages = pages; cells = cells }) r → line.now ≢ record_line r)
+        (λ r. GuestRecFits (record { pages = pages; cells = cells }) r × (line.now ≡ record_line r)) }
+{
+    if let Some(text) = after_key(line, READ_KEY) {
+        return match read_access(text, pages, cells) {
+            Some((vcpu, page, cell, value)) => Some(GuestRec::Read {
+                vcpu,
+                page: PageNo::new(page),
+                cell,
+                value,
+            }),
+            None => None,
+        };
+    }
+    if let Some(text) = after_key(line, WRITE_KEY) {
+        return match read_access(text, pages, cells) {
+            Some((vcpu, page, cell, value)) => Some(GuestRec::Write {
+                vcpu,
+                page: PageNo::new(page),
+                cell,
+                value,
+            }),
+            None => None,
+        };
+    }
+    if let Some(text) = after_key(line, RELEASE_KEY) {
+        return match read_release(text, pages) {
+            Some((vcpu, page)) => Some(GuestRec::Release {
+                vcpu,
+                page: PageNo::new(page),
+            }),
+            None => None,
+        };
+    }
+    None
+}
+
+/// The processor, page, cell and value of a read or a write at the front of a text of whole lines, and what follows
+/// the line. It may answer `None` at any text.
+#[inline(always)]
+fn front_access(text: &[u8], pages: u32, cells: u32) -> Option<(u8, u16, u16, u64, &[u8])>
+    requires extent { IsExtent (record { pages = pages; cells = cells }) }
+    ensures { IfSome result (λ a. (a.0 < 64) × (a.1 < pages) × (a.2 < cells) × (a.3 < 2 ^ 64) × (text.now ≡ access_text a.0 a.1 a.2 a.3 ++ 10 ∷ a.4.now)) }
+{
+    if text.len() < 24 {
+        return None;
+    }
+    let Some((vcpu, rest)) = short_then(text, LAST_VCPU) else {
+        return None;
+    };
+    let Some((page, rest)) = short_then(rest, pages - 1) else {
+        return None;
+    };
+    let Some((cell, rest)) = short_then(rest, cells - 1) else {
+        return None;
+    };
+    let Some((value, rest)) = front_number(rest) else {
+        return None;
+    };
+    let Some((end, rest)) = rest.split_first() else {
+        return None;
+    };
+    if *end != b'\n' {
+        return None;
+    }
+    Some((vcpu as u8, page as u16, cell as u16, value, rest))
+}
+
+/// The processor and the page of a release at the front of a text of whole lines, and what follows the line. It may
+/// answer `None` at any text.
+#[inline(always)]
+fn front_release(text: &[u8], pages: u32) -> Option<(u8, u16, &[u8])>
+    requires few { pages ≤ 65536 }
+    ensures { IfSome result (λ a. (a.0 < 64) × (a.1 < pages) × (text.now ≡ release_text a.0 a.1 ++ 10 ∷ a.2.now)) }
+{
+    if text.len() < 8 {
+        return None;
+    }
+    let Some((vcpu, rest)) = short_then(text, LAST_VCPU) else {
+        return None;
+    };
+    let Some((page, rest)) = front_number(rest) else {
+        return None;
+    };
+    if page >= u64::from(pages) {
+        return None;
+    }
+    let Some((end, rest)) = rest.split_first() else {
+        return None;
+    };
+    if *end != b'\n' {
+        return None;
+    }
+    Some((vcpu as u8, page as u16, rest))
+}
+
+/// The record at the front of a text of whole lines, and what follows its line. It may answer `None` at any text.
+#[inline(always)]
+fn front_record(text: &[u8], pages: u32, cells: u32) -> Option<(GuestRec, &[u8])>
+    requires extent { IsExtent (record { pages = pages; cells = cells }) }
+    ensures { IfSome result (λ found. GuestRecFits (record { pages = pages; cells = cells }) found.0 × (text.now ≡ record_line found.0 ++ 10 ∷ found.1.now)) }
+{
+    let Some((kind, after)) = text.split_first() else {
+        return None;
+    };
+    let Some((space, rest)) = after.split_first() else {
+        return None;
+    };
+    if *space != b' ' {
+        return None;
+    }
+    if *kind == b'z' {
+        let Some((vcpu, page, rest)) = front_release(rest, pages) else {
+            return None;
+        };
+        let page = PageNo::new(page);
+        return Some((GuestRec::Release { vcpu, page }, rest));
+    }
+    let is_read = *kind == b'r';
+    if !is_read && *kind != b'w' {
+        return None;
+    }
+    let Some((vcpu, page, cell, value, rest)) = front_access(rest, pages, cells) else {
+        return None;
+    };
+    let page = PageNo::new(page);
+    if is_read {
+        return Some((
+            GuestRec::Read {
+                vcpu,
+                page,
+                cell,
+                value,
+            },
+            rest,
+        ));
+    }
+    Some((
+        GuestRec::Write {
+            vcpu,
+            page,
+            cell,
+            value,
+        },
+        rest,
+    ))
+}
+
+/// Takes records at the front of the bytes, up to `most` of them, and stops where it likes. Answers what follows, and
+/// how many they were.
+pub(crate) fn take_records<'a>(
+    guest: &mut Vec<GuestRec>,
+    most: u32,
+    pages: u32,
+    cells: u32,
+    bytes: &'a [u8],
+) -> (&'a [u8], u32)
+    requires extent { IsExtent (record { pages = pages; cells = cells }) }
+    ensures taken { TakesRecords (record { pages = pages; cells = cells }) guest.old.items guest.new.items bytes.now result.0.now result.1 }
+    ensures most { result.1 ≤ most }
+{
+    let mut rest = bytes;
+    for at in 0..most {
+        let Some((record, after)) = front_record(rest, pages, cells) else {
+            return (rest, at);
+        };
+        if guest.push(record).is_err() {
+            return (rest, at);
+        }
+        rest = after;
+    }
+    (rest, most)
+}
