@@ -6,6 +6,8 @@
 
 mod flat;
 mod laws;
+#[cfg(test)]
+mod tests;
 
 pub use flat::flat_value;
 pub use laws::{certified_is_faithful, mergings_are_walks};

@@ -1,7 +1,9 @@
 //! A session of one page through the checker, with a change at a time.
 
 use super::*;
+use audit_model::flat_value;
 use cert_text::read_cert;
+use migration_types::GuestRec;
 use session_log::read_session;
 use std::test::Fail;
 
@@ -39,6 +41,20 @@ fn judges_texts(rt: HostRuntime) -> Result<(), Fail> {
     ] {
         let changed = CERT.replacen(rt.alloc(), old, new, 1)?;
         assert_eq!(rt; check_texts(rt.alloc(), SESSION.as_bytes(), changed.as_bytes())?, verdict);
+    }
+    Ok(())
+}
+
+#[test]
+fn agrees_with_looking_back(rt: HostRuntime) -> Result<(), Fail> {
+    let session = read_session(rt.alloc(), SESSION.as_bytes())?;
+    for (place, record) in session.guest().iter().enumerate() {
+        if let GuestRec::Read {
+            page, cell, value, ..
+        } = record
+        {
+            assert_eq!(rt; flat_value(&session, place, *page, *cell), *value);
+        }
     }
     Ok(())
 }
