@@ -4,6 +4,9 @@ ghost use Rattle.std.specs.Prelude.{◌≡◌, ◌≤◌, ◌++◌, ◌∷◌, �
 ghost use Rattle.std.specs.Str.Parse.{AllDigits, digits_value};
 ghost use Rattle.std.specs.Fmt.{decimal};
 
+/// What stands behind a number.
+const SPACE: u8 = b' ';
+
 /// A number of up to seven digits at the front and what follows the space after it, for a text of some length. It may
 /// answer `None` at any text.
 #[inline(always)]
@@ -42,7 +45,7 @@ fn stopped(text: &[u8], n: u32, count: usize, limit: u32) -> Option<(u32, &[u8])
     if n > limit {
         return None;
     }
-    if text[count] != b' ' {
+    if text[count] != SPACE {
         return None;
     }
     let (_, rest) = text.split_at(count + 1);

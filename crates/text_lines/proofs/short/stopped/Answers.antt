@@ -10,4 +10,4 @@ returns-clause-found c =
         elim c.else-count-gt1.branch [
           | else-count-gt1-via-then-count-gt1+else-text-eq48 w ↦ w.if-text-eq48.false
           | else-count-gt1-via-else-count-gt1 w ↦ absurd (omega arith)
-        ]) c.if-text-count-ne32.false ∙ ap (λ (t : List ℕ). decimal c.args.n ++ 32 ∷ t) (sym c.split_at.ensures.back))
+        ]) c.if-text-count-ne-SPACE.false ∙ ap (λ (t : List ℕ). decimal c.args.n ++ 32 ∷ t) (sym c.split_at.ensures.back))
