@@ -4,14 +4,11 @@ ghost use Rattle.std.specs.Prelude.{◌≡◌, ◌≢◌, [], ◌∷◌, ◌++�
 ghost use Rattle.cert_text.specs.Grammar.{SpellsCert};
 
 use crate::entries::read_entry;
-use crate::runs::{CLOSING, MOST_RUNS, RUNS_KEY, may_follow, read_run};
-use migration_types::{Cert, Entry, Run, Seq};
+use crate::runs::{CLOSING, RUNS_KEY, may_follow, read_run};
+use migration_types::{Cert, Entry, MOST_PAGES, MOST_RUNS, Run, Seq};
 use std::alloc::Global;
 use std::marker::Model;
 use text_lines::{FaultKind, LineReader, is_line, read_keyed};
-
-/// A certificate has entries for at most so many pages.
-const MOST_PAGES: u32 = 65_536;
 
 const HEADER: &[u8] = b"postcopy-certificate 1";
 

@@ -7,11 +7,8 @@ ghost use Rattle.migration_types.specs.declared.records.LogName.{LogName as Log}
 ghost use Rattle.cert_text.specs.Runs.{log_word, run_line, run_text};
 ghost use Rattle.cert_text.specs.Held.{MayFollow};
 
-use migration_types::{LogName, Run};
+use migration_types::{LogName, MOST_RECORDS, Run};
 use text_lines::{after_key, read_decimal};
-
-/// A text has at most so many runs.
-pub const MOST_RUNS: u32 = 4_194_304;
 
 /// How the line with the number of runs begins.
 pub const RUNS_KEY: &[u8] = b"runs ";
@@ -21,9 +18,6 @@ pub const CLOSING: &[u8] = b"end";
 
 /// A run has at least so many records.
 const LEAST_RECORDS: u64 = 1;
-
-/// A run has at most so many records.
-const MOST_RECORDS: u64 = 1_048_576;
 
 const RUN_KEY: &[u8] = b"run ";
 
@@ -69,7 +63,8 @@ fn named_run(text: &[u8]) -> Option<Run>
     if count < LEAST_RECORDS {
         return None;
     }
-    if count > MOST_RECORDS {
+    let most = u64::from(MOST_RECORDS);
+    if count > most {
         return None;
     }
     Some(Run {

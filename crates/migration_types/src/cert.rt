@@ -7,6 +7,9 @@ use crate::records::LogName;
 use crate::seq::Seq;
 use std::marker::Model;
 
+/// A certificate has at most so many runs.
+pub const MOST_RUNS: u32 = 4_194_304;
+
 /// The next so many records of a log.
 #[derive(Clone, Copy, Debug, PartialEq, Eq)]
 pub struct Run {

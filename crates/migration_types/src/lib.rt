@@ -10,10 +10,10 @@ mod session;
 #[cfg(test)]
 mod tests;
 
-pub use cert::{Cert, Entry, Run};
-pub use geometry::{Geometry, GeometryFault};
+pub use cert::{Cert, Entry, MOST_RUNS, Run};
+pub use geometry::{Geometry, GeometryFault, MOST_CELLS, MOST_CELLS_IN_ALL, MOST_PAGES};
 pub use pages::{InitPage, PageNo};
-pub use records::{GuestRec, LogName};
+pub use records::{GuestRec, LAST_VCPU, LogName, MOST_RECORDS};
 pub use seq::Seq;
 pub use session::Session;
 pub use text_lines::{FaultKind, TextFault};

@@ -2,6 +2,12 @@
 
 use crate::pages::PageNo;
 
+/// Virtual processors have the numbers 0 to 63.
+pub const LAST_VCPU: u32 = 63;
+
+/// A log has at most so many records.
+pub const MOST_RECORDS: u32 = 1_048_576;
+
 /// One of the four logs, by the party that wrote it.
 #[derive(Clone, Copy, Debug, PartialEq, Eq, Hash)]
 pub enum LogName {

@@ -7,7 +7,7 @@ ghost use Rattle.session_log.specs.Grammar.{SpellsSession};
 
 use crate::pages::read_page;
 use crate::records::{read_record, take_records};
-use migration_types::{Geometry, GuestRec, InitPage, Seq, Session};
+use migration_types::{Geometry, GuestRec, InitPage, MOST_CELLS, MOST_PAGES, MOST_RECORDS, Seq, Session};
 use std::alloc::Global;
 use std::marker::Model;
 use text_lines::{FaultKind, LineReader, is_line, read_keyed};
@@ -29,15 +29,6 @@ const NO_LINK: &[u8] = b"link 0";
 const NO_PAGER: &[u8] = b"pager 0";
 
 const CLOSING: &[u8] = b"end";
-
-/// A machine has at most so many pages.
-const MOST_PAGES: u32 = 65_536;
-
-/// A page has at most so many cells.
-const MOST_CELLS: u32 = 512;
-
-/// A log has at most so many records.
-const MOST_RECORDS: u32 = 1_048_576;
 
 /// Which line comes next.
 #[derive(Clone, Copy, Debug, PartialEq, Eq)]

@@ -8,11 +8,8 @@ ghost use Rattle.migration_types.specs.declared.records.GuestRec.{GuestRec as Re
 ghost use Rattle.session_log.specs.Records.{access_text, release_text, record_line};
 ghost use Rattle.session_log.specs.Taken.{TakesRecords};
 
-use migration_types::{GuestRec, PageNo};
+use migration_types::{GuestRec, LAST_VCPU, PageNo};
 use text_lines::{after_key, front_number, number_then, read_decimal, read_keyed, short_then};
-
-/// Virtual processors have the numbers 0 to 63.
-const LAST_VCPU: u32 = 63;
 
 const READ_KEY: &[u8] = b"r ";
 

@@ -1,0 +1,76 @@
+//! Checks the certificate of a migration session.
+//!
+//! `postcopy check SESSION CERT` reads the two texts and writes one line, the verdict. A file named `-` is standard
+//! input; where both are, the first text ends with the first line `end`. With no word it does `check - -`. The status
+//! is 0 for `yes`, 1 for another verdict, 2 for words that are refused, 3 for a file or an output that failed, and 4
+//! for want of memory.
+#![tactic(auto)]
+
+mod answer;
+mod command;
+mod cutting;
+mod program;
+mod reading;
+#[cfg(test)]
+mod tests;
+
+pub use program::run;
+pub use reading::TextSource;
+use std::alloc::{AllocError, Global};
+use std::io::{ErrorKind, Write};
+use std::process::ExitCode;
+use std::rt::{Env, Files};
+use std::{env, fs, io};
+
+/// The files of the system.
+#[derive(Drop)]
+struct Disk<'a, R> {
+    rt: &'a R,
+}
+
+impl<R: Files> TextSource for Disk<'_, R> {
+    type Text = R::File;
+
+    fn text(&self, name: &str) -> io::Result<R::File> {
+        fs::open(self.rt, name)
+    }
+}
+
+fn words<R: Env + AllocGlobal>(rt: &R) -> io::Result<Vec<String>> {
+    Ok(env::args(rt)?.collect(rt.alloc())?)
+}
+
+fn slices<'a>(alloc: Global, words: &'a [String]) -> Result<Vec<&'a str>, AllocError> {
+    words.iter().map(|word| word.as_str()).collect(alloc)
+}
+
+// Tells why the words were not had.
+fn refuse_words<E: Write>(error: &io::Error, errors: &mut E) -> u8 {
+    if error.kind() == ErrorKind::OutOfMemory {
+        return answer::tell(answer::Fault::Memory, errors);
+    }
+    let _ = errors.write_all(b"error: a word is not UTF-8\n");
+    answer::USAGE
+}
+
+fn main(rt: HostRuntime) -> ExitCode {
+    let alloc = rt.alloc();
+    let mut errors = rt.stderr();
+    let words = match words(&rt) {
+        Ok(words) => words,
+        Err(error) => return ExitCode::from(refuse_words(&error, &mut errors)),
+    };
+    let Ok(words) = slices(alloc, words.as_slice()) else {
+        return ExitCode::from(answer::tell(answer::Fault::Memory, &mut errors));
+    };
+    let files = Disk { rt: &rt };
+    let status = run(
+        alloc,
+        words.as_slice(),
+        &files,
+        &mut rt.reader(),
+        &mut rt.stdout(),
+        &mut errors,
+    );
+    ExitCode::from(status)
+}

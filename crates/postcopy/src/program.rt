@@ -1,0 +1,140 @@
+//! The program, from its words to its status.
+
+ghost use Rattle.std.specs.Prelude.{◌≡◌, ◌≢◌, ◌<◌, ◌≤◌, ℕ, List, IfOk, IfSome, MatchResult, length, true, false};
+ghost use Rattle.clap.specs.Words.{kind_of, takes};
+ghost use Rattle.postcopy.specs.Commands.{IsPlainCheck, postcopy_words, names_given, word_texts};
+ghost use Rattle.postcopy.specs.Answers.{Answers, AreNamed, AreOfInput, bytes_under, fault_status, is_dash};
+
+use crate::answer::{Fault, MEMORY, USAGE, judge, tell};
+use crate::command::names;
+use crate::cutting::cut_at_end;
+use crate::reading::{ReadFault, TextSource, fault_of, read_whole};
+use clap::error::ErrorKind;
+use std::alloc::Global;
+use std::io::{Read, Write};
+
+// The fault at the text under a name.
+fn fault_at(name: &str, fault: ReadFault) -> Fault<'_> {
+    match fault {
+        ReadFault::File => Fault::File(name),
+        ReadFault::Memory => Fault::Memory,
+    }
+}
+
+// Reads the text under a name; `-` is the input.
+fn read_named<'a, S: TextSource, I: Read>(
+    alloc: Global,
+    name: &'a str,
+    texts: &S,
+    input: &mut I,
+) -> Result<Vec<u8>, Fault<'a>>
+    ensures whole { IfOk result (λ v. IfSome (bytes_under name.entry.now (S.bytes_of texts.now) (I.remaining input.old)) (λ xs. v.items ≡ xs)) }
+    ensures apart { is_dash name.entry.now ≡ false → input.new ≡ input.old }
+{
+    if name == "-" {
+        return read_whole(alloc, input).map_err(|fault| fault_at(name, fault));
+    }
+    match texts.text(name) {
+        Ok(mut text) => read_whole(alloc, &mut text).map_err(|fault| fault_at(name, fault)),
+        Err(error) => Err(fault_at(name, fault_of(&error))),
+    }
+}
+
+// Judges the two texts of the input.
+fn check_input<I: Read, O: Write>(
+    alloc: Global,
+    input: &mut I,
+    output: &mut O,
+) -> Result<u8, Fault<'static>>
+    ensures few { IfOk result (λ status. status < 2) }
+    ensures told { IfOk result (λ status. Answers (AreOfInput (I.remaining input.old)) (O.contents output.old) (O.contents output.new) status) }
+{
+    let bytes = match read_whole(alloc, input) {
+        Ok(bytes) => bytes,
+        Err(fault) => return Err(fault_at("-", fault)),
+    };
+    let (session, cert) = cut_at_end(bytes.as_slice());
+    judge(alloc, session, cert, output)
+}
+
+// Judges the texts under two names, read in this order.
+fn check<'a, S: TextSource, I: Read, O: Write>(
+    alloc: Global,
+    session: &'a str,
+    cert: &'a str,
+    texts: &S,
+    input: &mut I,
+    output: &mut O,
+) -> Result<u8, Fault<'a>>
+    ensures few { IfOk result (λ status. status < 2) }
+    ensures told { IfOk result (λ status. Answers (AreNamed session.entry.now cert.entry.now (S.bytes_of texts.now) (I.remaining input.old)) (O.contents output.old) (O.contents output.new) status) }
+{
+    if session == "-" && cert == "-" {
+        return check_input(alloc, input, output);
+    }
+    let session = read_named(alloc, session, texts, input)?;
+    let cert = read_named(alloc, cert, texts, input)?;
+    judge(alloc, session.as_slice(), cert.as_slice(), output)
+}
+
+// The status of a judgement, whose fault is told.
+fn settle<E: Write>(judgement: Result<u8, Fault<'_>>, errors: &mut E) -> u8
+    ensures { MatchResult judgement.entry (λ status. result ≡ status) (λ fault. result ≡ fault_status fault) }
+{
+    match judgement {
+        Ok(status) => status,
+        Err(fault) => tell(fault, errors),
+    }
+}
+
+// Tells of words that were refused, or shows the help.
+fn refuse<O: Write, E: Write>(error: clap::Error, output: &mut O, errors: &mut E) -> u8
+    ensures memory { kind_of error ≡ ErrorKind.OutOfMemory → result ≡ 4 }
+    ensures known { result ≤ 4 }
+{
+    if error.kind() == ErrorKind::OutOfMemory {
+        return tell(Fault::Memory, errors);
+    }
+    if error.use_stderr() {
+        let _ = write!(errors, "{error}");
+        return USAGE;
+    }
+    if write!(output, "{error}").is_ok() {
+        0
+    } else {
+        tell(Fault::Output, errors)
+    }
+}
+
+/// The program: it reads the texts that the words name, writes the verdict on them, and answers its status.
+///
+/// The first of the words is the program's own name; with no other it checks the two texts of the input. The status is
+/// 0 where the verdict is yes or help was asked for, 1 at another verdict, 2 where the words are refused, 3 where a
+/// text was not read whole or the output was not written, and 4 for want of memory. At 2 to 4 the errors tell why. The
+/// texts are read in the order of the words, and both before a verdict is sought.
+pub fn run<S: TextSource, I: Read, O: Write, E: Write>(
+    alloc: Global,
+    words: &[&str],
+    texts: &S,
+    input: &mut I,
+    output: &mut O,
+    errors: &mut E,
+) -> u8
+    ensures known { result ≤ 4 }
+    ensures bare_usage { length words.entry.now ≤ 1 → result ≢ 2 }
+    ensures bare { length words.entry.now ≤ 1 → result < 2 → Answers (AreOfInput (I.remaining input.old)) (O.contents output.old) (O.contents output.new) result }
+    ensures usage { takes postcopy_words (word_texts words.entry.now) ≡ true → result ≢ 2 }
+    ensures check { takes postcopy_words (word_texts words.entry.now) ≡ true → result < 2 → IfSome (names_given (word_texts words.entry.now)) (λ names. Answers (AreNamed names.0 names.1 (S.bytes_of texts.now) (I.remaining input.old)) (O.contents output.old) (O.contents output.new) result) }
+    ensures plain { (session cert : List ℕ) → IsPlainCheck (word_texts words.entry.now) session cert → (result ≢ 2) × (result < 2 → Answers (AreNamed session cert (S.bytes_of texts.now) (I.remaining input.old)) (O.contents output.old) (O.contents output.new) result) }
+{
+    if words.len() <= 1 {
+        return settle(check_input(alloc, input, output), errors);
+    }
+    match names(alloc, words) {
+        Ok(names) => {
+            let (session, cert) = names.unwrap_or(("-", "-"));
+            settle(check(alloc, session, cert, texts, input, output), errors)
+        }
+        Err(error) => refuse(error, output, errors),
+    }
+}

@@ -1,0 +1,329 @@
+//! What the program answers to words, texts and streams that fail.
+
+ghost use Rattle.std.specs.Prelude.{◌≡◌, ◌<◌, ◌≤◌};
+
+use crate::answer::{line, status};
+use crate::reading::{ReadFault, TextSource, read_within};
+use crate::run;
+use cert_check::Verdict;
+use std::alloc::Global;
+use std::cell::Cell;
+use std::io;
+use std::io::{ErrorKind, Read, Write};
+use std::test::Fail;
+
+// One page that is written, read, released and read again.
+const SESSION: &[u8] = b"postcopy-session 1\npages 1\ncells 1\ninit 0\nguest 4\nw 0 0 0 3\nr 0 0 0 3\nz 0 0\nr 0 0 0 0\nsource 0\nlink 0\npager 0\nend\n";
+
+// The session's certificate.
+const CERT: &[u8] = b"postcopy-certificate 1\npages 1\npage 0 none\nruns 1\nrun guest 4\nend\n";
+
+const BOTH: &[u8] = b"postcopy-session 1\npages 1\ncells 1\ninit 0\nguest 4\nw 0 0 0 3\nr 0 0 0 3\nz 0 0\nr 0 0 0 0\nsource 0\nlink 0\npager 0\nend\npostcopy-certificate 1\npages 1\npage 0 none\nruns 1\nrun guest 4\nend\n";
+
+const ACCEPTED_LINE: &[u8] = b"yes\n";
+// Of the session and an empty certificate.
+const EMPTY_CERT_LINE: &[u8] = b"certificate-text line 1\n";
+// Of an empty session and the certificate.
+const EMPTY_SESSION_LINE: &[u8] = b"session-text line 1\n";
+
+// Texts in memory, which count how often they were asked for.
+#[derive(Drop)]
+struct Shelf<'a> {
+    texts: &'a [(&'a str, &'a [u8])],
+    asked: Cell<u32>,
+}
+
+impl<'a> TextSource for Shelf<'a> {
+    type Text = &'a [u8];
+
+    fn text(&self, name: &str) -> io::Result<&'a [u8]> {
+        self.asked.set(self.asked.get().wrapping_add(1));
+        for (title, text) in self.texts {
+            if *title == name {
+                return Ok(*text);
+            }
+        }
+        Err(io::Error::from(ErrorKind::NotFound))
+    }
+}
+
+// Gives a byte a read, and then an error or the end.
+#[derive(Drop)]
+struct Slow<'a> {
+    text: &'a [u8],
+    fails: bool,
+}
+
+impl<'a> Read for Slow<'a> {
+    fn read(&mut self, buf: &mut [u8]) -> io::Result<usize> {
+        match (self.text.split_first(), buf.first_mut()) {
+            (Some((byte, rest)), Some(place)) => {
+                *place = *byte;
+                self.text = rest;
+                Ok(1)
+            }
+            _ if self.fails => Err(io::Error::from(ErrorKind::BrokenPipe)),
+            _ => Ok(0),
+        }
+    }
+}
+
+// Takes nothing.
+#[derive(Drop)]
+struct Full;
+
+impl Write for Full {
+    fn write(&mut self, _buf: &[u8]) -> io::Result<usize> {
+        Err(io::Error::from(ErrorKind::StorageFull))
+    }
+
+    fn flush(&mut self) -> io::Result<()> {
+        Ok(())
+    }
+}
+
+// What a run came to.
+#[derive(Drop)]
+struct Outcome {
+    status: u8,
+    output: Vec<u8>,
+    errors: Vec<u8>,
+    asked: u32,
+}
+
+const TEXTS: [(&str, &[u8]); 2] = [("session", SESSION), ("cert", CERT)];
+
+// Runs the program on these words after its name, over the two texts and an input.
+fn ran_over<I: Read>(alloc: Global, words: &[&str], input: &mut I) -> Outcome {
+    let shelf = Shelf {
+        texts: TEXTS.as_slice(),
+        asked: Cell::new(0),
+    };
+    let mut output = Vec::new(alloc);
+    let mut errors = Vec::new(alloc);
+    let status = run(alloc, words, &shelf, input, &mut output, &mut errors);
+    Outcome {
+        status,
+        output,
+        errors,
+        asked: shelf.asked.get(),
+    }
+}
+
+fn ran(alloc: Global, words: &[&str], input: &[u8]) -> Outcome {
+    let mut input = input;
+    ran_over(alloc, words, &mut input)
+}
+
+#[test]
+fn verdicts(rt: HostRuntime) {
+    let alloc = rt.alloc();
+    let check = ["postcopy", "check", "session", "cert"];
+    let first_dash = ["postcopy", "check", "-", "cert"];
+    let second_dash = ["postcopy", "check", "session", "-"];
+    let dashes = ["postcopy", "check", "-", "-"];
+    let bare = ["postcopy"];
+    for (words, input, status, line) in [
+        (check.as_slice(), b"".as_slice(), 0, ACCEPTED_LINE),
+        (first_dash.as_slice(), SESSION, 0, ACCEPTED_LINE),
+        (first_dash.as_slice(), b"".as_slice(), 1, EMPTY_SESSION_LINE),
+        (second_dash.as_slice(), CERT, 0, ACCEPTED_LINE),
+        (second_dash.as_slice(), b"".as_slice(), 1, EMPTY_CERT_LINE),
+        (dashes.as_slice(), BOTH, 0, ACCEPTED_LINE),
+        (dashes.as_slice(), SESSION, 1, EMPTY_CERT_LINE),
+        (bare.as_slice(), BOTH, 0, ACCEPTED_LINE),
+        (bare.as_slice(), SESSION, 1, EMPTY_CERT_LINE),
+        ([].as_slice(), BOTH, 0, ACCEPTED_LINE),
+    ] {
+        let found = ran(alloc, words, input);
+        assert_eq!(rt; found.status, status, "at {words:?}");
+        assert_eq!(rt; found.output.as_slice(), line, "at {words:?}");
+        assert_eq!(rt; found.errors.as_slice(), b"".as_slice(), "at {words:?}");
+    }
+}
+
+#[test]
+fn missing_files(rt: HostRuntime) {
+    let alloc = rt.alloc();
+    for (first, second, asked, line) in [
+        ("x", "y", 1, b"file x\n".as_slice()),
+        ("x", "cert", 1, b"file x\n".as_slice()),
+        ("session", "y", 2, b"file y\n".as_slice()),
+        ("-", "y", 1, b"file y\n".as_slice()),
+    ] {
+        let found = ran(
+            alloc,
+            ["postcopy", "check", first, second].as_slice(),
+            SESSION,
+        );
+        assert_eq!(rt; found.status, 3, "at {first}, {second}");
+        assert_eq!(rt;
+            found.output.as_slice(),
+            b"".as_slice(),
+            "at {first}, {second}"
+        );
+        assert_eq!(rt; found.errors.as_slice(), line, "at {first}, {second}");
+        assert_eq!(rt; found.asked, asked, "at {first}, {second}");
+    }
+}
+
+#[test]
+fn usage(rt: HostRuntime) {
+    let alloc = rt.alloc();
+    let one_name = ["postcopy", "check", "session"];
+    let three_names = ["postcopy", "check", "session", "cert", "cert"];
+    let unknown = ["postcopy", "send", "session", "cert"];
+    let no_command = ["postcopy", "--"];
+    let option = ["postcopy", "check", "--fast", "session", "cert"];
+    for words in [
+        one_name.as_slice(),
+        three_names.as_slice(),
+        unknown.as_slice(),
+        no_command.as_slice(),
+        option.as_slice(),
+    ] {
+        let found = ran(alloc, words, BOTH);
+        assert_eq!(rt; found.status, 2, "at {words:?}");
+        assert_eq!(rt; found.output.as_slice(), b"".as_slice(), "at {words:?}");
+        assert!(rt;
+            found.errors.as_slice().starts_with(b"error: "),
+            "at {words:?}"
+        );
+        assert_eq!(rt; found.asked, 0, "at {words:?}");
+    }
+}
+
+#[test]
+fn help(rt: HostRuntime) {
+    let alloc = rt.alloc();
+    let long = ["postcopy", "--help"];
+    let short = ["postcopy", "-h"];
+    let command = ["postcopy", "help"];
+    let of_check = ["postcopy", "check", "--help"];
+    for words in [
+        long.as_slice(),
+        short.as_slice(),
+        command.as_slice(),
+        of_check.as_slice(),
+    ] {
+        let found = ran(alloc, words, BOTH);
+        assert_eq!(rt; found.status, 0, "at {words:?}");
+        assert!(rt; !found.output.is_empty(), "at {words:?}");
+        assert_eq!(rt; found.errors.as_slice(), b"".as_slice(), "at {words:?}");
+        assert_eq!(rt; found.asked, 0, "at {words:?}");
+    }
+}
+
+#[test]
+fn an_output_that_fails(rt: HostRuntime) {
+    let alloc = rt.alloc();
+    for words in [
+        ["postcopy", "check", "session", "cert"].as_slice(),
+        ["postcopy", "--help"].as_slice(),
+    ] {
+        let shelf = Shelf {
+            texts: TEXTS.as_slice(),
+            asked: Cell::new(0),
+        };
+        let mut input = b"".as_slice();
+        let mut errors = Vec::new(alloc);
+        let status = run(alloc, words, &shelf, &mut input, &mut Full, &mut errors);
+        assert_eq!(rt; status, 3, "at {words:?}");
+        assert_eq!(rt; errors.as_slice(), b"output\n".as_slice(), "at {words:?}");
+    }
+}
+
+#[test]
+fn errors_that_are_not_told(rt: HostRuntime) {
+    let alloc = rt.alloc();
+    for (words, wanted) in [
+        (["postcopy", "check", "session", "x"].as_slice(), 3),
+        (["postcopy", "check", "session"].as_slice(), 2),
+    ] {
+        let shelf = Shelf {
+            texts: TEXTS.as_slice(),
+            asked: Cell::new(0),
+        };
+        let mut input = b"".as_slice();
+        let mut output = Vec::new(alloc);
+        let status = run(alloc, words, &shelf, &mut input, &mut output, &mut Full);
+        assert_eq!(rt; status, wanted, "at {words:?}");
+        assert_eq!(rt; output.as_slice(), b"".as_slice(), "at {words:?}");
+    }
+}
+
+#[test]
+fn an_input_that_fails(rt: HostRuntime) {
+    for words in [
+        ["postcopy"].as_slice(),
+        ["postcopy", "check", "session", "-"].as_slice(),
+    ] {
+        let mut input = Slow {
+            text: BOTH,
+            fails: true,
+        };
+        let found = ran_over(rt.alloc(), words, &mut input);
+        assert_eq!(rt; found.status, 3, "at {words:?}");
+        assert_eq!(rt; found.output.as_slice(), b"".as_slice(), "at {words:?}");
+        assert_eq!(rt;
+            found.errors.as_slice(),
+            b"file -\n".as_slice(),
+            "at {words:?}"
+        );
+    }
+}
+
+#[test]
+fn limits(rt: HostRuntime) {
+    for (most_bytes, most_reads, fits) in [
+        (5, 6, true),
+        (4, 6, false),
+        (5, 5, false),
+        (0, 6, false),
+        (9, 9, true),
+    ] {
+        let mut input = Slow {
+            text: b"12345",
+            fails: false,
+        };
+        match read_within(rt.alloc(), &mut input, most_bytes, most_reads) {
+            Ok(bytes) => {
+                assert!(rt; fits, "at {most_bytes}, {most_reads}");
+                assert_eq!(rt; bytes.as_slice(), b"12345".as_slice());
+            }
+            Err(fault) => {
+                assert!(rt; !fits, "at {most_bytes}, {most_reads}");
+                assert_eq!(rt; fault, ReadFault::File);
+            }
+        }
+    }
+}
+
+#[test]
+fn lines(rt: HostRuntime) -> Result<(), Fail> {
+    for (verdict, wanted, wanted_status) in [
+        (
+            Verdict::SessionText(7),
+            b"session-text line 7\n".as_slice(),
+            1,
+        ),
+        (
+            Verdict::CertText(12),
+            b"certificate-text line 12\n".as_slice(),
+            1,
+        ),
+        (Verdict::Pages, b"pages\n".as_slice(), 1),
+        (Verdict::Runs(3), b"runs line 3\n".as_slice(), 1),
+        (
+            Verdict::Page(4_294_967_295),
+            b"page line 4294967295\n".as_slice(),
+            1,
+        ),
+        (Verdict::Yes, b"yes\n".as_slice(), 0),
+    ] {
+        let text = line(rt.alloc(), verdict)?;
+        assert_eq!(rt; text.as_slice(), wanted);
+        assert_eq!(rt; status(verdict), wanted_status, "at {verdict:?}");
+    }
+    Ok(())
+}
