@@ -1,6 +1,5 @@
 -- What right certificates promise.
-use Rattle.std.proofs.Common.{◌≡◌, ◌<◌, ℕ, Some, arith, length, get_or}
-use Rattle.std.specs.Prelude.{slice_get}
+use Rattle.std.proofs.Common.{◌<◌, ℕ, arith, length, get_or}
 use Rattle.std.proofs.lemmas.Option.{slice_get-get_or}
 use Rattle.migration_types.specs.declared.records.GuestRec.TheVariants.{Read}
 use Rattle.migration_types.specs.declared.cert.Entry.{Entry}
@@ -8,7 +7,7 @@ use Rattle.migration_types.specs.declared.cert.Entry.TheVariants.{Nothing}
 use Rattle.migration_types.specs.Sessions.{Recorded, IsSession, GuestRecFits}
 use Rattle.migration_types.specs.Certs.{Certified}
 use Rattle.audit_model.specs.Mergings.{spelled}
-use Rattle.audit_model.specs.Flat.{flat, ReadsFlatAt, ReadsFlat}
+use Rattle.audit_model.specs.Flat.{ReadsFlatAt}
 use Rattle.audit_model.specs.Certificates.{IsRightEntry, IsRightCertificate, IsFaithful}
 use Rattle.audit_model.proofs.Lists.{each_at}
 

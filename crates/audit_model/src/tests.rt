@@ -10,10 +10,25 @@ fn looks_back(rt: HostRuntime) -> Result<(), Fail> {
     geometry.keeps_limits();
     let (page, other) = (PageNo::new(1), PageNo::new(0));
     let guest = vec![in rt.alloc();
-        GuestRec::Write { vcpu: 0, page, cell: 1, value: 3 },
-        GuestRec::Write { vcpu: 0, page: other, cell: 1, value: 4 },
+        GuestRec::Write {
+            vcpu: 0,
+            page,
+            cell: 1,
+            value: 3
+        },
+        GuestRec::Write {
+            vcpu: 0,
+            page: other,
+            cell: 1,
+            value: 4
+        },
         GuestRec::Release { vcpu: 0, page },
-        GuestRec::Read { vcpu: 0, page, cell: 1, value: 0 }
+        GuestRec::Read {
+            vcpu: 0,
+            page,
+            cell: 1,
+            value: 0
+        },
     ]?;
     let init = Seq::from_vec(Vec::new(rt.alloc()));
     let session = Session::new(geometry, init, Seq::from_vec(guest));

@@ -1,7 +1,7 @@
 -- The pass over the guest's log: one record more, and the end.
-use Rattle.std.proofs.Common.{◌≡◌, ◌≢◌, ℕ, suc, ◌+◌, ◌<◌, ◌≤◌, ◌⊎◌, inl, inr, Bool, true, false, cond, eqb, eq-eqb, ltb, List, length, get_or, Option, Some, None, refl, sym, ap, ◌∙◌, subst, arith}
+use Rattle.std.proofs.Common.{◌≡◌, ℕ, suc, ◌+◌, ◌<◌, ◌≤◌, ◌⊎◌, inl, inr, Bool, true, false, cond, eqb, eq-eqb, ltb, length, get_or, Option, Some, None, refl, sym, ap, ◌∙◌, subst, arith}
 use Rattle.std.specs.Prelude.{slice_get}
-use Rattle.std.proofs.lemmas.Bool.{cases_eq, cases_lt, eqb-true, ne_eqb, ltb-true, ltb-false}
+use Rattle.std.proofs.lemmas.Bool.{cases_eq, cases_lt, ne_eqb, ltb-true, ltb-false}
 use Rattle.std.proofs.lemmas.Option.{slice_get_within, slice_get-get_or}
 use Rattle.migration_types.specs.declared.records.GuestRec.{GuestRec}
 use Rattle.migration_types.specs.declared.records.GuestRec.TheVariants.{Read, Write, Release}
@@ -102,7 +102,7 @@ module _ (s : Recorded) where
   pub judged_next : (n : ℕ) (rec : GuestRec) (memory : Memory) (least : Option ℕ) → slice_get s.guest n ≡ Some rec → memory ≡ flat s n → IsLeastMisread s n least → IsLeastMisread s (n + 1) (lesser_of least (misread_page rec memory))
   judged_next n rec memory least is at so_far =
       subst (λ (m : Memory). IsLeastMisread s (n + 1) (lesser_of least (misread_page rec m))) (sym at)
-        (least_next n least (misread_page rec (flat s n)) so_far (fine n rec is) (λ page e. wrong n rec page is e))
+      (least_next n least (misread_page rec (flat s n)) so_far (fine n rec is) (λ page e. wrong n rec page is e))
 
   -- no page is misread
   pub none_misread : IsLeastMisread s (length s.guest) None → ReadsFlat s

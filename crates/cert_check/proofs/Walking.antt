@@ -9,7 +9,7 @@ use Rattle.migration_types.specs.declared.cert.Run.{Run}
 use Rattle.migration_types.specs.Sessions.{Recorded}
 use Rattle.audit_model.specs.Names.{Name, log_length, receipt, if_there, guest_receipt, same_log}
 use Rattle.audit_model.specs.Mergings.{Cursors, at_start, moved, run_names, spelled, spelled_from}
-use Rattle.audit_model.specs.Walks.{next, cursors_from, MayFollow, Walks, IsWholeWalk}
+use Rattle.audit_model.specs.Walks.{next, cursors_from, Walks, IsWholeWalk}
 use Rattle.audit_model.proofs.Cuts.{same_log_itself}
 use Rattle.cert_check.specs.Taken.{guest_alone, left_of}
 use Rattle.cert_check.specs.Verdicts.{IsFirstBadRun}
@@ -57,7 +57,7 @@ spelled_push c (r ∷ runs) run =
     let d = moved c r.log r.count in
     let names = run_names r.log (c r.log) r.count in
     let there : cursors_from d (spelled_from d runs) ≡ cursors_from c (names ++ spelled_from d runs) =
-      ap (λ (e : Cursors). cursors_from e (spelled_from d runs)) (sym (cursors_run c r.log (c r.log) r.count)) ∙ sym (cursors_append c names (spelled_from d runs)) in
+    ap (λ (e : Cursors). cursors_from e (spelled_from d runs)) (sym (cursors_run c r.log (c r.log) r.count)) ∙ sym (cursors_append c names (spelled_from d runs)) in
     ap (λ ys. names ++ ys) (spelled_push d runs run)
     ∙ ap (λ (e : Cursors). names ++ (spelled_from d runs ++ run_names run.log (e run.log) run.count)) there
     ∙ sym (append_assoc names (spelled_from d runs) (run_names run.log (cursors_from c (names ++ spelled_from d runs) run.log) run.count))

@@ -1,7 +1,7 @@
 -- What was taken of the logs, of which the guest's alone has records. These definitions only serve proofs.
 use Rattle.std.specs.Prelude.{ℕ}
 use Rattle.migration_types.specs.declared.records.LogName.{LogName}
-use Rattle.migration_types.specs.declared.records.LogName.TheVariants.{Guest, Source, Link, Pager}
+use Rattle.migration_types.specs.declared.records.LogName.TheVariants.{Guest}
 use Rattle.audit_model.specs.Mergings.{Cursors}
 
 -- so many records of the guest's log were taken

@@ -18,7 +18,10 @@ fn step(frames: &mut Store, record: &GuestRec) -> Option<PageNo>
 {
     match *record {
         GuestRec::Read {
-            page, cell, value, ..
+            page,
+            cell,
+            value,
+            ..
         } => {
             if frames.read(page, cell) == value {
                 None
@@ -27,7 +30,10 @@ fn step(frames: &mut Store, record: &GuestRec) -> Option<PageNo>
             }
         }
         GuestRec::Write {
-            page, cell, value, ..
+            page,
+            cell,
+            value,
+            ..
         } => {
             frames.write(page, cell, value);
             None

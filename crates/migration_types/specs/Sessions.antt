@@ -1,5 +1,5 @@
 -- Recorded sessions and their limits.
-use Rattle.std.specs.Prelude.{ℕ, ◌<◌, ◌≤◌, ◌^◌, List, length}
+use Rattle.std.specs.Prelude.{◌<◌, ◌≤◌, ◌^◌, List, length}
 use Rattle.std.specs.List.{AllByRecursion}
 use Rattle.migration_types.specs.declared.pages.InitPage.{InitPage}
 use Rattle.migration_types.specs.declared.records.GuestRec.{GuestRec}

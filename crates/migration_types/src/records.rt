@@ -35,7 +35,10 @@ pub enum GuestRec {
         value: u64,
     },
     /// Released a page, which from then on reads as zeros.
-    Release { vcpu: u8, page: PageNo },
+    Release {
+        vcpu: u8,
+        page: PageNo,
+    },
 }
 
 // A million records take sixteen megabytes.

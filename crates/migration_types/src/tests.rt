@@ -32,7 +32,6 @@ fn numbers_pages(rt: HostRuntime) {
     assert!(rt; PageNo::new(3) < PageNo::new(4));
 }
 
-
 #[test]
 fn keeps_lists(rt: HostRuntime) -> Result<(), Fail> {
     let list = Seq::from_vec(vec![in rt.alloc(); 3, 1, 2]?);
@@ -61,10 +60,22 @@ fn keeps_a_session(rt: HostRuntime) -> Result<(), Fail> {
 #[test]
 fn keeps_a_certificate(rt: HostRuntime) -> Result<(), Fail> {
     let entries = Seq::from_vec(vec![in rt.alloc(); Entry::Nothing]?);
-    let runs = Seq::from_vec(vec![in rt.alloc(); Run { log: LogName::Guest, count: 4 }]?);
+    let runs = Seq::from_vec(vec![in rt.alloc();
+        Run {
+            log: LogName::Guest,
+            count: 4
+        },
+    ]?);
     let cert = Cert::new(entries, runs);
     cert.keeps_limits();
     assert_eq!(rt; cert.entries(), [Entry::Nothing].as_slice());
-    assert_eq!(rt; cert.runs(), [Run { log: LogName::Guest, count: 4 }].as_slice());
+    assert_eq!(rt;
+        cert.runs(),
+        [Run {
+            log: LogName::Guest,
+            count: 4
+        }]
+        .as_slice()
+    );
     Ok(())
 }

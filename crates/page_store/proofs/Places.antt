@@ -1,14 +1,13 @@
 -- A write to a list of cells as a change of the memory.
-use Rattle.std.proofs.Common.{◌≡◌, ℕ, ◌+◌, ◌-◌, ◌*◌, ◌<◌, ◌≤◌, ◌⊎◌, inl, inr, Bool, true, false, cond, ◌&&◌, List, length, replicate, map, get_or, set, take, drop, eqb, ltb, leb, eq-eqb, refl, sym, ap, ◌∙◌, subst, arith}
+use Rattle.std.proofs.Common.{◌≡◌, ℕ, ◌+◌, ◌-◌, ◌*◌, ◌<◌, ◌≤◌, ◌⊎◌, inl, inr, true, false, cond, ◌&&◌, List, length, replicate, map, get_or, set, take, drop, ltb, leb, eq-eqb, refl, sym, ap, ◌∙◌, subst, arith}
 use Rattle.std.specs.List.{range_with_len}
-use Rattle.std.specs.Prelude.{nat_lt, ◌==◌}
-use Rattle.std.proofs.lemmas.Bool.{cases_lt, cases_eq, ne_eqb, lt-ltb, le-ltb, le-leb, lt-leb, and_left, and_right, and_from, and_parts, ltb-true, leb-true, cases_Bool, eqb-true}
-use Rattle.std.proofs.lemmas.List.{get_or-set_same, get_or-set_other, get_or-replicate, get_or_past, get_or-take, get_or-drop, same_lists, length-take-le, length-take, length-drop, get_or_default}
+use Rattle.std.specs.Prelude.{◌==◌}
+use Rattle.std.proofs.lemmas.Bool.{cases_lt, cases_eq, ne_eqb, lt-ltb, le-ltb, le-leb, lt-leb, and_left, and_right, and_from, and_parts, cases_Bool, eqb-true}
+use Rattle.std.proofs.lemmas.List.{get_or-set_same, get_or-set_other, get_or-replicate, get_or_past, get_or-take, get_or-drop, same_lists, length-take, length-drop, get_or_default}
 use Rattle.std.proofs.lemmas.List.FromFn.{get_or-map-range_with_len, length-map-range_with_len}
 use Rattle.std.proofs.Math.Nat.{mul_comm}
 use Rattle.std.proofs.lemmas.Nat.{mul-add-lt, same_from_place, row_fits}
-use Rattle.migration_types.specs.Memory.{Memory, zeros, initial, page_of, with_cell, with_content, with_zeros}
-use Rattle.migration_types.specs.Extents.{Extent}
+use Rattle.migration_types.specs.Memory.{Memory, page_of, with_cell, with_content, with_zeros}
 use Rattle.page_store.specs.Frames.{Frames, memory_of, IsWith}
 
 abbrev at : ℕ → ℕ → List ℕ → Frames
@@ -55,9 +54,9 @@ page_fits pages cells p lt = row_fits p cells pages cells lt (omega arith)
 pub write_memory : (pages cells : ℕ) (items after : List ℕ) (p c x : ℕ) → length items ≡ pages * cells → p < pages → c < cells → after ≡ set items (p * cells + c) x → memory_of (at pages cells after) ≡ with_cell p c x (memory_of (at pages cells items))
 write_memory pages cells items after p c x sized lp lc e =
     memory_by pages cells after (with_cell p c x (memory_of (at pages cells items)))
-      (λ q d lq ld. ap (λ (xs : List ℕ). get_or xs (q * cells + d) 0) e ∙ within q d lq ld (cases_eq (q * cells + d) (p * cells + c)))
-      (λ q d le. sym (ap (λ b. cond b x (memory_of (at pages cells items) q d)) (and_left _ _ (ne_eqb p q (λ h. absurd (omega (arith, h))))) ∙ outside_page pages cells items q d le))
-      (λ q d lq le. sym (ap (λ b. cond b x (memory_of (at pages cells items) q d)) (and_right _ _ (ne_eqb c d (λ h. absurd (omega (arith, h))))) ∙ outside_cell pages cells items q d le))
+    (λ q d lq ld. ap (λ (xs : List ℕ). get_or xs (q * cells + d) 0) e ∙ within q d lq ld (cases_eq (q * cells + d) (p * cells + c)))
+    (λ q d le. sym (ap (λ b. cond b x (memory_of (at pages cells items) q d)) (and_left _ _ (ne_eqb p q (λ h. absurd (omega (arith, h))))) ∙ outside_page pages cells items q d le))
+    (λ q d lq le. sym (ap (λ b. cond b x (memory_of (at pages cells items) q d)) (and_right _ _ (ne_eqb c d (λ h. absurd (omega (arith, h))))) ∙ outside_cell pages cells items q d le))
   where
     other : (q d : ℕ) → d < cells → (q * cells + d ≡ p * cells + c → ⊥) → ((p == q) && (c == d)) ≡ false
     other q d ld other_place = go (cases_Bool ((p == q) && (c == d)))
@@ -86,9 +85,9 @@ pub rows_memory : (pages cells : ℕ) (items after : List ℕ) (p : ℕ) (f : �
     memory_of (at pages cells after) ≡ (λ q d. cond (p == q) (f d) (memory_of (at pages cells items) q d))
 rows_memory pages cells items after p f lp e past =
     memory_by pages cells after (λ q d. cond (p == q) (f d) (memory_of (at pages cells items) q d))
-      (λ q d lq ld. e (q * cells + d) ∙ within q d lq ld (cases_eq p q))
-      (λ q d le. sym (ap (λ b. cond b (f d) (memory_of (at pages cells items) q d)) (ne_eqb p q (λ h. absurd (omega (arith, h)))) ∙ outside_page pages cells items q d le))
-      (λ q d lq le. sym (cell q d le (cases_eq p q)))
+    (λ q d lq ld. e (q * cells + d) ∙ within q d lq ld (cases_eq p q))
+    (λ q d le. sym (ap (λ b. cond b (f d) (memory_of (at pages cells items) q d)) (ne_eqb p q (λ h. absurd (omega (arith, h)))) ∙ outside_page pages cells items q d le))
+    (λ q d lq le. sym (cell q d le (cases_eq p q)))
   where
     cell : (q d : ℕ) → cells ≤ d → (p ≡ q) ⊎ (p ≡ q → ⊥) → cond (p == q) (f d) (memory_of (at pages cells items) q d) ≡ 0
     cell q d le (inl same) = ap (λ b. cond b (f d) (memory_of (at pages cells items) q d)) (eq-eqb p q same) ∙ past d le
@@ -137,19 +136,19 @@ page_memory pages cells items page p sized lp e = e ∙ same_lists _ _ (len ∙ 
 pub write_frames : (f : Frames) (pages cells : ℕ) (items after : List ℕ) (p c x : ℕ) → at pages cells items ≡ f → length items ≡ pages * cells → p < f.geometry.pages → c < f.geometry.cells → after ≡ set items (p * cells + c) x → IsWith f (at pages cells after) (with_cell p c x (memory_of f))
 write_frames f pages cells items after p c x is sized lp lc e =
     subst (λ (g : Frames). p < g.geometry.pages → c < g.geometry.cells → IsWith g (at pages cells after) (with_cell p c x (memory_of g))) is
-      (λ lp lc. record { geometry = refl; memory_is = write_memory pages cells items after p c x sized lp lc e }) lp lc
+    (λ lp lc. record { geometry = refl; memory_is = write_memory pages cells items after p c x sized lp lc e }) lp lc
 
 pub release_frames : (f : Frames) (pages cells : ℕ) (items after : List ℕ) (p : ℕ) → at pages cells items ≡ f → p < f.geometry.pages → ((k : ℕ) → get_or after k 0 ≡ cond (leb (p * cells) k && ltb k (p * cells + cells)) 0 (get_or items k 0)) → IsWith f (at pages cells after) (with_zeros p (memory_of f))
 release_frames f pages cells items after p is lp e =
     subst (λ (g : Frames). p < g.geometry.pages → IsWith g (at pages cells after) (with_zeros p (memory_of g))) is
-      (λ lp. record { geometry = refl; memory_is = rows_memory pages cells items after p (λ d. 0) lp e (λ d le. refl) }) lp
+    (λ lp. record { geometry = refl; memory_is = rows_memory pages cells items after p (λ d. 0) lp e (λ d le. refl) }) lp
 
 pub install_frames : (f : Frames) (pages cells : ℕ) (items after content : List ℕ) (p : ℕ) → at pages cells items ≡ f → p < f.geometry.pages → length content ≡ f.geometry.cells → ((k : ℕ) → get_or after k 0 ≡ cond (leb (p * cells) k && ltb k (p * cells + length content)) (get_or content (k - p * cells) 0) (get_or items k 0)) → IsWith f (at pages cells after) (with_content p content (memory_of f))
 install_frames f pages cells items after content p is lp sized e =
     subst (λ (g : Frames). p < g.geometry.pages → length content ≡ g.geometry.cells → IsWith g (at pages cells after) (with_content p content (memory_of g))) is
-      (λ lp sized. record { geometry = refl; memory_is = rows_memory pages cells items after p (λ d. get_or content d 0) lp (λ k. e k ∙ ap (λ n. cond (leb (p * cells) k && ltb k (p * cells + n)) (get_or content (k - p * cells) 0) (get_or items k 0)) sized) (λ d le. get_or_past content d 0 (omega (arith, sized))) }) lp sized
+    (λ lp sized. record { geometry = refl; memory_is = rows_memory pages cells items after p (λ d. get_or content d 0) lp (λ k. e k ∙ ap (λ n. cond (leb (p * cells) k && ltb k (p * cells + n)) (get_or content (k - p * cells) 0) (get_or items k 0)) sized) (λ d le. get_or_past content d 0 (omega (arith, sized))) }) lp sized
 
 pub page_frames : (f : Frames) (pages cells : ℕ) (items page whole : List ℕ) (p : ℕ) → at pages cells items ≡ f → length items ≡ pages * cells → p < f.geometry.pages → whole ≡ items → page ≡ take (p * cells + cells - p * cells) (drop (p * cells) whole) → page ≡ page_of f.geometry.cells (memory_of f) p
 page_frames f pages cells items page whole p is sized lp same e =
     subst (λ (g : Frames). p < g.geometry.pages → page ≡ page_of g.geometry.cells (memory_of g) p) is
-      (λ lp. page_memory pages cells items page p sized lp (e ∙ ap (λ (xs : List ℕ). take (p * cells + cells - p * cells) (drop (p * cells) xs)) same)) lp
+    (λ lp. page_memory pages cells items page p sized lp (e ∙ ap (λ (xs : List ℕ). take (p * cells + cells - p * cells) (drop (p * cells) xs)) same)) lp

@@ -45,7 +45,11 @@ impl Store {
     }
 
     /// The frames of a machine that begins with these pages, and with zeros elsewhere.
-    pub fn from_init(alloc: Global, geometry: Geometry, init: &[InitPage]) -> Result<Store, AllocError>
+    pub fn from_init(
+        alloc: Global,
+        geometry: Geometry,
+        init: &[InitPage],
+    ) -> Result<Store, AllocError>
         requires { AreInitPages geometry init.now }
         ensures geometry { IfOk result (λ s. s.geometry ≡ geometry) }
         ensures memory { IfOk result (λ s. memory_of s ≡ initial init.now) }

@@ -13,12 +13,14 @@ use std::io::{ErrorKind, Read, Write};
 use std::test::Fail;
 
 // One page that is written, read, released and read again.
-const SESSION: &[u8] = b"postcopy-session 1\npages 1\ncells 1\ninit 0\nguest 4\nw 0 0 0 3\nr 0 0 0 3\nz 0 0\nr 0 0 0 0\nsource 0\nlink 0\npager 0\nend\n";
+const SESSION: &[u8] =
+    b"postcopy-session 1\npages 1\ncells 1\ninit 0\nguest 4\nw 0 0 0 3\nr 0 0 0 3\nz 0 0\nr 0 0 0 0\nsource 0\nlink 0\npager 0\nend\n";
 
 // The session's certificate.
 const CERT: &[u8] = b"postcopy-certificate 1\npages 1\npage 0 none\nruns 1\nrun guest 4\nend\n";
 
-const BOTH: &[u8] = b"postcopy-session 1\npages 1\ncells 1\ninit 0\nguest 4\nw 0 0 0 3\nr 0 0 0 3\nz 0 0\nr 0 0 0 0\nsource 0\nlink 0\npager 0\nend\npostcopy-certificate 1\npages 1\npage 0 none\nruns 1\nrun guest 4\nend\n";
+const BOTH: &[u8] =
+    b"postcopy-session 1\npages 1\ncells 1\ninit 0\nguest 4\nw 0 0 0 3\nr 0 0 0 3\nz 0 0\nr 0 0 0 0\nsource 0\nlink 0\npager 0\nend\npostcopy-certificate 1\npages 1\npage 0 none\nruns 1\nrun guest 4\nend\n";
 
 const ACCEPTED_LINE: &[u8] = b"yes\n";
 // Of the session and an empty certificate.

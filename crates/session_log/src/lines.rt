@@ -7,7 +7,9 @@ ghost use Rattle.session_log.specs.Grammar.{SpellsSession};
 
 use crate::pages::read_page;
 use crate::records::{read_record, take_records};
-use migration_types::{Geometry, GuestRec, InitPage, MOST_CELLS, MOST_PAGES, MOST_RECORDS, Seq, Session};
+use migration_types::{
+    Geometry, GuestRec, InitPage, MOST_CELLS, MOST_PAGES, MOST_RECORDS, Seq, Session,
+};
 use std::alloc::Global;
 use std::marker::Model;
 use text_lines::{FaultKind, LineReader, is_line, read_keyed};

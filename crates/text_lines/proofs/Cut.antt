@@ -1,10 +1,10 @@
 -- Laws on cutting an input into lines.
-use Rattle.std.proofs.Common.{◌≡◌, ◌≢◌, ℕ, zero, suc, ◌+◌, ◌<◌, ◌≤◌, ◌==◌, Bool, true, false, cond, List, [], ◌∷◌, ◌++◌, length, take, drop, refl, sym, ap, subst, ◌∙◌, append_assoc, length-append, arith, inl, inr}
-use Rattle.std.specs.List.{slice_split, onto_first, join_with_byte, AllByRecursion}
+use Rattle.std.proofs.Common.{◌≡◌, ℕ, zero, suc, ◌+◌, ◌<◌, ◌≤◌, ◌==◌, Bool, true, false, cond, List, [], ◌∷◌, ◌++◌, length, take, drop, refl, sym, ap, subst, ◌∙◌, append_assoc, length-append, arith}
+use Rattle.std.specs.List.{onto_first, join_with_byte, AllByRecursion}
 use Rattle.std.proofs.lemmas.List.Splits.{slice_split-cons_no, length-slice_split, join_with_byte-slice_split}
 use Rattle.std.proofs.lemmas.Bool.Decides.{nat_tests}
 use Rattle.std.proofs.lemmas.List.Sums.{sum_by-append}
-use Rattle.std.proofs.lemmas.List.{append-nil, take-append-drop, take-append-le, take_at, length-take, append_cancel_left}
+use Rattle.std.proofs.lemmas.List.{append-nil, take-append-drop, take-append-le, take_at, append_cancel_left}
 use Rattle.std.specs.Prelude.{Option, Some, None}
 use Rattle.text_lines.specs.declared.TextFault.{TextFault}
 use Rattle.text_lines.specs.Progress.{Progress, Going, Failed, CameSoFar, progress}
@@ -136,8 +136,8 @@ module _ {V : Type 0} (Spells : V → List (List ℕ) → Type 0) (plain : Plain
       let len : length (lines_of input) ≡ length held + 1 = rw lines (length-append held (rest ∷ [])) in
       record {
         spells_nothing = λ v s.
-          let p = last_is s.0 held rest (sym (lines_of-spelling v s.0 s.1) ∙ (ap lines_of (sym s.2) ∙ lines)) in
-          fails p.1 v (subst (Spells v) p.0 s.1);
+            let p = last_is s.0 held rest (sym (lines_of-spelling v s.0 s.1) ∙ (ap lines_of (sym s.2) ∙ lines)) in
+            fails p.1 v (subst (Spells v) p.0 s.1);
         within = (omega arith, omega (arith, len));
         earlier = λ j lt. rw (lines, take-append-le j held (rest ∷ []) (omega arith)) (Begins-take Spells j held begins);
         stops = λ lt b. absurd (omega (arith, len));
@@ -215,7 +215,7 @@ failed_from None lines rest fault e = absurd cc
 pub one_spelling : {V : Type 0} (Spells : V → List (List ℕ) → Type 0) (plain : Plain Spells) → ((v w : V) (a more : List (List ℕ)) → Spells v a → Spells w (a ++ more) → (v ≡ w) × (more ≡ [])) → (v w : V) (s t more : List ℕ) → IsSpelling Spells v s → IsSpelling Spells w t → t ≡ s ++ more → (v ≡ w) × (more ≡ [])
 one_spelling Spells plain law v w s t more p q e =
     let lines : q.0 ++ [] ∷ [] ≡ p.0 ++ lines_of more =
-      sym (lines_of-spelling Spells plain w q.0 q.1) ∙ (ap lines_of (sym q.2 ∙ (e ∙ ap (λ (x : List ℕ). x ++ more) p.2)) ∙ lines_of-ended p.0 more (plain v p.0 p.1)) in
+    sym (lines_of-spelling Spells plain w q.0 q.1) ∙ (ap lines_of (sym q.2 ∙ (e ∙ ap (λ (x : List ℕ). x ++ more) p.2)) ∙ lines_of-ended p.0 more (plain v p.0 p.1)) in
     let some = lines_of-some more in
     let front = front_of q.0 p.0 some.1 some.0 (lines ∙ ap (λ (x : List (List ℕ)). p.0 ++ x) some.2) in
     let one = law v w p.0 front.0 p.1 (subst (Spells w) front.1 q.1) in

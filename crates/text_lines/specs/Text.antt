@@ -1,5 +1,5 @@
 -- Texts of lines: how an input is cut, what it spells, and where it stops being a text.
-use Rattle.std.specs.Prelude.{◌≡◌, ◌≢◌, ℕ, ◌+◌, ◌<◌, ◌≤◌, ◌==◌, List, [], ◌∷◌, ◌++◌, length, take}
+use Rattle.std.specs.Prelude.{◌≡◌, ◌≢◌, ℕ, ◌<◌, ◌≤◌, ◌==◌, List, [], ◌∷◌, ◌++◌, length, take}
 use Rattle.std.specs.List.{slice_split, AllByRecursion}
 
 -- the bytes of some lines, each ended by LF

@@ -19,11 +19,11 @@ mod taking;
 mod tests;
 mod writing;
 
-pub use pieces::TextReader;
-pub use taking::take_lines;
 pub use contents::{read_cell, read_contents};
 pub use fields::{after_key, front_number, is_line, number_then, read_decimal, read_keyed};
+pub use pieces::TextReader;
 pub use short::short_then;
+pub use taking::take_lines;
 pub use writing::{push_keyed, push_line};
 
 /// What is wrong with a text.

@@ -129,7 +129,10 @@ fn reads_fields(rt: HostRuntime) -> Result<(), Fail> {
     assert_eq!(rt; front_number(b"70x"), Some((70, b"x".as_slice())));
     assert_eq!(rt; read_decimal(b"0"), Some(0));
     assert_eq!(rt; read_decimal(b"00"), None);
-    assert_eq!(rt; next_line(b"a\nb"), Some((b"a".as_slice(), b"b".as_slice())));
+    assert_eq!(rt;
+        next_line(b"a\nb"),
+        Some((b"a".as_slice(), b"b".as_slice()))
+    );
     assert_eq!(rt; read_cell(b"00000000000000ff"), Some(255));
     assert_eq!(rt; read_cell(b"00000000000000FF"), None);
     let cells = read_contents(rt.alloc(), b"0000000000000001fedcba9876543210", 2)?;

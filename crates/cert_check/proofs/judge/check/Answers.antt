@@ -1,4 +1,4 @@
-use Rattle.std.proofs.Common.{◌≡◌, ◌+◌, ℕ, List, Option, Some, None, length, ap, sym, ◌∙◌, subst, arith}
+use Rattle.std.proofs.Common.{List, length, ap, subst, arith}
 use Rattle.migration_types.specs.declared.cert.Entry.{Entry}
 use Rattle.migration_types.specs.declared.cert.Run.{Run}
 use Rattle.audit_model.specs.Mergings.{IsMerging, spelled}

@@ -1,11 +1,11 @@
-use Rattle.std.proofs.Common.{◌≡◌, ◌<◌, ◌+◌, ℕ, List, Some, length, refl, sym, ap, ◌∙◌, subst, arith}
-use Rattle.std.specs.Prelude.{slice_get, Option}
+use Rattle.std.proofs.Common.{◌≡◌, ◌+◌, ℕ, List, Some, length, refl, sym, ap, ◌∙◌, subst, arith}
+use Rattle.std.specs.Prelude.{slice_get}
 use Rattle.std.proofs.lemmas.Option.{slice_get_read}
 use Rattle.migration_types.specs.declared.records.GuestRec.{GuestRec}
 use Rattle.migration_types.specs.Extents.{Extent}
 use Rattle.migration_types.specs.Sessions.{GuestRecFits}
 use Rattle.audit_model.proofs.Lists.{each_at}
-use Rattle.cert_check.specs.Misreads.{IsLeastMisread, misread_page, lesser_of}
+use Rattle.cert_check.specs.Misreads.{IsLeastMisread, lesser_of}
 use Rattle.cert_check.proofs.Judging.{flat_next, judged_next}
 use Rattle.cert_check.proofs.pages.least_misread.Goals as goal
 

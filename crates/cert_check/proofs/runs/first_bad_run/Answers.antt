@@ -18,7 +18,7 @@ returns-then-count-records_left c =
     let taken = c.loop-place.taken in
     let run = get_or runs place no_run in
     let left : c.records_left.result ≡ left_of run.log (length s.guest - taken) =
-      c.records_left.ensures ∙ ap (λ (xs : List GuestRec). left_of run.log (length xs - taken)) c.guest-records.ensures in
+    c.records_left.ensures ∙ ap (λ (xs : List GuestRec). left_of run.log (length xs - taken)) c.guest-records.ensures in
     bad_run s runs place taken no_run c.loop-place-test.true c.loop-place.invariant (subst (λ (n : ℕ). n < run.count) left c.if-count-records_left.true)
 
 pub loop-place-preserved : goal.loop-place-preserved
@@ -29,7 +29,7 @@ loop-place-preserved c =
     let taken = c.loop-place.taken in
     let run = get_or runs place no_run in
     let left : c.records_left.result ≡ left_of run.log (length s.guest - taken) =
-      c.records_left.ensures ∙ ap (λ (xs : List GuestRec). left_of run.log (length xs - taken)) c.guest-records.ensures in
+    c.records_left.ensures ∙ ap (λ (xs : List GuestRec). left_of run.log (length xs - taken)) c.guest-records.ensures in
     next_run s runs place taken no_run c.loop-place-test.true c.loop-place.invariant (subst (λ (n : ℕ). run.count ≤ n) left c.if-count-records_left.false)
 
 pub returns-then-taken-records : goal.returns-then-taken-records

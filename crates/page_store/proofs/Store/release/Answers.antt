@@ -1,4 +1,3 @@
-use Rattle.std.proofs.Common.{◌≡◌, ℕ, ◌+◌, ◌*◌, ◌&&◌, cond, leb, ltb, get_or}
 use Rattle.page_store.proofs.Places.{release_frames}
 use Rattle.page_store.proofs.Store.release.Goals as goal
 

@@ -5,9 +5,11 @@ use Rattle.text_lines.proofs.short.stopped.Goals as goal
 use Rattle.text_lines.proofs.short.stopped.Goals.{else-count-gt1-via-then-count-gt1+else-text-eq48, else-count-gt1-via-else-count-gt1}
 
 pub returns-clause-found : goal.returns-clause-found
-returns-clause-found c =
-    (omega arith, short_found c.args.text.now c.args.n c.args.count c.requires.count c.requires.long c.requires.digits c.requires.value c.if-count-eq0.false (λ more.
-        elim c.else-count-gt1.branch [
-          | else-count-gt1-via-then-count-gt1+else-text-eq48 w ↦ w.if-text-eq48.false
-          | else-count-gt1-via-else-count-gt1 w ↦ absurd (omega arith)
-        ]) c.if-text-count-ne-SPACE.false ∙ ap (λ (t : List ℕ). decimal c.args.n ++ 32 ∷ t) (sym c.split_at.ensures.back))
+returns-clause-found c = (
+  omega arith,
+  short_found c.args.text.now c.args.n c.args.count c.requires.count c.requires.long c.requires.digits c.requires.value c.if-count-eq0.false (λ more.
+      elim c.else-count-gt1.branch [
+        | else-count-gt1-via-then-count-gt1+else-text-eq48 w ↦ w.if-text-eq48.false
+        | else-count-gt1-via-else-count-gt1 w ↦ absurd (omega arith)
+      ]) c.if-text-count-ne-SPACE.false ∙ ap (λ (t : List ℕ). decimal c.args.n ++ 32 ∷ t) (sym c.split_at.ensures.back),
+)

@@ -1,4 +1,4 @@
-use Rattle.std.proofs.Common.{◌≡◌, ℕ, List, [], ◌∷◌, Option, Some, None, refl, arith}
+use Rattle.std.proofs.Common.{ℕ, [], ◌∷◌, Option, Some, None, refl, arith}
 use Rattle.text_lines.specs.Text.{Begins}
 use Rattle.text_lines.specs.OneByte.{SpellsByte, lines_so_far, IsLineByte}
 use Rattle.text_lines.proofs.tests.OneByteLineReader.goes_on.Goals as goal
