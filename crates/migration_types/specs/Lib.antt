@@ -2,4 +2,5 @@ pub mod Extents
 pub mod Pages
 pub mod Sessions
 pub mod Memory
+pub mod PageSets
 pub mod Certs
