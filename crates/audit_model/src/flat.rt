@@ -8,10 +8,10 @@ ghost use Rattle.audit_model.specs.Flat.{cell_after, flat};
 use migration_types::{GuestRec, InitPage, PageNo, Session};
 
 /// The value of a cell after a record, where it was `old` before.
-fn value_after(page: PageNo, cell: u16, record: &GuestRec, old: u64) -> u64
-    ensures { result ≡ cell_after page cell record.now old }
+fn value_after(page: PageNo, cell: u16, logged: &GuestRec, old: u64) -> u64
+    ensures { result ≡ cell_after page cell logged.now old }
 {
-    match *record {
+    match *logged {
         GuestRec::Write {
             page: its_page,
             cell: its_cell,

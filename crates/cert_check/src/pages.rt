@@ -11,12 +11,12 @@ use std::alloc::{AllocError, Global};
 
 /// Does a record to the frames, and answers the page of a read whose value is not the frames'.
 #[inline]
-fn step(frames: &mut Store, record: &GuestRec) -> Option<PageNo>
-    requires { GuestRecFits frames.old.geometry record.now }
-    ensures memory { IsWith frames.old frames.new (stepped record.now (memory_of frames.old)) }
-    ensures misread { result ≡ misread_page record.now (memory_of frames.old) }
+fn step(frames: &mut Store, logged: &GuestRec) -> Option<PageNo>
+    requires { GuestRecFits frames.old.geometry logged.now }
+    ensures memory { IsWith frames.old frames.new (stepped logged.now (memory_of frames.old)) }
+    ensures misread { result ≡ misread_page logged.now (memory_of frames.old) }
 {
-    match *record {
+    match *logged {
         GuestRec::Read {
             page,
             cell,
