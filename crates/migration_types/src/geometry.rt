@@ -82,7 +82,5 @@ impl Geometry {
     /// Tells callers that it is within the limits.
     pub fn keeps_limits(self)
         ensures { IsExtent self }
-    {
-        let _pages = self.pages;
-    }
+    {}
 }
