@@ -1,0 +1,4 @@
+pub mod Sizes
+pub mod Nearest
+pub mod Rings
+pub mod Shifts

@@ -1,0 +1,81 @@
+-- The pages that a source pushes, outward from pivots.
+use Rattle.std.specs.Prelude.{◌≡◌, ◌≢◌, ℕ, ◌+◌, ◌-◌, ◌%◌, ◌<◌, ◌≤◌, ◌⊎◌, nat_lt, Bool, false, true, ◌&&◌, List, [], ◌∷◌, length, take, slice_index, slice_index_or}
+use Rattle.migration_types.specs.Extents.{Extent}
+use Rattle.migration_types.specs.PageSets.{Pages, others}
+
+-- how many pivots are kept at most, the pivots, newest first, and the place of the one whose turn it is
+pub record Ring : Type 0 where
+  pub most : ℕ
+  pub pivots : List ℕ
+  pub turn : ℕ
+
+-- the machine, the pivots, and for each page whether it is still to be pushed
+pub record Bubbling : Type 0 where
+  pub geometry : Extent
+  pub ring : Ring
+  pub marks : List Bool
+
+-- the pages that are marked; beyond the marks is none
+abbrev pub marked : List Bool → Pages
+marked marks page = slice_index_or marks page false
+
+-- the pages that are still to be pushed
+abbrev pub unsent : Bubbling → Pages
+unsent b = marked b.marks
+
+-- the pages of a machine that are not in the set
+abbrev pub rest_of : ℕ → Pages → Pages
+rest_of pages set page = nat_lt page pages && others set page
+
+-- no two pivots are the same page
+abbrev pub AreDistinct : List ℕ → Type 0
+AreDistinct pivots = (j k : ℕ) → j < k → k < length pivots → slice_index pivots j ≢ slice_index pivots k
+
+-- 1 to 16 pivots, all different, and one of them in turn
+pub record IsRing (r : Ring) : Type 0 where
+  pub some : 1 ≤ length r.pivots
+  pub few : length r.pivots ≤ r.most
+  pub most : r.most ≤ 16
+  pub distinct : AreDistinct r.pivots
+  pub turn : r.turn < length r.pivots
+
+-- page 0 is the only pivot
+abbrev pub first_ring : ℕ → Ring
+first_ring most = record { most = most; pivots = 0 ∷ []; turn = 0 }
+
+-- the page whose turn it is
+abbrev pub in_turn : Ring → ℕ
+in_turn r = slice_index r.pivots r.turn
+
+-- the turn goes to the next pivot, after the last to the first
+abbrev pub turned : Ring → Ring
+turned r = record { most = r.most; pivots = r.pivots; turn = (r.turn + 1) % length r.pivots }
+
+-- a page becomes the newest pivot, and it is in turn; of too many the oldest is dropped
+abbrev pub faulted : ℕ → Ring → Ring
+faulted page r = record { most = r.most; pivots = take r.most (page ∷ r.pivots); turn = 0 }
+
+-- how far apart two pages are
+abbrev pub distance : ℕ → ℕ → ℕ
+distance a b = (a - b) + (b - a)
+
+-- one page goes before another: it is nearer to the pivot, or as near and of the greater number
+abbrev pub GoesBefore : ℕ → ℕ → ℕ → Type 0
+GoesBefore pivot page other = (distance pivot page < distance pivot other) ⊎ ((distance pivot page ≡ distance pivot other) × (other < page))
+
+-- the page of the set that goes before every other
+pub record IsNextPushed (set : Pages) (pivot page : ℕ) : Type 0 where
+  pub is_unsent : set page ≡ true
+  pub is_first : (other : ℕ) → set other ≡ true → other ≢ page → GoesBefore pivot page other
+
+-- a machine's pivots and unsent pages at the start
+pub record IsStart (e : Extent) (most : ℕ) (owed : Pages) (b : Bubbling) : Type 0 where
+  pub geometry : b.geometry ≡ e
+  pub ring : b.ring ≡ first_ring most
+  pub unsent_is : unsent b ≡ owed
+
+-- these pivots and unsent pages, of the same machine
+pub record IsWith (before after : Bubbling) (ring : Ring) (pages : Pages) : Type 0 where
+  pub geometry : after.geometry ≡ before.geometry
+  pub ring_is : after.ring ≡ ring
+  pub unsent_is : unsent after ≡ pages

@@ -1,0 +1,136 @@
+//! The pages that are still to be pushed.
+
+ghost use Rattle.std.specs.Prelude.{◌≡◌, ℕ, ◌<◌, ◌≤◌, nat_lt, false, IfOk, MatchOption, length, replicate, if◌then◌else◌};
+ghost use Rattle.migration_types.specs.PageSets.{no_page, without_page, size_below};
+ghost use Rattle.balloon_ledger.specs.Released.{released};
+ghost use Rattle.bubbling.specs.Bubbling.{marked, rest_of, distance, IsNextPushed};
+
+use balloon_ledger::Ledger;
+use migration_types::{Geometry, PageNo};
+use std::alloc::{AllocError, Global};
+use std::marker::Model;
+
+/// Whether each page is still to be pushed, and how many are.
+#[derive(Drop)]
+pub struct Unsent {
+    marks: Vec<bool>,
+    left: u32,
+}
+
+impl Model for Unsent {
+    ghost use Rattle.std.specs.Prelude.{◌≡◌, ◌≤◌, List, Bool, length};
+    ghost use Rattle.migration_types.specs.PageSets.{size_below};
+    ghost use Rattle.bubbling.specs.Bubbling.{marked};
+
+    ghost Value = { List Bool };
+
+    ghost view = { λ a. a.marks.items };
+
+    ghost invariant = { λ a. (length a.marks.items ≤ 65536) × (a.left ≡ size_below (length a.marks.items) (marked a.marks.items)) };
+}
+
+impl Unsent {
+    /// The pages of the machine that are not released.
+    pub fn from_ledger(
+        alloc: Global,
+        geometry: Geometry,
+        ledger: &Ledger,
+    ) -> Result<Unsent, AllocError>
+        requires { ledger.now.geometry ≡ geometry }
+        ensures len { IfOk result (λ marks. length marks ≡ geometry.pages) }
+        ensures unsent { IfOk result (λ marks. marked marks ≡ rest_of geometry.pages (released ledger.now)) }
+    {
+        geometry.keeps_limits();
+        let mut marks = no_marks(alloc, geometry.pages() as usize)?;
+        mark_rest(&mut marks, ledger);
+        let left = count(&marks);
+        Ok(Unsent { marks, left })
+    }
+
+    /// Takes a page out. Whether it was there.
+    pub fn remove(&mut self, page: PageNo) -> bool
+        requires { page < length self.old }
+        ensures was_there { result ≡ marked self.old page }
+        ensures len { length self.new ≡ length self.old }
+        ensures pages { marked self.new ≡ without_page page (marked self.old) }
+    {
+        let at = page.index();
+        let was_there = self.marks[at];
+        if was_there {
+            self.marks[at] = false;
+            self.left -= 1;
+        }
+        was_there
+    }
+
+    /// The page nearest to the pivot, of two the greater.
+    pub fn nearest(&self, pivot: PageNo) -> Option<PageNo>
+        ensures { MatchOption result (marked self.now ≡ no_page) (IsNextPushed (marked self.now) pivot) }
+    {
+        let mut best = None;
+        for n in 0..self.marks.len() {
+            let page = PageNo::new(n as u16);
+            if self.marks[n] {
+                best = Some(nearer(best, pivot, page));
+            }
+        }
+        best
+    }
+
+    /// How many pages there are.
+    pub fn left(&self) -> u32
+        ensures { result ≡ size_below (length self.now) (marked self.now) }
+    {
+        self.left
+    }
+}
+
+/// So many pages without a mark.
+fn no_marks(alloc: Global, count: usize) -> Result<Vec<bool>, AllocError>
+    ensures { IfOk result (λ v. v.items ≡ replicate count false) }
+{
+    vec![in alloc; false; count]
+}
+
+/// Marks each page that is not released.
+fn mark_rest(marks: &mut Vec<bool>, ledger: &Ledger)
+    requires len { length marks.old.items ≡ ledger.now.geometry.pages }
+    requires few { length marks.old.items ≤ 65536 }
+    ensures len { length marks.new.items ≡ length marks.old.items }
+    ensures unsent { marked marks.new.items ≡ rest_of ledger.now.geometry.pages (released ledger.now) }
+{
+    for n in 0..marks.len() {
+        marks[n] = !ledger.holds(PageNo::new(n as u16));
+    }
+}
+
+/// How many pages are marked.
+fn count(marks: &[bool]) -> u32
+    requires { length marks.now ≤ 65536 }
+    ensures { result ≡ size_below (length marks.now) (marked marks.now) }
+{
+    let mut left = 0;
+    for n in 0..marks.len() {
+        if marks[n] {
+            left += 1;
+        }
+    }
+    left
+}
+
+/// The nearer page to the pivot, of two the later one.
+fn nearer(best: Option<PageNo>, pivot: PageNo, page: PageNo) -> PageNo
+    ensures { MatchOption best (result ≡ page) (λ b. result ≡ (if nat_lt (distance pivot b) (distance pivot page) then b else page)) }
+{
+    match best {
+        Some(best) if apart(pivot, best) < apart(pivot, page) => best,
+        _ => page,
+    }
+}
+
+/// How far apart two pages are.
+fn apart(a: PageNo, b: PageNo) -> u16
+    ensures { result ≡ distance a b }
+{
+    a.number().abs_diff(b.number())
+}

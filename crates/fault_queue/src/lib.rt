@@ -1,0 +1,146 @@
+//! The pages that virtual processors wait for, in order of arrival.
+#![tactic(auto)]
+
+ghost use Rattle.std.specs.Prelude.{◌≡◌, ℕ, ◌==◌, ◌↔◌, [], ◌∷◌, ◌++◌, false, length, slice_get, if◌then◌else◌, IsTrue, IsNone, IfNone, IfOk, OnOk, OnErr, IsErrOf};
+ghost use Rattle.std.specs.List.{list_any};
+ghost use Rattle.std.specs.Option.{option_map};
+ghost use Rattle.indexmap.specs.IndexMap.{values};
+ghost use Rattle.fault_queue.specs.Maps.{entries_of};
+ghost use Rattle.fault_queue.specs.Waiting.{is_asked, asked};
+
+use indexmap::IndexMap;
+use migration_types::PageNo;
+use std::alloc::{AllocError, Global};
+use std::marker::Model;
+use thiserror::Error;
+
+#[cfg(test)]
+mod tests;
+
+/// What a fault did to the queue.
+#[derive(Clone, Copy, Debug, PartialEq, Eq)]
+pub enum Asked {
+    /// Nobody waited for the page: it has a new entry.
+    New,
+    /// The page had an entry, which has one waiter more.
+    Joined,
+}
+
+/// Why a fault was not taken in. The queue is then as it was.
+#[derive(Clone, Copy, Debug, PartialEq, Eq, Error)]
+pub enum QueueFault {
+    /// The virtual processor waits already, for this page or for another.
+    #[error("waits already")]
+    AlreadyWaiting,
+    /// Memory was refused.
+    #[error("out of memory")]
+    Memory,
+}
+
+/// The pages that virtual processors wait for, in order of arrival, each with those that wait for it, in order of
+/// arrival.
+/// Each page has one entry at most, each virtual processor waits for one page at most, and each entry has a waiter.
+/// Contracts see the list of entries. Only `fault` takes memory.
+#[derive(Drop)]
+pub struct FaultQueue {
+    waiting: IndexMap<PageNo, Vec<u8>>,
+}
+
+impl Model for FaultQueue {
+    ghost use Rattle.std.specs.Prelude.{List};
+    ghost use Rattle.fault_queue.specs.Waiting.{Waiting, IsQueue};
+    ghost use Rattle.fault_queue.specs.Maps.{entries_of};
+
+    ghost Value = { List Waiting };
+
+    ghost view = { λ q. entries_of q.waiting };
+
+    ghost invariant = { λ q. IsQueue (entries_of q.waiting) };
+}
+
+impl FaultQueue {
+    ghost use Rattle.fault_queue.specs.Waiting.{waiters_of, waiting_for, is_waiting, without, IsQueue};
+
+    /// Nobody waits. Takes no memory.
+    pub fn new(alloc: Global) -> Self
+        ensures { result ≡ [] }
+    {
+        FaultQueue {
+            waiting: IndexMap::new(alloc),
+        }
+    }
+
+    /// Takes in that a virtual processor waits for a page: behind those that wait for it already, or in a new entry
+    /// behind the others. One that waits already, for whatever page, is refused, and this is looked at before memory is
+    /// asked for. On an error nothing changes.
+    pub fn fault(&mut self, page: PageNo, vcpu: u8) -> Result<Asked, QueueFault>
+        ensures already { IsErrOf result QueueFault.AlreadyWaiting ↔ IsTrue (is_waiting vcpu self.old) }
+        ensures told { IfOk result (λ told. told ≡ (if is_asked page self.old then Asked.Joined else Asked.New)) }
+        ensures entries { OnOk result (self.new ≡ asked page vcpu self.old) }
+        ensures nobody_lost { OnOk result ((p : ℕ) → waiting_for p self.new ≡ waiting_for p self.old ++ (if p == page then vcpu ∷ [] else [])) }
+        ensures err { OnErr result (self.new ≡ self.old) }
+    {
+        if self.is_waiting(vcpu) {
+            return Err(QueueFault::AlreadyWaiting);
+        }
+        ask(&mut self.waiting, page, vcpu).map_err(|_| QueueFault::Memory)
+    }
+
+    /// Takes a page's entry out and hands its waiters over, in order of arrival. The other entries stay, in their
+    /// order. `None` where nobody waits for the page, and then nothing changes. Takes no memory.
+    pub fn served(&mut self, page: PageNo) -> Option<Vec<u8>>
+        ensures waiters { option_map (λ v. v.items) result ≡ waiters_of page self.old }
+        ensures others { self.new ≡ without page self.old }
+        ensures nobody_lost { (p : ℕ) → waiting_for p self.new ≡ (if p == page then [] else waiting_for p self.old) }
+        ensures none { IsNone result ↔ (is_asked page self.old ≡ false) }
+        ensures unchanged { IfNone result (self.new ≡ self.old) }
+    {
+        self.waiting.shift_remove(&page)
+    }
+
+    /// The page of the oldest entry, or `None` where nobody waits.
+    pub fn first(&self) -> Option<PageNo>
+        ensures { result ≡ option_map (λ e. e.page) (slice_get self.now 0) }
+    {
+        let (page, _) = self.waiting.first()?;
+        Some(*page)
+    }
+
+    /// How many pages are waited for, which is how many entries there are.
+    pub fn pages(&self) -> u32
+        ensures count { result ≡ length self.now }
+        ensures kept { IsQueue self.now }
+    {
+        self.waiting.len() as u32
+    }
+
+    /// Whether a virtual processor waits, for any page.
+    pub fn is_waiting(&self, vcpu: u8) -> bool
+        ensures { result ≡ is_waiting vcpu self.now }
+    {
+        waits(&self.waiting, vcpu)
+    }
+}
+
+/// Whether a virtual processor is among the waiters of a page.
+fn waits(waiting: &IndexMap<PageNo, Vec<u8>>, vcpu: u8) -> bool
+    ensures { result ≡ list_any (λ v. list_any (λ x. x == vcpu) v.items) (values waiting.now) }
+{
+    waiting.values().any(|waiters| waiters.contains(&vcpu))
+}
+
+/// Puts a virtual processor behind those that wait for a page, or into a new entry.
+fn ask(waiting: &mut IndexMap<PageNo, Vec<u8>>, page: PageNo, vcpu: u8) -> Result<Asked, AllocError>
+    ensures told { IfOk result (λ told. told ≡ (if is_asked page (entries_of waiting.old) then Asked.Joined else Asked.New)) }
+    ensures entries { OnOk result (entries_of waiting.new ≡ asked page vcpu (entries_of waiting.old)) }
+    ensures err { OnErr result (entries_of waiting.new ≡ entries_of waiting.old) }
+{
+    if let Some(waiters) = waiting.get_mut(&page) {
+        waiters.push(vcpu)?;
+        return Ok(Asked::Joined);
+    }
+    let mut vcpus = Vec::new(*waiting.allocator());
+    vcpus.push(vcpu)?;
+    waiting.insert(page, vcpus)?;
+    Ok(Asked::New)
+}
