@@ -86,11 +86,3 @@ marked_lt marks q is = go (cases_lt q (length marks))
       where
         apart : true ≡ false → ⊥
         apart e = cc
-
--- marks that are given for each page of a machine
-pub marked_by : (marks : List Bool) (pages : ℕ) (set : Pages) → length marks ≡ pages → ((k : ℕ) → k < pages → get_or marks k false ≡ not (set k)) → marked marks ≡ rest_of pages set
-marked_by marks pages set sized given = λ i k. each k (cases_lt k pages) i
-  where
-    each : (k : ℕ) → (k < pages) ⊎ (pages ≤ k) → marked marks k ≡ rest_of pages set k
-    each k (inl lt) = given k lt ∙ sym (ap (λ b. b && not (set k)) (lt-ltb k pages lt))
-    each k (inr ge) = get_or_past marks k false (omega (arith, sized)) ∙ sym (ap (λ b. b && not (set k)) (le-ltb k pages ge))
