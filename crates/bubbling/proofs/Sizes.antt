@@ -53,14 +53,6 @@ size_without pages q (suc n) lt is =
         let same : one_if (without_page q pages n) ≡ one_if (pages n) = ap one_if (without_same pages q n differs) in
         omega (arith, ih, same)
 
--- taking out a page that is not in the set changes nothing
-pub without_other : (pages : Pages) (q : ℕ) → pages q ≡ false → without_page q pages ≡ pages
-without_other pages q is = λ i k. each k (cases_eq q k) i
-  where
-    each : (k : ℕ) → (q ≡ k) ⊎ (q ≡ k → ⊥) → without_page q pages k ≡ pages k
-    each k (inl same) = without_here pages q k same ∙ sym is ∙ ap pages same
-    each k (inr differs) = without_same pages q k differs
-
 -- a mark taken away
 pub marked_set : (marks : List Bool) (q : ℕ) → q < length marks → marked (set marks q false) ≡ without_page q (marked marks)
 marked_set marks q lt = λ i k. each k (cases_eq q k) i

@@ -9,7 +9,7 @@ use Rattle.migration_types.specs.declared.cert.Run.{Run}
 use Rattle.migration_types.specs.Sessions.{Recorded}
 use Rattle.audit_model.specs.Names.{Name, log_length, receipt, if_there, guest_receipt, same_log}
 use Rattle.audit_model.specs.Mergings.{Cursors, at_start, moved, run_names, spelled, spelled_from}
-use Rattle.audit_model.specs.Walks.{next, cursors_from, Walks, IsWholeWalk}
+use Rattle.audit_model.specs.Walks.{next, cursors_from, Walks}
 use Rattle.audit_model.proofs.Cuts.{same_log_itself}
 use Rattle.cert_check.specs.Taken.{guest_alone, left_of}
 use Rattle.cert_check.specs.Verdicts.{IsFirstBadRun}
@@ -132,13 +132,6 @@ all_at runs place c le at = ap (λ rs. cursors_from at_start (spelled rs)) (sym 
 pub up_to_end : (s : Recorded) (runs : List Run) → Walks s at_start (spelled runs) → Walks s at_start (spelled (take (length runs) runs))
 up_to_end s runs walks = subst (λ rs. Walks s at_start (spelled rs)) (sym (take_all (length runs) runs (omega arith))) walks
 
--- the guest's log was taken whole, and the others have no record
-pub all_taken : (s : Recorded) (taken : ℕ) → taken ≡ length s.guest → (log : LogName) → guest_alone taken log ≡ log_length s log
-all_taken s taken e Guest = e
-all_taken s taken e Source = refl
-all_taken s taken e Link = refl
-all_taken s taken e Pager = refl
-
 -- a run of the guest's log moves its cursor
 pub guest_moved : (taken count : ℕ) → moved (guest_alone taken) Guest count ≡ guest_alone (taken + count)
 guest_moved taken count = λ i m. each m i
@@ -160,15 +153,6 @@ pub record IsTaken (s : Recorded) (runs : List Run) (place taken : ℕ) : Type 0
   pub within : taken ≤ length s.guest
   pub walked : Walks s at_start (spelled (take place runs))
   pub at : cursors_from at_start (spelled (take place runs)) ≡ guest_alone taken
-
-pub none_taken : (s : Recorded) (runs : List Run) → IsTaken s runs 0 0
-none_taken s runs = record { within = omega arith; walked = tt; at = λ i m. zero_at m i }
-  where
-    zero_at : (m : LogName) → at_start m ≡ guest_alone 0 m
-    zero_at Guest = refl
-    zero_at Source = refl
-    zero_at Link = refl
-    zero_at Pager = refl
 
 too_many : {A : Type 0} (s : Recorded) (log : LogName) (taken count : ℕ) → taken ≤ length s.guest → left_of log (length s.guest - taken) < count → guest_alone taken log + count ≤ log_length s log → A
 too_many s Guest taken count within more le = absurd (omega arith)
@@ -231,9 +215,3 @@ records_left s runs place taken le t less = record {
       let all : guest_alone taken Guest ≡ log_length s Guest = ap (λ (c : Cursors). c Guest) (sym at) ∙ whole.1 Guest in
       absurd (omega (arith, all));
 }
-
-pub whole_walk : (s : Recorded) (runs : List Run) (place taken : ℕ) → length runs ≤ place → IsTaken s runs place taken → length s.guest ≤ taken → IsWholeWalk s (spelled runs)
-whole_walk s runs place taken le t full =
-    let at = all_at runs place (guest_alone taken) le t.at in
-    let within = t.within in
-    (all_walked s runs place le t.walked, λ log. ap (λ (c : Cursors). c log) at ∙ all_taken s taken (omega arith) log)

@@ -1,9 +1,9 @@
 -- A write to a list of cells as a change of the memory.
-use Rattle.std.proofs.Common.{◌≡◌, ℕ, ◌+◌, ◌-◌, ◌*◌, ◌<◌, ◌≤◌, ◌⊎◌, inl, inr, true, false, cond, ◌&&◌, List, length, replicate, map, get_or, set, take, drop, ltb, leb, eq-eqb, refl, sym, ap, ◌∙◌, subst, arith}
+use Rattle.std.proofs.Common.{◌≡◌, ℕ, ◌+◌, ◌-◌, ◌*◌, ◌<◌, ◌≤◌, ◌⊎◌, inl, inr, true, false, cond, ◌&&◌, List, length, map, get_or, set, take, drop, ltb, leb, eq-eqb, refl, sym, ap, ◌∙◌, subst, arith}
 use Rattle.std.specs.List.{range_with_len}
 use Rattle.std.specs.Prelude.{◌==◌}
 use Rattle.std.proofs.lemmas.Bool.{cases_lt, cases_eq, ne_eqb, lt-ltb, le-ltb, le-leb, lt-leb, and_left, and_right, and_from, and_parts, cases_Bool, eqb-true}
-use Rattle.std.proofs.lemmas.List.{get_or-set_same, get_or-set_other, get_or-replicate, get_or_past, get_or-take, get_or-drop, same_lists, length-take, length-drop, get_or_default}
+use Rattle.std.proofs.lemmas.List.{get_or-set_same, get_or-set_other, get_or_past, get_or-take, get_or-drop, same_lists, length-take, length-drop, get_or_default}
 use Rattle.std.proofs.lemmas.List.FromFn.{get_or-map-range_with_len, length-map-range_with_len}
 use Rattle.std.proofs.Math.Nat.{mul_comm}
 use Rattle.std.proofs.lemmas.Nat.{mul-add-lt, same_from_place, row_fits}
@@ -34,15 +34,6 @@ memory_by pages cells items m within page cell = λ i q d. each q d i
 
     each : (q d : ℕ) → memory_of (at pages cells items) q d ≡ m q d
     each q d = go q d (cases_lt q pages) (cases_lt d cells)
-
-pub zero_memory : (pages cells : ℕ) (items : List ℕ) → items ≡ replicate (pages * cells) 0 → memory_of (at pages cells items) ≡ (λ p c. 0)
-zero_memory pages cells items e = memory_by pages cells items (λ p c. 0) (λ q d p c. ap (λ (xs : List ℕ). get_or xs (q * cells + d) 0) e ∙ get_or-replicate (pages * cells) (q * cells + d) 0 0 (place q d p c)) (λ q d p. refl) (λ q d p c. refl)
-  where
-    place : (q d : ℕ) → q < pages → d < cells → q * cells + d < pages * cells
-    place q d p c = let h : q * cells + d < cells * pages = mul-add-lt q cells d pages p c in subst (λ n. q * cells + d < n) (mul_comm cells pages) h
-
-pub read_memory : (pages cells : ℕ) (items : List ℕ) (p c : ℕ) → p < pages → c < cells → get_or items (p * cells + c) 0 ≡ memory_of (at pages cells items) p c
-read_memory pages cells items p c lp lc = sym (inside pages cells items p c lp lc)
 
 -- the place of a cell
 pub place_lt : (pages cells q d : ℕ) → q < pages → d < cells → q * cells + d < pages * cells

@@ -143,9 +143,6 @@ module _ {V : Type 0} (Spells : V → List (List ℕ) → Type 0) (plain : Plain
         stops = λ lt b. absurd (omega (arith, len));
       }
 
-  pub spells_at_end : (held : List (List ℕ)) (input rest : List ℕ) (v : V) → input ≡ ended held ++ rest → rest ≡ [] → Spells v held → IsSpelling Spells v input
-  spells_at_end held input rest v whole none s = (held, s, whole ∙ ap (λ (t : List ℕ). ended held ++ t) none ∙ append-nil (ended held))
-
 -- ---- more bytes
 
 take_onto : (b : ℕ) (xs ys : List (List ℕ)) (j : ℕ) → take (suc j) xs ≡ take (suc j) ys → take (suc j) (onto_first b xs) ≡ take (suc j) (onto_first b ys)
