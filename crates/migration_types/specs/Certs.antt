@@ -1,14 +1,28 @@
 -- Certificates and their limits.
-use Rattle.std.specs.Prelude.{◌≢◌, ℕ, ◌+◌, ◌<◌, ◌≤◌, List, length, slice_index_or}
+use Rattle.std.specs.Prelude.{◌≢◌, ℕ, ◌+◌, ◌<◌, ◌≤◌, List, length, Option, Some, None, slice_index_or}
 use Rattle.std.specs.List.{AllByRecursion}
 use Rattle.migration_types.specs.declared.cert.Run.{Run}
+use Rattle.migration_types.specs.declared.cert.First.{First}
 use Rattle.migration_types.specs.declared.cert.Entry.{Entry}
+use Rattle.migration_types.specs.declared.cert.Entry.TheVariants.{Nothing, Source, Balloon}
+use Rattle.migration_types.specs.Sessions.{IsNumber}
 
 -- what a certificate says: an entry for each page, and the runs of a merging
 pub record Certified : Type 0 where
   pub entries : List Entry
   pub runs : List Run
 
+-- the numbers of an entry are numbers of records
+abbrev pub FirstFits : Option First → Type 0
+FirstFits None = Unit {0}
+FirstFits (Some first) = IsNumber first.access × IsNumber first.see
+
+abbrev pub EntryFits : Entry → Type 0
+EntryFits Nothing = Unit {0}
+EntryFits (Source send place first) = IsNumber send × IsNumber place × FirstFits first
+EntryFits (Balloon place first) = IsNumber place × FirstFits first
+
+-- a run takes 1 to 1,048,576 records
 pub record RunFits (run : Run) : Type 0 where
   pub some : 1 ≤ run.count
   pub few : run.count ≤ 1048576
@@ -27,4 +41,5 @@ pub record AreRuns (runs : List Run) : Type 0 where
 pub record IsCert (c : Certified) : Type 0 where
   pub some_pages : 1 ≤ length c.entries
   pub few_pages : length c.entries ≤ 65536
+  pub entries : AllByRecursion EntryFits c.entries
   pub runs : AreRuns c.runs

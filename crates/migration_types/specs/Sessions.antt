@@ -1,27 +1,84 @@
 -- Recorded sessions and their limits.
-use Rattle.std.specs.Prelude.{◌<◌, ◌≤◌, ◌^◌, List, length}
+use Rattle.std.specs.Prelude.{ℕ, ◌+◌, ◌<◌, ◌≤◌, ◌^◌, List, length}
 use Rattle.std.specs.List.{AllByRecursion}
+use Rattle.text_lines.specs.Contents.{IsContent}
 use Rattle.migration_types.specs.declared.pages.InitPage.{InitPage}
+use Rattle.migration_types.specs.declared.records.LogName.TheVariants.{Guest, Source, Link, Pager}
 use Rattle.migration_types.specs.declared.records.GuestRec.{GuestRec}
-use Rattle.migration_types.specs.declared.records.GuestRec.TheVariants.{Read, Write, Release}
+use Rattle.migration_types.specs.declared.records.GuestRec.TheVariants.{Read, Write, Release, Miss, Halt, Resume, See}
+use Rattle.migration_types.specs.declared.records.SourceRec.{SourceRec}
+use Rattle.migration_types.specs.declared.records.SourceRec.TheVariants.{Halted, State, Send, Again, Ask, Done}
+use Rattle.migration_types.specs.declared.records.LinkRec.{LinkRec}
+use Rattle.migration_types.specs.declared.records.LinkRec.TheVariants.{Down, Up}
+use Rattle.migration_types.specs.declared.records.PagerRec.{PagerRec}
+use Rattle.migration_types.specs.declared.records.PagerRec.TheVariants.{Got, Ready, Fault, Join, Want, Place, Zero, Skip, All}
 use Rattle.migration_types.specs.Extents.{Extent, IsExtent}
 use Rattle.migration_types.specs.Pages.{AreInitPages}
+use Rattle.migration_types.specs.Receipts.{Name}
 
--- what was recorded: the machine, the pages that do not begin as zeros, and the guest's log
+-- what was recorded: the machine, the pages that do not begin as zeros, and the logs of the four parties
 pub record Recorded : Type 0 where
   pub geometry : Extent
   pub init : List InitPage
   pub guest : List GuestRec
+  pub source : List SourceRec
+  pub link : List LinkRec
+  pub pager : List PagerRec
+
+-- a record's number is its place in its log, and no log has more than 1,048,576 records
+abbrev pub IsNumber : ℕ → Type 0
+IsNumber n = n < 1048576
 
 -- a record's numbers are those of a machine of this extent, with 64 virtual processors
 abbrev pub GuestRecFits : Extent → GuestRec → Type 0
 GuestRecFits e (Read vcpu page cell value) = (vcpu < 64) × (page < e.pages) × (cell < e.cells) × (value < 2 ^ 64)
 GuestRecFits e (Write vcpu page cell value) = (vcpu < 64) × (page < e.pages) × (cell < e.cells) × (value < 2 ^ 64)
 GuestRecFits e (Release vcpu page) = (vcpu < 64) × (page < e.pages)
+GuestRecFits e (Miss vcpu page) = (vcpu < 64) × (page < e.pages)
+GuestRecFits e Halt = Unit {0}
+GuestRecFits e (Resume ready) = IsNumber ready
+GuestRecFits e (See placement) = IsNumber placement
+
+abbrev pub SourceRecFits : Extent → SourceRec → Type 0
+SourceRecFits e (Halted halt) = IsNumber halt
+SourceRecFits e State = Unit {0}
+SourceRecFits e (Send page contents) = (page < e.pages) × IsContent e.cells contents
+SourceRecFits e (Again sending) = IsNumber sending
+SourceRecFits e (Ask up) = IsNumber up
+SourceRecFits e Done = Unit {0}
+
+abbrev pub LinkRecFits : LinkRec → Type 0
+LinkRecFits (Down sending) = IsNumber sending
+LinkRecFits (Up asking) = IsNumber asking
+
+abbrev pub PagerRecFits : Extent → PagerRec → Type 0
+PagerRecFits e (Got down) = IsNumber down
+PagerRecFits e Ready = Unit {0}
+PagerRecFits e (Fault miss) = IsNumber miss
+PagerRecFits e (Join want) = IsNumber want
+PagerRecFits e (Want page) = page < e.pages
+PagerRecFits e (Place page got contents) = (page < e.pages) × IsNumber got × IsContent e.cells contents
+PagerRecFits e (Zero page) = page < e.pages
+PagerRecFits e (Skip got) = IsNumber got
+PagerRecFits e All = Unit {0}
 
 -- what was recorded is within all limits
 pub record IsSession (s : Recorded) : Type 0 where
   pub geometry : IsExtent s.geometry
   pub init : AreInitPages s.geometry s.init
   pub few_guest : length s.guest ≤ 1048576
+  pub few_source : length s.source ≤ 1048576
+  pub few_link : length s.link ≤ 1048576
+  pub few_pager : length s.pager ≤ 1048576
   pub guest : AllByRecursion (GuestRecFits s.geometry) s.guest
+  pub source : AllByRecursion (SourceRecFits s.geometry) s.source
+  pub link : AllByRecursion LinkRecFits s.link
+  pub pager : AllByRecursion (PagerRecFits s.geometry) s.pager
+
+-- The line at which the text of a session has a record. Five lines and those of the initial pages stand before the
+-- guest's records, and one line before each other log's.
+abbrev pub line_of : Recorded → Name → ℕ
+line_of s (Guest, n) = 6 + length s.init + n
+line_of s (Source, n) = 7 + length s.init + length s.guest + n
+line_of s (Link, n) = 8 + length s.init + length s.guest + length s.source + n
+line_of s (Pager, n) = 9 + length s.init + length s.guest + length s.source + length s.link + n

@@ -17,11 +17,32 @@ pub struct Run {
     pub count: u32,
 }
 
+/// The first read or write of a page at the target, and the look at the page's placement that stands before it: the
+/// numbers of these two records of the guest.
+#[derive(Clone, Copy, Debug, PartialEq, Eq)]
+pub struct First {
+    pub access: u32,
+    pub see: u32,
+}
+
 /// What a certificate says of a page.
 #[derive(Clone, Copy, Debug, PartialEq, Eq)]
 pub enum Entry {
     /// It was not placed at the target, and not used there.
     Nothing,
+    /// It was sent by this record of the source, and placed by this record of the pager.
+    Source {
+        send: u32,
+        place: u32,
+        /// None where the page was not read or written at the target.
+        first: Option<First>,
+    },
+    /// It was released at the halt, and placed as zeros by this record of the pager.
+    Balloon {
+        place: u32,
+        /// None where the page was not read or written at the target.
+        first: Option<First>,
+    },
 }
 
 /// A certificate, within all limits: an entry for each page, and the runs of a merging.

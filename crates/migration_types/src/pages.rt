@@ -2,7 +2,7 @@
 
 ghost use Rattle.std.specs.Prelude.{◌≡◌, ◌<◌, ◌^◌};
 
-use crate::seq::Seq;
+use crate::contents::Contents;
 use std::marker::Model;
 
 /// A page's number, 0 to 65,535. Contracts see the number.
@@ -49,5 +49,5 @@ impl PageNo {
 #[derive(Drop)]
 pub struct InitPage {
     pub page: PageNo,
-    pub cells: Seq<u64>,
+    pub cells: Contents,
 }
