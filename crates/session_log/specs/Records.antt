@@ -1,28 +1,69 @@
--- The lines of the guest's records. Numbers are in decimal form with no leading zero, and one space (32) parts them:
---     r VCPU PAGE CELL VALUE      read
---     w VCPU PAGE CELL VALUE      wrote
---     z VCPU PAGE                 released
+-- The lines of the parties' records. Numbers are in decimal form with no leading zero, one space (32) parts them, and
+-- CONTENTS has sixteen hexadecimal digits, in lower case, for each cell of a page. NUMBER is the number of another record.
+--     the guest's log                  the source's log         the pager's log
+--     r VCPU PAGE CELL VALUE           halted NUMBER            got NUMBER
+--     w VCPU PAGE CELL VALUE           state                    ready
+--     z VCPU PAGE                      send PAGE CONTENTS       fault NUMBER
+--     miss VCPU PAGE                   again NUMBER             join NUMBER
+--     halt                             ask NUMBER               want PAGE
+--     resume NUMBER                    done                     place PAGE NUMBER CONTENTS
+--     see NUMBER                                                zero PAGE
+--                                      the link's log           skip NUMBER
+--                                      down NUMBER              all
+--                                      up NUMBER
 use Rattle.std.specs.Prelude.{ℕ, List, ◌∷◌, ◌++◌, codes}
 use Rattle.std.specs.Fmt.{decimal}
+use Rattle.text_lines.specs.Contents.{contents_text}
 use Rattle.migration_types.specs.declared.records.GuestRec.{GuestRec}
-use Rattle.migration_types.specs.declared.records.GuestRec.TheVariants.{Read, Write, Release}
+use Rattle.migration_types.specs.declared.records.GuestRec.TheVariants.{Read, Write, Release, Miss, Halt, Resume, See}
+use Rattle.migration_types.specs.declared.records.SourceRec.{SourceRec}
+use Rattle.migration_types.specs.declared.records.SourceRec.TheVariants.{Halted, State, Send, Again, Ask, Done}
+use Rattle.migration_types.specs.declared.records.LinkRec.{LinkRec}
+use Rattle.migration_types.specs.declared.records.LinkRec.TheVariants.{Down, Up}
+use Rattle.migration_types.specs.declared.records.PagerRec.{PagerRec}
+use Rattle.migration_types.specs.declared.records.PagerRec.TheVariants.{Got, Ready, Fault, Join, Want, Place, Zero, Skip, All}
 
 abbrev pub access_text : ℕ → ℕ → ℕ → ℕ → List ℕ
 access_text vcpu page cell value = decimal vcpu ++ 32 ∷ (decimal page ++ 32 ∷ (decimal cell ++ 32 ∷ decimal value))
 
-abbrev pub release_text : ℕ → ℕ → List ℕ
-release_text vcpu page = decimal vcpu ++ 32 ∷ decimal page
+-- a virtual processor and a page
+abbrev pub vcpu_page_text : ℕ → ℕ → List ℕ
+vcpu_page_text vcpu page = decimal vcpu ++ 32 ∷ decimal page
 
-abbrev pub read_key : List ℕ
-read_key = codes "r "
+abbrev pub page_text : ℕ → List ℕ → List ℕ
+page_text page contents = decimal page ++ 32 ∷ contents_text contents
 
-abbrev pub write_key : List ℕ
-write_key = codes "w "
+abbrev pub placed_text : ℕ → ℕ → List ℕ → List ℕ
+placed_text page got contents = decimal page ++ 32 ∷ (decimal got ++ 32 ∷ contents_text contents)
 
-abbrev pub release_key : List ℕ
-release_key = codes "z "
+abbrev pub guest_line : GuestRec → List ℕ
+guest_line (Read vcpu page cell value) = codes "r " ++ access_text vcpu page cell value
+guest_line (Write vcpu page cell value) = codes "w " ++ access_text vcpu page cell value
+guest_line (Release vcpu page) = codes "z " ++ vcpu_page_text vcpu page
+guest_line (Miss vcpu page) = codes "miss " ++ vcpu_page_text vcpu page
+guest_line Halt = codes "halt"
+guest_line (Resume ready) = codes "resume " ++ decimal ready
+guest_line (See placement) = codes "see " ++ decimal placement
 
-abbrev pub record_line : GuestRec → List ℕ
-record_line (Read vcpu page cell value) = read_key ++ access_text vcpu page cell value
-record_line (Write vcpu page cell value) = write_key ++ access_text vcpu page cell value
-record_line (Release vcpu page) = release_key ++ release_text vcpu page
+abbrev pub source_line : SourceRec → List ℕ
+source_line (Halted halt) = codes "halted " ++ decimal halt
+source_line State = codes "state"
+source_line (Send page contents) = codes "send " ++ page_text page contents
+source_line (Again sending) = codes "again " ++ decimal sending
+source_line (Ask up) = codes "ask " ++ decimal up
+source_line Done = codes "done"
+
+abbrev pub link_line : LinkRec → List ℕ
+link_line (Down sending) = codes "down " ++ decimal sending
+link_line (Up asking) = codes "up " ++ decimal asking
+
+abbrev pub pager_line : PagerRec → List ℕ
+pager_line (Got down) = codes "got " ++ decimal down
+pager_line Ready = codes "ready"
+pager_line (Fault miss) = codes "fault " ++ decimal miss
+pager_line (Join want) = codes "join " ++ decimal want
+pager_line (Want page) = codes "want " ++ decimal page
+pager_line (Place page got contents) = codes "place " ++ placed_text page got contents
+pager_line (Zero page) = codes "zero " ++ decimal page
+pager_line (Skip got) = codes "skip " ++ decimal got
+pager_line All = codes "all"
