@@ -1,0 +1,2 @@
+pub mod BadRuns
+pub mod Taken

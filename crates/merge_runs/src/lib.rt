@@ -1,0 +1,22 @@
+//! Runs of a merging: whether the records that they take, run after run, are a merging of a session's logs.
+#![tactic(auto)]
+
+ghost use Rattle.std.specs.Prelude.{◌↔◌, IsTrue};
+ghost use Rattle.audit_model.specs.Mergings.{IsMerging, spelled};
+
+use migration_types::{Run, Session};
+
+mod taken;
+#[cfg(test)]
+mod tests;
+mod walk;
+
+pub use walk::first_bad_run;
+
+/// Whether the runs spell a merging: each record of each log is taken once, in its log's order, and each receipt after
+/// the record that it names. Takes one pass over the runs and over the records, and no memory.
+pub fn is_merging(session: &Session, runs: &[Run]) -> bool
+    ensures { IsTrue result ↔ IsMerging session.now (spelled runs.now) }
+{
+    first_bad_run(session, runs).is_none()
+}

@@ -1,0 +1,4 @@
+pub mod Before
+pub mod Judging
+pub mod Moving
+pub mod Starting

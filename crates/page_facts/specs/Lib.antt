@@ -1,0 +1,4 @@
+pub mod Tables
+pub mod Judged
+pub mod Moved
+pub mod Facts

@@ -1,0 +1,22 @@
+//! What the four logs of a session say of each page, found in one pass over each log with one memory.
+//!
+//! A checker, a maker of certificates and an audit all judge a page by the same few facts: whether a read of it gave
+//! another value than one machine would, what was sent of it, where it was placed, and when it was first used after
+//! handover. [`tables`] finds them for all pages at once.
+#![tactic(auto)]
+
+mod guest;
+mod kinds;
+mod marks;
+mod moved;
+mod tables;
+#[cfg(test)]
+mod tests;
+
+pub use kinds::{
+    delivers_send, delivers_state, delivery, goes_down_at, goes_up_at, is_down_at, is_got_at,
+    is_halt, is_halt_at, is_miss_at, is_placement_at, is_ready_at, is_resume, is_send_of,
+    is_sending_at, is_up_at, is_want_at,
+};
+pub use marks::no_marks;
+pub use tables::{PageFacts, Tables, facts_of, tables};
