@@ -6,7 +6,8 @@ use Rattle.std.proofs.lemmas.List.Elements.{Contains-append_cases, Contains-push
 use Rattle.migration_types.specs.declared.records.LogName.{LogName}
 use Rattle.migration_types.specs.declared.records.LogName.TheVariants.{Guest, Source, Link, Pager}
 use Rattle.migration_types.specs.Sessions.{Recorded}
-use Rattle.audit_model.specs.Names.{Name, log_length, same_log}
+use Rattle.migration_types.specs.Receipts.{Name}
+use Rattle.audit_model.specs.Names.{log_length, same_log}
 use Rattle.audit_model.specs.Mergings.{places_of, IsMerging, Cursors, at_start}
 use Rattle.audit_model.specs.Walks.{next, cursors_from, MayFollow, Walks}
 

@@ -1,4 +1,3 @@
 pub mod Cuts
 pub mod Walked
 pub mod Lists
-pub mod Faithful

@@ -6,7 +6,8 @@ use Rattle.std.proofs.lemmas.Bool.{cases_lt}
 use Rattle.std.proofs.lemmas.List.Elements.{Contains-append_right}
 use Rattle.migration_types.specs.declared.records.LogName.{LogName}
 use Rattle.migration_types.specs.Sessions.{Recorded}
-use Rattle.audit_model.specs.Names.{Name, log_length, same_log}
+use Rattle.migration_types.specs.Receipts.{Name}
+use Rattle.audit_model.specs.Names.{log_length, same_log}
 use Rattle.audit_model.specs.Mergings.{places_of, StandsAfter, IsMerging, Cursors, at_start}
 use Rattle.audit_model.specs.Walks.{next, cursors_from, MayFollow, Walks, IsWholeWalk}
 use Rattle.audit_model.proofs.Cuts.{cursor_next, cursor_count, from_start, same_from_test, merging_walks}

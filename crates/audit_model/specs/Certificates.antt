@@ -1,23 +1,96 @@
 -- Right entries and right certificates.
-use Rattle.std.specs.Prelude.{◌≡◌, ℕ, length, Some, slice_get}
-use Rattle.migration_types.specs.declared.cert.Entry.{Entry}
-use Rattle.migration_types.specs.declared.cert.Entry.TheVariants.{Nothing}
+use Rattle.std.specs.Prelude.{◌≡◌, ℕ, ◌<◌, ◌≤◌, Bool, true, false, ◌==◌, ◌⊎◌, List, length, Option, Some, None, slice_get}
+use Rattle.migration_types.specs.declared.records.GuestRec.{GuestRec}
+use Rattle.migration_types.specs.declared.records.GuestRec.TheVariants.{Read, Write, See}
+use Rattle.migration_types.specs.declared.records.SourceRec.TheVariants.{Send, Again}
+use Rattle.migration_types.specs.declared.records.PagerRec.{PagerRec}
+use Rattle.migration_types.specs.declared.records.PagerRec.TheVariants.{Place, Zero}
 use Rattle.migration_types.specs.Certs.{Certified}
 use Rattle.migration_types.specs.Sessions.{Recorded}
-use Rattle.audit_model.specs.Mergings.{IsMerging, HasMerging, spelled}
-use Rattle.audit_model.specs.Flat.{ReadsFlatAt, ReadsFlat}
+use Rattle.migration_types.specs.declared.cert.First.{First}
+use Rattle.migration_types.specs.declared.cert.Entry.{Entry}
+use Rattle.migration_types.specs.declared.cert.Entry.TheVariants.{Nothing, Source, Balloon}
+use Rattle.audit_model.specs.Mergings.{IsMerging, spelled}
+use Rattle.migration_types.specs.Memory.{page_of}
+use Rattle.audit_model.specs.Flat.{flat, ReadsFlatAt, in_ledger, AtTarget, home, at_halt}
+use Rattle.audit_model.specs.Shape.{is_placement_of, delivery}
 
--- an entry says of its page what the session's records show
+-- a read or a write of the page
+abbrev pub is_access_of : ℕ → GuestRec → Bool
+is_access_of page (Read vcpu p c value) = p == page
+is_access_of page (Write vcpu p c value) = p == page
+is_access_of page _ = false
+
+-- guest record n is a read or a write of the page after handover
+pub record IsLateAccess (s : Recorded) (page n : ℕ) : Type 0 where
+  pub by : GuestRec
+  pub stands : slice_get s.guest n ≡ Some by
+  pub is_access : is_access_of page by ≡ true
+  pub is_late : home s n ≡ AtTarget
+
+-- what each entry needs: the page's reads are flat, and it is sent only where it is owed, with its content at the halt
+pub record IsHonest (s : Recorded) (page : ℕ) : Type 0 where
+  pub reads : ReadsFlatAt s page
+  pub sends : (n : ℕ) (content : List ℕ) → slice_get s.source n ≡ Some (Send page content) → content ≡ page_of s.geometry.cells (flat s (at_halt s)) page
+  pub owed : (n : ℕ) (content : List ℕ) → slice_get s.source n ≡ Some (Send page content) → in_ledger s (at_halt s) page ≡ false
+
+-- pager record `place` is the one placement of the page
+abbrev pub IsOnlyPlacement : Recorded → ℕ → ℕ → Type 0
+IsOnlyPlacement s page place =
+    (n : ℕ) (r : PagerRec) → slice_get s.pager n ≡ Some r → is_placement_of page r ≡ true → n ≡ place
+
+-- the first access after handover, with a look before it at the placement or at a later one
+pub record IsFirstCovered (s : Recorded) (page place : ℕ) (first : First) : Type 0 where
+  pub is_access : IsLateAccess s page first.access
+  pub is_first : (n : ℕ) → IsLateAccess s page n → first.access ≤ n
+  pub placement : ℕ
+  pub sees : slice_get s.guest first.see ≡ Some (See placement)
+  pub covers : place ≤ placement
+  pub is_earlier : first.see < first.access
+
+-- the first access after handover is covered by a look, or there is none
+abbrev pub IsCovered : Recorded → ℕ → ℕ → Option First → Type 0
+IsCovered s page place None = (n : ℕ) → IsLateAccess s page n → ⊥
+IsCovered s page place (Some first) = IsFirstCovered s page place first
+
+-- the page is not placed, and not accessed after handover
+pub record IsNothing (s : Recorded) (page : ℕ) : Type 0 where
+  pub unplaced : (n : ℕ) (r : PagerRec) → slice_get s.pager n ≡ Some r → is_placement_of page r ≡ false
+  pub unaccessed : (n : ℕ) → IsLateAccess s page n → ⊥
+
+-- the page is sent by one record of the source and placed by one of the pager, and nowhere else
+pub record IsFromSource (s : Recorded) (page send place : ℕ) (first : Option First) : Type 0 where
+  pub sent : List ℕ
+  pub is_sent : slice_get s.source send ≡ Some (Send page sent)
+  pub got : ℕ
+  pub content : List ℕ
+  pub is_placed : slice_get s.pager place ≡ Some (Place page got content)
+  pub delivered : ℕ
+  pub is_delivery : delivery s got ≡ Some delivered
+  pub is_the_send : (delivered ≡ send) ⊎ (slice_get s.source delivered ≡ Some (Again send))
+  pub is_flat : content ≡ page_of s.geometry.cells (flat s (at_halt s)) page
+  pub is_only : IsOnlyPlacement s page place
+  pub is_covered : IsCovered s page place first
+
+-- the page was released at the halt, and is placed as zeros by one record, and nowhere else
+pub record IsBalloon (s : Recorded) (page place : ℕ) (first : Option First) : Type 0 where
+  pub is_zeroed : slice_get s.pager place ≡ Some (Zero page)
+  pub is_only : IsOnlyPlacement s page place
+  pub is_released : in_ledger s (at_halt s) page ≡ true
+  pub is_covered : IsCovered s page place first
+
+-- what the entry says of its page is so
+abbrev pub IsOf : Recorded → ℕ → Entry → Type 0
+IsOf s page Nothing = IsNothing s page
+IsOf s page (Source send place first) = IsFromSource s page send place first
+IsOf s page (Balloon place first) = IsBalloon s page place first
+
+-- a right entry for a page
 abbrev pub IsRightEntry : Recorded → ℕ → Entry → Type 0
-IsRightEntry s page Nothing = ReadsFlatAt s page
+IsRightEntry s page entry = IsHonest s page × IsOf s page entry
 
--- one right entry for each page, and runs that spell a merging
+-- one right entry for each page, in order, and runs that spell a merging
 pub record IsRightCertificate (s : Recorded) (c : Certified) : Type 0 where
   pub pages : length c.entries ≡ s.geometry.pages
   pub entries : (page : ℕ) (entry : Entry) → slice_get c.entries page ≡ Some entry → IsRightEntry s page entry
   pub merging : IsMerging s (spelled c.runs)
-
--- what a right certificate promises of a session
-pub record IsFaithful (s : Recorded) : Type 0 where
-  pub has_merging : HasMerging s
-  pub reads_flat : ReadsFlat s

@@ -1,15 +1,16 @@
--- The flat machine: one machine that never moved.
-use Rattle.std.specs.Prelude.{◌≡◌, ℕ, zero, suc, ◌==◌, ◌&&◌, List, Option, Some, None, slice_get, if◌then◌else◌}
+-- The flat machine: one machine that never moved, and what it released.
+use Rattle.std.specs.Prelude.{◌≡◌, ℕ, zero, suc, Bool, true, false, ◌==◌, ◌&&◌, List, [], ◌∷◌, Option, Some, None, slice_get, if◌then◌else◌}
 use Rattle.migration_types.specs.declared.records.GuestRec.{GuestRec}
-use Rattle.migration_types.specs.declared.records.GuestRec.TheVariants.{Read, Write, Release}
+use Rattle.migration_types.specs.declared.records.GuestRec.TheVariants.{Read, Write, Release, Halt, Resume}
 use Rattle.migration_types.specs.Memory.{Memory, initial}
 use Rattle.migration_types.specs.Sessions.{Recorded}
 
--- what a log says before its record n: each earlier record may change what the ones before it say
+-- what one record makes of what the records before it say
 abbrev pub changed : {A B : Type 0} → (A → B → B) → Option A → B → B
 changed change None old = old
 changed change (Some x) old = change x old
 
+-- what a log says before its record n, each earlier record having changed it in turn
 abbrev pub before : {A B : Type 0} → (A → B → B) → B → List A → ℕ → B
 before change start log zero = start
 before change start log (suc n) = changed change (slice_get log n) (before change start log n)
@@ -28,6 +29,38 @@ flat s n page cell = before (cell_after page cell) (initial s.init page cell) s.
 abbrev pub ReadsFlatAt : Recorded → ℕ → Type 0
 ReadsFlatAt s page = (n vcpu cell value : ℕ) → slice_get s.guest n ≡ Some (Read vcpu page cell value) → value ≡ flat s n page cell
 
--- each read gives what the flat machine gives
-abbrev pub ReadsFlat : Recorded → Type 0
-ReadsFlat s = (page : ℕ) → ReadsFlatAt s page
+-- a page is released when the last write or release of it is a release
+abbrev pub released_after : ℕ → GuestRec → Bool → Bool
+released_after page (Write vcpu p c value) old = if p == page then false else old
+released_after page (Release vcpu p) old = if p == page then true else old
+released_after page _ old = old
+
+-- the ledger before guest record n: the pages that are released
+abbrev pub in_ledger : Recorded → ℕ → ℕ → Bool
+in_ledger s n page = before (released_after page) false s.guest n
+
+-- where the guest is
+pub data Home : Type 0 where
+  AtSource : Home
+  Nowhere : Home
+  AtTarget : Home
+
+-- a halt takes the guest off the source, and a resume brings it to the target
+abbrev pub home_after : GuestRec → Home → Home
+home_after Halt old = Nowhere
+home_after (Resume ready) old = AtTarget
+home_after _ old = old
+
+-- where the guest is before its record n
+abbrev pub home : Recorded → ℕ → Home
+home s n = before home_after AtSource s.guest n
+
+-- the place of the first halt, or the log's length where there is none
+abbrev pub halt_place : List GuestRec → ℕ
+halt_place [] = 0
+halt_place (Halt ∷ log) = 0
+halt_place (_ ∷ log) = suc (halt_place log)
+
+-- the guest record before which the flat machine and the ledger are those at the halt
+abbrev pub at_halt : Recorded → ℕ
+at_halt s = halt_place s.guest

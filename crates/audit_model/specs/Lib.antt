@@ -2,4 +2,12 @@ pub mod Names
 pub mod Mergings
 pub mod Walks
 pub mod Flat
+pub mod World
+pub mod Worlds
+pub mod Shape
 pub mod Certificates
+pub mod Faults
+pub mod FirstFault
+pub mod FoundOrder
+pub mod Delayed
+pub mod Laws

@@ -4,7 +4,8 @@ use Rattle.std.specs.List.{range_with_len}
 use Rattle.migration_types.specs.declared.records.LogName.{LogName}
 use Rattle.migration_types.specs.declared.cert.Run.{Run}
 use Rattle.migration_types.specs.Sessions.{Recorded}
-use Rattle.audit_model.specs.Names.{Name, log_length, receipt, same_log}
+use Rattle.migration_types.specs.Receipts.{Name}
+use Rattle.audit_model.specs.Names.{log_length, receipt, same_log}
 
 -- the places of one log that a list of names holds, in the list's order
 abbrev pub places_of : LogName → List Name → List ℕ

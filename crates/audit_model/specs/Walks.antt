@@ -2,7 +2,8 @@
 use Rattle.std.specs.Prelude.{◌≡◌, suc, ◌<◌, List, [], ◌∷◌, Some, if◌then◌else◌}
 use Rattle.migration_types.specs.declared.records.LogName.{LogName}
 use Rattle.migration_types.specs.Sessions.{Recorded}
-use Rattle.audit_model.specs.Names.{Name, log_length, receipt, same_log}
+use Rattle.migration_types.specs.Receipts.{Name}
+use Rattle.audit_model.specs.Names.{log_length, receipt, same_log}
 use Rattle.audit_model.specs.Mergings.{Cursors, at_start}
 
 -- the record of this name is the next of its log, it is there, and what it is a receipt for was taken
@@ -28,3 +29,14 @@ Walks s c (name ∷ names) = MayFollow s c name × Walks s (next c name.0) names
 -- a walk that takes each log to its end
 abbrev pub IsWholeWalk : Recorded → List Name → Type 0
 IsWholeWalk s order = Walks s at_start order × ((log : LogName) → cursors_from at_start order log ≡ log_length s log)
+
+-- no next record may follow
+abbrev pub IsStuck : Recorded → Cursors → Type 0
+IsStuck s c = (name : Name) → MayFollow s c name → ⊥
+
+-- the session t has the records of s and one more, of this name, whose receipt names a record of s
+pub record IsGrown (s t : Recorded) (name : Name) : Type 0 where
+  pub is_next : name.1 ≡ log_length s name.0
+  pub lengths : (log : LogName) → log_length t log ≡ (if same_log name.0 log then suc (log_length s log) else log_length s log)
+  pub receipts : (other : Name) → other.1 < log_length s other.0 → receipt t other ≡ receipt s other
+  pub sent_there : (sent : Name) → receipt t name ≡ Some sent → sent.1 < log_length s sent.0

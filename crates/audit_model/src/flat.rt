@@ -31,7 +31,7 @@ fn value_after(page: PageNo, cell: u16, logged: &GuestRec, old: u64) -> u64
                 old
             }
         }
-        GuestRec::Read { .. } => old,
+        _ => old,
     }
 }
 

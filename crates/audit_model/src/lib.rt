@@ -1,4 +1,5 @@
-//! What a session's records mean: mergings of its logs, the flat machine, right certificates; and the laws on these.
+//! What a session's records mean: mergings of its logs, the flat machine, the world that moves, right shape, right
+//! certificates and faults; and the laws on these.
 //!
 //! The definitions are in `specs/`. A function here carries a law as its contract; a caller calls it to have the law
 //! at hand.
@@ -6,8 +7,10 @@
 
 mod flat;
 mod laws;
+mod reasons;
 #[cfg(test)]
 mod tests;
 
 pub use flat::flat_value;
-pub use laws::{certified_is_faithful, mergings_are_walks};
+pub use laws::mergings_are_walks;
+pub use reasons::{PageReason, ShapeReason};

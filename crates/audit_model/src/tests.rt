@@ -31,7 +31,10 @@ fn looks_back(rt: HostRuntime) -> Result<(), Fail> {
         },
     ]?;
     let init = Seq::from_vec(Vec::new(rt.alloc()));
-    let session = Session::new(geometry, init, Seq::from_vec(guest));
+    let source = Seq::from_vec(Vec::new(rt.alloc()));
+    let link = Seq::from_vec(Vec::new(rt.alloc()));
+    let pager = Seq::from_vec(Vec::new(rt.alloc()));
+    let session = Session::new(geometry, init, Seq::from_vec(guest), source, link, pager);
     for (place, value) in [(0, 0), (1, 3), (2, 3), (3, 0), (4, 0)] {
         if place <= session.guest().len() {
             assert_eq!(rt; flat_value(&session, place, page, 1), value);

@@ -1,0 +1,216 @@
+-- The right shape of a session: what each record needs so that it has none of the four faults of shape.
+use Rattle.std.specs.Prelude.{◌≡◌, ℕ, zero, suc, Bool, true, false, not, ◌==◌, ◌&&◌, ◌||◌, nat_lt, List, length, Option, Some, None, slice_get}
+use Rattle.migration_types.specs.declared.records.LogName.TheVariants.{Guest, Source, Link, Pager}
+use Rattle.migration_types.specs.declared.records.GuestRec.{GuestRec}
+use Rattle.migration_types.specs.declared.records.GuestRec.TheVariants.{Read, Write, Release, Miss, Halt, Resume, See}
+use Rattle.migration_types.specs.declared.records.SourceRec.{SourceRec}
+use Rattle.migration_types.specs.declared.records.SourceRec.TheVariants.{Halted, State, Send, Again, Ask}
+use Rattle.migration_types.specs.declared.records.LinkRec.{LinkRec}
+use Rattle.migration_types.specs.declared.records.LinkRec.TheVariants.{Down, Up}
+use Rattle.migration_types.specs.declared.records.PagerRec.{PagerRec}
+use Rattle.migration_types.specs.declared.records.PagerRec.TheVariants.{Got, Ready, Fault, Join, Want, Place, Zero, Skip, All}
+use Rattle.migration_types.specs.Sessions.{Recorded}
+use Rattle.audit_model.specs.declared.reasons.ShapeReason.{ShapeReason}
+use Rattle.audit_model.specs.declared.reasons.ShapeReason.TheVariants.{Phases, Named, Start, SecondSend}
+use Rattle.migration_types.specs.Receipts.{Name}
+use Rattle.audit_model.specs.Names.{if_there}
+use Rattle.audit_model.specs.Flat.{before}
+
+-- whether there is a record that passes the test
+abbrev pub passes : {A : Type 0} → (A → Bool) → Option A → Bool
+passes test None = false
+passes test (Some x) = test x
+
+-- whether it is a halt
+abbrev pub is_halt : GuestRec → Bool
+is_halt Halt = true
+is_halt _ = false
+
+-- whether it is a resume
+abbrev pub is_resume : GuestRec → Bool
+is_resume (Resume ready) = true
+is_resume _ = false
+
+-- whether it is a miss
+abbrev pub is_miss : GuestRec → Bool
+is_miss (Miss vcpu p) = true
+is_miss _ = false
+
+-- whether it is the processor state
+abbrev pub is_state : SourceRec → Bool
+is_state State = true
+is_state _ = false
+
+-- whether it sends the page
+abbrev pub is_send_of : ℕ → SourceRec → Bool
+is_send_of page (Send p content) = p == page
+is_send_of page _ = false
+
+-- whether it is a first sending, which an `again` may repeat
+abbrev pub is_sending : SourceRec → Bool
+is_sending State = true
+is_sending (Send p content) = true
+is_sending _ = false
+
+-- whether it is something that the link delivers down
+abbrev pub goes_down : SourceRec → Bool
+goes_down State = true
+goes_down (Send p content) = true
+goes_down (Again sending) = true
+goes_down _ = false
+
+-- whether it is a delivery down
+abbrev pub is_down : LinkRec → Bool
+is_down (Down sending) = true
+is_down (Up asking) = false
+
+-- whether it is a delivery up
+abbrev pub is_up : LinkRec → Bool
+is_up (Down sending) = false
+is_up (Up asking) = true
+
+-- whether it says that the pager is ready
+abbrev pub is_ready : PagerRec → Bool
+is_ready Ready = true
+is_ready _ = false
+
+-- whether it takes a delivery
+abbrev pub is_got : PagerRec → Bool
+is_got (Got down) = true
+is_got _ = false
+
+-- whether it asks for a page
+abbrev pub is_want : PagerRec → Bool
+is_want (Want p) = true
+is_want _ = false
+
+-- whether it is something that the link delivers up
+abbrev pub goes_up : PagerRec → Bool
+goes_up (Want p) = true
+goes_up All = true
+goes_up _ = false
+
+-- whether it is a placement of some page
+abbrev pub is_placement : PagerRec → Bool
+is_placement (Place p got content) = true
+is_placement (Zero p) = true
+is_placement _ = false
+
+-- whether it is a placement of this page
+abbrev pub is_placement_of : ℕ → PagerRec → Bool
+is_placement_of page (Place p got content) = p == page
+is_placement_of page (Zero p) = p == page
+is_placement_of page _ = false
+
+-- the source's record that a delivery down delivers
+abbrev pub down_sending : LinkRec → Option ℕ
+down_sending (Down sending) = Some sending
+down_sending (Up asking) = None
+
+-- the link's record that a `got` takes
+abbrev pub got_down : PagerRec → Option ℕ
+got_down (Got down) = Some down
+got_down _ = None
+
+-- the delivery of a `got`: the source's record that was sent
+abbrev pub delivery : Recorded → ℕ → Option ℕ
+delivery s got = if_there (λ down. if_there down_sending (slice_get s.link down)) (if_there got_down (slice_get s.pager got))
+
+-- whether a source record passes the test, or is an `again` of one that does
+abbrev pub is_or_repeats : Recorded → (SourceRec → Bool) → SourceRec → Bool
+is_or_repeats s test (Again sending) = passes test (slice_get s.source sending)
+is_or_repeats s test r = test r
+
+-- whether the delivery of a `got` is one that passes the test, or an `again` of it
+abbrev pub delivers : Recorded → (SourceRec → Bool) → ℕ → Bool
+delivers s test got = passes (λ sending. passes (is_or_repeats s test) (slice_get s.source sending)) (delivery s got)
+
+-- whether an earlier record passes the test
+abbrev pub earlier : {A : Type 0} → (A → Bool) → List A → ℕ → Bool
+earlier test log n = before (λ x found. test x || found) false log n
+
+-- whether the record's phase allows it, by whether there was a halt, and a resume
+abbrev pub in_phase_by : Bool → Bool → GuestRec → Bool
+in_phase_by halted resumed Halt = not halted
+in_phase_by halted resumed (Resume ready) = not resumed && halted
+in_phase_by halted resumed (Read vcpu p c value) = not halted || resumed
+in_phase_by halted resumed (Write vcpu p c value) = not halted || resumed
+in_phase_by halted resumed (Release vcpu p) = not halted && not resumed
+in_phase_by halted resumed (Miss vcpu p) = resumed
+in_phase_by halted resumed (See placement) = resumed
+
+-- whether the phase of the guest's record n allows it
+abbrev pub in_phase : Recorded → ℕ → GuestRec → Bool
+in_phase s n r = in_phase_by (earlier is_halt s.guest n) (earlier is_resume s.guest n) r
+
+-- whether a record of the guest names a record of the kind that it must
+abbrev pub guest_named : Recorded → GuestRec → Bool
+guest_named s (Resume ready) = passes is_ready (slice_get s.pager ready)
+guest_named s (See placement) = passes is_placement (slice_get s.pager placement)
+guest_named s _ = true
+
+-- whether the source's record n names a record of the kind that it must
+abbrev pub source_named : Recorded → ℕ → SourceRec → Bool
+source_named s n (Halted halt) = passes is_halt (slice_get s.guest halt)
+source_named s n (Ask up) = passes is_up (slice_get s.link up)
+source_named s n (Again sending) = nat_lt sending n && passes is_sending (slice_get s.source sending)
+source_named s n _ = true
+
+-- whether a record of the link names a record of the kind that it must
+abbrev pub link_named : Recorded → LinkRec → Bool
+link_named s (Down sending) = passes goes_down (slice_get s.source sending)
+link_named s (Up asking) = passes goes_up (slice_get s.pager asking)
+
+-- whether the pager's record n names a record of the kind that it must
+abbrev pub pager_named : Recorded → ℕ → PagerRec → Bool
+pager_named s n (Got down) = passes is_down (slice_get s.link down)
+pager_named s n (Fault miss) = passes is_miss (slice_get s.guest miss)
+pager_named s n (Join want) = nat_lt want n && passes is_want (slice_get s.pager want)
+pager_named s n (Skip got) = nat_lt got n && passes is_got (slice_get s.pager got)
+pager_named s n (Place p got content) = nat_lt got n && delivers s (is_send_of p) got
+pager_named s n _ = true
+
+-- The source's log begins with `halted` and the state, and has them nowhere else.
+abbrev pub source_start : Recorded → ℕ → SourceRec → Bool
+source_start s zero (Halted halt) = nat_lt 1 (length s.source)
+source_start s zero _ = false
+source_start s (suc zero) State = true
+source_start s (suc zero) _ = false
+source_start s (suc (suc n)) (Halted halt) = false
+source_start s (suc (suc n)) State = false
+source_start s (suc (suc n)) _ = true
+
+-- The pager's log begins with the state's `got` and `ready`, and has `ready` nowhere else.
+abbrev pub pager_start : Recorded → ℕ → PagerRec → Bool
+pager_start s zero (Got down) = delivers s is_state 0
+pager_start s zero _ = false
+pager_start s (suc zero) Ready = true
+pager_start s (suc zero) _ = false
+pager_start s (suc (suc n)) Ready = false
+pager_start s (suc (suc n)) _ = true
+
+-- whether the source's record n is no second send of its page
+abbrev pub is_first_send : Recorded → ℕ → SourceRec → Bool
+is_first_send s n (Send p content) = not (earlier (is_send_of p) s.source n)
+is_first_send s n _ = true
+
+-- whether the record, if there is one, passes the test
+abbrev pub keeps : {A : Type 0} → (A → Bool) → Option A → Bool
+keeps test None = true
+keeps test (Some x) = test x
+
+-- whether the record of this name has no fault of this reason
+abbrev pub is_right : Recorded → ShapeReason → Name → Bool
+is_right s Phases (Guest, n) = keeps (in_phase s n) (slice_get s.guest n)
+is_right s Named (Guest, n) = keeps (guest_named s) (slice_get s.guest n)
+is_right s Named (Source, n) = keeps (source_named s n) (slice_get s.source n)
+is_right s Named (Link, n) = keeps (link_named s) (slice_get s.link n)
+is_right s Named (Pager, n) = keeps (pager_named s n) (slice_get s.pager n)
+is_right s Start (Source, n) = keeps (source_start s n) (slice_get s.source n)
+is_right s Start (Pager, n) = keeps (pager_start s n) (slice_get s.pager n)
+is_right s SecondSend (Source, n) = keeps (is_first_send s n) (slice_get s.source n)
+is_right s _ _ = true
+
+-- a session has the right shape when no record has a fault
+abbrev pub IsRightShape : Recorded → Type 0
+IsRightShape s = (reason : ShapeReason) (name : Name) → is_right s reason name ≡ true
