@@ -1,8 +1,8 @@
 -- Walks of runs.
-use Rattle.std.proofs.Common.{◌≡◌, ℕ, zero, suc, ◌+◌, ◌<◌, ◌≤◌, ◌⊎◌, inl, inr, Bool, true, false, cond, List, [], ◌∷◌, ◌++◌, take, length, get_or, Option, Some, None, refl, sym, ap, ◌∙◌, subst, arith}
+use Rattle.std.proofs.Common.{◌≡◌, ℕ, zero, suc, ◌+◌, ◌<◌, ◌≤◌, ◌⊎◌, inl, inr, Bool, true, false, cond, List, [], ◌∷◌, ◌++◌, take, drop, length, get_or, Option, Some, None, refl, sym, ap, ◌∙◌, subst, arith}
 use Rattle.std.specs.Prelude.{nat_lt}
 use Rattle.std.proofs.lemmas.Bool.{cases_lt, ltb-true, lt-ltb}
-use Rattle.std.proofs.lemmas.List.{append_assoc, append-nil, take_more, take_all}
+use Rattle.std.proofs.lemmas.List.{append_assoc, append-nil, take_more, take_all, take-append-drop}
 use Rattle.migration_types.specs.declared.records.LogName.{LogName}
 use Rattle.migration_types.specs.declared.records.LogName.TheVariants.{Guest, Source, Link, Pager}
 use Rattle.migration_types.specs.declared.records.GuestRec.{GuestRec}
@@ -18,10 +18,11 @@ use Rattle.migration_types.specs.Receipts.{Name, guest_receipt, source_receipt, 
 use Rattle.migration_types.specs.Sessions.{Recorded}
 use Rattle.audit_model.specs.Names.{log_length, receipt, if_there, same_log}
 use Rattle.audit_model.specs.Mergings.{Cursors, at_start, moved, run_names, spelled, spelled_from}
-use Rattle.audit_model.specs.Walks.{next, cursors_from, Walks}
+use Rattle.audit_model.specs.Walks.{next, cursors_from, Walks, IsWholeWalk}
 use Rattle.audit_model.specs.FoundOrder.{is_received}
 use Rattle.audit_model.proofs.Cuts.{same_log_itself, same_from_test}
 use Rattle.merge_runs.specs.declared.taken.Taken.{Taken}
+use Rattle.merge_runs.specs.BadRuns.{IsFirstBadRun}
 use Rattle.merge_runs.specs.Taken.{cursors_of, AreReceived, IsOneUnreceived, RunWalks, AreAllTaken}
 
 -- ---- cursors and runs
@@ -55,6 +56,11 @@ cursors_append c (x ∷ xs) ys = cursors_append (next c x.0) xs ys
 walks_append : (s : Recorded) (c : Cursors) (xs ys : List Name) → Walks s c xs → Walks s (cursors_from c xs) ys → Walks s c (xs ++ ys)
 walks_append s c [] ys a b = b
 walks_append s c (x ∷ xs) ys a b = (a.0, walks_append s (next c x.0) xs ys a.1 b)
+
+-- the front of a walk is one
+walks_front : (s : Recorded) (c : Cursors) (xs ys : List Name) → Walks s c (xs ++ ys) → Walks s c xs
+walks_front s c [] ys w = tt
+walks_front s c (x ∷ xs) ys w = (w.0, walks_front s (next c x.0) xs ys w.1)
 
 walks_rest : (s : Recorded) (c : Cursors) (xs ys : List Name) → Walks s c (xs ++ ys) → Walks s (cursors_from c xs) ys
 walks_rest s c [] ys w = w
@@ -190,6 +196,12 @@ pub up_to_end : (s : Recorded) (runs : List Run) → Walks s at_start (spelled r
 up_to_end s runs walks = subst (λ rs. Walks s at_start (spelled rs)) (sym (take_all (length runs) runs (omega arith))) walks
 
 
+pub own_moved : (c : Cursors) (log : LogName) (count : ℕ) → moved c log count log ≡ c log + count
+own_moved c log count = ap (λ t. cond t (c log + count) (c log)) (same_log_itself log)
+
+pub nothing_within : (s : Recorded) (c : Cursors) → c ≡ at_start → (log : LogName) → c log ≤ log_length s log
+nothing_within s c e log = let none : c log ≡ 0 = ap (λ (x : Cursors). x log) e in omega arith
+
 -- a run moves no other log's cursor
 pub within_after : (s : Recorded) (c d : Cursors) (log : LogName) (n : ℕ) → ((m : LogName) → c m ≤ log_length s m) → d ≡ moved c log n → d log ≤ log_length s log → (m : LogName) → d m ≤ log_length s m
 within_after s c d log n all e own m = go (same_log log m) refl
@@ -206,3 +218,24 @@ all_taken s t all Pager = all.pager
 
 pub taken_all : (s : Recorded) (t : Taken) → ((log : LogName) → cursors_of t log ≡ log_length s log) → AreAllTaken s t
 taken_all s t all = record { guest = all Guest; source = all Source; link = all Link; pager = all Pager }
+
+-- ---- where a run is bad there is no merging
+
+spelled_front : (c : Cursors) (xs ys : List Run) → (rest : List Name) × (spelled_from c (xs ++ ys) ≡ spelled_from c xs ++ rest)
+spelled_front c [] ys = (spelled_from c ys, refl)
+spelled_front c (x ∷ xs) ys =
+    let names = run_names x.log (c x.log) x.count in
+    let more = spelled_front (moved c x.log x.count) xs ys in
+    (more.0, ap (λ (ns : List Name). names ++ ns) more.1 ∙ sym (append_assoc names (spelled_from (moved c x.log x.count) xs) more.0))
+
+pub no_whole_walk : (s : Recorded) (runs : List Run) (place : ℕ) → IsFirstBadRun s runs place → IsWholeWalk s (spelled runs) → ⊥
+no_whole_walk s runs place bad whole = go (cases_lt place (length runs))
+  where
+    front : (n : ℕ) → Walks s at_start (spelled (take n runs))
+    front n =
+        let more = spelled_front at_start (take n runs) (drop n runs) in
+        walks_front s at_start (spelled (take n runs)) more.0 (subst (λ (ns : List Name). Walks s at_start ns) (ap spelled (sym (take-append-drop n runs)) ∙ more.1) whole.0)
+
+    go : (place < length runs) ⊎ (length runs ≤ place) → ⊥
+    go (inl lt) = bad.is_bad lt (front (place + 1))
+    go (inr le) = let low = bad.within in bad.is_left (omega arith) whole

@@ -4,6 +4,7 @@
 ghost use Rattle.std.specs.Prelude.{◌↔◌, IsTrue};
 ghost use Rattle.audit_model.specs.Mergings.{IsMerging, spelled};
 
+use audit_model::mergings_are_walks;
 use migration_types::{Run, Session};
 
 mod taken;
@@ -18,5 +19,9 @@ pub use walk::first_bad_run;
 pub fn is_merging(session: &Session, runs: &[Run]) -> bool
     ensures { IsTrue result ↔ IsMerging session.now (spelled runs.now) }
 {
-    first_bad_run(session, runs).is_none()
+    mergings_are_walks();
+    match first_bad_run(session, runs) {
+        Some(_) => false,
+        None => true,
+    }
 }

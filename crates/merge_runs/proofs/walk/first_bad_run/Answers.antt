@@ -1,14 +1,17 @@
-use Rattle.std.proofs.Common.{◌∙◌, sym, ap, subst, arith, get_or}
+use Rattle.std.proofs.Common.{◌∙◌, refl, sym, ap, subst, arith, get_or}
 use Rattle.migration_types.specs.declared.records.LogName.TheVariants.{Guest}
 use Rattle.migration_types.specs.declared.cert.Run.{Run}
 use Rattle.audit_model.specs.Mergings.{Cursors, spelled, moved}
 use Rattle.merge_runs.specs.Taken.{cursors_of, RunWalks}
-use Rattle.merge_runs.proofs.Walking.{walk_on, walk_back, cursors_on, within_after, up_to_end, all_walked, all_at, all_taken, taken_all}
+use Rattle.merge_runs.proofs.Walking.{walk_on, walk_back, cursors_on, nothing_within, within_after, up_to_end, all_walked, all_at, all_taken, taken_all}
 use Rattle.merge_runs.proofs.walk.first_bad_run.Goals as goal
 
 -- what stands in a list's place past its end
 abbrev no_run : Run
 no_run = record { log = Guest; count = 0 }
+
+pub loop-place-init : goal.loop-place-init
+loop-place-init c = record { within = nothing_within c.args.session.now _ c.nothing-taken.ensures; at = c.nothing-taken.ensures; walked = tt }
 
 pub returns-in-None : goal.returns-in-None
 returns-in-None c =
@@ -43,7 +46,7 @@ returns-then-is_whole c =
     let runs = c.args.runs.now in
     let i = c.loop-place.invariant in
     let end = all_at runs c.loop-place.place (cursors_of c.loop-place.taken) c.loop-place-test.false (sym i.at) in
-    (c.mergings_are_walks.ensures.walks s (spelled runs)).1 (
+    (c.mergings_are_walks.ensures s (spelled runs)).1 (
       all_walked s runs c.loop-place.place c.loop-place-test.false i.walked,
       λ log. ap (λ (e : Cursors). e log) end ∙ all_taken s c.loop-place.taken c.if-is_whole.ensures log,
     )

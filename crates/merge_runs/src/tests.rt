@@ -1,0 +1,1 @@
+//! A merging of two logs.
