@@ -1,3 +1,4 @@
+pub mod Reading
 pub mod Before
 pub mod Judging
 pub mod Moving

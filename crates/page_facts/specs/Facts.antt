@@ -2,8 +2,8 @@
 use Rattle.std.specs.Prelude.{◌≡◌, ℕ, false, length, None}
 use Rattle.migration_types.specs.Sessions.{Recorded}
 use Rattle.audit_model.specs.Shape.{is_placement_of}
-use Rattle.page_facts.specs.declared.tables.PageFacts.{PageFacts}
-use Rattle.page_facts.specs.declared.tables.Tables.{Tables}
+use Rattle.page_facts.specs.declared.facts.PageFacts.{PageFacts}
+use Rattle.page_facts.specs.declared.facts.PageTables.{PageTables}
 use Rattle.page_facts.specs.Tables.{some_before, first_before, IsTable}
 use Rattle.page_facts.specs.Judged.{is_wrong_read, is_wrong_send, is_altered, is_late_access}
 use Rattle.page_facts.specs.Moved.{is_again}
@@ -18,7 +18,7 @@ pub record IsFacts (s : Recorded) (page : ℕ) (f : PageFacts) : Type 0 where
   pub access : f.access ≡ first_before (is_late_access s page) s.guest (length s.guest)
 
 -- the same for each page of the machine
-pub record AreTables (s : Recorded) (t : Tables) : Type 0 where
+pub record AreTables (s : Recorded) (t : PageTables) : Type 0 where
   pub wrong_reads : IsTable s.geometry.pages false t.wrong_reads.items (λ p. some_before (is_wrong_read s p) s.guest (length s.guest))
   pub wrong_sends : IsTable s.geometry.pages false t.wrong_sends.items (λ p. some_before (is_wrong_send s p) s.source (length s.source))
   pub placements : IsTable s.geometry.pages None t.placements.items (λ p. first_before (λ m. is_placement_of p) s.pager (length s.pager))

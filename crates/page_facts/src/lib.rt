@@ -2,14 +2,15 @@
 //!
 //! A checker, a maker of certificates and an audit all judge a page by the same few facts: whether a read of it gave
 //! another value than one machine would, what was sent of it, where it was placed, and when it was first used after
-//! handover. [`tables`] finds them for all pages at once.
+//! handover. [`tables_of`] finds them for all pages at once.
 #![tactic(auto)]
 
+mod facts;
 mod guest;
 mod kinds;
 mod marks;
 mod moved;
-mod tables;
+
 #[cfg(test)]
 mod tests;
 
@@ -19,4 +20,4 @@ pub use kinds::{
     is_sending_at, is_up_at, is_want_at,
 };
 pub use marks::no_marks;
-pub use tables::{PageFacts, Tables, facts_of, tables};
+pub use facts::{PageFacts, PageTables, facts_of, tables_of};

@@ -1,6 +1,6 @@
 //! Tables with a mark, or the number of a record, for each page.
 
-ghost use Rattle.std.specs.Prelude.{◌≡◌, ◌<◌, length, IfOk, replicate, None};
+ghost use Rattle.std.specs.Prelude.{◌≡◌, ◌<◌, false, length, IfOk, replicate, None};
 ghost use Rattle.page_facts.specs.Tables.{noted, marked_if};
 
 use std::alloc::{AllocError, Global};

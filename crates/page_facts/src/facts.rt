@@ -27,7 +27,7 @@ pub struct PageFacts {
 
 /// What the logs say of each page, page 0 first.
 #[derive(Drop)]
-pub struct Tables {
+pub struct PageTables {
     pub wrong_reads: Vec<bool>,
     pub wrong_sends: Vec<bool>,
     pub placements: Vec<Option<u32>>,
@@ -38,7 +38,7 @@ pub struct Tables {
 
 /// What the logs of a session say of each page. Takes one pass over each log, memory for the frames of one machine and
 /// a few numbers for each page, and no memory for a record. An error: there is no memory for them.
-pub fn tables(alloc: Global, session: &Session) -> Result<Tables, AllocError>
+pub fn tables_of(alloc: Global, session: &Session) -> Result<PageTables, AllocError>
     ensures { IfOk result (AreTables session.now) }
 {
     session.keeps_limits();
@@ -50,7 +50,7 @@ pub fn tables(alloc: Global, session: &Session) -> Result<Tables, AllocError>
     let mut placed = nothing_placed(alloc, session)?;
     judge_placements(session, &judge, &mut placed);
     run_guest(session, &mut judge, halt, session.guest().len());
-    Ok(Tables {
+    Ok(PageTables {
         wrong_reads: judge.wrong,
         wrong_sends,
         placements: placed.first,
@@ -61,7 +61,7 @@ pub fn tables(alloc: Global, session: &Session) -> Result<Tables, AllocError>
 }
 
 /// What the tables of a session say of a page.
-pub fn facts_of(session: &Session, tables: &Tables, page: PageNo) -> PageFacts
+pub fn facts_of(session: &Session, tables: &PageTables, page: PageNo) -> PageFacts
     requires page { page < session.now.geometry.pages }
     requires tables { AreTables session.now tables.now }
     ensures { IsFacts session.now page result }
