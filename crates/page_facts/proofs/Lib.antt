@@ -3,3 +3,4 @@ pub mod Before
 pub mod Judging
 pub mod Moving
 pub mod Starting
+pub mod RightEntry

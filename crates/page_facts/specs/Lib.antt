@@ -2,3 +2,4 @@ pub mod Tables
 pub mod Judged
 pub mod Moved
 pub mod Facts
+pub mod EntryTests

@@ -5,6 +5,7 @@
 //! handover. [`tables_of`] finds them for all pages at once.
 #![tactic(auto)]
 
+mod entries;
 mod facts;
 mod guest;
 mod kinds;
@@ -20,4 +21,5 @@ pub use kinds::{
     is_sending_at, is_up_at, is_want_at,
 };
 pub use marks::no_marks;
+pub use entries::is_right_entry;
 pub use facts::{PageFacts, PageTables, facts_of, tables_of};

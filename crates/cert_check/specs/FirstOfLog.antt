@@ -1,0 +1,41 @@
+-- The first reason at each record of a log. This serves proofs alone.
+use Rattle.std.specs.Prelude.{not, List, slice_index_or, slice_set, ◌≡◌, ℕ, ◌+◌, ◌<◌, ◌≤◌, Bool, true, false, ◌⊎◌, length, Option, Some, None, if◌then◌else◌}
+use Rattle.migration_types.specs.declared.records.LogName.{LogName}
+use Rattle.migration_types.specs.declared.records.LogName.TheVariants.{Guest, Source, Link, Pager}
+use Rattle.migration_types.specs.Sessions.{Recorded}
+use Rattle.audit_model.specs.declared.reasons.ShapeReason.{ShapeReason}
+use Rattle.audit_model.specs.declared.reasons.ShapeReason.TheVariants.{Phases, Named, Start, SecondSend}
+use Rattle.migration_types.specs.declared.records.SourceRec.{SourceRec}
+use Rattle.migration_types.specs.declared.records.SourceRec.TheVariants.{Send}
+use Rattle.audit_model.specs.Names.{Name}
+use Rattle.audit_model.specs.Shape.{is_right}
+
+-- the first of the reasons for which a record is not right
+abbrev pub first_reason : Bool → Bool → Bool → Bool → Option ShapeReason
+first_reason phases named start second =
+    if phases then (if named then (if start then (if second then None else Some SecondSend) else Some Start) else Some Named) else Some Phases
+
+abbrev pub reason_at : Recorded → Name → Option ShapeReason
+reason_at s name = first_reason (is_right s Phases name) (is_right s Named name) (is_right s Start name) (is_right s SecondSend name)
+
+-- no record of the log before this place has a fault
+abbrev pub IsRightBelow : Recorded → LogName → ℕ → Type 0
+IsRightBelow s log place = (n : ℕ) → n < place → reason_at s (log, n) ≡ None
+
+-- no record of the log has a fault
+abbrev pub IsRightLog : Recorded → LogName → Type 0
+IsRightLog s log = (n : ℕ) → reason_at s (log, n) ≡ None
+
+-- the record at this place has this reason first, and no earlier one of the log has a fault
+pub record IsFirstOfLog (s : Recorded) (log : LogName) (place : ℕ) (reason : ShapeReason) : Type 0 where
+  pub is_reason : reason_at s (log, place) ≡ Some reason
+  pub is_right_below : IsRightBelow s log place
+
+-- marks of pages, by which a second `send` is found
+abbrev pub is_unmarked : List Bool → SourceRec → Bool
+is_unmarked marks (Send p content) = not (slice_index_or marks p false)
+is_unmarked marks _ = true
+
+abbrev pub marked_by : List Bool → SourceRec → List Bool
+marked_by marks (Send p content) = slice_set marks p true
+marked_by marks _ = marks

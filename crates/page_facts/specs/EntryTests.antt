@@ -1,0 +1,62 @@
+-- Tests of a page's entry by the facts of the page. This serves proofs alone.
+use Rattle.std.specs.Prelude.{◌≡◌, ℕ, ◌<◌, Bool, true, false, not, ◌==◌, ◌&&◌, ◌||◌, nat_lt, nat_le, List, length, Option, Some, None, slice_get}
+use Rattle.migration_types.specs.declared.records.GuestRec.{GuestRec}
+use Rattle.migration_types.specs.declared.records.GuestRec.TheVariants.{See}
+use Rattle.migration_types.specs.declared.records.SourceRec.{SourceRec}
+use Rattle.migration_types.specs.declared.records.SourceRec.TheVariants.{Again}
+use Rattle.migration_types.specs.declared.records.PagerRec.{PagerRec}
+use Rattle.migration_types.specs.declared.records.PagerRec.TheVariants.{Place, Zero}
+use Rattle.migration_types.specs.Sessions.{Recorded}
+use Rattle.migration_types.specs.declared.cert.First.{First}
+use Rattle.migration_types.specs.declared.cert.Entry.{Entry}
+use Rattle.migration_types.specs.declared.cert.Entry.TheVariants.{Nothing, Source, Balloon}
+use Rattle.audit_model.specs.Shape.{passes, is_send_of, delivery}
+use Rattle.page_facts.specs.declared.facts.PageFacts.{PageFacts}
+
+abbrev pub is_place : Option ℕ → ℕ → Bool
+is_place None place = false
+is_place (Some n) place = n == place
+
+abbrev pub is_absent : Option ℕ → Bool
+is_absent None = true
+is_absent (Some n) = false
+
+abbrev pub sees_from : ℕ → GuestRec → Bool
+sees_from place (See k) = nat_le place k
+sees_from place _ = false
+
+abbrev pub repeats : ℕ → SourceRec → Bool
+repeats send (Again sending) = sending == send
+repeats send _ = false
+
+-- whether a delivery is this `send`, or an `again` of it
+abbrev pub delivers_from : Recorded → ℕ → Option ℕ → Bool
+delivers_from s send None = false
+delivers_from s send (Some sending) = (sending == send) || passes (repeats send) (slice_get s.source sending)
+
+abbrev pub places_from : Recorded → ℕ → ℕ → PagerRec → Bool
+places_from s page send (Place p got content) = (p == page) && delivers_from s send (delivery s got)
+places_from s page send _ = false
+
+abbrev pub zeroes : ℕ → PagerRec → Bool
+zeroes page (Zero p) = p == page
+zeroes page _ = false
+
+abbrev pub covers : Recorded → Option ℕ → ℕ → Option First → Bool
+covers s None place None = true
+covers s (Some access) place (Some first) = (access == first.access) && nat_lt first.see access && passes (sees_from place) (slice_get s.guest first.see)
+covers s _ place _ = false
+
+abbrev pub is_once : PageFacts → ℕ → Bool
+is_once f place = is_place f.placement place && not f.again && not f.altered
+
+abbrev pub is_right_of : Recorded → ℕ → PageFacts → Entry → Bool
+is_right_of s page f Nothing = is_absent f.placement && is_absent f.access
+is_right_of s page f (Source send place first) =
+    passes (is_send_of page) (slice_get s.source send) && passes (places_from s page send) (slice_get s.pager place) && is_once f place && covers s f.access place first
+is_right_of s page f (Balloon place first) =
+    passes (zeroes page) (slice_get s.pager place) && is_once f place && covers s f.access place first
+
+abbrev pub is_right_entry : Recorded → ℕ → PageFacts → Entry → Bool
+is_right_entry s page f entry = not f.wrong_read && not f.wrong_send && is_right_of s page f entry
+

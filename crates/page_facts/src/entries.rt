@@ -1,0 +1,136 @@
+//! Whether a page's entry in a certificate is right, by the facts of the page.
+
+ghost use Rattle.std.specs.Prelude.{◌≡◌, ◌↔◌, IsTrue, slice_get};
+ghost use Rattle.audit_model.specs.Shape.{passes, is_send_of};
+ghost use Rattle.audit_model.specs.Certificates.{IsRightEntry};
+ghost use Rattle.page_facts.specs.Facts.{IsFacts};
+ghost use Rattle.page_facts.specs.EntryTests.{sees_from, repeats, delivers_from, places_from, zeroes, covers, is_once, is_right_of, is_right_entry};
+
+use crate::facts::PageFacts;
+use crate::kinds::{delivery, is_send_of};
+use migration_types::{Entry, First, GuestRec, PageNo, PagerRec, Session, SourceRec};
+
+/// Whether guest record n is a look at this placement, or at a later one.
+fn sees_from_at(session: &Session, n: u32, place: u32) -> bool
+    ensures { result ≡ passes (sees_from place) (slice_get session.now.guest n) }
+{
+    match session.guest().get(n as usize) {
+        Some(GuestRec::See { placement }) => place <= *placement,
+        _ => false,
+    }
+}
+
+/// Whether source record n is a `send` of the page.
+fn is_send_at(session: &Session, n: u32, page: PageNo) -> bool
+    ensures { result ≡ passes (is_send_of page) (slice_get session.now.source n) }
+{
+    match session.source().get(n as usize) {
+        Some(rec) => is_send_of(rec, page),
+        None => false,
+    }
+}
+
+/// Whether source record n is an `again` of this `send`.
+fn repeats_at(session: &Session, n: u32, send: u32) -> bool
+    ensures { result ≡ passes (repeats send) (slice_get session.now.source n) }
+{
+    match session.source().get(n as usize) {
+        Some(SourceRec::Again { sending }) => *sending == send,
+        _ => false,
+    }
+}
+
+/// Whether a delivery is this `send`, or an `again` of it.
+fn delivers_from(session: &Session, send: u32, delivered: Option<u32>) -> bool
+    ensures { result ≡ delivers_from session.now send delivered }
+{
+    match delivered {
+        Some(sending) => sending == send || repeats_at(session, sending, send),
+        None => false,
+    }
+}
+
+/// Whether pager record n is a `place` of the page, delivered from this `send`.
+fn places_from_at(session: &Session, page: PageNo, send: u32, n: u32) -> bool
+    ensures { result ≡ passes (places_from session.now page send) (slice_get session.now.pager n) }
+{
+    match session.pager().get(n as usize) {
+        Some(
+            PagerRec::Place {
+                page: placed,
+                got,
+                ..
+            },
+        ) => { placed.number() == page.number() && delivers_from(session, send, delivery(session, *got)) }
+        _ => false,
+    }
+}
+
+/// Whether pager record n is a `zero` of the page.
+fn zeroes_at(session: &Session, page: PageNo, n: u32) -> bool
+    ensures { result ≡ passes (zeroes page) (slice_get session.now.pager n) }
+{
+    match session.pager().get(n as usize) {
+        Some(PagerRec::Zero { page: zeroed }) => zeroed.number() == page.number(),
+        _ => false,
+    }
+}
+
+/// Whether an entry's first access and its look are right.
+fn covers(session: &Session, access: Option<u32>, place: u32, first: &Option<First>) -> bool
+    ensures { result ≡ covers session.now access place first.now }
+{
+    match (access, first) {
+        (None, None) => true,
+        (Some(access), Some(first)) => {
+            access == first.access && first.see < access && sees_from_at(session, first.see, place)
+        }
+        _ => false,
+    }
+}
+
+/// Whether this is the page's one placement, and is what the page is at the halt.
+fn is_once(facts: &PageFacts, place: u32) -> bool
+    ensures { result ≡ is_once facts.now place }
+{
+    match facts.placement {
+        Some(n) => n == place && !facts.again && !facts.altered,
+        None => false,
+    }
+}
+
+/// Whether an entry is right beside the page's reads and sends.
+fn is_right_of(session: &Session, page: PageNo, facts: &PageFacts, entry: &Entry) -> bool
+    ensures { result ≡ is_right_of session.now page facts.now entry.now }
+{
+    match entry {
+        Entry::Nothing => facts.placement.is_none() && facts.access.is_none(),
+        Entry::Source { send, place, first } => {
+            is_send_at(session, *send, page)
+                && places_from_at(session, page, *send, *place)
+                && is_once(facts, *place)
+                && covers(session, facts.access, *place, first)
+        }
+        Entry::Balloon { place, first } => {
+            zeroes_at(session, page, *place)
+                && is_once(facts, *place)
+                && covers(session, facts.access, *place, first)
+        }
+    }
+}
+
+/// Whether an entry passes all tests.
+fn passes_tests(session: &Session, page: PageNo, facts: &PageFacts, entry: &Entry) -> bool
+    ensures { result ≡ is_right_entry session.now page facts.now entry.now }
+{
+    !facts.wrong_read && !facts.wrong_send && is_right_of(session, page, facts, entry)
+}
+
+/// Whether an entry of a certificate is right for a page of which these are the facts. Takes a few looks into the logs,
+/// and no memory.
+pub fn is_right_entry(session: &Session, page: PageNo, facts: &PageFacts, entry: &Entry) -> bool
+    requires { IsFacts session.now page facts.now }
+    ensures { IsTrue result ↔ IsRightEntry session.now page entry.now }
+{
+    passes_tests(session, page, facts, entry)
+}
