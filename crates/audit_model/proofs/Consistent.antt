@@ -93,7 +93,7 @@ passes_down (Some (Up n)) e = absurd (cc)
 
 module _ (s : Recorded) (shape : IsRightShape s) (c : Cursors) (cut : IsConsistentCut s c) where
   -- once a record of the source was taken, the guest has left the source
-  pub left_by_source : 0 < (c Source) → home s (c Guest) ≢ AtSource
+  pub left_by_source : 0 < c Source → home s (c Guest) ≢ AtSource
   left_by_source lt = let r = there s.source 0 (c Source) lt (cut.within Source) in go r.0 r.1
     where
       starts : (r : SourceRec) → slice_get s.source 0 ≡ Some r → source_start s 0 r ≡ true
@@ -111,7 +111,7 @@ module _ (s : Recorded) (shape : IsRightShape s) (c : Cursors) (cut : IsConsiste
       go Done is = let e = starts Done is in absurd (cc)
 
   -- and so once a record of the pager was
-  pub left_by_pager : 0 < (c Pager) → home s (c Guest) ≢ AtSource
+  pub left_by_pager : 0 < c Pager → home s (c Guest) ≢ AtSource
   left_by_pager lt = let r = there s.pager 0 (c Pager) lt (cut.within Pager) in go r.0 r.1
     where
       starts : (r : PagerRec) → slice_get s.pager 0 ≡ Some r → pager_start s 0 r ≡ true
@@ -134,5 +134,5 @@ module _ (s : Recorded) (shape : IsRightShape s) (c : Cursors) (cut : IsConsiste
       go All is = let e = starts All is in absurd (cc)
 
   -- past `see k` the pager is past record k
-  pub seen : (n k : ℕ) → slice_get s.guest n ≡ Some (See k) → n < (c Guest) → k < (c Pager)
+  pub seen : (n k : ℕ) → slice_get s.guest n ≡ Some (See k) → n < c Guest → k < c Pager
   seen n k is lt = cut.sent_taken (Guest, n) (Pager, k) lt (ap (λ o. if_there guest_receipt o) is)

@@ -80,7 +80,7 @@ not_earlier test log m n le none = false_if_not_true _ (λ e. let w = earlier_wi
 
 module _ (s : Recorded) (shape : IsRightShape s) (order : List Name) (merging : IsMerging s order) (n page : ℕ) (r : GuestRec) (is : slice_get s.guest n ≡ Some r) (early : IsEarly s n r page) (place : ℕ) (first : IsFirstPlacement s page place) where
   -- no delayed record stands before the placement in the order
-  delayed_above : (c : Cursors) → IsConsistentCut s c → place ≡ (c Pager) → {name : Name} → IsDelayed s (Pager, place) name → c name.0 ≤ name.1
+  delayed_above : (c : Cursors) → IsConsistentCut s c → place ≡ c Pager → {name : Name} → IsDelayed s (Pager, place) name → c name.0 ≤ name.1
   delayed_above c cut at itself = omega (arith, at)
   delayed_above c cut at (later {a = a} {b = b} d log lt) = let e = delayed_above c cut at d in let f = ap (λ l. c l) log in omega arith
   delayed_above c cut at (receives {a = a} {b = b} d named) = go (delayed_above c cut at d) (cases_lt b.1 (c b.0))
@@ -175,7 +175,7 @@ module _ (s : Recorded) (shape : IsRightShape s) (order : List Name) (merging : 
   from_pager (Some Halt) a e = absurd (cc)
 
   -- a delayed guest record comes after the access
-  delayed_guest : (c : Cursors) → IsConsistentCut s c → place ≡ (c Pager) → {name : Name} → IsDelayed s (Pager, place) name → name.0 ≡ Guest → n < name.1
+  delayed_guest : (c : Cursors) → IsConsistentCut s c → place ≡ c Pager → {name : Name} → IsDelayed s (Pager, place) name → name.0 ≡ Guest → n < name.1
   delayed_guest c cut at itself log = absurd (cc)
   delayed_guest c cut at (later {a = a} {b = b} d log lt) guest = let e = delayed_guest c cut at d (sym log ∙ guest) in omega arith
   delayed_guest c cut at (receives {a = a} {b = b} d named) guest =
@@ -255,14 +255,14 @@ module _ (s : Recorded) (shape : IsRightShape s) (order : List Name) (merging : 
     delayed_breaks kept stands demand =
         let at = is_at s shape delayed delayed_merges kept (Guest, n) stands in
         let c = cursors_from at_start kept in
-        let few : (c Pager) ≤ place = go (cases_lt place (c Pager)) in
+        let few : c Pager ≤ place = go (cases_lt place (c Pager)) in
         let absent = at.0.world.placed_is page ∙ not_earlier (is_placement_of page) s.pager (c Pager) place few first.is_first in
         early_breaks s shape delayed delayed_merges kept n page r is early stands absent demand
       where
         walks : Walks s at_start kept
         walks = (walk_at s at_start delayed kept (Guest, n) (merging_walks s delayed delayed_merges) stands).0
 
-        go : (place < (cursors_from at_start kept Pager)) ⊎ ((cursors_from at_start kept Pager) ≤ place) → (cursors_from at_start kept Pager) ≤ place
+        go : (place < cursors_from at_start kept Pager) ⊎ (cursors_from at_start kept Pager ≤ place) → cursors_from at_start kept Pager ≤ place
         go (inl lt) =
             let h = passed s kept (Pager, place) walks lt in
             let b = ltb-true place (late.cut Pager) (below_cut kept stands (Pager, place) h) in

@@ -18,3 +18,4 @@ pub mod Late
 pub mod Delays
 pub mod Unsafe
 pub mod Longer
+pub mod Knots

@@ -14,7 +14,8 @@ use Rattle.audit_model.specs.World.{World, start, step, run_from, world_after, g
 use Rattle.audit_model.specs.Shape.{IsRightShape, earlier}
 use Rattle.audit_model.specs.Walks.{next, cursors_from, MayFollow, Walks}
 use Rattle.audit_model.proofs.Cuts.{merging_walks}
-use Rattle.audit_model.specs.Worlds.{come_to, placed_before, IsConsistentCut, IsWorld, IsAt}
+use Rattle.audit_model.proofs.Walked.{walk_at}
+use Rattle.audit_model.specs.Worlds.{come_to, placed_before, IsConsistentCut, IsWorld, IsAt, FollowsCursors}
 use Rattle.audit_model.proofs.Consistent.{start_is_cut, next_is_cut, left_by_source, left_by_pager, there}
 use Rattle.audit_model.proofs.Worlds.{start_is, guest_kept, pager_kept}
 
@@ -24,23 +25,21 @@ come_past AtSource n halt e = absurd (e refl)
 come_past Nowhere n halt e = refl
 come_past AtTarget n halt e = refl
 
--- what each record that may follow keeps holds before each record of a merging, at the cursors of what came earlier
-kept_from : (s : Recorded) (P : Cursors → World → Type 0) → ((c : Cursors) (w : World) (name : Name) → P c w → MayFollow s c name → P (next c name.0) (step s name w)) → (c : Cursors) (w : World) (names earlier : List Name) (name : Name) → P c w → Walks s c names → StandsAfter names earlier name → P (cursors_from c earlier) (run_from s w earlier) × MayFollow s (cursors_from c earlier) name
-kept_from s P keeps c w [] [] name i walks stands = absurd (let e = stands.1 in cc)
-kept_from s P keeps c w [] (m ∷ earlier) name i walks stands = absurd (let e = stands.1 in cc)
-kept_from s P keeps c w (n ∷ names) [] name i walks stands =
-    let same : n ≡ name = let e = stands.1 in cc in
-    (i, subst (λ k. MayFollow s c k) same walks.0)
-kept_from s P keeps c w (n ∷ names) (m ∷ earlier) name i walks stands =
-    let e = stands.1 in
-    let same : n ≡ m = cc in
-    let rest : names ≡ earlier ++ name ∷ stands.0 = cc in
-    let r = kept_from s P keeps (next c n.0) (step s n w) names earlier name (keeps c w n i walks.0) walks.1 (stands.0, rest) in
-    let Q : Name → Type 0 = λ k. P (cursors_from (next c k.0) earlier) (run_from s (step s k w) earlier) × MayFollow s (cursors_from (next c k.0) earlier) name in
-    subst Q same r
+-- what each record that may follow keeps holds after the first records of a walk, at their cursors
+kept_from : (s : Recorded) (P : Cursors → World → Type 0) → ((c : Cursors) (w : World) (name : Name) → P c w → MayFollow s c name → P (next c name.0) (step s name w)) → (c : Cursors) (w : World) (past rest : List Name) → P c w → Walks s c (past ++ rest) → P (cursors_from c past) (run_from s w past)
+kept_from s P keeps c w [] rest i walks = i
+kept_from s P keeps c w (n ∷ past) rest i walks = kept_from s P keeps (next c n.0) (step s n w) past rest (keeps c w n i walks.0) walks.1
 
+-- so after the first records of each merging
+pub kept_after : (s : Recorded) (P : Cursors → World → Type 0) → P at_start (start s) → ((c : Cursors) (w : World) (name : Name) → P c w → MayFollow s c name → P (next c name.0) (step s name w)) → (order : List Name) → IsMerging s order → (past rest : List Name) → order ≡ past ++ rest → P (cursors_from at_start past) (world_after s past)
+kept_after s P starts keeps order merging past rest split = kept_from s P keeps at_start (start s) past rest starts (subst (λ xs. Walks s at_start xs) split (merging_walks s order merging))
+
+-- and at each record
 pub kept_at : (s : Recorded) (P : Cursors → World → Type 0) → P at_start (start s) → ((c : Cursors) (w : World) (name : Name) → P c w → MayFollow s c name → P (next c name.0) (step s name w)) → (order : List Name) → IsMerging s order → (earlier : List Name) (name : Name) → StandsAfter order earlier name → P (cursors_from at_start earlier) (world_after s earlier) × MayFollow s (cursors_from at_start earlier) name
-kept_at s P starts keeps order merging earlier name stands = kept_from s P keeps at_start (start s) order earlier name starts (merging_walks s order merging) stands
+kept_at s P starts keeps order merging earlier name stands = (
+  kept_after s P starts keeps order merging earlier (name ∷ stands.0) stands.1,
+  (walk_at s at_start order earlier name (merging_walks s order merging) stands).1,
+)
 
 pub start_is_at : (s : Recorded) → IsAt s at_start (start s)
 start_is_at s = record { cut = start_is_cut s; world = start_is s }
@@ -111,3 +110,6 @@ module _ (s : Recorded) (shape : IsRightShape s) where
   -- so at each record of each merging
   pub is_at : (order : List Name) → IsMerging s order → (earlier : List Name) (name : Name) → StandsAfter order earlier name → IsAt s (cursors_from at_start earlier) (world_after s earlier) × MayFollow s (cursors_from at_start earlier) name
   is_at order merging earlier name stands = kept_at s (λ c w. IsAt s c w) (start_is_at s) step_kept order merging earlier name stands
+
+  pub follows_cursors : FollowsCursors s
+  follows_cursors order merging past rest split = kept_after s (λ c w. IsAt s c w) (start_is_at s) step_kept order merging past rest split
