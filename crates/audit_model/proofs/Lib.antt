@@ -19,3 +19,6 @@ pub mod Delays
 pub mod Unsafe
 pub mod Longer
 pub mod Knots
+pub mod WrittenOut
+pub mod ExampleA
+pub mod ExampleB
