@@ -95,7 +95,7 @@ module _ (s : Recorded) where
         passed earlier sent r.0 (r.1.sent_before sent is);
   }
 
-length_range : (a n : ℕ) → length (range_with_len a n) ≡ n
+pub length_range : (a n : ℕ) → length (range_with_len a n) ≡ n
 length_range a zero = refl
 length_range a (suc n) = ap suc (length_range (a + 1) n)
 

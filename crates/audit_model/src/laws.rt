@@ -1,12 +1,64 @@
 //! The laws on the definitions.
 
-ghost use Rattle.std.specs.Prelude.{List, ◌↔◌};
+ghost use Rattle.std.specs.Prelude.{ℕ, List, [], ◌∷◌, ◌++◌, ◌<◌, ◌↔◌};
+ghost use Rattle.migration_types.specs.Certs.{Certified};
 ghost use Rattle.migration_types.specs.Receipts.{Name};
 ghost use Rattle.migration_types.specs.Sessions.{Recorded};
-ghost use Rattle.audit_model.specs.Mergings.{IsMerging};
-ghost use Rattle.audit_model.specs.Walks.{IsWholeWalk};
+ghost use Rattle.migration_types.specs.declared.records.LogName.{LogName};
+ghost use Rattle.audit_model.specs.Names.{log_length};
+ghost use Rattle.audit_model.specs.Mergings.{IsMerging, HasMerging, Cursors};
+ghost use Rattle.audit_model.specs.Walks.{IsWholeWalk, IsStuck, IsGrown};
+ghost use Rattle.audit_model.specs.FoundOrder.{IsKnot};
+ghost use Rattle.audit_model.specs.World.{IsSafe};
+ghost use Rattle.audit_model.specs.Worlds.{FollowsCursors};
+ghost use Rattle.audit_model.specs.Shape.{IsRightShape};
+ghost use Rattle.audit_model.specs.Laws.{IsCertified, FindsResident, ReadsFlat, PlacedOnce, PlacedUntouched, ReleasedAsZeros, IsMigrated, IsFaultless, FaultsBreak, DelayedBreaks, UnplacedBreaks, SafeExactlyIfClean, CertifiedFromSource, CertifiedBalloon};
 
-/// A list of names is a merging exactly where it is a walk of one cursor for each log, to the end of each.
+/// A list of names is a merging exactly where it is a walk of one cursor for each log, to the end of each. Where
+/// records are left and none of the next ones may follow, there is no merging; nor is there one where the found order
+/// ends in a knot. A session that grows by a record whose receipt names one that was there keeps its mergings.
 pub fn mergings_are_walks()
-    ensures { (s : Recorded) (order : List Name) → IsMerging s order ↔ IsWholeWalk s order }
+    ensures walks { (s : Recorded) (order : List Name) → IsMerging s order ↔ IsWholeWalk s order }
+    ensures stuck { (s : Recorded) (c : Cursors) (log : LogName) → IsStuck s c → c log < log_length s log → HasMerging s → ⊥ }
+    ensures knotted { (s : Recorded) (line : ℕ) → IsKnot s line → HasMerging s → ⊥ }
+    ensures grown { (s t : Recorded) (name : Name) (order : List Name) → IsGrown s t name → IsMerging s order → IsMerging t (order ++ name ∷ []) }
+{}
+
+/// In a session of the right shape the world at each point of each merging is decided by how many records of each log
+/// were taken: where the guest is, the source's memory and ledger, and which pages are touched, placed and resident.
+pub fn worlds_follow_cursors()
+    ensures { (s : Recorded) → IsRightShape s → FollowsCursors s }
+{}
+
+/// A session of the right shape with a right certificate is safe: in each of its mergings, of which there is one, the
+/// demand holds at each record. So each read or write at the target finds its page, each read gives what one machine
+/// that never moved gives, each page is placed at most once and over no later use of it, and a released page comes back
+/// as zeros.
+pub fn certified_is_safe()
+    ensures safe { (s : Recorded) (c : Certified) → IsCertified s c → IsSafe s }
+    ensures has_merging { (s : Recorded) (c : Certified) → IsCertified s c → HasMerging s }
+    ensures finds_resident { (s : Recorded) (c : Certified) → IsCertified s c → FindsResident s }
+    ensures reads_flat { (s : Recorded) (c : Certified) → IsCertified s c → ReadsFlat s }
+    ensures placed_once { (s : Recorded) (c : Certified) → IsCertified s c → PlacedOnce s }
+    ensures placed_untouched { (s : Recorded) (c : Certified) → IsCertified s c → PlacedUntouched s }
+    ensures released_as_zeros { (s : Recorded) (c : Certified) → IsCertified s c → ReleasedAsZeros s }
+    ensures migrated { (s : Recorded) (c : Certified) → IsCertified s c → IsMigrated s }
+{}
+
+/// A session of the right shape with no fault of a page is safe, and a fault of a page breaks the demand at its record:
+/// an early access where its page's placement is delayed, or in each merging where there is none, and any other fault in
+/// each merging. So where there is a merging, the session is safe exactly where no page has a fault.
+pub fn faults_are_unsafe()
+    ensures clean { (s : Recorded) → IsFaultless s → IsSafe s }
+    ensures faults { (s : Recorded) → IsRightShape s → FaultsBreak s }
+    ensures delayed { (s : Recorded) → IsRightShape s → DelayedBreaks s }
+    ensures unplaced { (s : Recorded) → IsRightShape s → UnplacedBreaks s }
+    ensures exactly { (s : Recorded) → SafeExactlyIfClean s }
+{}
+
+/// There are sessions of the right shape with right certificates: one in which a page comes from the source, and one in
+/// which a released page comes back as zeros, each of them used at the target.
+pub fn premises_can_be_met()
+    ensures from_source { CertifiedFromSource }
+    ensures balloon { CertifiedBalloon }
 {}

@@ -12,5 +12,8 @@ mod reasons;
 mod tests;
 
 pub use flat::flat_value;
-pub use laws::mergings_are_walks;
+pub use laws::{
+    certified_is_safe, faults_are_unsafe, mergings_are_walks, premises_can_be_met,
+    worlds_follow_cursors,
+};
 pub use reasons::{PageReason, ShapeReason};

@@ -1,0 +1,164 @@
+-- Tests by which a session and a certificate that are written out meet the definitions.
+use Rattle.std.proofs.Common.{◌≡◌, ℕ, zero, suc, ◌<◌, ◌≤◌, Bool, true, false, not, ◌&&◌, List, [], ◌∷◌, Option, Some, None, refl, sym, ap, ◌∙◌, arith, eqb-true, eq-eqb}
+use Rattle.std.specs.Prelude.{slice_get, ◌==◌, nat_lt}
+use Rattle.std.proofs.lemmas.Bool.{ltb-true}
+use Rattle.migration_types.specs.declared.records.LogName.{LogName}
+use Rattle.migration_types.specs.declared.records.LogName.TheVariants.{Guest, Source, Link, Pager}
+use Rattle.migration_types.specs.declared.records.GuestRec.{GuestRec}
+use Rattle.migration_types.specs.declared.records.GuestRec.TheVariants.{Read}
+use Rattle.migration_types.specs.declared.records.SourceRec.{SourceRec}
+use Rattle.migration_types.specs.declared.records.SourceRec.TheVariants.{Send}
+use Rattle.migration_types.specs.declared.records.PagerRec.{PagerRec}
+use Rattle.migration_types.specs.Memory.{page_of}
+use Rattle.migration_types.specs.Receipts.{Name}
+use Rattle.migration_types.specs.Sessions.{Recorded}
+use Rattle.audit_model.specs.declared.reasons.ShapeReason.TheVariants.{Phases, Named, Start, SecondSend}
+use Rattle.audit_model.specs.Names.{log_length, receipt}
+use Rattle.audit_model.specs.Mergings.{IsMerging, Cursors, at_start}
+use Rattle.audit_model.specs.Walks.{next, cursors_from, Walks}
+use Rattle.audit_model.specs.Flat.{flat, in_ledger, AtTarget, Home, home, at_halt}
+use Rattle.audit_model.specs.FoundOrder.{is_received}
+use Rattle.audit_model.specs.Shape.{IsRightShape, in_phase, guest_named, source_named, link_named, pager_named, source_start, pager_start, is_first_send, keeps, is_placement_of}
+use Rattle.audit_model.specs.Certificates.{is_access_of, IsHonest, IsOnlyPlacement, IsLateAccess}
+use Rattle.audit_model.proofs.Walked.{walk_merges}
+
+-- a test at each record, with its place
+abbrev each : {A : Type 0} → (ℕ → A → Bool) → List A → Bool
+each test [] = true
+each test (x ∷ xs) = test 0 x && each (λ n. test (suc n)) xs
+
+and_left : (x y : Bool) → (x && y) ≡ true → x ≡ true
+and_left true y e = refl
+and_left false y e = absurd (cc)
+
+and_right : (x y : Bool) → (x && y) ≡ true → y ≡ true
+and_right true y e = e
+and_right false y e = absurd (cc)
+
+each_keeps : {A : Type 0} (test : ℕ → A → Bool) (log : List A) → each test log ≡ true → (n : ℕ) → keeps (test n) (slice_get log n) ≡ true
+each_keeps test [] e n = refl
+each_keeps test (x ∷ log) e zero = and_left _ _ e
+each_keeps test (x ∷ log) e (suc n) = each_keeps (λ n. test (suc n)) log (and_right _ _ e) n
+
+each_at : {A : Type 0} (test : ℕ → A → Bool) (log : List A) → each test log ≡ true → (n : ℕ) (r : A) → slice_get log n ≡ Some r → test n r ≡ true
+each_at test log e n r is = sym (ap (λ o. keeps (test n) o) is) ∙ each_keeps test log e n
+
+-- the right shape by tests
+module _ (s : Recorded)
+    (phases : each (in_phase s) s.guest ≡ true)
+    (guest : each (λ n. guest_named s) s.guest ≡ true) (source : each (source_named s) s.source ≡ true)
+    (link : each (λ n. link_named s) s.link ≡ true) (pager : each (pager_named s) s.pager ≡ true)
+    (source_starts : each (source_start s) s.source ≡ true) (pager_starts : each (pager_start s) s.pager ≡ true)
+    (sends : each (is_first_send s) s.source ≡ true) where
+  pub shape_by_tests : IsRightShape s
+  shape_by_tests Phases (Guest, n) = each_keeps (in_phase s) s.guest phases n
+  shape_by_tests Named (Guest, n) = each_keeps (λ n. guest_named s) s.guest guest n
+  shape_by_tests Named (Source, n) = each_keeps (source_named s) s.source source n
+  shape_by_tests Named (Link, n) = each_keeps (λ n. link_named s) s.link link n
+  shape_by_tests Named (Pager, n) = each_keeps (pager_named s) s.pager pager n
+  shape_by_tests Start (Source, n) = each_keeps (source_start s) s.source source_starts n
+  shape_by_tests Start (Pager, n) = each_keeps (pager_start s) s.pager pager_starts n
+  shape_by_tests SecondSend (Source, n) = each_keeps (is_first_send s) s.source sends n
+  shape_by_tests Phases (Source, n) = refl
+  shape_by_tests Phases (Link, n) = refl
+  shape_by_tests Phases (Pager, n) = refl
+  shape_by_tests Start (Guest, n) = refl
+  shape_by_tests Start (Link, n) = refl
+  shape_by_tests SecondSend (Guest, n) = refl
+  shape_by_tests SecondSend (Link, n) = refl
+  shape_by_tests SecondSend (Pager, n) = refl
+
+-- a walk by a test
+abbrev may : Recorded → Cursors → Name → Bool
+may s c n = (n.1 == c n.0) && (nat_lt n.1 (log_length s n.0) && is_received c (receipt s n))
+
+abbrev walk : Recorded → Cursors → List Name → Bool
+walk s c [] = true
+walk s c (n ∷ ns) = may s c n && walk s (next c n.0) ns
+
+pub walks_by_test : (s : Recorded) (c : Cursors) (names : List Name) → walk s c names ≡ true → Walks s c names
+walks_by_test s c [] e = tt
+walks_by_test s c (n ∷ names) e =
+    let m : may s c n ≡ true = and_left _ _ e in
+    let b : nat_lt n.1 (log_length s n.0) && is_received c (receipt s n) ≡ true = and_right _ _ m in (
+      record {
+        is_next = eqb-true _ _ (and_left _ _ m);
+        is_there = ltb-true _ _ (and_left _ _ b);
+        sent_before = λ sent is. ltb-true _ _ (sym (ap (λ o. is_received c o) is) ∙ and_right _ _ b);
+      },
+      walks_by_test s (next c n.0) names (and_right _ _ e),
+    )
+
+abbrev same_list : List ℕ → List ℕ → Bool
+same_list [] [] = true
+same_list [] (y ∷ ys) = false
+same_list (x ∷ xs) [] = false
+same_list (x ∷ xs) (y ∷ ys) = (x == y) && same_list xs ys
+
+same_list_is : (xs ys : List ℕ) → same_list xs ys ≡ true → xs ≡ ys
+same_list_is [] [] e = refl
+same_list_is [] (y ∷ ys) e = absurd (cc)
+same_list_is (x ∷ xs) [] e = absurd (cc)
+same_list_is (x ∷ xs) (y ∷ ys) e =
+    let h = eqb-true x y (and_left _ _ e) in
+    let t : xs ≡ ys = same_list_is xs ys (and_right (x == y) (same_list xs ys) e) in
+    cc
+
+abbrev is_target : Home → Bool
+is_target AtTarget = true
+is_target _ = false
+
+-- if the one holds, the other does
+abbrev then : Bool → Bool → Bool
+then true b = b
+then false b = true
+
+follows : (a b : Bool) → then a b ≡ true → a ≡ true → b ≡ true
+follows true b e f = e
+follows false b e f = absurd (cc)
+
+abbrev read_test : Recorded → ℕ → ℕ → GuestRec → Bool
+read_test s page n (Read v p c x) = then (p == page) (x == flat s n page c)
+read_test s page n _ = true
+
+abbrev send_test : Recorded → ℕ → SourceRec → Bool
+send_test s page (Send p content) = then (p == page) (same_list content (page_of s.geometry.cells (flat s (at_halt s)) page))
+send_test s page _ = true
+
+abbrev ledger_test : Recorded → ℕ → SourceRec → Bool
+ledger_test s page (Send p content) = then (p == page) (not (in_ledger s (at_halt s) page))
+ledger_test s page _ = true
+
+not_true : (b : Bool) → not b ≡ true → b ≡ false
+not_true true e = absurd (cc)
+not_true false e = refl
+
+eq_refl : (p : ℕ) → (p == p) ≡ true
+eq_refl p = eq-eqb p p refl
+
+module _ (s : Recorded) (page : ℕ) where
+  pub honest_by_tests : each (read_test s page) s.guest ≡ true → each (λ n. send_test s page) s.source ≡ true → each (λ n. ledger_test s page) s.source ≡ true → IsHonest s page
+  honest_by_tests reads sends owed = record {
+    reads = λ n v c x is. eqb-true _ _ (follows (page == page) _ (each_at (read_test s page) s.guest reads n (Read v page c x) is) (eq_refl page));
+    sends = λ n content is. same_list_is _ _ (follows (page == page) _ (each_at (λ n. send_test s page) s.source sends n (Send page content) is) (eq_refl page));
+    owed = λ n content is. not_true _ (follows (page == page) _ (each_at (λ n. ledger_test s page) s.source owed n (Send page content) is) (eq_refl page));
+  }
+
+  pub only_by_test : (place : ℕ) → each (λ n r. then (is_placement_of page r) (n == place)) s.pager ≡ true → IsOnlyPlacement s page place
+  only_by_test place e n r is places = eqb-true _ _ (follows (is_placement_of page r) _ (each_at (λ n r. then (is_placement_of page r) (n == place)) s.pager e n r is) places)
+
+  pub unplaced_by_test : each (λ n r. not (is_placement_of page r)) s.pager ≡ true → (n : ℕ) (r : PagerRec) → slice_get s.pager n ≡ Some r → is_placement_of page r ≡ false
+  unplaced_by_test e n r is = not_true _ (each_at (λ n r. not (is_placement_of page r)) s.pager e n r is)
+
+  -- the accesses after handover are at the place and later
+  pub first_by_test : (access : ℕ) → each (λ n r. then (is_access_of page r) (then (is_target (home s n)) (nat_lt access (suc n)))) s.guest ≡ true → (n : ℕ) → IsLateAccess s page n → access ≤ n
+  first_by_test access e n late =
+      let a = follows (is_access_of page late.by) _ (each_at (λ n r. then (is_access_of page r) (then (is_target (home s n)) (nat_lt access (suc n)))) s.guest e n late.by late.stands) late.is_access in
+      let b = follows (is_target (home s n)) _ a (ap is_target late.is_late) in
+      omega (arith, ltb-true access (suc n) b)
+
+  pub unaccessed_by_test : each (λ n r. then (is_access_of page r) (not (is_target (home s n)))) s.guest ≡ true → (n : ℕ) → IsLateAccess s page n → ⊥
+  unaccessed_by_test e n late =
+      let a = follows (is_access_of page late.by) _ (each_at (λ n r. then (is_access_of page r) (not (is_target (home s n)))) s.guest e n late.by late.stands) late.is_access in
+      let b = ap is_target late.is_late in
+      absurd (cc)

@@ -1,0 +1,6 @@
+use Rattle.audit_model.proofs.ExampleA.{from_source}
+use Rattle.audit_model.proofs.ExampleB.{balloon}
+use Rattle.audit_model.proofs.laws.premises_can_be_met.Goals as goal
+
+pub returns : goal.returns
+returns c = record { from_source = from_source; balloon = balloon }
