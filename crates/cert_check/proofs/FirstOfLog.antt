@@ -10,14 +10,15 @@ use Rattle.migration_types.specs.declared.records.GuestRec.{GuestRec}
 use Rattle.migration_types.specs.declared.records.SourceRec.{SourceRec}
 use Rattle.migration_types.specs.declared.records.SourceRec.TheVariants.{Halted, State, Send, Again, Ask, Done}
 use Rattle.audit_model.specs.declared.reasons.ShapeReason.{ShapeReason}
-use Rattle.audit_model.specs.Sessions.{IsSession, SourceFits}
+use Rattle.migration_types.specs.Sessions.{Recorded, IsSession, SourceRecFits}
 use Rattle.migration_types.specs.declared.records.LinkRec.{LinkRec}
 use Rattle.migration_types.specs.declared.records.PagerRec.{PagerRec}
-use Rattle.migration_types.specs.Sessions.{Recorded}
 use Rattle.audit_model.specs.Names.{log_length}
+use Rattle.audit_model.proofs.Lists.{each_at}
+use Rattle.cert_check.proofs.Reading.{item_at, read_at}
 use Rattle.audit_model.specs.Flat.{changed}
 use Rattle.audit_model.specs.Shape.{keeps, earlier, is_halt, is_resume, is_send_of, in_phase_by, in_phase, guest_named, source_named, source_start, is_first_send, link_named, pager_named, pager_start}
-use Rattle.cert_check.specs.FirstFault.{first_reason, is_unmarked, marked_by, reason_at, IsRightBelow, IsRightLog}
+use Rattle.cert_check.specs.FirstOfLog.{first_reason, is_unmarked, marked_by, reason_at, IsRightBelow, IsRightLog}
 
 -- one more record of a log
 pub earlier_more : {A : Type 0} (test : A → Bool) (log : List A) (n : ℕ) (r : A) → slice_get log n ≡ Some r → earlier test log (n + 1) ≡ (test r || earlier test log n)
@@ -84,31 +85,23 @@ link_right s xs k same whole below = let e = ap (λ (ys : List LinkRec). length 
 pub pager_right : (s : Recorded) (xs : List PagerRec) (k : ℕ) → xs ≡ s.pager → length xs ≤ k → IsRightBelow s Pager k → IsRightLog s Pager
 pager_right s xs k same whole below = let e = ap (λ (ys : List PagerRec). length ys) same in to_the_end s Pager k (λ n le. pager_past s n (omega arith)) below
 
--- the item of a loop over a log
-pub item_at : {A : Type 0} (xs ys : List A) (n : ℕ) (d : A) → xs ≡ ys → n < length xs → slice_get ys n ≡ Some (get_or xs n d)
-item_at xs ys n d same lt = subst (λ (zs : List _). slice_get zs n ≡ Some (get_or xs n d)) same (slice_get-get_or xs n d lt)
-
-pub read_at : {A : Type 0} (xs ys : List A) (n : ℕ) (x : A) → xs ≡ ys → n < length xs → x ≡ get_or xs n x → slice_get ys n ≡ Some x
-read_at xs ys n x same lt at = subst (λ (zs : List _). slice_get zs n ≡ Some x) same (slice_get_read xs (length xs) n x refl lt at)
-
 -- a flag that says whether an earlier record passes, at the next record
-pub earlier_turn : {A : Type 0} (test : A → Bool) (xs ys : List A) (n : ℕ) (d : A) (found after : Bool) → xs ≡ ys → n < length xs → found ≡ earlier test ys n → after ≡ (test (get_or xs n d) || found) → after ≡ earlier test ys (n + 1)
-earlier_turn test xs ys n d found after same lt was e =
-    e ∙ ap (λ b. test (get_or xs n d) || b) was ∙ sym (earlier_more test ys n (get_or xs n d) (item_at xs ys n d same lt))
+pub earlier_turn : {A : Type 0} (test : A → Bool) (ys : List A) (n : ℕ) (x : A) (found after : Bool) → slice_get ys n ≡ Some x → found ≡ earlier test ys n → after ≡ (test x || found) → after ≡ earlier test ys (n + 1)
+earlier_turn test ys n x found after is was e =
+    e ∙ ap (λ b. test x || b) was ∙ sym (earlier_more test ys n x is)
 
-pub guest_turn : (s : Recorded) (xs : List GuestRec) (n : ℕ) (d : GuestRec) (halted resumed : Bool) (found : Option ShapeReason) → xs ≡ s.guest → n < length xs → halted ≡ earlier is_halt s.guest n → resumed ≡ earlier is_resume s.guest n →
-    found ≡ first_reason (in_phase_by halted resumed (get_or xs n d)) (guest_named s (get_or xs n d)) true true → reason_at s (Guest, n) ≡ found
-guest_turn s xs n d halted resumed found same lt h r e =
-    let x = get_or xs n d in
-    guest_reason_at s n x (item_at xs s.guest n d same lt) ∙ ap (λ b. first_reason (in_phase_by b (earlier is_resume s.guest n) x) (guest_named s x) true true) (sym h) ∙ ap (λ b. first_reason (in_phase_by halted b x) (guest_named s x) true true) (sym r) ∙ sym e
+pub guest_turn : (s : Recorded) (n : ℕ) (x : GuestRec) (halted resumed : Bool) (found : Option ShapeReason) → slice_get s.guest n ≡ Some x → halted ≡ earlier is_halt s.guest n → resumed ≡ earlier is_resume s.guest n →
+    found ≡ first_reason (in_phase_by halted resumed x) (guest_named s x) true true → reason_at s (Guest, n) ≡ found
+guest_turn s n x halted resumed found is h r e =
+    guest_reason_at s n x is ∙ ap (λ b. first_reason (in_phase_by b (earlier is_resume s.guest n) x) (guest_named s x) true true) (sym h) ∙ ap (λ b. first_reason (in_phase_by halted b x) (guest_named s x) true true) (sym r) ∙ sym e
 
 pub source_turn : (s : Recorded) (xs : List SourceRec) (marks : List Bool) (n : ℕ) (x : SourceRec) (found : Option ShapeReason) → IsSession s → xs ≡ s.source → n < length xs → x ≡ get_or xs n x → ((p : ℕ) → p < s.geometry.pages → get_or marks p false ≡ earlier (is_send_of p) s.source n) →
     found ≡ first_reason true (source_named s n x) (source_start s n x) (is_unmarked marks x) → reason_at s (Source, n) ≡ found
 source_turn s xs marks n x found fits same lt at are e =
     let is = read_at xs s.source n x same lt at in
-    source_reason_at s n x is ∙ ap (λ b. first_reason true (source_named s n x) (source_start s n x) b) (first x (fits.source_fits n x is)) ∙ sym e
+    source_reason_at s n x is ∙ ap (λ b. first_reason true (source_named s n x) (source_start s n x) b) (first x (each_at (SourceRecFits s.geometry) s.source n x fits.source is)) ∙ sym e
   where
-    first : (x : SourceRec) → SourceFits s x → is_first_send s n x ≡ is_unmarked marks x
+    first : (x : SourceRec) → SourceRecFits s.geometry x → is_first_send s n x ≡ is_unmarked marks x
     first (Send p content) f = ap (λ b. not b) (sym (are p f.0))
     first (Halted h) f = refl
     first State f = refl

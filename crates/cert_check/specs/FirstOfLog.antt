@@ -7,7 +7,7 @@ use Rattle.audit_model.specs.declared.reasons.ShapeReason.{ShapeReason}
 use Rattle.audit_model.specs.declared.reasons.ShapeReason.TheVariants.{Phases, Named, Start, SecondSend}
 use Rattle.migration_types.specs.declared.records.SourceRec.{SourceRec}
 use Rattle.migration_types.specs.declared.records.SourceRec.TheVariants.{Send}
-use Rattle.audit_model.specs.Names.{Name}
+use Rattle.migration_types.specs.Receipts.{Name}
 use Rattle.audit_model.specs.Shape.{is_right}
 
 -- the first of the reasons for which a record is not right

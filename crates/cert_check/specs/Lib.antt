@@ -1,4 +1,2 @@
-pub mod Taken
-pub mod Misreads
+pub mod FirstOfLog
 pub mod Verdicts
-pub mod Texts

@@ -1,13 +1,16 @@
 //! The verdict on a session and a certificate.
 
 ghost use Rattle.std.specs.Prelude.{◌≡◌, IfOk};
-ghost use Rattle.audit_model.specs.Certificates.{IsFaithful};
+ghost use Rattle.audit_model.specs.Mergings.{HasMerging};
+ghost use Rattle.audit_model.specs.World.{IsSafe};
+ghost use Rattle.audit_model.specs.Laws.{FindsResident, ReadsFlat, PlacedOnce, PlacedUntouched, ReleasedAsZeros};
 ghost use Rattle.cert_check.specs.Verdicts.{IsVerdict};
 
-use crate::pages::least_misread;
-use crate::runs::first_bad_run;
+use crate::entries::first_bad_page;
+use crate::faults::shape;
 use crate::verdict::Verdict;
-use audit_model::certified_is_faithful;
+use audit_model::certified_is_safe;
+use merge_runs::first_bad_run;
 use migration_types::{Cert, Session};
 use std::alloc::{AllocError, Global};
 
@@ -17,17 +20,32 @@ const BEFORE_ENTRIES: u32 = 3;
 /// A run's line is so many after the number of pages and its place.
 const BEFORE_RUNS: u32 = 4;
 
-/// The verdict on a session and its certificate: `Pages`, `Runs`, `Page` or `Yes`, the first that applies.
+/// The verdict on a session and its certificate: `Shape`, `Pages`, `Runs`, `Page` or `Yes`, the first that applies.
 ///
-/// On `Yes` the session's logs have a merging, and each read gives what one machine that never moved gives. Takes one
-/// pass over the runs and one over the records. The only error is want of memory, for the frames of that machine.
+/// On `Yes` the session's logs have a merging, and every merging is safe: a read or a write after handover finds its page
+/// resident, a read gives what one machine that never moved gives, a page is placed at most once, and over no later read,
+/// write or release, and a released page is never sent and comes back as zeros. Nothing is assumed of who made the
+/// certificate.
+///
+/// Takes one pass over the runs and a few over the records. The only error is want of memory, for the frames of one
+/// machine and a few numbers for each page.
 pub fn check(alloc: Global, session: &Session, cert: &Cert) -> Result<Verdict, AllocError>
     ensures verdict { IfOk result (IsVerdict session.now cert.now) }
-    ensures yes { result ≡ Ok Verdict.Yes → IsFaithful session.now }
+    ensures safe { result ≡ Ok Verdict.Yes → IsSafe session.now }
+    ensures has_merging { result ≡ Ok Verdict.Yes → HasMerging session.now }
+    ensures finds_resident { result ≡ Ok Verdict.Yes → FindsResident session.now }
+    ensures reads_flat { result ≡ Ok Verdict.Yes → ReadsFlat session.now }
+    ensures placed_once { result ≡ Ok Verdict.Yes → PlacedOnce session.now }
+    ensures placed_untouched { result ≡ Ok Verdict.Yes → PlacedUntouched session.now }
+    ensures released_as_zeros { result ≡ Ok Verdict.Yes → ReleasedAsZeros session.now }
 {
     session.keeps_limits();
     cert.keeps_limits();
-    certified_is_faithful();
+    certified_is_safe();
+    let fault = shape(alloc, session)?;
+    if let Some(fault) = fault {
+        return Ok(Verdict::Shape(fault));
+    }
     let pages = session.geometry().pages();
     if cert.entries().len() != pages as usize {
         return Ok(Verdict::Pages);
@@ -35,8 +53,8 @@ pub fn check(alloc: Global, session: &Session, cert: &Cert) -> Result<Verdict, A
     if let Some(place) = first_bad_run(session, cert.runs()) {
         return Ok(Verdict::Runs(pages + BEFORE_RUNS + place as u32));
     }
-    match least_misread(alloc, session)? {
-        Some(page) => Ok(Verdict::Page(u32::from(page.number()) + BEFORE_ENTRIES)),
+    match first_bad_page(alloc, session, cert.entries())? {
+        Some(page) => Ok(Verdict::Page(page as u32 + BEFORE_ENTRIES)),
         None => Ok(Verdict::Yes),
     }
 }

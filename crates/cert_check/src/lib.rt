@@ -1,14 +1,14 @@
-//! The checker: the verdict on a session and its certificate, as values and as texts.
+//! The checker: the shape of a session, and the verdict on a session and its certificate, as values and as texts.
 #![tactic(auto)]
 
+mod entries;
 mod judge;
-mod pages;
-mod runs;
+mod line_stub;
+mod faults;
 #[cfg(test)]
 mod tests;
-mod texts;
 mod verdict;
 
 pub use judge::check;
-pub use texts::check_texts;
-pub use verdict::Verdict;
+pub use faults::shape;
+pub use verdict::{ShapeFault, Verdict};

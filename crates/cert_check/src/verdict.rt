@@ -1,5 +1,15 @@
 //! Verdicts.
 
+use audit_model::ShapeReason;
+
+/// The first fault of a session's shape: the line of the session's text that has the faulty record, and the first reason
+/// for which it is faulty. Lines count from 1.
+#[derive(Clone, Copy, Debug, PartialEq, Eq)]
+pub struct ShapeFault {
+    pub line: u32,
+    pub reason: ShapeReason,
+}
+
 /// What the checker answers. A line is a line of the text that the name says, and lines count from 1.
 #[derive(Clone, Copy, Debug, PartialEq, Eq)]
 pub enum Verdict {
@@ -7,6 +17,8 @@ pub enum Verdict {
     SessionText(u32),
     /// The certificate's text is refused at this line.
     CertText(u32),
+    /// The session has not the right shape.
+    Shape(ShapeFault),
     /// The session and the certificate have different numbers of pages.
     Pages,
     /// The certificate's runs are no merging: this is the line of the first run that takes a record past its log's

@@ -6,4 +6,4 @@ pub returns-in-Some : goal.returns-in-Some
 returns-in-Some c = (λ t. absurd cc, λ merging.
     let s = c.args.session.now in
     let runs = c.args.runs.now in
-    absurd (no_whole_walk s runs c.in-Some.field-0 c.in-Some.ensures ((c.mergings_are_walks.ensures s (spelled runs)).0 merging)))
+    absurd (no_whole_walk s runs c.in-Some.field-0 c.in-Some.ensures ((c.mergings_are_walks.ensures.walks s (spelled runs)).0 merging)))

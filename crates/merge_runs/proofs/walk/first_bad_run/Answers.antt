@@ -46,7 +46,7 @@ returns-then-is_whole c =
     let runs = c.args.runs.now in
     let i = c.loop-place.invariant in
     let end = all_at runs c.loop-place.place (cursors_of c.loop-place.taken) c.loop-place-test.false (sym i.at) in
-    (c.mergings_are_walks.ensures s (spelled runs)).1 (
+    (c.mergings_are_walks.ensures.walks s (spelled runs)).1 (
       all_walked s runs c.loop-place.place c.loop-place-test.false i.walked,
       λ log. ap (λ (e : Cursors). e log) end ∙ all_taken s c.loop-place.taken c.if-is_whole.ensures log,
     )

@@ -1,0 +1,160 @@
+-- The first fault of a log is the first of the session where the logs before it have none.
+use Rattle.std.proofs.Common.{◌≡◌, ℕ, ◌<◌, ◌≤◌, ◌⊎◌, inl, inr, Bool, true, false, length, Some, None, refl, sym, ap, ◌∙◌, subst, arith}
+use Rattle.std.proofs.lemmas.Bool.{cases_lt, cases_order}
+use Rattle.migration_types.specs.declared.records.LogName.{LogName}
+use Rattle.migration_types.specs.declared.records.LogName.TheVariants.{Guest, Source, Link, Pager}
+use Rattle.audit_model.specs.declared.reasons.ShapeReason.{ShapeReason}
+use Rattle.audit_model.specs.declared.reasons.ShapeReason.TheVariants.{Phases, Named, Start, SecondSend}
+use Rattle.migration_types.specs.Sessions.{Recorded, line_of}
+use Rattle.migration_types.specs.Receipts.{Name}
+use Rattle.audit_model.specs.Names.{log_length}
+use Rattle.audit_model.specs.Shape.{is_right, IsRightShape}
+use Rattle.cert_check.specs.FirstOfLog.{first_reason, reason_at, IsRightLog, IsFirstOfLog}
+use Rattle.audit_model.specs.FirstFault.{rank, IsFirstFault}
+use Rattle.cert_check.proofs.FirstOfLog.{past_end}
+
+-- which of four tests a reason asks for
+abbrev test_of : ShapeReason → Bool → Bool → Bool → Bool → Bool
+test_of Phases a b c d = a
+test_of Named a b c d = b
+test_of Start a b c d = c
+test_of SecondSend a b c d = d
+
+test_is : (s : Recorded) (r : ShapeReason) (name : Name) → is_right s r name ≡ test_of r (is_right s Phases name) (is_right s Named name) (is_right s Start name) (is_right s SecondSend name)
+test_is s Phases name = refl
+test_is s Named name = refl
+test_is s Start name = refl
+test_is s SecondSend name = refl
+
+all_true : (r : ShapeReason) (a b c d : Bool) → first_reason a b c d ≡ None → test_of r a b c d ≡ true
+all_true Phases true b c d e = refl
+all_true Phases false b c d e = absurd (cc)
+all_true Named true true c d e = refl
+all_true Named true false c d e = absurd (cc)
+all_true Named false b c d e = absurd (cc)
+all_true Start true true true d e = refl
+all_true Start true true false d e = absurd (cc)
+all_true Start true false c d e = absurd (cc)
+all_true Start false b c d e = absurd (cc)
+all_true SecondSend true true true true e = refl
+all_true SecondSend true true true false e = absurd (cc)
+all_true SecondSend true true false d e = absurd (cc)
+all_true SecondSend true false c d e = absurd (cc)
+all_true SecondSend false b c d e = absurd (cc)
+
+pub right_from_none : (s : Recorded) (name : Name) → reason_at s name ≡ None → (r : ShapeReason) → is_right s r name ≡ true
+right_from_none s name e r = test_is s r name ∙ all_true r (is_right s Phases name) (is_right s Named name) (is_right s Start name) (is_right s SecondSend name) e
+
+some_reason : (r t : ShapeReason) (a b c d : Bool) → first_reason a b c d ≡ Some t → (test_of t a b c d ≡ false) × (test_of r a b c d ≡ false → rank t ≤ rank r)
+some_reason r t a b c d e = go a b c d e
+  where
+    at : (u : ShapeReason) (a b c d : Bool) → u ≡ t → test_of u a b c d ≡ false → (test_of r a b c d ≡ false → rank u ≤ rank r) → (test_of t a b c d ≡ false) × (test_of r a b c d ≡ false → rank t ≤ rank r)
+    at u a b c d same f le = (subst (λ v. test_of v a b c d ≡ false) same f, λ h. subst (λ v. rank v ≤ rank r) same (le h))
+
+    least : (r : ShapeReason) → 1 ≤ rank r
+    least Phases = omega arith
+    least Named = omega arith
+    least Start = omega arith
+    least SecondSend = omega arith
+
+    second : (r : ShapeReason) (b c d : Bool) → test_of r true b c d ≡ false → 2 ≤ rank r
+    second Phases b c d h = absurd (cc)
+    second Named b c d h = omega arith
+    second Start b c d h = omega arith
+    second SecondSend b c d h = omega arith
+
+    third : (r : ShapeReason) (c d : Bool) → test_of r true true c d ≡ false → 3 ≤ rank r
+    third Phases c d h = absurd (cc)
+    third Named c d h = absurd (cc)
+    third Start c d h = omega arith
+    third SecondSend c d h = omega arith
+
+    fourth : (r : ShapeReason) (d : Bool) → test_of r true true true d ≡ false → 4 ≤ rank r
+    fourth Phases d h = absurd (cc)
+    fourth Named d h = absurd (cc)
+    fourth Start d h = absurd (cc)
+    fourth SecondSend d h = omega arith
+
+    go : (a b c d : Bool) → first_reason a b c d ≡ Some t → (test_of t a b c d ≡ false) × (test_of r a b c d ≡ false → rank t ≤ rank r)
+    go false b c d e = let h : Phases ≡ t = cc in at Phases false b c d h refl (λ h. least r)
+    go true false c d e = let h : Named ≡ t = cc in at Named true false c d h refl (λ h. second r false c d h)
+    go true true false d e = let h : Start ≡ t = cc in at Start true true false d h refl (λ h. third r false d h)
+    go true true true false e = let h : SecondSend ≡ t = cc in at SecondSend true true true false h refl (λ h. fourth r false h)
+    go true true true true e = absurd (cc)
+
+pub wrong_at : (s : Recorded) (name : Name) (t : ShapeReason) → reason_at s name ≡ Some t → is_right s t name ≡ false
+wrong_at s name t e = test_is s t name ∙ (some_reason t t (is_right s Phases name) (is_right s Named name) (is_right s Start name) (is_right s SecondSend name) e).0
+
+pub least_at : (s : Recorded) (name : Name) (t r : ShapeReason) → reason_at s name ≡ Some t → is_right s r name ≡ false → rank t ≤ rank r
+least_at s name t r e f = (some_reason r t (is_right s Phases name) (is_right s Named name) (is_right s Start name) (is_right s SecondSend name) e).1 (sym (test_is s r name) ∙ f)
+
+none_wrong : {A : Type 0} (s : Recorded) (name : Name) (r : ShapeReason) → reason_at s name ≡ None → is_right s r name ≡ false → A
+none_wrong s name r e f = let t = right_from_none s name e r in absurd (cc)
+
+-- the place of a fault is within its log
+pub within : (s : Recorded) (log : LogName) (n : ℕ) (t : ShapeReason) → reason_at s (log, n) ≡ Some t → n < log_length s log
+within s log n t e = go (cases_lt n (log_length s log))
+  where
+    go : (n < log_length s log) ⊎ (log_length s log ≤ n) → n < log_length s log
+    go (inl l) = l
+    go (inr l) = let none = past_end s log n l in absurd (cc)
+
+abbrev IsAfter : Recorded → ShapeReason → Name → ShapeReason → Name → Type 0
+IsAfter s reason name r other = (line_of s name < line_of s other) ⊎ ((line_of s name ≡ line_of s other) × (rank reason ≤ rank r))
+
+same_line : (s : Recorded) (log : LogName) (a b : ℕ) → a < b → line_of s (log, a) < line_of s (log, b)
+same_line s Guest a b lt = omega arith
+same_line s Source a b lt = omega arith
+same_line s Link a b lt = omega arith
+same_line s Pager a b lt = omega arith
+
+-- in one log
+same_log_after : (s : Recorded) (log : LogName) (place : ℕ) (reason : ShapeReason) → IsFirstOfLog s log place reason → (r : ShapeReason) (n : ℕ) → is_right s r (log, n) ≡ false → IsAfter s reason (log, place) r (log, n)
+same_log_after s log place reason first r n f = go (cases_order n place)
+  where
+    go : (n ≡ place) ⊎ ((n < place) ⊎ (place < n)) → IsAfter s reason (log, place) r (log, n)
+    go (inl same) = inr (ap (λ k. line_of s (log, k)) (sym same), least_at s (log, place) reason r first.is_reason (subst (λ k. is_right s r (log, k) ≡ false) same f))
+    go (inr (inl lt)) = none_wrong s (log, n) r (first.is_right_below n lt) f
+    go (inr (inr gt)) = inl (same_line s log place n gt)
+
+pub guest_first : (s : Recorded) (place : ℕ) (reason : ShapeReason) → IsFirstOfLog s Guest place reason → IsFirstFault s reason (Guest, place)
+guest_first s place reason first = let lt : place < length s.guest = within s Guest place reason first.is_reason in record { is_wrong = wrong_at s (Guest, place) reason first.is_reason; is_first = λ r other. go r other lt }
+  where
+    go : (r : ShapeReason) (other : Name) → place < length s.guest → is_right s r other ≡ false → IsAfter s reason (Guest, place) r other
+    go r (Guest, n) lt f = same_log_after s Guest place reason first r n f
+    go r (Source, n) lt f = inl (omega arith)
+    go r (Link, n) lt f = inl (omega arith)
+    go r (Pager, n) lt f = inl (omega arith)
+
+pub source_first : (s : Recorded) (place : ℕ) (reason : ShapeReason) → IsRightLog s Guest → IsFirstOfLog s Source place reason → IsFirstFault s reason (Source, place)
+source_first s place reason guest first = let lt : place < length s.source = within s Source place reason first.is_reason in record { is_wrong = wrong_at s (Source, place) reason first.is_reason; is_first = λ r other. go r other lt }
+  where
+    go : (r : ShapeReason) (other : Name) → place < length s.source → is_right s r other ≡ false → IsAfter s reason (Source, place) r other
+    go r (Guest, n) lt f = none_wrong s (Guest, n) r (guest n) f
+    go r (Source, n) lt f = same_log_after s Source place reason first r n f
+    go r (Link, n) lt f = inl (omega arith)
+    go r (Pager, n) lt f = inl (omega arith)
+
+pub link_first : (s : Recorded) (place : ℕ) (reason : ShapeReason) → IsRightLog s Guest → IsRightLog s Source → IsFirstOfLog s Link place reason → IsFirstFault s reason (Link, place)
+link_first s place reason guest source first = let lt : place < length s.link = within s Link place reason first.is_reason in record { is_wrong = wrong_at s (Link, place) reason first.is_reason; is_first = λ r other. go r other lt }
+  where
+    go : (r : ShapeReason) (other : Name) → place < length s.link → is_right s r other ≡ false → IsAfter s reason (Link, place) r other
+    go r (Guest, n) lt f = none_wrong s (Guest, n) r (guest n) f
+    go r (Source, n) lt f = none_wrong s (Source, n) r (source n) f
+    go r (Link, n) lt f = same_log_after s Link place reason first r n f
+    go r (Pager, n) lt f = inl (omega arith)
+
+pub pager_first : (s : Recorded) (place : ℕ) (reason : ShapeReason) → IsRightLog s Guest → IsRightLog s Source → IsRightLog s Link → IsFirstOfLog s Pager place reason → IsFirstFault s reason (Pager, place)
+pager_first s place reason guest source link first = record { is_wrong = wrong_at s (Pager, place) reason first.is_reason; is_first = go }
+  where
+    go : (r : ShapeReason) (other : Name) → is_right s r other ≡ false → IsAfter s reason (Pager, place) r other
+    go r (Guest, n) f = none_wrong s (Guest, n) r (guest n) f
+    go r (Source, n) f = none_wrong s (Source, n) r (source n) f
+    go r (Link, n) f = none_wrong s (Link, n) r (link n) f
+    go r (Pager, n) f = same_log_after s Pager place reason first r n f
+
+pub shape_right : (s : Recorded) → IsRightLog s Guest → IsRightLog s Source → IsRightLog s Link → IsRightLog s Pager → IsRightShape s
+shape_right s guest source link pager r (Guest, n) = right_from_none s (Guest, n) (guest n) r
+shape_right s guest source link pager r (Source, n) = right_from_none s (Source, n) (source n) r
+shape_right s guest source link pager r (Link, n) = right_from_none s (Link, n) (link n) r
+shape_right s guest source link pager r (Pager, n) = right_from_none s (Pager, n) (pager n) r

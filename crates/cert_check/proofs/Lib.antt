@@ -1,0 +1,4 @@
+pub mod Reading
+pub mod FirstOfLog
+pub mod FirstOfAll
+pub mod RightEntries
