@@ -1,5 +1,5 @@
 pub mod Lists
 pub mod Taken
+pub mod Sections
 pub mod Laws
 pub mod Goes
-pub mod Values
