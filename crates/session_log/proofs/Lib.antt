@@ -3,3 +3,5 @@ pub mod Taken
 pub mod Sections
 pub mod Laws
 pub mod Goes
+pub mod Tells
+pub mod Values
