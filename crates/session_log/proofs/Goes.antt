@@ -2,88 +2,113 @@
 use Rattle.std.proofs.Common.{◌≡◌, ◌≢◌, ℕ, zero, suc, ◌+◌, ◌-◌, ◌<◌, ◌≤◌, ◌^◌, List, [], ◌∷◌, ◌++◌, length, map, replicate, refl, sym, ap, subst, ◌∙◌, append_assoc, length-append, arith}
 use Rattle.std.specs.List.{AllByRecursion}
 use Rattle.std.specs.Fmt.{decimal}
-use Rattle.std.proofs.lemmas.List.{append-nil, map-append, length-map, length-replicate}
-use Rattle.text_lines.specs.Text.{Begins}
+use Rattle.std.proofs.lemmas.List.{append-nil, length-map, length-replicate}
+use Rattle.text_lines.specs.Text.{Begins, TakesLines}
 use Rattle.text_lines.proofs.Cut.{Begins-front}
 use Rattle.migration_types.specs.declared.records.GuestRec.{GuestRec}
-use Rattle.migration_types.specs.declared.records.GuestRec.TheVariants.{Release}
+use Rattle.migration_types.specs.declared.records.GuestRec.TheVariants.{Halt}
+use Rattle.migration_types.specs.declared.records.SourceRec.{SourceRec}
+use Rattle.migration_types.specs.declared.records.SourceRec.TheVariants.{State}
+use Rattle.migration_types.specs.declared.records.LinkRec.{LinkRec}
+use Rattle.migration_types.specs.declared.records.LinkRec.TheVariants.{Down}
+use Rattle.migration_types.specs.declared.records.PagerRec.{PagerRec}
+use Rattle.migration_types.specs.declared.records.PagerRec.TheVariants.{All}
 use Rattle.migration_types.specs.declared.pages.InitPage.{InitPage}
 use Rattle.migration_types.specs.Extents.{Extent, IsExtent}
 use Rattle.migration_types.specs.Pages.{InitPageFits}
-use Rattle.migration_types.specs.Sessions.{Recorded, IsSession, GuestRecFits}
-use Rattle.session_log.specs.declared.lines.Stage.{Stage}
-use Rattle.session_log.specs.declared.lines.Stage.TheVariants.{Header, Pages, Cells, InitCount, Init, Guest, Link, Pager, End, Done}
-use Rattle.session_log.specs.Records.{record_line}
+use Rattle.migration_types.specs.Sessions.{Recorded, IsSession, GuestRecFits, SourceRecFits, LinkRecFits, PagerRecFits}
+use Rattle.session_log.specs.declared.parts.Stage.{Stage}
+use Rattle.session_log.specs.declared.parts.Stage.TheVariants.{Header, Pages, Cells, InitCount, Init, Guest, Source, Link, Pager, Done}
+use Rattle.session_log.specs.Records.{guest_line, source_line, link_line, pager_line}
 use Rattle.session_log.specs.InitPages.{Rise, rise_long, rise_increases}
-use Rattle.session_log.specs.Grammar.{header, pages_key, cells_key, init_key, guest_key, page_line, no_source, no_link, no_pager, closing, session_lines, SpellsSession}
-use Rattle.session_log.specs.Held.{Draft, counting, geometry_onto, init_onto, guest_onto, held_onto, InitFits, GuestFits, WholeFits, Live}
+use Rattle.session_log.specs.Grammar.{header, pages_key, cells_key, init_key, guest_key, source_key, link_key, pager_key, page_line, closing, counted, session_lines, SpellsSession}
+use Rattle.session_log.specs.Held.{Draft, Part, part_onto, geometry_onto, init_onto, guest_onto, source_onto, link_onto, pager_onto, held_onto, IsWhole, InitFits, LogFits, GuestFits, SourceFits, LinkFits, PagerFits, Live}
 use Rattle.session_log.proofs.Lists.{all_append, all_replicate}
-use Rattle.session_log.proofs.Laws.{held_append, init_agrees, guest_agrees, tail_at, guest_lines, tail_lines}
+use Rattle.session_log.proofs.Sections.{with_items, onto_more, onto_whole, fresh, fresh_fits, missing, filled_whole, filled_fits}
+use Rattle.session_log.proofs.Laws.{held_append, StartFits, guest_part, source_part, link_part, pager_part, pager_lines, link_lines, source_lines, guest_lines, init_agrees, guest_agrees, source_agrees, link_agrees, pager_agrees}
 
 -- ---- a whole draft is a session
 
 abbrev pub session_of : Draft → Recorded
-session_of d = record { geometry = d.geometry; init = d.init; guest = d.guest }
+session_of d = record { geometry = d.geometry; init = d.init.items; guest = d.guest.items; source = d.source.items; link = d.link.items; pager = d.pager.items }
 
-pub whole_fits : (d : Draft) → WholeFits d → IsSession (session_of d)
-whole_fits d w =
-    let few = w.guest.few in
-    let full = w.whole_guest in
+few_items : {X Y : Type 0} (Before : Type 0) (list : Part X) (Fits : Y → Type 0) (log : Part Y) → LogFits Before list Fits log → length log.items ≤ 1048576
+few_items Before list Fits log f = let few = f.few in let within = f.within in omega arith
+
+pub whole_fits : (d : Draft) → PagerFits d → IsSession (session_of d)
+whole_fits d f =
+    let link = f.before in
+    let source = link.before in
+    let guest = source.before in
+    let init = guest.before in
     record {
-      geometry = w.guest.init.geometry;
-      init = record { each = w.guest.init.each; rising = rise_increases 0 d.next_page d.init w.guest.init.rising };
-      few_guest = omega arith;
-      guest = w.guest.each;
+      geometry = init.geometry;
+      init = record { each = init.each; rising = rise_increases 0 d.next_page d.init.items init.rising };
+      few_guest = few_items (StartFits d) d.init (GuestRecFits d.geometry) d.guest guest;
+      few_source = few_items (GuestFits d) d.guest (SourceRecFits d.geometry) d.source source;
+      few_link = few_items (SourceFits d) d.source LinkRecFits d.link link;
+      few_pager = few_items (LinkFits d) d.link (PagerRecFits d.geometry) d.pager f;
+      guest = guest.each;
+      source = source.each;
+      link = link.each;
+      pager = f.each;
     }
 
-whole_lines : (d : Draft) → WholeFits d → held_onto Done d [] ≡ session_lines (session_of d)
-whole_lines d w =
-    ap (λ (n : ℕ). geometry_onto d.geometry (counting init_key page_line n d.init (counting guest_key record_line d.guest_count d.guest tail_lines))) (sym w.guest.whole_init)
-    ∙ ap (λ (n : ℕ). init_onto (record d { init_count = length d.init }) (counting guest_key record_line n d.guest tail_lines)) (sym w.whole_guest)
+whole_lines : (d : Draft) → PagerFits d → IsWhole d.pager → held_onto Done d [] ≡ session_lines (session_of d)
+whole_lines d f whole =
+    let v = session_of d in
+    let end_lines = closing ∷ [] in
+    let pager = onto_whole pager_key pager_line d.pager end_lines end_lines whole refl in
+    let link = onto_whole link_key link_line d.link (pager_part d end_lines) (pager_lines v) f.whole pager in
+    let source = onto_whole source_key source_line d.source (link_part d (pager_part d end_lines)) (link_lines v) f.before.whole link in
+    let guest = onto_whole guest_key guest_line d.guest (source_part d (link_part d (pager_part d end_lines))) (source_lines v) f.before.before.whole source in
+    let init = onto_whole init_key page_line d.init (guest_part d (source_part d (link_part d (pager_part d end_lines)))) (guest_lines v) f.before.before.before.whole guest in
+    ap (geometry_onto d.geometry) init
 
-pub done_spells : (d : Draft) → WholeFits d → SpellsSession (session_of d) (held_onto Done d [])
-done_spells d w = (whole_fits d w, whole_lines d w)
+pub done_spells : (d : Draft) → PagerFits d → IsWhole d.pager → SpellsSession (session_of d) (held_onto Done d [])
+done_spells d f whole = (whole_fits d f, whole_lines d f whole)
 
 -- ---- from each state there are lines to a whole draft
 
-step : (stage next : Stage) (d e : Draft) (more : List (List ℕ)) → held_onto stage d [] ++ more ≡ held_onto next e [] → Begins SpellsSession (held_onto next e []) → Begins SpellsSession (held_onto stage d [])
-step stage next d e more eq b = Begins-front SpellsSession (held_onto stage d []) more (subst (Begins SpellsSession) (sym eq) b)
+step : (stage next : Stage) (d e : Draft) (more : List (List ℕ)) → held_onto stage d more ≡ held_onto next e [] → Begins SpellsSession (held_onto next e []) → Begins SpellsSession (held_onto stage d [])
+step stage next d e more eq b = Begins-front SpellsSession (held_onto stage d []) more (subst (Begins SpellsSession) (sym (held_append stage d [] more ∙ eq)) b)
 
-done_begins : (d : Draft) → WholeFits d → Begins SpellsSession (held_onto Done d [])
-done_begins d w = (session_of d, [], (whole_fits d w, append-nil (held_onto Done d []) ∙ whole_lines d w))
+done_begins : (d : Draft) → PagerFits d → IsWhole d.pager → Begins SpellsSession (held_onto Done d [])
+done_begins d f whole = (session_of d, [], (whole_fits d f, append-nil (held_onto Done d []) ∙ whole_lines d f whole))
 
-end_begins : (d : Draft) → WholeFits d → Begins SpellsSession (held_onto End d [])
-end_begins d w = step End Done d d (closing ∷ []) (held_append End d (closing ∷ [])) (done_begins d w)
+pager_begins : (d : Draft) → PagerFits d → Begins SpellsSession (held_onto Pager d [])
+pager_begins d f =
+    let more = missing d.pager All in
+    let e : Draft = record d { pager = with_items d.pager more } in
+    step Pager Done d e (map pager_line more ++ closing ∷ []) (ap (link_onto d) (onto_more pager_key pager_line d.pager more (closing ∷ [])))
+      (done_begins e (filled_fits (LinkFits d) d.link (PagerRecFits d.geometry) d.pager All f tt) (filled_whole d.pager All f.within))
 
-pager_begins : (d : Draft) → WholeFits d → Begins SpellsSession (held_onto Pager d [])
-pager_begins d w = step Pager End d d (no_pager ∷ []) (held_append Pager d (no_pager ∷ [])) (end_begins d w)
+link_begins : (d : Draft) → LinkFits d → Begins SpellsSession (held_onto Link d [])
+link_begins d f =
+    let more = missing d.link (Down 0) in
+    let log = with_items d.link more in
+    let line = pager_key ++ decimal 0 in
+    let e : Draft = record d { link = log; pager = fresh 0 } in
+    step Link Pager d e (map link_line more ++ line ∷ []) (ap (source_onto d) (onto_more link_key link_line d.link more (line ∷ [])))
+      (pager_begins e (fresh_fits (LinkFits e) log (PagerRecFits d.geometry) 0 (filled_fits (SourceFits d) d.source LinkRecFits d.link (Down 0) f (omega arith)) (filled_whole d.link (Down 0) f.within) (omega arith)))
 
-link_begins : (d : Draft) → WholeFits d → Begins SpellsSession (held_onto Link d [])
-link_begins d w = step Link Pager d d (no_link ∷ []) (held_append Link d (no_link ∷ [])) (pager_begins d w)
-
--- the items that are missing, and the next line
-filled : {X : Type 0} (key : List ℕ) (spell : X → List ℕ) (count : ℕ) (xs more : List X) (line : List ℕ) → counting key spell count xs (map spell more ++ line ∷ []) ≡ counting key spell count (xs ++ more) (line ∷ [])
-filled key spell count xs more line =
-    ap (λ (t : List (List ℕ)). (key ++ decimal count) ∷ t) (sym (append_assoc (map spell xs) (map spell more) (line ∷ [])) ∙ ap (λ (t : List (List ℕ)). t ++ line ∷ []) (sym (map-append spell xs more)))
+source_begins : (d : Draft) → SourceFits d → Begins SpellsSession (held_onto Source d [])
+source_begins d f =
+    let more = missing d.source State in
+    let log = with_items d.source more in
+    let line = link_key ++ decimal 0 in
+    let e : Draft = record d { source = log; link = fresh 0 } in
+    step Source Link d e (map source_line more ++ line ∷ []) (ap (guest_onto d) (onto_more source_key source_line d.source more (line ∷ [])))
+      (link_begins e (fresh_fits (SourceFits e) log LinkRecFits 0 (filled_fits (GuestFits d) d.guest (SourceRecFits d.geometry) d.source State f tt) (filled_whole d.source State f.within) (omega arith)))
 
 guest_begins : (d : Draft) → GuestFits d → Begins SpellsSession (held_onto Guest d [])
 guest_begins d f =
-    let k = d.guest_count - length d.guest in
-    let more : List GuestRec = replicate k (Release 0 0) in
-    let some = f.init.geometry.some_pages in
-    let count = f.count in
-    let whole : Draft = record d { guest = d.guest ++ more } in
-    let rest = map record_line more ++ no_source ∷ [] in
-    step Guest Link d whole rest (held_append Guest d rest ∙ ap (init_onto d) (filled guest_key record_line d.guest_count d.guest more no_source)) (link_begins whole (record {
-      guest = record {
-        init = record { geometry = f.init.geometry; count = f.init.count; each = f.init.each; rising = f.init.rising; room = f.init.room };
-        whole_init = f.whole_init;
-        few = f.few;
-        count = omega (arith, length-append d.guest more, length-replicate k (Release 0 0));
-        each = all_append (GuestRecFits d.geometry) d.guest more f.each (all_replicate (GuestRecFits d.geometry) k (Release 0 0) (omega arith, omega arith));
-      };
-      whole_guest = omega (arith, length-append d.guest more, length-replicate k (Release 0 0));
-    }))
+    let more = missing d.guest Halt in
+    let log = with_items d.guest more in
+    let line = source_key ++ decimal 0 in
+    let e : Draft = record d { guest = log; source = fresh 0 } in
+    step Guest Source d e (map guest_line more ++ line ∷ []) (ap (init_onto d) (onto_more guest_key guest_line d.guest more (line ∷ [])))
+      (source_begins e (fresh_fits (GuestFits e) log (SourceRecFits d.geometry) 0 (filled_fits (StartFits d) d.init (GuestRecFits d.geometry) d.guest Halt f tt) (filled_whole d.guest Halt f.within) (omega arith)))
 
 -- pages that go on rising, each with a cell that is not 0
 abbrev page_at : ℕ → ℕ → InitPage
@@ -121,38 +146,35 @@ rise_append : (low mid high : ℕ) (xs ys : List InitPage) → Rise low xs mid �
 rise_append low mid high [] ys r s = subst (λ (n : ℕ). Rise n ys high) (sym r) s
 rise_append low mid high (x ∷ xs) ys r s = (r.0, rise_append (x.page + 1) mid high xs ys r.1 s)
 
-init_begins : (d : Draft) → InitFits d → d.guest ≡ [] → Begins SpellsSession (held_onto Init d [])
-init_begins d f none =
-    let m = d.init_count - length d.init in
+init_begins : (d : Draft) → StartFits d → Begins SpellsSession (held_onto Init d [])
+init_begins d f =
+    let m = d.init.count - length d.init.items in
     let more = pages_from d.geometry.cells d.next_page m in
     let top = d.next_page + m in
-    let count = f.count in
+    let within = f.within in
     let len = pages_count d.geometry.cells d.next_page m in
     let room = f.room in
-    let whole : Draft = record d { init = d.init ++ more; next_page = top; guest_count = 0; guest = [] } in
+    let both = length-append d.init.items more in
+    let list = with_items d.init more in
     let line = guest_key ++ decimal 0 in
-    let rest = map page_line more ++ line ∷ [] in
-    step Init Guest d whole rest (held_append Init d rest ∙ ap (geometry_onto d.geometry) (filled init_key page_line d.init_count d.init more line)) (guest_begins whole (record {
-      init = record {
-        geometry = f.geometry;
-        count = omega (arith, length-append d.init more, len);
-        each = all_append (InitPageFits d.geometry) d.init more f.each (pages_fit d.geometry d.next_page m f.geometry room);
-        rising = rise_append 0 d.next_page top d.init more f.rising (pages_rise d.geometry.cells d.next_page m);
-        room = omega (arith, length-append d.init more, len);
-      };
-      whole_init = omega (arith, length-append d.init more, len);
-      few = omega arith;
-      count = omega arith;
-      each = tt;
-    }))
+    let e : Draft = record d { init = list; next_page = top; guest = fresh 0 } in
+    let fits : StartFits e = record {
+      geometry = f.geometry;
+      within = omega arith;
+      each = all_append (InitPageFits d.geometry) d.init.items more f.each (pages_fit d.geometry d.next_page m f.geometry room);
+      rising = rise_append 0 d.next_page top d.init.items more f.rising (pages_rise d.geometry.cells d.next_page m);
+      room = omega arith;
+    } in
+    step Init Guest d e (map page_line more ++ line ∷ []) (ap (geometry_onto d.geometry) (onto_more init_key page_line d.init more (line ∷ [])))
+      (guest_begins e (fresh_fits (StartFits e) list (GuestRecFits d.geometry) 0 fits (omega arith) (omega arith)))
 
 abbrev empty_draft : Extent → Draft
-empty_draft e = record { geometry = e; init_count = 0; next_page = 0; init = []; guest_count = 0; guest = [] }
+empty_draft e = record { geometry = e; next_page = 0; init = fresh 0; guest = fresh 0; source = fresh 0; link = fresh 0; pager = fresh 0 }
 
 count_begins : (d : Draft) → IsExtent d.geometry → Begins SpellsSession (held_onto InitCount d [])
 count_begins d geo =
     let e = empty_draft d.geometry in
-    step InitCount Init d e ((init_key ++ decimal 0) ∷ []) refl (init_begins e (record { geometry = geo; count = omega arith; each = tt; rising = refl; room = omega arith }) refl)
+    step InitCount Init d e ((init_key ++ decimal 0) ∷ []) refl (init_begins e (record { geometry = geo; within = omega arith; each = tt; rising = refl; room = omega arith }))
 
 cells_begins : (d : Draft) → 1 ≤ d.geometry.pages → d.geometry.pages ≤ 65536 → Begins SpellsSession (held_onto Cells d [])
 cells_begins d low high =
@@ -169,16 +191,16 @@ live_begins Header d live = step Header Pages d d (header ∷ []) refl (pages_be
 live_begins Pages d live = pages_begins d
 live_begins Cells d live = cells_begins d live.1 live.2
 live_begins InitCount d live = count_begins d live.1
-live_begins Init d live = init_begins d live.0 live.1
-live_begins Guest d live = guest_begins d live
-live_begins Link d live = link_begins d live
+live_begins Init d live = init_begins d live.0
+live_begins Guest d live = guest_begins d live.0
+live_begins Source d live = source_begins d live.0
+live_begins Link d live = link_begins d live.0
 live_begins Pager d live = pager_begins d live
-live_begins End d live = end_begins d live
-live_begins Done d live = done_begins d live
+live_begins Done d live = done_begins d live.0 live.1
 
 -- ---- what is not whole is no text
 
--- a section without what follows it is too short
+-- a list without what follows it is too short
 no_rest : {X : Type 0} (spell : X → List ℕ) (xs ys : List X) (rest : List (List ℕ)) → map spell xs ++ rest ≡ map spell ys ++ [] → length ys ≤ length xs → 0 < length rest → ⊥
 no_rest spell xs ys rest e le some =
     let l : length (map spell xs ++ rest) ≡ length (map spell ys ++ []) = ap (λ (t : List (List ℕ)). length t) e in
@@ -191,15 +213,24 @@ not_whole_at Cells d live other v fits e = absurd cc
 not_whole_at InitCount d live other v fits e = absurd cc
 not_whole_at Init d live other v fits e =
     let a = (init_agrees d [] v live.0 fits e).init in
-    let count = live.0.count in
-    no_rest page_line v.init d.init (guest_lines v) a.items (omega (arith, a.count)) (omega arith)
+    let within = live.0.within in
+    no_rest page_line v.init d.init.items (guest_lines v) a.items (omega (arith, a.count)) (omega arith)
 not_whole_at Guest d live other v fits e =
-    let a = (guest_agrees d [] v live fits e).guest in
-    let count = live.count in
-    no_rest record_line v.guest d.guest tail_lines a.items (omega (arith, a.count)) (omega arith)
-not_whole_at Link d live other v fits e = let t = tail_at d (no_source ∷ []) v live.guest live.whole_guest fits e in absurd cc
-not_whole_at Pager d live other v fits e = let t = tail_at d (no_source ∷ no_link ∷ []) v live.guest live.whole_guest fits e in absurd cc
-not_whole_at End d live other v fits e = let t = tail_at d (no_source ∷ no_link ∷ no_pager ∷ []) v live.guest live.whole_guest fits e in absurd cc
+    let a = guest_agrees d [] v live.0 fits e in
+    let within = live.0.within in
+    no_rest guest_line v.guest d.guest.items (source_lines v) a.items (omega (arith, a.count)) (omega arith)
+not_whole_at Source d live other v fits e =
+    let a = source_agrees d [] v live.0 fits e in
+    let within = live.0.within in
+    no_rest source_line v.source d.source.items (link_lines v) a.items (omega (arith, a.count)) (omega arith)
+not_whole_at Link d live other v fits e =
+    let a = link_agrees d [] v live.0 fits e in
+    let within = live.0.within in
+    no_rest link_line v.link d.link.items (pager_lines v) a.items (omega (arith, a.count)) (omega arith)
+not_whole_at Pager d live other v fits e =
+    let a = pager_agrees d [] v live fits e in
+    let within = live.within in
+    no_rest pager_line v.pager d.pager.items (closing ∷ []) a.items (omega (arith, a.count)) (omega arith)
 not_whole_at Done d live other v fits e = absurd (other refl)
 
 pub not_whole : (stage : Stage) (d : Draft) (held : List (List ℕ)) → held_onto stage d [] ≡ held → Live stage d → stage ≢ Done → (v : Recorded) → SpellsSession v held → ⊥
@@ -207,28 +238,53 @@ not_whole stage d held e live other v s = not_whole_at stage d live other v s.0 
 
 -- ---- the lines are few
 
-init_few : (d : Draft) (more : List (List ℕ)) → InitFits d → length (init_onto d more) ≤ 65540 + length more
+part_few : {X : Type 0} (key : List ℕ) (spell : X → List ℕ) (part : Part X) (more : List (List ℕ)) → length (part_onto key spell part more) ≡ length part.items + length more + 1
+part_few key spell part more = omega (arith, length-append (map spell part.items) more, length-map part.items spell)
+
+init_few : (d : Draft) (more : List (List ℕ)) → StartFits d → length (init_onto d more) ≤ 65540 + length more
 init_few d more f =
     let geo = f.geometry.few_pages in
     let room = f.room in
-    let long = rise_long 0 d.next_page d.init f.rising in
-    omega (arith, length-append (map page_line d.init) more, length-map d.init page_line)
+    let long = rise_long 0 d.next_page d.init.items f.rising in
+    let part = part_few init_key page_line d.init more in
+    omega arith
 
 guest_few : (d : Draft) (more : List (List ℕ)) → GuestFits d → length (guest_onto d more) ≤ 1114117 + length more
 guest_few d more f =
-    let i = init_few d (counting guest_key record_line d.guest_count d.guest more) f.init in
-    let few = f.few in
-    let count = f.count in
-    omega (arith, i, length-append (map record_line d.guest) more, length-map d.guest record_line)
+    let before = init_few d (guest_part d more) f.before in
+    let few = few_items (StartFits d) d.init (GuestRecFits d.geometry) d.guest f in
+    let part = part_few guest_key guest_line d.guest more in
+    omega arith
+
+source_few : (d : Draft) (more : List (List ℕ)) → SourceFits d → length (source_onto d more) ≤ 2162694 + length more
+source_few d more f =
+    let before = guest_few d (source_part d more) f.before in
+    let few = few_items (GuestFits d) d.guest (SourceRecFits d.geometry) d.source f in
+    let part = part_few source_key source_line d.source more in
+    omega arith
+
+link_few : (d : Draft) (more : List (List ℕ)) → LinkFits d → length (link_onto d more) ≤ 3211271 + length more
+link_few d more f =
+    let before = source_few d (link_part d more) f.before in
+    let few = few_items (SourceFits d) d.source LinkRecFits d.link f in
+    let part = part_few link_key link_line d.link more in
+    omega arith
+
+pager_few : (d : Draft) (more : List (List ℕ)) → PagerFits d → length (pager_onto d more) ≤ 4259848 + length more
+pager_few d more f =
+    let before = link_few d (pager_part d more) f.before in
+    let few = few_items (LinkFits d) d.link (PagerRecFits d.geometry) d.pager f in
+    let part = part_few pager_key pager_line d.pager more in
+    omega arith
 
 pub live_few : (stage : Stage) (d : Draft) → Live stage d → length (held_onto stage d []) + 1 < 2 ^ 32
 live_few Header d live = omega arith
 live_few Pages d live = omega arith
 live_few Cells d live = omega arith
 live_few InitCount d live = omega arith
-live_few Init d live = omega (arith, init_few d [] live.0)
-live_few Guest d live = omega (arith, guest_few d [] live)
-live_few Link d live = omega (arith, guest_few d (no_source ∷ []) live.guest)
-live_few Pager d live = omega (arith, guest_few d (no_source ∷ no_link ∷ []) live.guest)
-live_few End d live = omega (arith, guest_few d (no_source ∷ no_link ∷ no_pager ∷ []) live.guest)
-live_few Done d live = omega (arith, guest_few d (no_source ∷ no_link ∷ no_pager ∷ closing ∷ []) live.guest)
+live_few Init d live = let few = init_few d [] live.0 in omega arith
+live_few Guest d live = let few = guest_few d [] live.0 in omega arith
+live_few Source d live = let few = source_few d [] live.0 in omega arith
+live_few Link d live = let few = link_few d [] live.0 in omega arith
+live_few Pager d live = let few = pager_few d [] live in omega arith
+live_few Done d live = let few = pager_few d (closing ∷ []) live.0 in omega arith

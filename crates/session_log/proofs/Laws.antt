@@ -1,50 +1,75 @@
 -- What the lines that a reader holds say of each text that begins with them.
-use Rattle.std.proofs.Common.{◌≡◌, ℕ, ◌+◌, ◌-◌, ◌<◌, ◌≤◌, ◌^◌, List, [], ◌∷◌, ◌++◌, length, map, refl, sym, ap, subst, ◌∙◌, append_assoc, length-append, arith, inl, inr}
+use Rattle.std.proofs.Common.{◌≡◌, ◌≢◌, ℕ, ◌+◌, ◌-◌, ◌<◌, ◌≤◌, ◌^◌, List, [], ◌∷◌, ◌++◌, length, map, refl, sym, ap, subst, ◌∙◌, append_assoc, length-append, arith, inl, inr}
 use Rattle.std.specs.List.{AllByRecursion}
 use Rattle.std.specs.Fmt.{decimal}
 use Rattle.std.proofs.lemmas.List.{append_cancel_left, length-map}
 use Rattle.std.proofs.lemmas.Fmt.{decimal_injective}
 use Rattle.text_lines.specs.Text.{Begins}
 use Rattle.text_lines.specs.Contents.{contents_text}
-use Rattle.text_lines.proofs.Sections.{CountedAgree, counted_agree, counted_end, counted_next, section_end}
+use Rattle.text_lines.proofs.Sections.{CountedAgree, counted_agree, counted_end, counted_next}
 use Rattle.text_lines.proofs.WordLaws.{decimal_word, same_cut}
 use Rattle.migration_types.specs.declared.records.GuestRec.{GuestRec}
+use Rattle.migration_types.specs.declared.records.SourceRec.{SourceRec}
+use Rattle.migration_types.specs.declared.records.LinkRec.{LinkRec}
+use Rattle.migration_types.specs.declared.records.PagerRec.{PagerRec}
 use Rattle.migration_types.specs.declared.pages.InitPage.{InitPage}
 use Rattle.migration_types.specs.declared.geometry.GeometryFault.{GeometryFault}
 use Rattle.migration_types.specs.declared.geometry.GeometryFault.TheVariants.{Pages as NoPages, Cells as NoCells, TooMany}
 use Rattle.migration_types.specs.Extents.{Extent, IsExtent, IsGeometryFault}
 use Rattle.migration_types.specs.Pages.{InitPageFits}
-use Rattle.migration_types.specs.Sessions.{Recorded, IsSession, GuestRecFits}
-use Rattle.session_log.specs.declared.lines.Stage.{Stage}
-use Rattle.session_log.specs.declared.lines.Stage.TheVariants.{Header, Pages, Cells, InitCount, Init, Guest, Link, Pager, End, Done}
-use Rattle.session_log.specs.Records.{record_line}
+use Rattle.migration_types.specs.Sessions.{Recorded, IsSession, GuestRecFits, SourceRecFits, LinkRecFits, PagerRecFits}
+use Rattle.session_log.specs.declared.parts.Stage.{Stage}
+use Rattle.session_log.specs.declared.parts.Stage.TheVariants.{Header, Pages, Cells, InitCount, Init, Guest, Source, Link, Pager, Done}
+use Rattle.session_log.specs.Records.{guest_line, source_line, link_line, pager_line}
 use Rattle.session_log.specs.InitPages.{IsInitContent, Rise, rise_long, rise_of, few_init}
-use Rattle.session_log.specs.Grammar.{pages_key, cells_key, init_key, guest_key, page_key, page_line, no_source, no_link, no_pager, closing, counted, session_lines, SpellsSession}
-use Rattle.session_log.specs.Held.{Draft, counting, geometry_onto, init_onto, guest_onto, held_onto, InitFits, GuestFits, Live}
+use Rattle.session_log.specs.Grammar.{header, pages_key, cells_key, init_key, guest_key, source_key, link_key, pager_key, page_key, page_line, closing, counted, session_lines, SpellsSession}
+use Rattle.session_log.specs.Held.{Draft, Part, part_onto, geometry_onto, init_onto, guest_onto, source_onto, link_onto, pager_onto, held_onto, IsWhole, InitFits, GuestFits, SourceFits, LinkFits, PagerFits, Live}
 use Rattle.session_log.proofs.Lists.{all_at, all_append}
+use Rattle.session_log.proofs.Sections.{part_append, with_items, agrees, item_at, count_at}
 
 -- ---- more lines behind those held
 
-counting_append : {X : Type 0} (key : List ℕ) (spell : X → List ℕ) (count : ℕ) (xs : List X) (a b : List (List ℕ)) → counting key spell count xs a ++ b ≡ counting key spell count xs (a ++ b)
-counting_append key spell count xs a b = ap (λ (t : List (List ℕ)). (key ++ decimal count) ∷ t) (append_assoc (map spell xs) a b)
+abbrev pub guest_part : Draft → List (List ℕ) → List (List ℕ)
+guest_part d more = part_onto guest_key guest_line d.guest more
+
+abbrev pub source_part : Draft → List (List ℕ) → List (List ℕ)
+source_part d more = part_onto source_key source_line d.source more
+
+abbrev pub link_part : Draft → List (List ℕ) → List (List ℕ)
+link_part d more = part_onto link_key link_line d.link more
+
+abbrev pub pager_part : Draft → List (List ℕ) → List (List ℕ)
+pager_part d more = part_onto pager_key pager_line d.pager more
 
 init_append : (d : Draft) (a b : List (List ℕ)) → init_onto d a ++ b ≡ init_onto d (a ++ b)
-init_append d a b = ap (geometry_onto d.geometry) (counting_append init_key page_line d.init_count d.init a b)
+init_append d a b = ap (geometry_onto d.geometry) (part_append init_key page_line d.init a b)
 
 guest_append : (d : Draft) (a b : List (List ℕ)) → guest_onto d a ++ b ≡ guest_onto d (a ++ b)
-guest_append d a b = init_append d (counting guest_key record_line d.guest_count d.guest a) b ∙ ap (init_onto d) (counting_append guest_key record_line d.guest_count d.guest a b)
+guest_append d a b = init_append d (guest_part d a) b ∙ ap (init_onto d) (part_append guest_key guest_line d.guest a b)
 
-pub held_append : (stage : Stage) (d : Draft) (b : List (List ℕ)) → held_onto stage d [] ++ b ≡ held_onto stage d b
-held_append Header d b = refl
-held_append Pages d b = refl
-held_append Cells d b = refl
-held_append InitCount d b = refl
-held_append Init d b = init_append d [] b
-held_append Guest d b = guest_append d [] b
-held_append Link d b = guest_append d (no_source ∷ []) b
-held_append Pager d b = guest_append d (no_source ∷ no_link ∷ []) b
-held_append End d b = guest_append d (no_source ∷ no_link ∷ no_pager ∷ []) b
-held_append Done d b = guest_append d (no_source ∷ no_link ∷ no_pager ∷ closing ∷ []) b
+source_append : (d : Draft) (a b : List (List ℕ)) → source_onto d a ++ b ≡ source_onto d (a ++ b)
+source_append d a b = guest_append d (source_part d a) b ∙ ap (guest_onto d) (part_append source_key source_line d.source a b)
+
+link_append : (d : Draft) (a b : List (List ℕ)) → link_onto d a ++ b ≡ link_onto d (a ++ b)
+link_append d a b = source_append d (link_part d a) b ∙ ap (source_onto d) (part_append link_key link_line d.link a b)
+
+pager_append : (d : Draft) (a b : List (List ℕ)) → pager_onto d a ++ b ≡ pager_onto d (a ++ b)
+pager_append d a b = link_append d (pager_part d a) b ∙ ap (link_onto d) (part_append pager_key pager_line d.pager a b)
+
+pub held_append : (stage : Stage) (d : Draft) (a b : List (List ℕ)) → held_onto stage d a ++ b ≡ held_onto stage d (a ++ b)
+held_append Header d a b = refl
+held_append Pages d a b = refl
+held_append Cells d a b = refl
+held_append InitCount d a b = refl
+held_append Init d a b = init_append d a b
+held_append Guest d a b = guest_append d a b
+held_append Source d a b = source_append d a b
+held_append Link d a b = link_append d a b
+held_append Pager d a b = pager_append d a b
+held_append Done d a b = pager_append d (closing ∷ a) b
+
+pub held_line : (stage : Stage) (d : Draft) (held : List (List ℕ)) (line : List ℕ) → held_onto stage d [] ≡ held → held_onto stage d (line ∷ []) ≡ held ++ line ∷ []
+held_line stage d held line e = sym (held_append stage d [] (line ∷ [])) ∙ ap (λ (t : List (List ℕ)). t ++ line ∷ []) e
 
 pub live_at : (stage at : Stage) (d : Draft) → stage ≡ at → Live stage d → Live at d
 live_at stage at d is live = subst (λ (s : Stage). Live s d) is live
@@ -56,13 +81,8 @@ pub record Goes (stage : Stage) (d : Draft) (line : List ℕ) : Type 0 where
   pub fits : IsSession v
   pub whole : held_onto stage d (line ∷ more) ≡ session_lines v
 
-pub goes_from : (stage at : Stage) (d : Draft) (held : List (List ℕ)) (line : List ℕ) → held_onto stage d [] ≡ held → stage ≡ at → Begins SpellsSession (held ++ line ∷ []) → Goes at d line
-goes_from stage at d held line e is b = subst (λ (s : Stage). Goes s d line) is (record {
-  v = b.0;
-  more = b.1;
-  fits = b.2.0;
-  whole = sym (held_append stage d (line ∷ b.1)) ∙ (ap (λ (t : List (List ℕ)). t ++ (line ∷ b.1)) e ∙ (sym (append_assoc held (line ∷ []) b.1) ∙ b.2.1));
-})
+pub goes_from : (stage : Stage) (d : Draft) (line : List ℕ) → Begins SpellsSession (held_onto stage d (line ∷ [])) → Goes stage d line
+goes_from stage d line b = record { v = b.0; more = b.1; fits = b.2.0; whole = sym (held_append stage d (line ∷ []) b.1) ∙ b.2.1 }
 
 -- ---- the lines before the lists
 
@@ -81,8 +101,9 @@ no_fault pages cells NoPages fault h = let some = h.some_pages in let few = h.fe
 no_fault pages cells NoCells fault h = let some = h.some_cells in let few = h.few_cells in elim fault.2 [ inl zero ↦ absurd (omega arith) | inr many ↦ absurd (omega arith) ]
 no_fault pages cells TooMany fault h = let few = h.few_in_all in absurd (omega (arith, fault.4))
 
-pub no_pages : (d : Draft) (line : List ℕ) → Goes Pages d line → line ≡ pages_key ++ decimal 0 → ⊥
-no_pages d line g e =
+pub no_pages : (d : Draft) (line : List ℕ) → line ≡ pages_key ++ decimal 0 → Begins SpellsSession (held_onto Pages d (line ∷ [])) → ⊥
+no_pages d line e b =
+    let g = goes_from Pages d line b in
     let whole = g.whole in
     let l : line ≡ pages_key ++ decimal g.v.geometry.pages = cc in
     let few = g.fits.geometry.few_pages in
@@ -90,8 +111,9 @@ no_pages d line g e =
     let z = keyed pages_key 0 g.v.geometry.pages (omega arith) (omega arith) (sym e ∙ l) in
     absurd (omega arith)
 
-pub cells_at : (d : Draft) (line : List ℕ) (c : ℕ) → d.geometry.pages ≤ 65536 → c ≤ 512 → Goes Cells d line → line ≡ cells_key ++ decimal c → IsExtent (extent d.geometry.pages c)
-cells_at d line c lp lc g e =
+pub cells_at : (d : Draft) (line : List ℕ) (c : ℕ) → d.geometry.pages ≤ 65536 → c ≤ 512 → line ≡ cells_key ++ decimal c → Begins SpellsSession (held_onto Cells d (line ∷ [])) → IsExtent (extent d.geometry.pages c)
+cells_at d line c lp lc e b =
+    let g = goes_from Cells d line b in
     let whole = g.whole in
     let fp = g.fits.geometry.few_pages in
     let fc = g.fits.geometry.few_cells in
@@ -112,42 +134,73 @@ init_count_at d line geo g =
     let few = few_init g.v g.fits in
     (length g.v.init, omega arith, l)
 
--- ---- the pages
+-- ---- what stands behind each list
 
-abbrev pub tail_lines : List (List ℕ)
-tail_lines = no_source ∷ no_link ∷ no_pager ∷ closing ∷ []
+abbrev pub pager_lines : Recorded → List (List ℕ)
+pager_lines v = counted pager_key pager_line v.pager (closing ∷ [])
+
+abbrev pub link_lines : Recorded → List (List ℕ)
+link_lines v = counted link_key link_line v.link (pager_lines v)
+
+abbrev pub source_lines : Recorded → List (List ℕ)
+source_lines v = counted source_key source_line v.source (link_lines v)
 
 abbrev pub guest_lines : Recorded → List (List ℕ)
-guest_lines v = counted guest_key record_line v.guest tail_lines
+guest_lines v = counted guest_key guest_line v.guest (source_lines v)
 
 pub record InitAgrees (d : Draft) (more : List (List ℕ)) (v : Recorded) : Type 0 where
   pub geometry : d.geometry ≡ v.geometry
-  pub init : CountedAgree page_line d.init_count v.init d.init (guest_lines v) more
+  pub init : CountedAgree page_line d.init.count v.init d.init.items (guest_lines v) more
 
-pub init_agrees : (d : Draft) (more : List (List ℕ)) (v : Recorded) → InitFits d → IsSession v → init_onto d more ≡ session_lines v → InitAgrees d more v
+abbrev pub StartFits : Draft → Type 0
+StartFits d = InitFits d.geometry d.next_page d.init
+
+pub init_agrees : (d : Draft) (more : List (List ℕ)) (v : Recorded) → StartFits d → IsSession v → init_onto d more ≡ session_lines v → InitAgrees d more v
 init_agrees d more v f fits e =
     let lp = f.geometry.few_pages in
     let lc = f.geometry.few_cells in
     let room = f.room in
-    let count = f.count in
-    let long = rise_long 0 d.next_page d.init f.rising in
+    let count = f.within in
+    let long = rise_long 0 d.next_page d.init.items f.rising in
     let fp = fits.geometry.few_pages in
     let fc = fits.geometry.few_cells in
     let few = few_init v fits in
     let pages : pages_key ++ decimal d.geometry.pages ≡ pages_key ++ decimal v.geometry.pages = cc in
     let cells : cells_key ++ decimal d.geometry.cells ≡ cells_key ++ decimal v.geometry.cells = cc in
-    let rest : counting init_key page_line d.init_count d.init more ≡ counted init_key page_line v.init (guest_lines v) = cc in
+    let rest : part_onto init_key page_line d.init more ≡ counted init_key page_line v.init (guest_lines v) = cc in
     record {
       geometry = extent_same d.geometry v.geometry (keyed pages_key d.geometry.pages v.geometry.pages (omega arith) (omega arith) pages) (keyed cells_key d.geometry.cells v.geometry.cells (omega arith) (omega arith) cells);
-      init = counted_agree init_key page_line d.init_count v.init d.init (guest_lines v) more (omega arith) (omega arith) rest;
+      init = counted_agree init_key page_line d.init.count v.init d.init.items (guest_lines v) more (omega arith) (omega arith) rest;
     }
 
-pub guest_count_at : (d : Draft) (line : List ℕ) → InitFits d → length d.init ≡ d.init_count → Goes Init d line → (n : ℕ) × (n ≤ 1048576) × (line ≡ guest_key ++ decimal n)
-guest_count_at d line f full g =
-    let a = init_agrees d (line ∷ g.more) g.v f g.fits g.whole in
-    let rest = counted_end page_line d.init_count g.v.init d.init (guest_lines g.v) (line ∷ g.more) a.init full in
-    let l : line ≡ guest_key ++ decimal (length g.v.guest) = cc in
-    (length g.v.guest, g.fits.few_guest, l)
+pub behind_init : (d : Draft) (more : List (List ℕ)) (v : Recorded) → StartFits d → IsWhole d.init → IsSession v → init_onto d more ≡ session_lines v → guest_lines v ≡ more
+behind_init d more v f whole fits e = counted_end page_line d.init.count v.init d.init.items (guest_lines v) more (init_agrees d more v f fits e).init whole
+
+pub guest_agrees : (d : Draft) (more : List (List ℕ)) (v : Recorded) → GuestFits d → IsSession v → guest_onto d more ≡ session_lines v → CountedAgree guest_line d.guest.count v.guest d.guest.items (source_lines v) more
+guest_agrees d more v f fits e = agrees guest_key guest_line d.guest v.guest (source_lines v) more f.few fits.few_guest (behind_init d (guest_part d more) v f.before f.whole fits e)
+
+pub behind_guest : (d : Draft) (more : List (List ℕ)) (v : Recorded) → GuestFits d → IsWhole d.guest → IsSession v → guest_onto d more ≡ session_lines v → source_lines v ≡ more
+behind_guest d more v f whole fits e = counted_end guest_line d.guest.count v.guest d.guest.items (source_lines v) more (guest_agrees d more v f fits e) whole
+
+pub source_agrees : (d : Draft) (more : List (List ℕ)) (v : Recorded) → SourceFits d → IsSession v → source_onto d more ≡ session_lines v → CountedAgree source_line d.source.count v.source d.source.items (link_lines v) more
+source_agrees d more v f fits e = agrees source_key source_line d.source v.source (link_lines v) more f.few fits.few_source (behind_guest d (source_part d more) v f.before f.whole fits e)
+
+pub behind_source : (d : Draft) (more : List (List ℕ)) (v : Recorded) → SourceFits d → IsWhole d.source → IsSession v → source_onto d more ≡ session_lines v → link_lines v ≡ more
+behind_source d more v f whole fits e = counted_end source_line d.source.count v.source d.source.items (link_lines v) more (source_agrees d more v f fits e) whole
+
+pub link_agrees : (d : Draft) (more : List (List ℕ)) (v : Recorded) → LinkFits d → IsSession v → link_onto d more ≡ session_lines v → CountedAgree link_line d.link.count v.link d.link.items (pager_lines v) more
+link_agrees d more v f fits e = agrees link_key link_line d.link v.link (pager_lines v) more f.few fits.few_link (behind_source d (link_part d more) v f.before f.whole fits e)
+
+pub behind_link : (d : Draft) (more : List (List ℕ)) (v : Recorded) → LinkFits d → IsWhole d.link → IsSession v → link_onto d more ≡ session_lines v → pager_lines v ≡ more
+behind_link d more v f whole fits e = counted_end link_line d.link.count v.link d.link.items (pager_lines v) more (link_agrees d more v f fits e) whole
+
+pub pager_agrees : (d : Draft) (more : List (List ℕ)) (v : Recorded) → PagerFits d → IsSession v → pager_onto d more ≡ session_lines v → CountedAgree pager_line d.pager.count v.pager d.pager.items (closing ∷ []) more
+pager_agrees d more v f fits e = agrees pager_key pager_line d.pager v.pager (closing ∷ []) more f.few fits.few_pager (behind_link d (pager_part d more) v f.before f.whole fits e)
+
+pub behind_pager : (d : Draft) (more : List (List ℕ)) (v : Recorded) → PagerFits d → IsWhole d.pager → IsSession v → pager_onto d more ≡ session_lines v → closing ∷ [] ≡ more
+behind_pager d more v f whole fits e = counted_end pager_line d.pager.count v.pager d.pager.items (closing ∷ []) more (pager_agrees d more v f fits e) whole
+
+-- ---- the pages
 
 pub page_same : (x y : InitPage) → x.page < 2 ^ 64 → y.page < 2 ^ 64 → page_line x ≡ page_line y → (x.page ≡ y.page) × (contents_text x.cells ≡ contents_text y.cells)
 page_same x y p q e =
@@ -170,14 +223,14 @@ rise_at low high next (x ∷ xs) (y ∷ ys) item back p q r s e =
 pub record PageAt (d : Draft) (line : List ℕ) : Type 0 where
   pub page : InitPage
   pub low : d.next_page ≤ page.page
-  pub high : page.page ≤ d.geometry.pages - (d.init_count - length d.init)
+  pub high : page.page ≤ d.geometry.pages - (d.init.count - length d.init.items)
   pub content : IsInitContent d.geometry.cells page.cells
   pub spelled : line ≡ page_line page
 
-pub page_at : (d : Draft) (line : List ℕ) → InitFits d → length d.init < d.init_count → Goes Init d line → PageAt d line
+pub page_at : (d : Draft) (line : List ℕ) → StartFits d → length d.init.items < d.init.count → Goes Init d line → PageAt d line
 page_at d line f less g =
     let a = init_agrees d (line ∷ g.more) g.v f g.fits g.whole in
-    let n = counted_next page_line d.init_count g.v.init d.init (guest_lines g.v) g.more line a.init less in
+    let n = counted_next page_line d.init.count g.v.init d.init.items (guest_lines g.v) g.more line a.init less in
     let rises = rise_of g.v.geometry g.v.init g.fits.init in
     let high = rises.0 in
     let top = rises.1 in
@@ -185,9 +238,9 @@ page_at d line f less g =
     let room = f.room in
     let geo = f.geometry.few_pages in
     let rising = subst (λ (ps : List InitPage). Rise 0 ps high) n.whole rises.2 in
-    let r = rise_at 0 high d.next_page n.front d.init n.item n.back (omega arith) (omega arith) rising f.rising n.same in
+    let r = rise_at 0 high d.next_page n.front d.init.items n.item n.back (omega arith) (omega arith) rising f.rising n.same in
     let len : length g.v.init ≡ length n.front + (length n.back + 1) = ap (λ (ps : List InitPage). length ps) n.whole ∙ (length-append n.front (n.item ∷ n.back) ∙ omega arith) in
-    let same : length n.front ≡ length d.init = sym (length-map n.front page_line) ∙ (ap (λ (ls : List (List ℕ)). length ls) n.same ∙ length-map d.init page_line) in
+    let same : length n.front ≡ length d.init.items = sym (length-map n.front page_line) ∙ (ap (λ (ls : List (List ℕ)). length ls) n.same ∙ length-map d.init.items page_line) in
     let pages : d.geometry.pages ≡ g.v.geometry.pages = ap (λ (e : Extent). e.pages) a.geometry in
     let here = all_at (InitPageFits g.v.geometry) n.front n.item n.back (subst (AllByRecursion (InitPageFits g.v.geometry)) n.whole g.fits.init.each) in
     let fits = subst (λ (e : Extent). InitPageFits e n.item) (sym a.geometry) here in
@@ -203,48 +256,103 @@ rise_push : (low next : ℕ) (ps : List InitPage) (p : InitPage) → Rise low ps
 rise_push low next [] p r le = (omega (arith, r), refl)
 rise_push low next (q ∷ ps) p r le = (r.0, rise_push (q.page + 1) next ps p r.1 le)
 
-pub page_push : (d : Draft) (p : InitPage) (next : ℕ) → next ≡ p.page + 1 → InitFits d → length d.init < d.init_count → d.next_page ≤ p.page → p.page ≤ d.geometry.pages - (d.init_count - length d.init) → IsInitContent d.geometry.cells p.cells → InitFits (record d { init = d.init ++ p ∷ []; next_page = next })
-page_push d p next after f less low high has =
+pub page_push : (e : Extent) (part : Part InitPage) (next after : ℕ) (p : InitPage) → after ≡ p.page + 1 → InitFits e next part → length part.items < part.count → next ≤ p.page → p.page ≤ e.pages - (part.count - length part.items) → IsInitContent e.cells p.cells → InitFits e after (with_items part (p ∷ []))
+page_push e part next after p is f less low high has =
     let room = f.room in
-    let len = length-append d.init (p ∷ []) in
+    let len = length-append part.items (p ∷ []) in
     record {
       geometry = f.geometry;
-      count = omega (arith, len);
-      each = all_append (InitPageFits d.geometry) d.init (p ∷ []) f.each (record { page = omega arith; content = has.content; not_zeros = has.not_zeros }, tt);
-      rising = subst (Rise 0 (d.init ++ p ∷ [])) (sym after) (rise_push 0 d.next_page d.init p f.rising low);
-      room = omega (arith, len, after);
+      within = omega (arith, len);
+      each = all_append (InitPageFits e) part.items (p ∷ []) f.each (record { page = omega arith; content = has.content; not_zeros = has.not_zeros }, tt);
+      rising = subst (Rise 0 (part.items ++ p ∷ [])) (sym is) (rise_push 0 next part.items p f.rising low);
+      room = omega (arith, len, is);
     }
 
--- ---- the records and what follows them
+-- ---- why a line is refused
 
-pub record GuestAgrees (d : Draft) (more : List (List ℕ)) (v : Recorded) : Type 0 where
-  pub geometry : d.geometry ≡ v.geometry
-  pub init : map page_line v.init ≡ map page_line d.init
-  pub guest : CountedAgree record_line d.guest_count v.guest d.guest tail_lines more
+pub pages_refused : (d : Draft) (line : List ℕ) → ((n : ℕ) → n ≤ 65536 → line ≢ pages_key ++ decimal n) → Begins SpellsSession (held_onto Pages d (line ∷ [])) → ⊥
+pages_refused d line none b =
+    let g = goes_from Pages d line b in
+    let whole = g.whole in
+    let l : line ≡ pages_key ++ decimal g.v.geometry.pages = cc in
+    none g.v.geometry.pages g.fits.geometry.few_pages l
 
-pub guest_agrees : (d : Draft) (more : List (List ℕ)) (v : Recorded) → GuestFits d → IsSession v → guest_onto d more ≡ session_lines v → GuestAgrees d more v
-guest_agrees d more v f fits e =
-    let onto = counting guest_key record_line d.guest_count d.guest more in
-    let full = f.whole_init in
-    let a = init_agrees d onto v f.init fits e in
-    let s = section_end page_line v.init d.init (guest_lines v) onto a.init.items (full ∙ a.init.count) in
-    let few = fits.few_guest in
-    let low = f.few in
-    record {
-      geometry = a.geometry;
-      init = s.0;
-      guest = counted_agree guest_key record_line d.guest_count v.guest d.guest tail_lines more (omega arith) (omega arith) (sym s.1);
-    }
+pub cells_refused : (d : Draft) (line : List ℕ) → ((n : ℕ) → n ≤ 512 → line ≢ cells_key ++ decimal n) → Begins SpellsSession (held_onto Cells d (line ∷ [])) → ⊥
+cells_refused d line none b =
+    let g = goes_from Cells d line b in
+    let whole = g.whole in
+    let l : line ≡ cells_key ++ decimal g.v.geometry.cells = cc in
+    none g.v.geometry.cells g.fits.geometry.few_cells l
 
-pub record_at : (d : Draft) (line : List ℕ) → GuestFits d → length d.guest < d.guest_count → Goes Guest d line → (r : GuestRec) × GuestRecFits d.geometry r × (line ≡ record_line r)
-record_at d line f less g =
-    let a = guest_agrees d (line ∷ g.more) g.v f g.fits g.whole in
-    let n = counted_next record_line d.guest_count g.v.guest d.guest tail_lines g.more line a.guest less in
-    let here = all_at (GuestRecFits g.v.geometry) n.front n.item n.back (subst (AllByRecursion (GuestRecFits g.v.geometry)) n.whole g.fits.guest) in
-    (n.item, subst (λ (e : Extent). GuestRecFits e n.item) (sym a.geometry) here, n.spelled)
+pub init_count_refused : (d : Draft) (line : List ℕ) → IsExtent d.geometry → ((n : ℕ) → n ≤ d.geometry.pages → line ≢ init_key ++ decimal n) → Begins SpellsSession (held_onto InitCount d (line ∷ [])) → ⊥
+init_count_refused d line geo none b = let n = init_count_at d line geo (goes_from InitCount d line b) in none n.0 n.1 n.2
 
--- behind the whole lists stand the closing lines
-pub tail_at : (d : Draft) (more : List (List ℕ)) (v : Recorded) → GuestFits d → length d.guest ≡ d.guest_count → IsSession v → guest_onto d more ≡ session_lines v → tail_lines ≡ more
-tail_at d more v f full fits e =
-    let a = guest_agrees d more v f fits e in
-    counted_end record_line d.guest_count v.guest d.guest tail_lines more a.guest full
+pub page_refused : (d : Draft) (line : List ℕ) (last : ℕ) → StartFits d → length d.init.items < d.init.count → last ≡ d.geometry.pages - (d.init.count - length d.init.items) → ((p : InitPage) → d.next_page ≤ p.page → p.page ≤ last → IsInitContent d.geometry.cells p.cells → line ≢ page_line p) → Begins SpellsSession (held_onto Init d (line ∷ [])) → ⊥
+page_refused d line last f less is none b = let p = page_at d line f less (goes_from Init d line b) in none p.page p.low (omega (arith, p.high)) p.content p.spelled
+
+pub guest_count_refused : (d : Draft) (line : List ℕ) → StartFits d → IsWhole d.init → ((n : ℕ) → n ≤ 1048576 → line ≢ guest_key ++ decimal n) → Begins SpellsSession (held_onto Init d (line ∷ [])) → ⊥
+guest_count_refused d line f whole none b =
+    let g = goes_from Init d line b in
+    let n = count_at guest_key guest_line g.v.guest (source_lines g.v) g.more line (behind_init d (line ∷ g.more) g.v f whole g.fits g.whole) g.fits.few_guest in
+    none n.0 n.1 n.2
+
+pub source_count_refused : (d : Draft) (line : List ℕ) → GuestFits d → IsWhole d.guest → ((n : ℕ) → n ≤ 1048576 → line ≢ source_key ++ decimal n) → Begins SpellsSession (held_onto Guest d (line ∷ [])) → ⊥
+source_count_refused d line f whole none b =
+    let g = goes_from Guest d line b in
+    let n = count_at source_key source_line g.v.source (link_lines g.v) g.more line (behind_guest d (line ∷ g.more) g.v f whole g.fits g.whole) g.fits.few_source in
+    none n.0 n.1 n.2
+
+pub link_count_refused : (d : Draft) (line : List ℕ) → SourceFits d → IsWhole d.source → ((n : ℕ) → n ≤ 1048576 → line ≢ link_key ++ decimal n) → Begins SpellsSession (held_onto Source d (line ∷ [])) → ⊥
+link_count_refused d line f whole none b =
+    let g = goes_from Source d line b in
+    let n = count_at link_key link_line g.v.link (pager_lines g.v) g.more line (behind_source d (line ∷ g.more) g.v f whole g.fits g.whole) g.fits.few_link in
+    none n.0 n.1 n.2
+
+pub pager_count_refused : (d : Draft) (line : List ℕ) → LinkFits d → IsWhole d.link → ((n : ℕ) → n ≤ 1048576 → line ≢ pager_key ++ decimal n) → Begins SpellsSession (held_onto Link d (line ∷ [])) → ⊥
+pager_count_refused d line f whole none b =
+    let g = goes_from Link d line b in
+    let n = count_at pager_key pager_line g.v.pager (closing ∷ []) g.more line (behind_link d (line ∷ g.more) g.v f whole g.fits g.whole) g.fits.few_pager in
+    none n.0 n.1 n.2
+
+pub closing_refused : (d : Draft) (line : List ℕ) → PagerFits d → IsWhole d.pager → line ≢ closing → Begins SpellsSession (held_onto Pager d (line ∷ [])) → ⊥
+closing_refused d line f whole other b =
+    let g = goes_from Pager d line b in
+    let tail = behind_pager d (line ∷ g.more) g.v f whole g.fits g.whole in
+    let l : line ≡ closing = cc in
+    other l
+
+pub more_refused : (d : Draft) (line : List ℕ) → PagerFits d → IsWhole d.pager → Begins SpellsSession (held_onto Done d (line ∷ [])) → ⊥
+more_refused d line f whole b =
+    let g = goes_from Done d line b in
+    let tail = behind_pager d (closing ∷ line ∷ g.more) g.v f whole g.fits g.whole in
+    absurd cc
+
+pub guest_refused : (d : Draft) (line : List ℕ) → GuestFits d → length d.guest.items < d.guest.count → ((r : GuestRec) → GuestRecFits d.geometry r → line ≢ guest_line r) → Begins SpellsSession (held_onto Guest d (line ∷ [])) → ⊥
+guest_refused d line f less none b =
+    let g = goes_from Guest d line b in
+    let more = line ∷ g.more in
+    let same = (init_agrees d (guest_part d more) g.v f.before g.fits g.whole).geometry in
+    let r = item_at guest_line (GuestRecFits d.geometry) d.guest g.v.guest (source_lines g.v) g.more line (guest_agrees d more g.v f g.fits g.whole) less (subst (λ (e : Extent). AllByRecursion (GuestRecFits e) g.v.guest) (sym same) g.fits.guest) in
+    none r.0 r.1 r.2
+
+pub source_refused : (d : Draft) (line : List ℕ) → SourceFits d → length d.source.items < d.source.count → ((r : SourceRec) → SourceRecFits d.geometry r → line ≢ source_line r) → Begins SpellsSession (held_onto Source d (line ∷ [])) → ⊥
+source_refused d line f less none b =
+    let g = goes_from Source d line b in
+    let more = line ∷ g.more in
+    let same = (init_agrees d (guest_part d (source_part d more)) g.v f.before.before g.fits g.whole).geometry in
+    let r = item_at source_line (SourceRecFits d.geometry) d.source g.v.source (link_lines g.v) g.more line (source_agrees d more g.v f g.fits g.whole) less (subst (λ (e : Extent). AllByRecursion (SourceRecFits e) g.v.source) (sym same) g.fits.source) in
+    none r.0 r.1 r.2
+
+pub link_refused : (d : Draft) (line : List ℕ) → LinkFits d → length d.link.items < d.link.count → ((r : LinkRec) → LinkRecFits r → line ≢ link_line r) → Begins SpellsSession (held_onto Link d (line ∷ [])) → ⊥
+link_refused d line f less none b =
+    let g = goes_from Link d line b in
+    let r = item_at link_line LinkRecFits d.link g.v.link (pager_lines g.v) g.more line (link_agrees d (line ∷ g.more) g.v f g.fits g.whole) less g.fits.link in
+    none r.0 r.1 r.2
+
+pub pager_refused : (d : Draft) (line : List ℕ) → PagerFits d → length d.pager.items < d.pager.count → ((r : PagerRec) → PagerRecFits d.geometry r → line ≢ pager_line r) → Begins SpellsSession (held_onto Pager d (line ∷ [])) → ⊥
+pager_refused d line f less none b =
+    let g = goes_from Pager d line b in
+    let more = line ∷ g.more in
+    let same = (init_agrees d (guest_part d (source_part d (link_part d (pager_part d more)))) g.v f.before.before.before.before g.fits g.whole).geometry in
+    let r = item_at pager_line (PagerRecFits d.geometry) d.pager g.v.pager (closing ∷ []) g.more line (pager_agrees d more g.v f g.fits g.whole) less (subst (λ (e : Extent). AllByRecursion (PagerRecFits e) g.v.pager) (sym same) g.fits.pager) in
+    none r.0 r.1 r.2

@@ -1,23 +1,24 @@
--- The text of a recorded session without a handover. Its lines, each ended by a line feed:
+-- The text of a recorded session. Its lines, each ended by a line feed:
 --     postcopy-session 1
 --     pages N             the machine's pages: 1 to 65,536
 --     cells C             the cells of each page: 1 to 512, and N times C is at most 1,048,576
 --     init K              the pages that do not begin as zeros
 --     page P CONTENTS     K such lines: P rises and is below N, and CONTENTS has sixteen hexadecimal digits, in lower
 --                         case, for each of the C cells, not all of them zero
---     guest G             the records of the guest's log: 0 to 1,048,576
---     r .. | w .. | z ..  G such lines, a record each
---     source 0            the other three logs are empty
---     link 0
---     pager 0
+--     guest G             the records of the guest's log: 0 to 1,048,576, and then a line for each
+--     source S            so for the source's log,
+--     link L              the link's
+--     pager R             and the pager's
 --     end
 -- All other numbers are in decimal form, with no leading zero. The limits are those of a session, `IsSession`.
-use Rattle.std.specs.Prelude.{◌≡◌, ℕ, List, [], ◌∷◌, ◌++◌, length, map, codes}
+use Rattle.std.specs.Prelude.{◌≡◌, ℕ, List, [], ◌∷◌, ◌++◌, length, map, codes, Option, slice_get}
 use Rattle.std.specs.Fmt.{decimal}
 use Rattle.text_lines.specs.Contents.{contents_text}
 use Rattle.migration_types.specs.declared.pages.InitPage.{InitPage}
+use Rattle.migration_types.specs.declared.records.LogName.TheVariants.{Guest, Source, Link, Pager}
+use Rattle.migration_types.specs.Receipts.{Name}
 use Rattle.migration_types.specs.Sessions.{Recorded, IsSession}
-use Rattle.session_log.specs.Records.{record_line}
+use Rattle.session_log.specs.Records.{guest_line, source_line, link_line, pager_line}
 
 abbrev pub header : List ℕ
 header = codes "postcopy-session 1"
@@ -37,14 +38,14 @@ page_key = codes "page "
 abbrev pub guest_key : List ℕ
 guest_key = codes "guest "
 
-abbrev pub no_source : List ℕ
-no_source = codes "source 0"
+abbrev pub source_key : List ℕ
+source_key = codes "source "
 
-abbrev pub no_link : List ℕ
-no_link = codes "link 0"
+abbrev pub link_key : List ℕ
+link_key = codes "link "
 
-abbrev pub no_pager : List ℕ
-no_pager = codes "pager 0"
+abbrev pub pager_key : List ℕ
+pager_key = codes "pager "
 
 abbrev pub closing : List ℕ
 closing = codes "end"
@@ -61,9 +62,19 @@ abbrev pub session_lines : Recorded → List (List ℕ)
 session_lines s =
     header ∷ (pages_key ++ decimal s.geometry.pages) ∷ (cells_key ++ decimal s.geometry.cells) ∷
     counted init_key page_line s.init (
-    counted guest_key record_line s.guest (
-    no_source ∷ no_link ∷ no_pager ∷ closing ∷ []))
+    counted guest_key guest_line s.guest (
+    counted source_key source_line s.source (
+    counted link_key link_line s.link (
+    counted pager_key pager_line s.pager (
+    closing ∷ [])))))
 
 -- these are the lines of this session's text
 abbrev pub SpellsSession : Recorded → List (List ℕ) → Type 0
 SpellsSession s lines = IsSession s × (lines ≡ session_lines s)
+
+-- the line of a record that is named by its log and its place there, if there is one
+abbrev pub record_line : Recorded → Name → Option (List ℕ)
+record_line s (Guest, n) = slice_get (map guest_line s.guest) n
+record_line s (Source, n) = slice_get (map source_line s.source) n
+record_line s (Link, n) = slice_get (map link_line s.link) n
+record_line s (Pager, n) = slice_get (map pager_line s.pager) n

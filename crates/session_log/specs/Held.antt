@@ -3,37 +3,55 @@ use Rattle.std.specs.Prelude.{◌≡◌, ℕ, ◌+◌, ◌-◌, ◌≤◌, List,
 use Rattle.std.specs.List.{AllByRecursion}
 use Rattle.std.specs.Fmt.{decimal}
 use Rattle.migration_types.specs.declared.records.GuestRec.{GuestRec}
+use Rattle.migration_types.specs.declared.records.SourceRec.{SourceRec}
+use Rattle.migration_types.specs.declared.records.LinkRec.{LinkRec}
+use Rattle.migration_types.specs.declared.records.PagerRec.{PagerRec}
 use Rattle.migration_types.specs.declared.pages.InitPage.{InitPage}
 use Rattle.migration_types.specs.Extents.{Extent, IsExtent}
 use Rattle.migration_types.specs.Pages.{InitPageFits}
-use Rattle.migration_types.specs.Sessions.{GuestRecFits}
-use Rattle.session_log.specs.declared.lines.Stage.{Stage}
-use Rattle.session_log.specs.declared.lines.Stage.TheVariants.{Header, Pages, Cells, InitCount, Init, Guest, Link, Pager, End, Done}
-use Rattle.session_log.specs.Records.{record_line}
+use Rattle.migration_types.specs.Sessions.{GuestRecFits, SourceRecFits, LinkRecFits, PagerRecFits}
+use Rattle.session_log.specs.declared.parts.Stage.{Stage}
+use Rattle.session_log.specs.declared.parts.Stage.TheVariants.{Header, Pages, Cells, InitCount, Init, Guest, Source, Link, Pager, Done}
+use Rattle.session_log.specs.Records.{guest_line, source_line, link_line, pager_line}
 use Rattle.session_log.specs.InitPages.{Rise}
-use Rattle.session_log.specs.Grammar.{header, pages_key, cells_key, init_key, guest_key, page_line, no_source, no_link, no_pager, closing}
+use Rattle.session_log.specs.Grammar.{header, pages_key, cells_key, init_key, guest_key, source_key, link_key, pager_key, page_line, closing}
+
+-- a list of which some items came: how many there will be, and those so far
+pub record Part (X : Type 0) : Type 0 where
+  pub count : ℕ
+  pub items : List X
 
 -- what came so far
 pub record Draft : Type 0 where
   pub geometry : Extent
-  pub init_count : ℕ
   pub next_page : ℕ
-  pub init : List InitPage
-  pub guest_count : ℕ
-  pub guest : List GuestRec
+  pub init : Part InitPage
+  pub guest : Part GuestRec
+  pub source : Part SourceRec
+  pub link : Part LinkRec
+  pub pager : Part PagerRec
 
--- a list of which some items came
-abbrev pub counting : {X : Type 0} → List ℕ → (X → List ℕ) → ℕ → List X → List (List ℕ) → List (List ℕ)
-counting key line_of count items more = (key ++ decimal count) ∷ (map line_of items ++ more)
+-- the lines of a list so far, and then more
+abbrev pub part_onto : {X : Type 0} → List ℕ → (X → List ℕ) → Part X → List (List ℕ) → List (List ℕ)
+part_onto key line_of part more = (key ++ decimal part.count) ∷ (map line_of part.items ++ more)
 
 abbrev pub geometry_onto : Extent → List (List ℕ) → List (List ℕ)
 geometry_onto e more = header ∷ (pages_key ++ decimal e.pages) ∷ (cells_key ++ decimal e.cells) ∷ more
 
 abbrev pub init_onto : Draft → List (List ℕ) → List (List ℕ)
-init_onto d more = geometry_onto d.geometry (counting init_key page_line d.init_count d.init more)
+init_onto d more = geometry_onto d.geometry (part_onto init_key page_line d.init more)
 
 abbrev pub guest_onto : Draft → List (List ℕ) → List (List ℕ)
-guest_onto d more = init_onto d (counting guest_key record_line d.guest_count d.guest more)
+guest_onto d more = init_onto d (part_onto guest_key guest_line d.guest more)
+
+abbrev pub source_onto : Draft → List (List ℕ) → List (List ℕ)
+source_onto d more = guest_onto d (part_onto source_key source_line d.source more)
+
+abbrev pub link_onto : Draft → List (List ℕ) → List (List ℕ)
+link_onto d more = source_onto d (part_onto link_key link_line d.link more)
+
+abbrev pub pager_onto : Draft → List (List ℕ) → List (List ℕ)
+pager_onto d more = link_onto d (part_onto pager_key pager_line d.pager more)
 
 -- the lines so far, and then more
 abbrev pub held_onto : Stage → Draft → List (List ℕ) → List (List ℕ)
@@ -43,44 +61,68 @@ held_onto Cells d more = header ∷ (pages_key ++ decimal d.geometry.pages) ∷ 
 held_onto InitCount d more = geometry_onto d.geometry more
 held_onto Init d more = init_onto d more
 held_onto Guest d more = guest_onto d more
-held_onto Link d more = guest_onto d (no_source ∷ more)
-held_onto Pager d more = guest_onto d (no_source ∷ no_link ∷ more)
-held_onto End d more = guest_onto d (no_source ∷ no_link ∷ no_pager ∷ more)
-held_onto Done d more = guest_onto d (no_source ∷ no_link ∷ no_pager ∷ closing ∷ more)
+held_onto Source d more = source_onto d more
+held_onto Link d more = link_onto d more
+held_onto Pager d more = pager_onto d more
+held_onto Done d more = pager_onto d (closing ∷ more)
 
--- nothing of the lists came
-pub record IsEmpty (d : Draft) : Type 0 where
-  pub init : d.init ≡ []
-  pub guest : d.guest ≡ []
+-- all items came
+abbrev pub IsWhole : {X : Type 0} → Part X → Type 0
+IsWhole part = length part.items ≡ part.count
 
 -- the pages so far, with room for those to come
-pub record InitFits (d : Draft) : Type 0 where
-  pub geometry : IsExtent d.geometry
-  pub count : length d.init ≤ d.init_count
-  pub each : AllByRecursion (InitPageFits d.geometry) d.init
-  pub rising : Rise 0 d.init d.next_page
-  pub room : d.next_page + (d.init_count - length d.init) ≤ d.geometry.pages
+pub record InitFits (e : Extent) (next : ℕ) (part : Part InitPage) : Type 0 where
+  pub geometry : IsExtent e
+  pub within : length part.items ≤ part.count
+  pub each : AllByRecursion (InitPageFits e) part.items
+  pub rising : Rise 0 part.items next
+  pub room : next + (part.count - length part.items) ≤ e.pages
 
-pub record GuestFits (d : Draft) : Type 0 where
-  pub init : InitFits d
-  pub whole_init : length d.init ≡ d.init_count
-  pub few : d.guest_count ≤ 1048576
-  pub count : length d.guest ≤ d.guest_count
-  pub each : AllByRecursion (GuestRecFits d.geometry) d.guest
+-- what stands before a log, the list right before it, which is whole, and the log's records so far
+pub record LogFits {X Y : Type 0} (Before : Type 0) (list : Part X) (Fits : Y → Type 0) (log : Part Y) : Type 0 where
+  pub before : Before
+  pub whole : IsWhole list
+  pub few : log.count ≤ 1048576
+  pub within : length log.items ≤ log.count
+  pub each : AllByRecursion Fits log.items
 
-pub record WholeFits (d : Draft) : Type 0 where
-  pub guest : GuestFits d
-  pub whole_guest : length d.guest ≡ d.guest_count
+abbrev pub GuestFits : Draft → Type 0
+GuestFits d = LogFits (InitFits d.geometry d.next_page d.init) d.init (GuestRecFits d.geometry) d.guest
+
+abbrev pub SourceFits : Draft → Type 0
+SourceFits d = LogFits (GuestFits d) d.guest (SourceRecFits d.geometry) d.source
+
+abbrev pub LinkFits : Draft → Type 0
+LinkFits d = LogFits (SourceFits d) d.source LinkRecFits d.link
+
+abbrev pub PagerFits : Draft → Type 0
+PagerFits d = LogFits (LinkFits d) d.link (PagerRecFits d.geometry) d.pager
+
+-- nothing came of the logs from this one on
+abbrev pub NoPager : Draft → Type 0
+NoPager d = d.pager.items ≡ []
+
+abbrev pub NoLink : Draft → Type 0
+NoLink d = (d.link.items ≡ []) × NoPager d
+
+abbrev pub NoSource : Draft → Type 0
+NoSource d = (d.source.items ≡ []) × NoLink d
+
+abbrev pub NoGuest : Draft → Type 0
+NoGuest d = (d.guest.items ≡ []) × NoSource d
+
+abbrev pub NoInit : Draft → Type 0
+NoInit d = (d.init.items ≡ []) × NoGuest d
 
 -- what holds of a reader that no line was refused by
 abbrev pub Live : Stage → Draft → Type 0
-Live Header d = IsEmpty d
-Live Pages d = IsEmpty d
-Live Cells d = IsEmpty d × (1 ≤ d.geometry.pages) × (d.geometry.pages ≤ 65536)
-Live InitCount d = IsEmpty d × IsExtent d.geometry
-Live Init d = InitFits d × (d.guest ≡ [])
-Live Guest d = GuestFits d
-Live Link d = WholeFits d
-Live Pager d = WholeFits d
-Live End d = WholeFits d
-Live Done d = WholeFits d
+Live Header d = NoInit d
+Live Pages d = NoInit d
+Live Cells d = NoInit d × (1 ≤ d.geometry.pages) × (d.geometry.pages ≤ 65536)
+Live InitCount d = NoInit d × IsExtent d.geometry
+Live Init d = InitFits d.geometry d.next_page d.init × NoGuest d
+Live Guest d = GuestFits d × NoSource d
+Live Source d = SourceFits d × NoLink d
+Live Link d = LinkFits d × NoPager d
+Live Pager d = PagerFits d
+Live Done d = PagerFits d × IsWhole d.pager

@@ -3,5 +3,6 @@ pub mod Grammar
 pub mod InitPages
 pub mod Taken
 pub mod Held
-pub mod Draft
+pub mod Steps
+pub mod RecordPlain
 pub mod Plain

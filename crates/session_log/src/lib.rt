@@ -5,9 +5,14 @@ ghost use Rattle.text_lines.specs.Text.{IsUnambiguous};
 ghost use Rattle.text_lines.specs.Answer.{Reads};
 ghost use Rattle.session_log.specs.Grammar.{SpellsSession};
 
+mod fields;
+mod guest;
 mod lines;
+mod link;
+mod pager;
 mod pages;
-mod records;
+mod parts;
+mod source;
 #[cfg(test)]
 mod tests;
 

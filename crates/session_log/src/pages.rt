@@ -7,9 +7,12 @@ ghost use Rattle.migration_types.specs.declared.pages.InitPage.{InitPage as Page
 ghost use Rattle.session_log.specs.Grammar.{page_line};
 ghost use Rattle.session_log.specs.InitPages.{IsInitContent};
 
-use migration_types::{InitPage, PageNo, Seq};
+use crate::fields::read_page_contents;
+use migration_types::{Contents, InitPage, PageNo};
 use std::alloc::Global;
-use text_lines::{FaultKind, after_key, number_then, read_contents};
+use text_lines::{FaultKind, after_key, number_then};
+
+const PAGE_KEY: &[u8] = b"page ";
 
 /// The page that a line spells, for a page from `low` to `high` with so many cells, not all of them zero.
 pub(crate) fn read_page(
@@ -39,21 +42,19 @@ pub(crate) fn read_page(
     })
 }
 
-const PAGE_KEY: &[u8] = b"page ";
-
 /// The values of a page's cells, not all of them zero, that a text spells.
-fn read_init_content(alloc: Global, text: &[u8], cells: u32) -> Result<Seq<u64>, FaultKind>
+fn read_init_content(alloc: Global, text: &[u8], cells: u32) -> Result<Contents, FaultKind>
     ensures found { IfOk result (λ xs. IsInitContent cells xs × (text.now ≡ contents_text xs)) }
     ensures refused { IfErr result (λ kind. kind ≢ FaultKind.Memory → (xs : List ℕ) → IsInitContent cells xs → text.now ≢ contents_text xs) }
 {
-    let values = match read_contents(alloc, text, cells) {
+    let values = match read_page_contents(alloc, text, cells) {
         Ok(values) => values,
         Err(kind) => return Err(kind),
     };
-    if are_zeros(&values) {
+    if are_zeros(values.as_slice()) {
         return Err(FaultKind::Form);
     }
-    Ok(Seq::from_vec(values))
+    Ok(values)
 }
 
 /// Whether all cells are zero.
