@@ -1,4 +1,6 @@
 pub mod RunLaws
+pub mod RunGoes
+pub mod RunsTextLaws
 pub mod EntryLaws
 pub mod Laws
 pub mod Goes

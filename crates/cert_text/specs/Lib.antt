@@ -1,5 +1,6 @@
 pub mod Runs
 pub mod Grammar
 pub mod Held
-pub mod Draft
+pub mod RunDraft
+pub mod CertDraft
 pub mod Plain
