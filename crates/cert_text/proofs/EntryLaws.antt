@@ -1,5 +1,5 @@
 -- What the lines of some entries say of each text that begins with them.
-use Rattle.std.proofs.Common.{◌≡◌, ℕ, ◌+◌, ◌<◌, ◌^◌, List, [], ◌∷◌, ◌++◌, length, get_or, refl, sym, ap, ◌∙◌, arith}
+use Rattle.std.proofs.Common.{◌≡◌, ℕ, ◌+◌, ◌<◌, ◌^◌, List, [], ◌∷◌, ◌++◌, length, get_or, refl, sym, ap, subst, ◌∙◌, arith}
 use Rattle.std.specs.Prelude.{Option, Some, None}
 use Rattle.std.specs.List.{AllByRecursion}
 use Rattle.std.specs.Fmt.{decimal}
@@ -82,18 +82,19 @@ pub entries_length : (page : ℕ) (xs : List Entry) → length (entry_lines page
 entries_length page [] = refl
 entries_length page (x ∷ xs) = let n = entries_length (page + 1) xs in omega arith
 
+respelled : (m n : ℕ) (x : Entry) (line : List ℕ) → m ≡ n → line ≡ entry_line m x → line ≡ entry_line n x
+respelled m n x line e s = subst (λ (i : ℕ). line ≡ entry_line i x) e s
+
 -- where xs has more entries than ys, the line after those of ys is an entry's
 pub next_entry : (page : ℕ) (xs ys : List Entry) (rest more : List (List ℕ)) (line : List ℕ) → AllByRecursion EntryFits xs → entry_lines page xs ++ rest ≡ entry_lines page ys ++ (line ∷ more) → length ys < length xs → (entry : Entry) × EntryFits entry × (line ≡ entry_line (page + length ys) entry)
 next_entry page [] ys rest more line h e lt = absurd (omega arith)
 next_entry page (x ∷ xs) [] rest more line h e lt =
     let heads : entry_line page x ≡ line = cc in
-    let k : page ≡ page + 0 = omega arith in
-    (x, h.0, sym heads ∙ ap (λ (n : ℕ). entry_line n x) k)
+    (x, h.0, respelled page (page + 0) x line (omega arith) (sym heads))
 next_entry page (x ∷ xs) (y ∷ ys) rest more line h e lt =
     let tails : entry_lines (page + 1) xs ++ rest ≡ entry_lines (page + 1) ys ++ (line ∷ more) = cc in
     let n = next_entry (page + 1) xs ys rest more line h.1 tails (omega arith) in
-    let k : page + 1 + length ys ≡ page + length (y ∷ ys) = omega arith in
-    (n.0, n.1, n.2 ∙ ap (λ (i : ℕ). entry_line i n.0) k)
+    (n.0, n.1, respelled (page + 1 + length ys) (page + length (y ∷ ys)) n.0 line (omega arith) n.2)
 
 -- where both have as many entries, these and what follows are the same
 pub entries_end : (page : ℕ) (xs ys : List Entry) (rest more : List (List ℕ)) → AllByRecursion EntryFits xs → AllByRecursion EntryFits ys → entry_lines page xs ++ rest ≡ entry_lines page ys ++ more → length ys ≡ length xs → (xs ≡ ys) × (rest ≡ more)

@@ -4,3 +4,4 @@ pub mod RunsTextLaws
 pub mod EntryLaws
 pub mod Laws
 pub mod Goes
+pub mod Written

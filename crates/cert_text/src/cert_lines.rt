@@ -10,9 +10,9 @@ use std::alloc::Global;
 use std::marker::Model;
 use text_lines::{FaultKind, LineReader, is_line, read_keyed};
 
-const HEADER: &[u8] = b"postcopy-certificate 1";
+pub const HEADER: &[u8] = b"postcopy-certificate 1";
 
-const PAGES_KEY: &[u8] = b"pages ";
+pub const PAGES_KEY: &[u8] = b"pages ";
 
 /// Which line is due.
 #[derive(Clone, Copy, Debug, PartialEq, Eq)]

@@ -19,7 +19,7 @@ pub const CLOSING: &[u8] = b"end";
 /// A run has at least so many records.
 const LEAST_RECORDS: u64 = 1;
 
-const RUN_KEY: &[u8] = b"run ";
+pub const RUN_KEY: &[u8] = b"run ";
 
 const GUEST_KEY: &[u8] = b"guest ";
 

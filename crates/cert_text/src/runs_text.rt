@@ -9,7 +9,7 @@ use std::alloc::Global;
 use std::marker::Model;
 use text_lines::{FaultKind, LineReader, is_line};
 
-const HEADER: &[u8] = b"postcopy-runs 1";
+pub const HEADER: &[u8] = b"postcopy-runs 1";
 
 /// Reads a text of runs line by line: what its lines said so far. Contracts see the lines.
 #[derive(Drop)]
