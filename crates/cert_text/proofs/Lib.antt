@@ -5,3 +5,4 @@ pub mod EntryLaws
 pub mod Laws
 pub mod Goes
 pub mod Written
+pub mod Taken

@@ -4,3 +4,4 @@ pub mod Held
 pub mod RunDraft
 pub mod CertDraft
 pub mod Plain
+pub mod Taken

@@ -1,10 +1,11 @@
 //! Reading runs line by line, as a part of a text.
 
 ghost use Rattle.std.specs.Prelude.{◌≡◌, ◌≢◌, [], ◌∷◌, ◌++◌, ◌<◌, ◌^◌, List, length, IfSome, IfNone, OnOk, OnErr, IfErr};
-ghost use Rattle.text_lines.specs.Text.{Begins};
+ghost use Rattle.text_lines.specs.Text.{Begins, TakesLines};
 ghost use Rattle.migration_types.specs.declared.cert.Run.{Run as Counted};
 ghost use Rattle.cert_text.specs.Runs.{SpellsRunLines};
 
+use crate::run_front::take_runs;
 use crate::runs::{CLOSING, RUNS_KEY, may_follow, read_run};
 use migration_types::{MOST_RUNS, Run, Seq};
 use std::alloc::Global;
@@ -90,6 +91,19 @@ impl RunLines {
                 Ok(())
             }
             RunStage::Done => Err(FaultKind::Ended),
+        }
+    }
+
+    /// Takes as many of the first lines as are runs in plain form, and answers what follows them and how many they were.
+    pub fn lines<'a>(&mut self, bytes: &'a [u8]) -> (&'a [u8], u32)
+        ensures { TakesLines self.old self.new bytes.now result.0.now result.1 }
+    {
+        match self.stage {
+            RunStage::Runs => {
+                let left = self.count - self.runs.len() as u32;
+                take_runs(&mut self.runs, left, bytes)
+            }
+            _ => (bytes, 0),
         }
     }
 

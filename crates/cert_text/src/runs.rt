@@ -21,13 +21,13 @@ const LEAST_RECORDS: u64 = 1;
 
 pub const RUN_KEY: &[u8] = b"run ";
 
-const GUEST_KEY: &[u8] = b"guest ";
+pub const GUEST_KEY: &[u8] = b"guest ";
 
-const SOURCE_KEY: &[u8] = b"source ";
+pub const SOURCE_KEY: &[u8] = b"source ";
 
-const LINK_KEY: &[u8] = b"link ";
+pub const LINK_KEY: &[u8] = b"link ";
 
-const PAGER_KEY: &[u8] = b"pager ";
+pub const PAGER_KEY: &[u8] = b"pager ";
 
 /// The log that is named at the front, and what follows the space after it.
 fn log_then(text: &[u8]) -> Option<(LogName, &[u8])>
