@@ -1,37 +1,75 @@
 -- What the lines of some entries say of each text that begins with them.
-use Rattle.std.proofs.Common.{◌≡◌, ℕ, ◌+◌, ◌<◌, List, [], ◌∷◌, ◌++◌, length, refl, sym, ap, ◌∙◌, arith}
+use Rattle.std.proofs.Common.{◌≡◌, ℕ, ◌+◌, ◌<◌, ◌^◌, List, [], ◌∷◌, ◌++◌, length, get_or, refl, sym, ap, subst, ◌∙◌, arith}
+use Rattle.std.specs.Prelude.{Option, Some, None}
+use Rattle.std.specs.List.{AllByRecursion}
 use Rattle.std.specs.Fmt.{decimal}
 use Rattle.std.proofs.lemmas.List.{append_cancel_left}
+use Rattle.std.proofs.lemmas.Fmt.{decimal_injective, decimal_nonempty, digits_decimal}
+use Rattle.text_lines.proofs.Decimals.{own}
+use Rattle.text_lines.proofs.Fronts.{digits_same, numbers_same, no_digit-space}
+use Rattle.migration_types.specs.declared.cert.First.{First}
 use Rattle.migration_types.specs.declared.cert.Entry.{Entry}
-use Rattle.migration_types.specs.declared.cert.Entry.TheVariants.{Nothing}
-use Rattle.cert_text.specs.Grammar.{page_key, entry_text, entry_line, entry_lines}
+use Rattle.migration_types.specs.declared.cert.Entry.TheVariants.{Nothing, Source, Balloon}
+use Rattle.migration_types.specs.Sessions.{IsNumber}
+use Rattle.migration_types.specs.Certs.{FirstFits, EntryFits}
+use Rattle.cert_text.specs.Grammar.{page_key, source_key, balloon_key, first_text, placed_text, source_text, entry_text, entry_line, entry_lines}
 
-text_same : (x y : Entry) → entry_text x ≡ entry_text y → x ≡ y
-text_same Nothing Nothing e = refl
+-- ---- one spelling for each entry
 
-pub entry_same : (page : ℕ) (x y : Entry) → entry_line page x ≡ entry_line page y → x ≡ y
-entry_same page x y e =
+number_tells : (n m : ℕ) (r s : List ℕ) → n < 2 ^ 64 → m < 2 ^ 64 → decimal n ++ 32 ∷ r ≡ decimal m ++ 32 ∷ s → (n ≡ m) × (r ≡ s)
+number_tells n m r s p q e =
+    let same = numbers_same n m (32 ∷ r) (32 ∷ s) p q (no_digit-space r) (no_digit-space s) e in
+    let rest = same.1 in
+    (same.0, cc)
+
+-- a dash is no number
+no_dash : (n : ℕ) (rest : List ℕ) → n < 2 ^ 64 → first_text None ≡ decimal n ++ 32 ∷ rest → ⊥
+no_dash n rest lt e =
+    let same = digits_same [] (decimal n) (first_text None) (32 ∷ rest) tt (digits_decimal own n lt) (λ low high. absurd (omega arith)) (no_digit-space rest) e in
+    absurd (omega (arith, ap (λ (t : List ℕ). length t) same.0, decimal_nonempty n lt))
+
+abbrev used : ℕ → ℕ → First
+used access see = record { access = access; see = see }
+
+first_same : (x y : Option First) → FirstFits x → FirstFits y → first_text x ≡ first_text y → x ≡ y
+first_same None None p q e = refl
+first_same None (Some y) p q e = absurd (no_dash y.access (decimal y.see) (omega (arith, q.0)) e)
+first_same (Some x) None p q e = absurd (no_dash x.access (decimal x.see) (omega (arith, p.0)) (sym e))
+first_same (Some x) (Some y) p q e =
+    let one = number_tells x.access y.access (decimal x.see) (decimal y.see) (omega (arith, p.0)) (omega (arith, q.0)) e in
+    let two = decimal_injective x.see y.see (omega (arith, p.1)) (omega (arith, q.1)) one.1 in
+    ap (λ (n : ℕ). Some (used n x.see)) one.0 ∙ ap (λ (n : ℕ). Some (used y.access n)) two
+
+placed_same : (n m : ℕ) (x y : Option First) → IsNumber n → IsNumber m → FirstFits x → FirstFits y → placed_text n x ≡ placed_text m y → (n ≡ m) × (x ≡ y)
+placed_same n m x y p q f g e =
+    let one = number_tells n m (first_text x) (first_text y) (omega arith) (omega arith) e in
+    (one.0, first_same x y f g one.1)
+
+
+text_same : (x y : Entry) → EntryFits x → EntryFits y → entry_text x ≡ entry_text y → x ≡ y
+text_same Nothing Nothing p q e = refl
+text_same (Source s n x) (Source t m y) p q e =
+    let one = number_tells s t (placed_text n x) (placed_text m y) (omega (arith, p.0)) (omega (arith, q.0)) (append_cancel_left source_key (source_text s n x) (source_text t m y) e) in
+    let two = placed_same n m x y p.1 q.1 p.2 q.2 one.1 in
+    rw (one.0, two.0, two.1) refl
+text_same (Balloon n x) (Balloon m y) p q e =
+    let one = placed_same n m x y p.0 q.0 p.1 q.1 (append_cancel_left balloon_key (placed_text n x) (placed_text m y) e) in
+    rw (one.0, one.1) refl
+text_same Nothing (Source t m y) p q e = let first : 110 ≡ 115 = ap (λ (line : List ℕ). get_or line 0 0) e in absurd (omega (arith, first))
+text_same Nothing (Balloon m y) p q e = let first : 110 ≡ 98 = ap (λ (line : List ℕ). get_or line 0 0) e in absurd (omega (arith, first))
+text_same (Source s n x) Nothing p q e = let first : 115 ≡ 110 = ap (λ (line : List ℕ). get_or line 0 0) e in absurd (omega (arith, first))
+text_same (Source s n x) (Balloon m y) p q e = let first : 115 ≡ 98 = ap (λ (line : List ℕ). get_or line 0 0) e in absurd (omega (arith, first))
+text_same (Balloon n x) Nothing p q e = let first : 98 ≡ 110 = ap (λ (line : List ℕ). get_or line 0 0) e in absurd (omega (arith, first))
+text_same (Balloon n x) (Source t m y) p q e = let first : 98 ≡ 115 = ap (λ (line : List ℕ). get_or line 0 0) e in absurd (omega (arith, first))
+
+entry_same : (page : ℕ) (x y : Entry) → EntryFits x → EntryFits y → entry_line page x ≡ entry_line page y → x ≡ y
+entry_same page x y p q e =
     let numbered : decimal page ++ 32 ∷ entry_text x ≡ decimal page ++ 32 ∷ entry_text y = append_cancel_left page_key (decimal page ++ 32 ∷ entry_text x) (decimal page ++ 32 ∷ entry_text y) e in
     let spaced : 32 ∷ entry_text x ≡ 32 ∷ entry_text y = append_cancel_left (decimal page) (32 ∷ entry_text x) (32 ∷ entry_text y) numbered in
     let texts : entry_text x ≡ entry_text y = cc in
-    text_same x y texts
+    text_same x y p q texts
 
-pub entries_same : (page : ℕ) (xs ys : List Entry) → entry_lines page xs ≡ entry_lines page ys → xs ≡ ys
-entries_same page [] [] e = refl
-entries_same page [] (y ∷ ys) e = absurd cc
-entries_same page (x ∷ xs) [] e = absurd cc
-entries_same page (x ∷ xs) (y ∷ ys) e =
-    let heads : entry_line page x ≡ entry_line page y = cc in
-    let tails : entry_lines (page + 1) xs ≡ entry_lines (page + 1) ys = cc in
-    let one = entry_same page x y heads in
-    let all = entries_same (page + 1) xs ys tails in
-    cc
-
-pub entries_append : (page : ℕ) (xs ys : List Entry) → entry_lines page (xs ++ ys) ≡ entry_lines page xs ++ entry_lines (page + length xs) ys
-entries_append page [] ys = ap (λ (n : ℕ). entry_lines n ys) (omega arith)
-entries_append page (x ∷ xs) ys =
-    let e : page + 1 + length xs ≡ page + length (x ∷ xs) = omega arith in
-    ap (λ (t : List (List ℕ)). entry_line page x ∷ t) (entries_append (page + 1) xs ys ∙ ap (λ (n : ℕ). entry_lines (page + 1) xs ++ entry_lines n ys) e)
+-- ---- entries in a row
 
 -- one entry more
 pub entries_push : (page : ℕ) (xs : List Entry) (x : Entry) (more : List (List ℕ)) → entry_lines page (xs ++ x ∷ []) ++ more ≡ entry_lines page xs ++ (entry_line (page + length xs) x ∷ more)
@@ -44,47 +82,29 @@ pub entries_length : (page : ℕ) (xs : List Entry) → length (entry_lines page
 entries_length page [] = refl
 entries_length page (x ∷ xs) = let n = entries_length (page + 1) xs in omega arith
 
--- xs has one entry after ys, and its line is this one
-pub record IsNextEntry (page : ℕ) (xs ys : List Entry) (line : List ℕ) : Type 0 where
-  pub front : List Entry
-  pub entry : Entry
-  pub back : List Entry
-  pub whole : xs ≡ front ++ entry ∷ back
-  pub same : front ≡ ys
-  pub spelled : line ≡ entry_line (page + length ys) entry
+respelled : (m n : ℕ) (x : Entry) (line : List ℕ) → m ≡ n → line ≡ entry_line m x → line ≡ entry_line n x
+respelled m n x line e s = subst (λ (i : ℕ). line ≡ entry_line i x) e s
 
-under_entry : (page : ℕ) (x y : Entry) (xs ys : List Entry) (line : List ℕ) → x ≡ y → page + 1 + length ys ≡ page + length (y ∷ ys) → IsNextEntry (page + 1) xs ys line → IsNextEntry page (x ∷ xs) (y ∷ ys) line
-under_entry page x y xs ys line one k n =
-    let s : n.front ≡ ys = n.same in
-    record {
-      front = x ∷ n.front;
-      entry = n.entry;
-      back = n.back;
-      whole = ap (λ (t : List Entry). x ∷ t) n.whole;
-      same = (cc);
-      spelled = n.spelled ∙ ap (λ (i : ℕ). entry_line i n.entry) k;
-    }
-
-pub next_entry : (page : ℕ) (xs ys : List Entry) (rest more : List (List ℕ)) (line : List ℕ) → entry_lines page xs ++ rest ≡ entry_lines page ys ++ (line ∷ more) → length ys < length xs → IsNextEntry page xs ys line
-next_entry page [] ys rest more line e lt = absurd (omega arith)
-next_entry page (x ∷ xs) [] rest more line e lt =
+-- where xs has more entries than ys, the line after those of ys is an entry's
+pub next_entry : (page : ℕ) (xs ys : List Entry) (rest more : List (List ℕ)) (line : List ℕ) → AllByRecursion EntryFits xs → entry_lines page xs ++ rest ≡ entry_lines page ys ++ (line ∷ more) → length ys < length xs → (entry : Entry) × EntryFits entry × (line ≡ entry_line (page + length ys) entry)
+next_entry page [] ys rest more line h e lt = absurd (omega arith)
+next_entry page (x ∷ xs) [] rest more line h e lt =
     let heads : entry_line page x ≡ line = cc in
-    let k : page ≡ page + 0 = omega arith in
-    record { front = []; entry = x; back = xs; whole = refl; same = refl; spelled = sym heads ∙ ap (λ (n : ℕ). entry_line n x) k }
-next_entry page (x ∷ xs) (y ∷ ys) rest more line e lt =
+    (x, h.0, respelled page (page + 0) x line (omega arith) (sym heads))
+next_entry page (x ∷ xs) (y ∷ ys) rest more line h e lt =
     let tails : entry_lines (page + 1) xs ++ rest ≡ entry_lines (page + 1) ys ++ (line ∷ more) = cc in
-    let heads : entry_line page x ≡ entry_line page y = cc in
-    under_entry page x y xs ys line (entry_same page x y heads) (omega arith) (next_entry (page + 1) xs ys rest more line tails (omega arith))
+    let n = next_entry (page + 1) xs ys rest more line h.1 tails (omega arith) in
+    (n.0, n.1, respelled (page + 1 + length ys) (page + length (y ∷ ys)) n.0 line (omega arith) n.2)
 
--- where both have as many entries, what follows is the same
-pub entries_end : (page : ℕ) (xs ys : List Entry) (rest more : List (List ℕ)) → entry_lines page xs ++ rest ≡ entry_lines page ys ++ more → length ys ≡ length xs → (xs ≡ ys) × (rest ≡ more)
-entries_end page [] [] rest more e l = (refl, e)
-entries_end page [] (y ∷ ys) rest more e l = absurd (omega arith)
-entries_end page (x ∷ xs) [] rest more e l = absurd (omega arith)
-entries_end page (x ∷ xs) (y ∷ ys) rest more e l =
+-- where both have as many entries, these and what follows are the same
+pub entries_end : (page : ℕ) (xs ys : List Entry) (rest more : List (List ℕ)) → AllByRecursion EntryFits xs → AllByRecursion EntryFits ys → entry_lines page xs ++ rest ≡ entry_lines page ys ++ more → length ys ≡ length xs → (xs ≡ ys) × (rest ≡ more)
+entries_end page [] [] rest more h k e l = (refl, e)
+entries_end page [] (y ∷ ys) rest more h k e l = absurd (omega arith)
+entries_end page (x ∷ xs) [] rest more h k e l = absurd (omega arith)
+entries_end page (x ∷ xs) (y ∷ ys) rest more h k e l =
     let tails : entry_lines (page + 1) xs ++ rest ≡ entry_lines (page + 1) ys ++ more = cc in
     let heads : entry_line page x ≡ entry_line page y = cc in
-    let n = entries_end (page + 1) xs ys rest more tails (omega arith) in
-    let one = entry_same page x y heads in
+    let n = entries_end (page + 1) xs ys rest more h.1 k.1 tails (omega arith) in
+    let one = entry_same page x y h.0 k.0 heads in
     let s : xs ≡ ys = n.0 in
     ((cc), n.1)

@@ -1,36 +1,25 @@
--- What the lines that a reader holds say of each text that begins with them.
-use Rattle.std.proofs.Common.{◌≡◌, ℕ, ◌+◌, ◌<◌, ◌≤◌, ◌^◌, List, [], ◌∷◌, ◌++◌, length, map, refl, sym, ap, subst, ◌∙◌, append_assoc, length-append, arith}
+-- What the lines that a reader of certificates holds say of each text that begins with them.
+use Rattle.std.proofs.Common.{◌≡◌, ℕ, ◌+◌, ◌<◌, ◌≤◌, ◌^◌, List, [], ◌∷◌, ◌++◌, length, sym, ap, subst, ◌∙◌, append_assoc, length-append, arith}
+use Rattle.std.specs.Prelude.{◌≢◌, Result, Ok, Err, IfErr}
+use Rattle.std.specs.List.{AllByRecursion}
 use Rattle.std.specs.Fmt.{decimal}
 use Rattle.std.proofs.lemmas.List.{append_cancel_left}
 use Rattle.std.proofs.lemmas.Fmt.{decimal_injective}
 use Rattle.text_lines.specs.Text.{Begins}
-use Rattle.text_lines.proofs.Sections.{section_push}
-use Rattle.migration_types.specs.declared.cert.Run.{Run}
+use Rattle.text_lines.specs.declared.FaultKind.{FaultKind}
+use Rattle.text_lines.specs.declared.FaultKind.TheVariants.{Memory}
 use Rattle.migration_types.specs.declared.cert.Entry.{Entry}
-use Rattle.migration_types.specs.declared.cert.Cert.{Cert}
-use Rattle.migration_types.specs.Certs.{RunFits, IsCert}
-use Rattle.cert_text.specs.declared.lines.Stage.{Stage}
-use Rattle.cert_text.specs.declared.lines.Stage.TheVariants.{Header, Pages, Entries, Runs, Done}
-use Rattle.cert_text.specs.Runs.{runs_key, closing, run_line, runs_lines}
+use Rattle.migration_types.specs.Certs.{Certified, EntryFits, IsCert}
+use Rattle.cert_text.specs.declared.cert_lines.Stage.{Stage}
+use Rattle.cert_text.specs.declared.cert_lines.Stage.TheVariants.{Header, Pages, Entries}
+use Rattle.cert_text.specs.Runs.{runs_lines, SpellsRunLines}
 use Rattle.cert_text.specs.Grammar.{header, pages_key, entry_line, entry_lines, cert_lines, SpellsCert}
-use Rattle.cert_text.specs.Held.{MayFollow, Draft, entries_onto, runs_onto, held_onto, EntriesFit, RunsFit, Live}
+use Rattle.cert_text.specs.Held.{Draft, entries_onto, held_by, EntriesFit, Live}
 use Rattle.cert_text.proofs.EntryLaws.{next_entry, entries_end, entries_push}
-use Rattle.cert_text.proofs.RunLaws.{runs_end, NextRun, next_run, all_push, alternate_push}
+use Rattle.cert_text.proofs.RunLaws.{all_push}
 
-entries_onto_append : (d : Draft) (a b : List (List ℕ)) → entries_onto d a ++ b ≡ entries_onto d (a ++ b)
-entries_onto_append d a b = ap (λ (t : List (List ℕ)). header ∷ (pages_key ++ decimal d.pages) ∷ t) (append_assoc (entry_lines 0 d.entries) a b)
-
-runs_onto_append : (d : Draft) (a b : List (List ℕ)) → runs_onto d a ++ b ≡ runs_onto d (a ++ b)
-runs_onto_append d a b =
-    entries_onto_append d ((runs_key ++ decimal d.run_count) ∷ (map run_line d.runs ++ a)) b
-    ∙ ap (λ (t : List (List ℕ)). entries_onto d ((runs_key ++ decimal d.run_count) ∷ t)) (append_assoc (map run_line d.runs) a b)
-
-pub held_append : (stage : Stage) (d : Draft) (b : List (List ℕ)) → held_onto stage d [] ++ b ≡ held_onto stage d b
-held_append Header d b = refl
-held_append Pages d b = refl
-held_append Entries d b = entries_onto_append d [] b
-held_append Runs d b = runs_onto_append d [] b
-held_append Done d b = runs_onto_append d (closing ∷ []) b
+pub entries_onto_append : (pages : ℕ) (entries : List Entry) (a b : List (List ℕ)) → entries_onto pages entries a ++ b ≡ entries_onto pages entries (a ++ b)
+entries_onto_append pages entries a b = ap (λ (t : List (List ℕ)). header ∷ (pages_key ++ decimal pages) ∷ t) (append_assoc (entry_lines 0 entries) a b)
 
 -- a fact about a stage that is known
 pub live_at : (stage at : Stage) (d : Draft) → stage ≡ at → Live stage d → Live at d
@@ -38,17 +27,17 @@ live_at stage at d is live = subst (λ (s : Stage). Live s d) is live
 
 -- a text that begins with a line more than is held
 pub record Goes (stage : Stage) (d : Draft) (line : List ℕ) : Type 0 where
-  pub c : Cert
+  pub c : Certified
   pub more : List (List ℕ)
   pub fits : IsCert c
-  pub whole : held_onto stage d (line ∷ more) ≡ cert_lines c
+  pub whole : held_by stage d ++ (line ∷ more) ≡ cert_lines c
 
-pub goes_from : (stage at : Stage) (d : Draft) (held : List (List ℕ)) (line : List ℕ) → held_onto stage d [] ≡ held → stage ≡ at → Begins SpellsCert (held ++ line ∷ []) → Goes at d line
+pub goes_from : (stage at : Stage) (d : Draft) (held : List (List ℕ)) (line : List ℕ) → held_by stage d ≡ held → stage ≡ at → Begins SpellsCert (held ++ line ∷ []) → Goes at d line
 goes_from stage at d held line e is b = subst (λ (s : Stage). Goes s d line) is (record {
   c = b.0;
   more = b.1;
   fits = b.2.0;
-  whole = sym (held_append stage d (line ∷ b.1)) ∙ (ap (λ (t : List (List ℕ)). t ++ (line ∷ b.1)) e ∙ (sym (append_assoc held (line ∷ []) b.1) ∙ b.2.1));
+  whole = ap (λ (t : List (List ℕ)). t ++ (line ∷ b.1)) e ∙ (sym (append_assoc held (line ∷ []) b.1) ∙ b.2.1);
 })
 
 keyed : (key : List ℕ) (m n : ℕ) → m < 2 ^ 64 → n < 2 ^ 64 → key ++ decimal m ≡ key ++ decimal n → m ≡ n
@@ -67,87 +56,76 @@ no_pages d line g e =
 -- ---- the entries
 
 -- the number of pages of the text, and what follows it
-pub record EntriesAgree (d : Draft) (more : List (List ℕ)) (c : Cert) : Type 0 where
-  pub pages : d.pages ≡ length c.entries
-  pub rest : entry_lines 0 c.entries ++ runs_lines c.runs ≡ entry_lines 0 d.entries ++ more
+pub record EntriesAgree (pages : ℕ) (entries : List Entry) (more : List (List ℕ)) (c : Certified) : Type 0 where
+  pub count : pages ≡ length c.entries
+  pub rest : entry_lines 0 c.entries ++ runs_lines c.runs ≡ entry_lines 0 entries ++ more
 
-pub entries_agree : (d : Draft) (more : List (List ℕ)) (c : Cert) → d.pages ≤ 65536 → IsCert c → entries_onto d more ≡ cert_lines c → EntriesAgree d more c
-entries_agree d more c le fits e =
+pub entries_agree : (pages : ℕ) (entries : List Entry) (more : List (List ℕ)) (c : Certified) → pages ≤ 65536 → IsCert c → entries_onto pages entries more ≡ cert_lines c → EntriesAgree pages entries more c
+entries_agree pages entries more c le fits e =
     let few = fits.few_pages in
-    let pages : pages_key ++ decimal d.pages ≡ pages_key ++ decimal (length c.entries) = cc in
-    let rest : entry_lines 0 d.entries ++ more ≡ entry_lines 0 c.entries ++ runs_lines c.runs = cc in
-    record { pages = keyed pages_key d.pages (length c.entries) (omega arith) (omega arith) pages; rest = sym rest }
+    let heads : pages_key ++ decimal pages ≡ pages_key ++ decimal (length c.entries) = cc in
+    let rest : entry_lines 0 entries ++ more ≡ entry_lines 0 c.entries ++ runs_lines c.runs = cc in
+    record { count = keyed pages_key pages (length c.entries) (omega arith) (omega arith) heads; rest = sym rest }
 
 -- behind all the entries stand the runs
-pub runs_at : (d : Draft) (more : List (List ℕ)) (c : Cert) → d.pages ≤ 65536 → length d.entries ≡ d.pages → IsCert c → entries_onto d more ≡ cert_lines c → (c.entries ≡ d.entries) × (more ≡ runs_lines c.runs)
-runs_at d more c le full fits e =
-    let a = entries_agree d more c le fits e in
-    let s = entries_end 0 c.entries d.entries (runs_lines c.runs) more a.rest (full ∙ a.pages) in
+pub runs_at : (pages : ℕ) (entries : List Entry) (more : List (List ℕ)) (c : Certified) → pages ≤ 65536 → length entries ≡ pages → AllByRecursion EntryFits entries → IsCert c → entries_onto pages entries more ≡ cert_lines c → (c.entries ≡ entries) × (more ≡ runs_lines c.runs)
+runs_at pages entries more c le full each fits e =
+    let a = entries_agree pages entries more c le fits e in
+    let s = entries_end 0 c.entries entries (runs_lines c.runs) more fits.entries each a.rest (full ∙ a.count) in
     (s.0, sym s.1)
 
-pub entry_at : (d : Draft) (line : List ℕ) → EntriesFit d → length d.entries < d.pages → Goes Entries d line → (entry : Entry) × (line ≡ entry_line (length d.entries) entry)
+pub entry_at : (d : Draft) (line : List ℕ) → EntriesFit d → length d.entries < d.pages → Goes Entries d line → (entry : Entry) × EntryFits entry × (line ≡ entry_line (length d.entries) entry)
 entry_at d line f less g =
     let few = f.few_pages in
-    let a = entries_agree d (line ∷ g.more) g.c few g.fits g.whole in
-    let n = next_entry 0 g.c.entries d.entries (runs_lines g.c.runs) g.more line a.rest (omega (arith, a.pages)) in
+    let none = f.runs less in
+    let whole = sym (ap (λ (t : List (List ℕ)). entries_onto d.pages d.entries (t ++ (line ∷ g.more))) none) ∙ (sym (entries_onto_append d.pages d.entries d.runs (line ∷ g.more)) ∙ g.whole) in
+    let a = entries_agree d.pages d.entries (line ∷ g.more) g.c few g.fits whole in
+    let n = next_entry 0 g.c.entries d.entries (runs_lines g.c.runs) g.more line g.fits.entries a.rest (omega (arith, a.count)) in
     let k : 0 + length d.entries ≡ length d.entries = omega arith in
-    (n.entry, n.spelled ∙ ap (λ (i : ℕ). entry_line i n.entry) k)
+    (n.0, n.1, n.2 ∙ ap (λ (i : ℕ). entry_line i n.0) k)
 
-pub run_count_at : (d : Draft) (line : List ℕ) → EntriesFit d → length d.entries ≡ d.pages → Goes Entries d line → (n : ℕ) × (n ≤ 4194304) × (line ≡ runs_key ++ decimal n)
-run_count_at d line f full g =
-    let few = f.few_pages in
-    let r = runs_at d (line ∷ g.more) g.c few full g.fits g.whole in
-    let rest = r.1 in
-    let l : line ≡ runs_key ++ decimal (length g.c.runs) = cc in
-    (length g.c.runs, g.fits.runs.few, l)
+-- what stands behind all the entries begins the lines of runs
+pub behind_entries : (d : Draft) (lines : List (List ℕ)) → EntriesFit d → length d.entries ≡ d.pages → Begins SpellsCert (entries_onto d.pages d.entries lines) → Begins SpellsRunLines lines
+behind_entries d lines f full b =
+    let r = runs_at d.pages d.entries (lines ++ b.1) b.0 f.few_pages full f.each b.2.0 (sym (entries_onto_append d.pages d.entries lines b.1) ∙ b.2.1) in
+    (b.0.runs, b.1, (b.2.0.runs, r.1))
 
--- ---- the runs
+-- so a line that no runs' lines go on with is refused
+no_run_line : (stage : Stage) (d : Draft) (held : List (List ℕ)) (line : List ℕ) → held_by stage d ≡ held → stage ≡ Entries → Live stage d → length d.entries ≡ d.pages → (Begins SpellsRunLines (d.runs ++ line ∷ []) → ⊥) → Begins SpellsCert (held ++ line ∷ []) → ⊥
+no_run_line stage d held line e is live full stops b =
+    let here : held_by Entries d ≡ held = subst (λ (s : Stage). held_by s d ≡ held) is e in
+    let joined : held ++ line ∷ [] ≡ entries_onto d.pages d.entries (d.runs ++ line ∷ []) = ap (λ (t : List (List ℕ)). t ++ line ∷ []) (sym here) ∙ entries_onto_append d.pages d.entries d.runs (line ∷ []) in
+    stops (behind_entries d (d.runs ++ line ∷ []) (live_at stage Entries d is live) full (subst (Begins SpellsCert) joined b))
 
-pub run_at : (d : Draft) (line : List ℕ) → RunsFit d → length d.runs < d.run_count → Goes Runs d line → NextRun d.runs line
-run_at d line f less g =
-    let few = f.entries.few_pages in
-    let r = runs_at d ((runs_key ++ decimal d.run_count) ∷ (map run_line d.runs ++ (line ∷ g.more))) g.c few f.whole_entries g.fits g.whole in
-    next_run d.run_count g.c.runs d.runs line g.more f.few g.fits.runs f.each less r.1
+pub run_line_refused : (stage : Stage) (d : Draft) (held : List (List ℕ)) (line : List ℕ) (r : Result (Unit {0}) FaultKind) → held_by stage d ≡ held → stage ≡ Entries → Live stage d → length d.entries ≡ d.pages → IfErr r (λ kind. kind ≢ Memory → Begins SpellsRunLines (d.runs ++ line ∷ []) → ⊥) → IfErr r (λ kind. kind ≢ Memory → Begins SpellsCert (held ++ line ∷ []) → ⊥)
+run_line_refused stage d held line (Ok done) e is live full h = tt
+run_line_refused stage d held line (Err kind) e is live full h = λ other. no_run_line stage d held line e is live full (h other)
 
--- behind all the runs stands the closing line
-pub tail_at : (d : Draft) (more : List (List ℕ)) (c : Cert) → RunsFit d → length d.runs ≡ d.run_count → IsCert c → runs_onto d more ≡ cert_lines c → closing ∷ [] ≡ more
-tail_at d more c f full fits e =
-    let few = f.entries.few_pages in
-    let r = runs_at d ((runs_key ++ decimal d.run_count) ∷ (map run_line d.runs ++ more)) c few f.whole_entries fits e in
-    runs_end d.run_count c.runs d.runs more f.few fits.runs full r.1
+-- ---- one more entry
 
--- ---- one more entry or run
-
-pub entry_held : (d : Draft) (entry : Entry) → entries_onto d [] ++ entry_line (length d.entries) entry ∷ [] ≡ entries_onto (record d { entries = d.entries ++ entry ∷ [] }) []
+pub entry_held : (d : Draft) (entry : Entry) → entries_onto d.pages d.entries [] ++ entry_line (length d.entries) entry ∷ [] ≡ entries_onto d.pages (d.entries ++ entry ∷ []) []
 entry_held d entry =
     let k : length d.entries ≡ 0 + length d.entries = omega arith in
-    entries_onto_append d [] (entry_line (length d.entries) entry ∷ [])
+    entries_onto_append d.pages d.entries [] (entry_line (length d.entries) entry ∷ [])
     ∙ ap (λ (t : List (List ℕ)). header ∷ (pages_key ++ decimal d.pages) ∷ t) (ap (λ (i : ℕ). entry_lines 0 d.entries ++ entry_line i entry ∷ []) k ∙ sym (entries_push 0 d.entries entry []))
 
--- the lines after an entry's
-pub entry_taken : (stage : Stage) (d : Draft) (held : List (List ℕ)) (line : List ℕ) (entry : Entry) (entries : List Entry) → stage ≡ Entries → held_onto stage d [] ≡ held → line ≡ entry_line (length d.entries) entry → entries ≡ d.entries ++ entry ∷ [] → held_onto stage (record d { entries = entries }) [] ≡ held ++ line ∷ []
-entry_taken Header d held line entry entries is e spelled grown = absurd cc
-entry_taken Pages d held line entry entries is e spelled grown = absurd cc
-entry_taken Entries d held line entry entries is e spelled grown =
-    ap (λ (new : List Entry). entries_onto (record d { entries = new }) []) grown
-    ∙ (sym (entry_held d entry) ∙ (ap (λ (t : List ℕ). entries_onto d [] ++ t ∷ []) (sym spelled) ∙ ap (λ (t : List (List ℕ)). t ++ line ∷ []) e))
-entry_taken Runs d held line entry entries is e spelled grown = absurd cc
-entry_taken Done d held line entry entries is e spelled grown = absurd cc
-
-pub entry_push : (d : Draft) (entry : Entry) → EntriesFit d → length d.entries < d.pages → EntriesFit (record d { entries = d.entries ++ entry ∷ [] })
-entry_push d entry f less = record { some_pages = f.some_pages; few_pages = f.few_pages; count = omega (arith, length-append d.entries (entry ∷ [])) }
-
-pub run_held : (d : Draft) (run : Run) → runs_onto d [] ++ run_line run ∷ [] ≡ runs_onto (record d { runs = d.runs ++ run ∷ [] }) []
-run_held d run =
-    runs_onto_append d [] (run_line run ∷ [])
-    ∙ ap (λ (t : List (List ℕ)). entries_onto d ((runs_key ++ decimal d.run_count) ∷ t)) (sym (section_push run_line d.runs run []))
-
-pub run_push : (d : Draft) (run : Run) → RunsFit d → length d.runs < d.run_count → RunFits run → MayFollow d.runs run.log → RunsFit (record d { runs = d.runs ++ run ∷ [] })
-run_push d run f less fits follows = record {
-  entries = record { some_pages = f.entries.some_pages; few_pages = f.entries.few_pages; count = f.entries.count };
-  whole_entries = f.whole_entries;
-  few = f.few;
-  count = omega (arith, length-append d.runs (run ∷ []));
-  each = all_push RunFits d.runs run f.each fits;
-  alternate = alternate_push d.runs run f.alternate follows;
+pub entry_push : (d : Draft) (entry : Entry) → EntriesFit d → length d.entries < d.pages → EntryFits entry → EntriesFit (record d { entries = d.entries ++ entry ∷ [] })
+entry_push d entry f less fits = record {
+  some_pages = f.some_pages;
+  few_pages = f.few_pages;
+  count = omega (arith, length-append d.entries (entry ∷ []));
+  each = all_push EntryFits d.entries entry f.each fits;
+  runs = λ _. f.runs less;
 }
+
+-- the lines after an entry's
+pub entry_taken : (stage : Stage) (d : Draft) (held : List (List ℕ)) (line : List ℕ) (entry : Entry) → stage ≡ Entries → held_by stage d ≡ held → Live stage d → length d.entries < d.pages → line ≡ entry_line (length d.entries) entry → held_by stage (record d { entries = d.entries ++ entry ∷ [] }) ≡ held ++ line ∷ []
+entry_taken Header d held line entry is e live less spelled = absurd cc
+entry_taken Pages d held line entry is e live less spelled = absurd cc
+entry_taken Entries d held line entry is e live less spelled =
+    let none = live.runs less in
+    ap (λ (t : List (List ℕ)). entries_onto d.pages (d.entries ++ entry ∷ []) t) none
+    ∙ (sym (entry_held d entry)
+    ∙ (ap (λ (t : List ℕ). entries_onto d.pages d.entries [] ++ t ∷ []) (sym spelled)
+    ∙ (ap (λ (t : List (List ℕ)). entries_onto d.pages d.entries t ++ line ∷ []) (sym none)
+    ∙ ap (λ (t : List (List ℕ)). t ++ line ∷ []) e)))

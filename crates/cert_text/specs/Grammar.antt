@@ -1,10 +1,10 @@
 -- The text of a certificate. Numbers are in decimal, with no sign and no leading zero.
-use Rattle.std.specs.Prelude.{◌≡◌, ℕ, ◌+◌, List, [], ◌∷◌, ◌++◌, length, codes}
+use Rattle.std.specs.Prelude.{◌≡◌, ℕ, ◌+◌, List, [], ◌∷◌, ◌++◌, length, Option, Some, None, codes}
 use Rattle.std.specs.Fmt.{decimal}
+use Rattle.migration_types.specs.declared.cert.First.{First}
 use Rattle.migration_types.specs.declared.cert.Entry.{Entry}
-use Rattle.migration_types.specs.declared.cert.Entry.TheVariants.{Nothing}
-use Rattle.migration_types.specs.declared.cert.Cert.{Cert}
-use Rattle.migration_types.specs.Certs.{IsCert}
+use Rattle.migration_types.specs.declared.cert.Entry.TheVariants.{Nothing, Source, Balloon}
+use Rattle.migration_types.specs.Certs.{Certified, IsCert}
 use Rattle.cert_text.specs.Runs.{runs_lines}
 
 abbrev pub header : List ℕ
@@ -16,9 +16,30 @@ pages_key = codes "pages "
 abbrev pub page_key : List ℕ
 page_key = codes "page "
 
+-- the numbers of a page's first read or write and of the look before it, or a dash for each
+abbrev pub first_text : Option First → List ℕ
+first_text None = codes "- -"
+first_text (Some first) = decimal first.access ++ 32 ∷ decimal first.see
+
+-- the number of a page's placement, and its first read or write
+abbrev pub placed_text : ℕ → Option First → List ℕ
+placed_text place first = decimal place ++ 32 ∷ first_text first
+
+-- the number of a page's sending, its placement, and its first read or write
+abbrev pub source_text : ℕ → ℕ → Option First → List ℕ
+source_text send place first = decimal send ++ 32 ∷ placed_text place first
+
+abbrev pub source_key : List ℕ
+source_key = codes "source "
+
+abbrev pub balloon_key : List ℕ
+balloon_key = codes "balloon "
+
 -- what an entry says
 abbrev pub entry_text : Entry → List ℕ
 entry_text Nothing = codes "none"
+entry_text (Source send place first) = source_key ++ source_text send place first
+entry_text (Balloon place first) = balloon_key ++ placed_text place first
 
 -- the entry of a page: its number, a space, and what the entry says
 abbrev pub entry_line : ℕ → Entry → List ℕ
@@ -29,17 +50,18 @@ abbrev pub entry_lines : ℕ → List Entry → List (List ℕ)
 entry_lines page [] = []
 entry_lines page (entry ∷ entries) = entry_line page entry ∷ entry_lines (page + 1) entries
 
--- A certificate of two pages and one run of three records, line by line:
+-- A certificate of three pages and one run of three records, line by line:
 --   postcopy-certificate 1
---   pages 2
---   page 0 none
---   page 1 none
+--   pages 3
+--   page 0 source 3 5 5 4
+--   page 1 balloon 7 - -
+--   page 2 none
 --   runs 1
 --   run guest 3
 --   end
-abbrev pub cert_lines : Cert → List (List ℕ)
+abbrev pub cert_lines : Certified → List (List ℕ)
 cert_lines c = header ∷ (pages_key ++ decimal (length c.entries)) ∷ (entry_lines 0 c.entries ++ runs_lines c.runs)
 
 -- these lines are the text of this certificate, which is within all limits
-abbrev pub SpellsCert : Cert → List (List ℕ) → Type 0
+abbrev pub SpellsCert : Certified → List (List ℕ) → Type 0
 SpellsCert c lines = IsCert c × (lines ≡ cert_lines c)

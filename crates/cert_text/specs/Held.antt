@@ -1,64 +1,92 @@
--- The lines that a reader of certificates holds. This serves only proofs.
-use Rattle.std.specs.Prelude.{◌≡◌, ◌≢◌, ℕ, ◌-◌, ◌<◌, ◌≤◌, List, [], ◌∷◌, ◌++◌, length, map, slice_index_or}
+-- The lines that readers of certificates and of runs hold. This serves only proofs.
+use Rattle.std.specs.Prelude.{◌≡◌, ◌≢◌, ℕ, ◌-◌, ◌<◌, ◌≤◌, Bool, true, false, List, [], ◌∷◌, ◌++◌, length, map, slice_index_or}
 use Rattle.std.specs.List.{AllByRecursion}
 use Rattle.std.specs.Fmt.{decimal}
 use Rattle.migration_types.specs.declared.records.LogName.{LogName}
 use Rattle.migration_types.specs.declared.cert.Run.{Run}
 use Rattle.migration_types.specs.declared.cert.Entry.{Entry}
-use Rattle.migration_types.specs.Certs.{RunFits, Alternate}
-use Rattle.cert_text.specs.declared.lines.Stage.{Stage}
-use Rattle.cert_text.specs.declared.lines.Stage.TheVariants.{Header, Pages, Entries, Runs, Done}
-use Rattle.cert_text.specs.Runs.{runs_key, closing, run_line}
+use Rattle.migration_types.specs.Certs.{RunFits, EntryFits, Alternate}
+use Rattle.cert_text.specs.declared.run_lines.RunStage.{RunStage}
+use Rattle.cert_text.specs.declared.run_lines.RunStage.TheVariants.{Count, Runs, Done}
+use Rattle.cert_text.specs.declared.cert_lines.Stage.{Stage}
+use Rattle.cert_text.specs.declared.cert_lines.Stage.TheVariants.{Header, Pages, Entries}
+use Rattle.cert_text.specs.Runs.{runs_text_header, runs_key, closing, run_line}
 use Rattle.cert_text.specs.Grammar.{header, pages_key, entry_lines}
 
 -- a run of this log may stand after these runs
 abbrev pub MayFollow : List Run → LogName → Type 0
 MayFollow runs log = (d : Run) → 0 < length runs → (slice_index_or runs (length runs - 1) d).log ≢ log
 
--- what came so far
+-- ---- runs
+
+-- what came of some runs
+pub record RunDraft : Type 0 where
+  pub count : ℕ
+  pub runs : List Run
+
+abbrev pub runs_onto : RunDraft → List (List ℕ) → List (List ℕ)
+runs_onto d more = (runs_key ++ decimal d.count) ∷ (map run_line d.runs ++ more)
+
+-- the lines of the runs so far, and then more
+abbrev pub runs_held : RunStage → RunDraft → List (List ℕ) → List (List ℕ)
+runs_held Count d more = more
+runs_held Runs d more = runs_onto d more
+runs_held Done d more = runs_onto d (closing ∷ more)
+
+-- the runs so far
+pub record RunsFit (d : RunDraft) : Type 0 where
+  pub few : d.count ≤ 4194304
+  pub count : length d.runs ≤ d.count
+  pub each : AllByRecursion RunFits d.runs
+  pub alternate : Alternate d.runs
+
+abbrev pub RunsLive : RunStage → RunDraft → Type 0
+RunsLive Count d = d.runs ≡ []
+RunsLive Runs d = RunsFit d
+RunsLive Done d = RunsFit d × (length d.runs ≡ d.count)
+
+-- ---- a text of runs
+
+-- the lines of a text of runs so far: none, or the header and these
+abbrev pub headed_by : Bool → List (List ℕ) → List (List ℕ)
+headed_by false runs = []
+headed_by true runs = runs_text_header ∷ runs
+
+abbrev pub HeadedLive : Bool → List (List ℕ) → Type 0
+HeadedLive false runs = runs ≡ []
+HeadedLive true runs = Unit {0}
+
+-- ---- a certificate
+
+-- what came of a certificate, and the lines of its runs
 pub record Draft : Type 0 where
   pub pages : ℕ
   pub entries : List Entry
-  pub run_count : ℕ
-  pub runs : List Run
+  pub runs : List (List ℕ)
 
-abbrev pub entries_onto : Draft → List (List ℕ) → List (List ℕ)
-entries_onto d more = header ∷ (pages_key ++ decimal d.pages) ∷ (entry_lines 0 d.entries ++ more)
+abbrev pub entries_onto : ℕ → List Entry → List (List ℕ) → List (List ℕ)
+entries_onto pages entries more = header ∷ (pages_key ++ decimal pages) ∷ (entry_lines 0 entries ++ more)
 
-abbrev pub runs_onto : Draft → List (List ℕ) → List (List ℕ)
-runs_onto d more = entries_onto d ((runs_key ++ decimal d.run_count) ∷ (map run_line d.runs ++ more))
-
--- the lines so far, and then more
-abbrev pub held_onto : Stage → Draft → List (List ℕ) → List (List ℕ)
-held_onto Header d more = more
-held_onto Pages d more = header ∷ more
-held_onto Entries d more = entries_onto d more
-held_onto Runs d more = runs_onto d more
-held_onto Done d more = runs_onto d (closing ∷ more)
+-- the lines so far
+abbrev pub held_by : Stage → Draft → List (List ℕ)
+held_by Header d = []
+held_by Pages d = header ∷ []
+held_by Entries d = entries_onto d.pages d.entries d.runs
 
 -- nothing of the lists came
 pub record IsEmpty (d : Draft) : Type 0 where
   pub entries : d.entries ≡ []
   pub runs : d.runs ≡ []
 
--- the entries so far
+-- the entries so far, and lines of runs after the last
 pub record EntriesFit (d : Draft) : Type 0 where
   pub some_pages : 1 ≤ d.pages
   pub few_pages : d.pages ≤ 65536
   pub count : length d.entries ≤ d.pages
-
--- all entries, and the runs so far
-pub record RunsFit (d : Draft) : Type 0 where
-  pub entries : EntriesFit d
-  pub whole_entries : length d.entries ≡ d.pages
-  pub few : d.run_count ≤ 4194304
-  pub count : length d.runs ≤ d.run_count
-  pub each : AllByRecursion RunFits d.runs
-  pub alternate : Alternate d.runs
+  pub each : AllByRecursion EntryFits d.entries
+  pub runs : length d.entries < d.pages → d.runs ≡ []
 
 abbrev pub Live : Stage → Draft → Type 0
 Live Header d = IsEmpty d
 Live Pages d = IsEmpty d
-Live Entries d = EntriesFit d × (d.runs ≡ [])
-Live Runs d = RunsFit d
-Live Done d = RunsFit d × (length d.runs ≡ d.run_count)
+Live Entries d = EntriesFit d

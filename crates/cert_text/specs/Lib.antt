@@ -1,5 +1,7 @@
 pub mod Runs
 pub mod Grammar
 pub mod Held
-pub mod Draft
+pub mod RunDraft
+pub mod CertDraft
 pub mod Plain
+pub mod Taken

@@ -1,9 +1,13 @@
 -- The text of a merging's runs. Numbers are in decimal, with no sign and no leading zero.
-use Rattle.std.specs.Prelude.{ℕ, List, [], ◌∷◌, ◌++◌, length, map, codes}
+use Rattle.std.specs.Prelude.{◌≡◌, ℕ, List, [], ◌∷◌, ◌++◌, length, map, codes}
 use Rattle.std.specs.Fmt.{decimal}
 use Rattle.migration_types.specs.declared.records.LogName.{LogName}
 use Rattle.migration_types.specs.declared.records.LogName.TheVariants.{Guest, Source, Link, Pager}
 use Rattle.migration_types.specs.declared.cert.Run.{Run}
+use Rattle.migration_types.specs.Certs.{AreRuns}
+
+abbrev pub runs_text_header : List ℕ
+runs_text_header = codes "postcopy-runs 1"
 
 abbrev pub runs_key : List ℕ
 runs_key = codes "runs "
@@ -31,3 +35,16 @@ run_line run = run_key ++ run_text run
 -- the number of runs, a line for each, and a closing line
 abbrev pub runs_lines : List Run → List (List ℕ)
 runs_lines runs = (runs_key ++ decimal (length runs)) ∷ (map run_line runs ++ closing ∷ [])
+
+-- these lines tell these runs, which are within all limits
+abbrev pub SpellsRunLines : List Run → List (List ℕ) → Type 0
+SpellsRunLines runs lines = AreRuns runs × (lines ≡ runs_lines runs)
+
+-- A text of two runs, line by line:
+--   postcopy-runs 1
+--   runs 2
+--   run guest 3
+--   run link 1
+--   end
+abbrev pub SpellsRuns : List Run → List (List ℕ) → Type 0
+SpellsRuns runs lines = AreRuns runs × (lines ≡ runs_text_header ∷ runs_lines runs)

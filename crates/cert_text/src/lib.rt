@@ -1,21 +1,33 @@
-//! Texts of certificates: reading one, or telling the line at which an input stops being one.
+//! Texts of certificates and of runs: writing one, reading one, or telling the line at which an input stops being one.
 #![tactic(auto)]
 
+ghost use Rattle.std.specs.Prelude.{IfOk};
+
 ghost use Rattle.text_lines.specs.Answer.{Reads};
-ghost use Rattle.text_lines.specs.Text.{IsUnambiguous};
+ghost use Rattle.text_lines.specs.Text.{IsSpelling, IsUnambiguous};
+ghost use Rattle.migration_types.specs.Certs.{AreRuns};
 ghost use Rattle.cert_text.specs.Grammar.{SpellsCert};
+ghost use Rattle.cert_text.specs.Runs.{SpellsRuns};
 
-use migration_types::Cert;
-use std::alloc::Global;
-use text_lines::{TextFault, read};
+use migration_types::{Cert, Run, Seq};
+use std::alloc::{AllocError, Global};
+use text_lines::{TextFault, push_line, read};
 
+mod cert_lines;
+mod decimal;
 mod entries;
-mod lines;
+mod run_front;
+mod run_lines;
 mod runs;
+mod runs_text;
 #[cfg(test)]
 mod tests;
+mod writing;
 
-use lines::CertLines;
+use cert_lines::{CertLines, HEADER, PAGES_KEY};
+use decimal::push_count;
+use runs_text::RunsText;
+use writing::{push_entries, push_runs};
 
 /// The certificate that the bytes spell: a header, an entry for each of 1 to 65,536 pages in order, at most 4,194,304
 /// runs of 1 to 1,048,576 records, of which no two neighbours are of one log, and a closing line. An LF ends each line.
@@ -28,7 +40,48 @@ pub fn read_cert(alloc: Global, bytes: &[u8]) -> Result<Cert, TextFault>
     read(CertLines::new(alloc), bytes)
 }
 
+/// The text of a certificate, which `read_cert` reads back. An error: there is no memory for it.
+pub fn write_cert(alloc: Global, cert: &Cert) -> Result<Vec<u8>, AllocError>
+    ensures { IfOk result (λ out. IsSpelling SpellsCert cert.now out.items) }
+{
+    cert.keeps_limits();
+    let entries = cert.entries();
+    let mut out = Vec::new(alloc);
+    push_line(&mut out, HEADER)?;
+    push_count(&mut out, PAGES_KEY, entries.len() as u32)?;
+    push_entries(&mut out, entries)?;
+    push_runs(&mut out, cert.runs())?;
+    Ok(out)
+}
+
+/// The runs that the bytes spell: a header, at most 4,194,304 runs of 1 to 1,048,576 records, of which no two
+/// neighbours are of one log, and a closing line. An LF ends each line.
+///
+/// Any other input is refused, at the line with which it stops being the beginning of such a text. Lines count from 1.
+/// Where memory is refused, the fault's line is 0.
+pub fn read_runs(alloc: Global, bytes: &[u8]) -> Result<Seq<Run>, TextFault>
+    ensures { Reads SpellsRuns bytes.now result }
+{
+    read(RunsText::new(alloc), bytes)
+}
+
+/// The text of runs within all limits, which `read_runs` reads back. An error: there is no memory for it.
+pub fn write_runs(alloc: Global, runs: &[Run]) -> Result<Vec<u8>, AllocError>
+    requires { AreRuns runs.now }
+    ensures { IfOk result (λ out. IsSpelling SpellsRuns runs.now out.items) }
+{
+    let mut out = Vec::new(alloc);
+    push_line(&mut out, runs_text::HEADER)?;
+    push_runs(&mut out, runs)?;
+    Ok(out)
+}
+
 /// A law: no certificate's text begins another, a text spells one certificate, and a certificate has one text.
 pub fn cert_texts_are_unambiguous()
     ensures { IsUnambiguous SpellsCert }
+{}
+
+/// A law: no text of runs begins another, a text spells one list of runs, and a list of runs has one text.
+pub fn runs_texts_are_unambiguous()
+    ensures { IsUnambiguous SpellsRuns }
 {}

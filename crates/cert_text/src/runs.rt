@@ -19,15 +19,15 @@ pub const CLOSING: &[u8] = b"end";
 /// A run has at least so many records.
 const LEAST_RECORDS: u64 = 1;
 
-const RUN_KEY: &[u8] = b"run ";
+pub const RUN_KEY: &[u8] = b"run ";
 
-const GUEST_KEY: &[u8] = b"guest ";
+pub const GUEST_KEY: &[u8] = b"guest ";
 
-const SOURCE_KEY: &[u8] = b"source ";
+pub const SOURCE_KEY: &[u8] = b"source ";
 
-const LINK_KEY: &[u8] = b"link ";
+pub const LINK_KEY: &[u8] = b"link ";
 
-const PAGER_KEY: &[u8] = b"pager ";
+pub const PAGER_KEY: &[u8] = b"pager ";
 
 /// The log that is named at the front, and what follows the space after it.
 fn log_then(text: &[u8]) -> Option<(LogName, &[u8])>

@@ -1,6 +1,6 @@
-use Rattle.cert_text.specs.Draft.{draft_of}
-use Rattle.cert_text.proofs.Goes.{not_whole}
-use Rattle.cert_text.proofs.lines.CertLinesLineReader.text.Goals as goal
+use Rattle.cert_text.specs.RunDraft.{draft_of}
+use Rattle.cert_text.proofs.RunGoes.{not_whole}
+use Rattle.cert_text.proofs.run_lines.RunLines.text.Goals as goal
 
 pub returns-in_default : goal.returns-in_default
 returns-in_default c =

@@ -1,18 +1,18 @@
 //! Reading a certificate line by line.
 
-ghost use Rattle.std.specs.Prelude.{◌≡◌, ◌≢◌, [], ◌∷◌, ◌++◌, ◌+◌, ◌<◌, ◌^◌, length, IfSome, IfNone, OnOk, OnErr, IfErr};
+ghost use Rattle.std.specs.Prelude.{◌≡◌, [], ◌∷◌, ◌++◌};
 ghost use Rattle.cert_text.specs.Grammar.{SpellsCert};
 
 use crate::entries::read_entry;
-use crate::runs::{CLOSING, RUNS_KEY, may_follow, read_run};
-use migration_types::{Cert, Entry, MOST_PAGES, MOST_RUNS, Run, Seq};
+use crate::run_lines::RunLines;
+use migration_types::{Cert, Entry, MOST_PAGES, Seq};
 use std::alloc::Global;
 use std::marker::Model;
 use text_lines::{FaultKind, LineReader, is_line, read_keyed};
 
-const HEADER: &[u8] = b"postcopy-certificate 1";
+pub const HEADER: &[u8] = b"postcopy-certificate 1";
 
-const PAGES_KEY: &[u8] = b"pages ";
+pub const PAGES_KEY: &[u8] = b"pages ";
 
 /// Which line is due.
 #[derive(Clone, Copy, Debug, PartialEq, Eq)]
@@ -21,12 +21,8 @@ pub enum Stage {
     Header,
     /// The number of pages.
     Pages,
-    /// A page's entry, or the number of runs after the last.
+    /// A page's entry, or a line of the runs after the last.
     Entries,
-    /// A run, or the closing line after the last.
-    Runs,
-    /// None: the text is whole.
-    Done,
 }
 
 /// Reads a certificate line by line: what its lines said so far. Contracts see the lines.
@@ -35,18 +31,17 @@ pub struct CertLines {
     stage: Stage,
     pages: u32,
     entries: Vec<Entry>,
-    run_count: u32,
-    runs: Vec<Run>,
+    runs: RunLines,
 }
 
 impl Model for CertLines {
-    ghost use Rattle.std.specs.Prelude.{ℕ, List, []};
+    ghost use Rattle.std.specs.Prelude.{ℕ, List};
 
     ghost Value = { List (List ℕ) };
 
-    ghost use Rattle.cert_text.specs.Draft.{held_of, LiveAt};
+    ghost use Rattle.cert_text.specs.CertDraft.{held_of, LiveAt};
 
-    ghost view = { λ a. held_of a [] };
+    ghost view = { held_of };
 
     ghost invariant = { LiveAt };
 }
@@ -60,8 +55,7 @@ impl CertLines {
             stage: Stage::Header,
             pages: 0,
             entries: Vec::new(alloc),
-            run_count: 0,
-            runs: Vec::new(alloc),
+            runs: RunLines::new(alloc),
         }
     }
 }
@@ -94,13 +88,7 @@ impl LineReader for CertLines {
             Stage::Entries => {
                 let page = self.entries.len() as u32;
                 if page == self.pages {
-                    let run_count = match read_keyed(line, RUNS_KEY, MOST_RUNS) {
-                        Ok(run_count) => run_count,
-                        Err(kind) => return Err(kind),
-                    };
-                    self.run_count = run_count;
-                    self.stage = Stage::Runs;
-                    return Ok(());
+                    return self.runs.line(line);
                 }
                 let Some(entry) = read_entry(line, page) else {
                     return Err(FaultKind::Form);
@@ -110,36 +98,20 @@ impl LineReader for CertLines {
                 };
                 Ok(())
             }
-            Stage::Runs => {
-                if self.runs.len() == self.run_count as usize {
-                    if !is_line(line, CLOSING) {
-                        return Err(FaultKind::Form);
-                    }
-                    self.stage = Stage::Done;
-                    return Ok(());
-                }
-                let Some(run) = read_run(line) else {
-                    return Err(FaultKind::Form);
-                };
-                if !may_follow(&self.runs, run.log) {
-                    return Err(FaultKind::Form);
-                }
-                let Ok(()) = self.runs.push(run) else {
-                    return Err(FaultKind::Memory);
-                };
-                Ok(())
-            }
-            Stage::Done => Err(FaultKind::Ended),
         }
     }
 
     fn goes_on(&self) {
-        let _ = &self.stage;
+        self.runs.goes_on();
+        self.runs.few();
     }
 
     fn text(self) -> Option<Cert> {
         match self.stage {
-            Stage::Done => Some(Cert::new(Seq::from_vec(self.entries), Seq::from_vec(self.runs))),
+            Stage::Entries => match self.runs.text() {
+                Some(runs) => Some(Cert::new(Seq::from_vec(self.entries), runs)),
+                None => None,
+            },
             _ => None,
         }
     }

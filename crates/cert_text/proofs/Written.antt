@@ -1,0 +1,55 @@
+-- Lines written in a row.
+use Rattle.std.proofs.Common.{◌≡◌, ℕ, ◌+◌, ◌<◌, List, [], ◌∷◌, ◌++◌, length, map, take, get_or, refl, sym, ap, ◌∙◌, append_assoc, arith}
+use Rattle.std.proofs.lemmas.List.{take_more, append-nil, length-take}
+use Rattle.std.specs.Prelude.{Result, Ok, Err, OnOk}
+use Rattle.std.specs.Fmt.{decimal}
+use Rattle.std.specs.declared.alloc.AllocError.{AllocError}
+use Rattle.text_lines.specs.Text.{ended}
+use Rattle.text_lines.proofs.Cut.{ended-push, ended-append}
+use Rattle.text_lines.proofs.Sections.{ended_next, ended_end}
+use Rattle.migration_types.specs.declared.cert.Run.{Run}
+use Rattle.migration_types.specs.declared.cert.Entry.{Entry}
+use Rattle.migration_types.specs.Certs.{Certified}
+use Rattle.cert_text.specs.Runs.{run_line, runs_lines}
+use Rattle.cert_text.specs.Grammar.{header, pages_key, entry_line, entry_lines, cert_lines}
+use Rattle.cert_text.proofs.EntryLaws.{entries_push}
+
+entry_last : (xs : List Entry) (x : Entry) (i : ℕ) → length xs ≡ i → ended (entry_lines 0 (xs ++ x ∷ [])) ≡ ended (entry_lines 0 xs) ++ (entry_line i x ++ 10 ∷ [])
+entry_last xs x i e =
+    let lines : entry_lines 0 (xs ++ x ∷ []) ≡ entry_lines 0 xs ++ entry_line (0 + length xs) x ∷ [] = sym (append-nil (entry_lines 0 (xs ++ x ∷ []))) ∙ entries_push 0 xs x [] in
+    let k : 0 + length xs ≡ i = omega arith in
+    ap ended (lines ∙ ap (λ (n : ℕ). entry_lines 0 xs ++ entry_line n x ∷ []) k)
+    ∙ (sym (append-nil (ended (entry_lines 0 xs ++ entry_line i x ∷ []))) ∙ ended-push (entry_lines 0 xs) (entry_line i x) [])
+
+-- the next entry's line behind those before it
+pub entry_written : (out : List ℕ) (xs : List Entry) (i : ℕ) (d : Entry) → i < length xs → out ++ ended (entry_lines 0 (take (i + 1) xs)) ≡ (out ++ ended (entry_lines 0 (take i xs))) ++ (entry_line i (get_or xs i d) ++ 10 ∷ [])
+entry_written out xs i d lt =
+    ap (λ (t : List ℕ). out ++ t) (ap (λ (ys : List Entry). ended (entry_lines 0 ys)) (take_more xs i d lt) ∙ entry_last (take i xs) (get_or xs i d) i (omega (arith, length-take i xs)))
+    ∙ sym (append_assoc out (ended (entry_lines 0 (take i xs))) (entry_line i (get_or xs i d) ++ 10 ∷ []))
+
+-- a certificate's text, written in parts
+pub cert_written : (c : Certified) (entries : List Entry) (runs : List Run) (n : ℕ) (none front pages listed out : List ℕ) → entries ≡ c.entries → runs ≡ c.runs → n ≡ length entries → none ≡ [] → front ≡ none ++ (header ++ 10 ∷ []) → pages ≡ front ++ ((pages_key ++ decimal n) ++ 10 ∷ []) → listed ≡ pages ++ ended (entry_lines 0 entries) → out ≡ listed ++ ended (runs_lines runs) → out ≡ ended (cert_lines c)
+cert_written c entries runs n none front pages listed out p q e o1 o2 o3 o4 o5 =
+    let line : List ℕ = pages_key ++ decimal (length c.entries) in
+    let whole : out ≡ ((header ++ 10 ∷ []) ++ (line ++ 10 ∷ [])) ++ ended (entry_lines 0 c.entries) ++ ended (runs_lines c.runs) = rw (o5, o4, o3, o2, o1, e, p, q) refl in
+    let lists : ended (entry_lines 0 c.entries ++ runs_lines c.runs) ≡ ended (entry_lines 0 c.entries) ++ ended (runs_lines c.runs) = sym (append-nil (ended (entry_lines 0 c.entries ++ runs_lines c.runs))) ∙ (ended-append (entry_lines 0 c.entries) (runs_lines c.runs) [] ∙ ap (λ (t : List ℕ). ended (entry_lines 0 c.entries) ++ t) (append-nil (ended (runs_lines c.runs)))) in
+    whole ∙ (append_assoc ((header ++ 10 ∷ []) ++ (line ++ 10 ∷ [])) (ended (entry_lines 0 c.entries)) (ended (runs_lines c.runs))
+    ∙ (ap (λ (t : List ℕ). ((header ++ 10 ∷ []) ++ (line ++ 10 ∷ [])) ++ t) (sym lists)
+    ∙ (append_assoc (header ++ 10 ∷ []) (line ++ 10 ∷ []) (ended (entry_lines 0 c.entries ++ runs_lines c.runs))
+    ∙ ap (λ (t : List ℕ). (header ++ 10 ∷ []) ++ t) (append_assoc line (10 ∷ []) (ended (entry_lines 0 c.entries ++ runs_lines c.runs))))))
+
+-- the next run's line behind those before it
+pub run_written : (out : List ℕ) (first : List ℕ) (xs : List Run) (i : ℕ) (d : Run) → i < length xs → out ++ ended (first ∷ map run_line (take (i + 1) xs)) ≡ (out ++ ended (first ∷ map run_line (take i xs))) ++ (run_line (get_or xs i d) ++ 10 ∷ [])
+run_written out first xs i d lt =
+    ap (λ (t : List ℕ). out ++ t) (ended_next run_line (first ∷ []) xs i d lt)
+    ∙ sym (append_assoc out (ended (first ∷ map run_line (take i xs))) (run_line (get_or xs i d) ++ 10 ∷ []))
+
+-- the closing line behind all the runs
+runs_written : (out first last : List ℕ) (xs : List Run) (i : ℕ) → i ≡ length xs → (out ++ ended (first ∷ map run_line (take i xs))) ++ (last ++ 10 ∷ []) ≡ out ++ ended (first ∷ (map run_line xs ++ last ∷ []))
+runs_written out first last xs i e =
+    append_assoc out (ended (first ∷ map run_line (take i xs))) (last ++ 10 ∷ [])
+    ∙ ap (λ (t : List ℕ). out ++ t) (sym (ended_end run_line (first ∷ []) xs i last e))
+
+pub closing_written : (out first last : List ℕ) (xs : List Run) (i : ℕ) (before after : List ℕ) (r : Result (Unit {0}) AllocError) → i ≡ length xs → before ≡ out ++ ended (first ∷ map run_line (take i xs)) → OnOk r (after ≡ before ++ (last ++ 10 ∷ [])) → OnOk r (after ≡ out ++ ended (first ∷ (map run_line xs ++ last ∷ [])))
+closing_written out first last xs i before after (Ok done) e b h = h ∙ (ap (λ (t : List ℕ). t ++ (last ++ 10 ∷ [])) b ∙ runs_written out first last xs i e)
+closing_written out first last xs i before after (Err kind) e b h = tt

@@ -1,0 +1,13 @@
+-- The lines of a reader of certificates with its fields. This serves only proofs.
+use Rattle.std.specs.Prelude.{List, ℕ}
+use Rattle.cert_text.specs.declared.cert_lines.CertLines.TheInside.{Inside}
+use Rattle.cert_text.specs.Held.{Draft, held_by, Live}
+
+abbrev pub draft_of : Inside → Draft
+draft_of a = record { pages = a.pages; entries = a.entries.items; runs = a.runs }
+
+abbrev pub held_of : Inside → List (List ℕ)
+held_of a = held_by a.stage (draft_of a)
+
+abbrev pub LiveAt : Inside → Type 0
+LiveAt a = Live a.stage (draft_of a)

@@ -1,0 +1,16 @@
+-- Runs taken in a row. This serves only proofs.
+use Rattle.std.specs.Prelude.{◌≡◌, ℕ, List, ◌++◌, map, length}
+use Rattle.std.specs.List.{AllByRecursion}
+use Rattle.text_lines.specs.Text.{ended}
+use Rattle.migration_types.specs.declared.cert.Run.{Run}
+use Rattle.migration_types.specs.Certs.{RunFits, Alternate}
+use Rattle.cert_text.specs.Runs.{run_line}
+
+-- so many runs were read at the front of the bytes, and put behind those of old
+pub record TakesRuns (old new : List Run) (bytes rest : List ℕ) (count : ℕ) : Type 0 where
+  pub taken : List Run
+  pub items : new ≡ old ++ taken
+  pub parts : bytes ≡ ended (map run_line taken) ++ rest
+  pub counted : length taken ≡ count
+  pub fits : AllByRecursion RunFits taken
+  pub alternate : Alternate new

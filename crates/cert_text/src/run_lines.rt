@@ -1,0 +1,134 @@
+//! Reading runs line by line, as a part of a text.
+
+ghost use Rattle.std.specs.Prelude.{◌≡◌, ◌≢◌, [], ◌∷◌, ◌++◌, ◌<◌, ◌^◌, List, length, IfSome, IfNone, OnOk, OnErr, IfErr};
+ghost use Rattle.text_lines.specs.Text.{Begins, TakesLines};
+ghost use Rattle.migration_types.specs.declared.cert.Run.{Run as Counted};
+ghost use Rattle.cert_text.specs.Runs.{SpellsRunLines};
+
+use crate::run_front::take_runs;
+use crate::runs::{CLOSING, RUNS_KEY, may_follow, read_run};
+use migration_types::{MOST_RUNS, Run, Seq};
+use std::alloc::Global;
+use std::marker::Model;
+use text_lines::{FaultKind, is_line, read_keyed};
+
+/// Which line is due.
+#[derive(Clone, Copy, Debug, PartialEq, Eq)]
+pub enum RunStage {
+    /// The number of runs.
+    Count,
+    /// A run, or the closing line after the last.
+    Runs,
+    /// None.
+    Done,
+}
+
+/// Reads the lines of runs: what they said so far. Contracts see the lines.
+#[derive(Drop)]
+pub struct RunLines {
+    stage: RunStage,
+    count: u32,
+    runs: Vec<Run>,
+}
+
+impl Model for RunLines {
+    ghost use Rattle.std.specs.Prelude.{ℕ, List, []};
+
+    ghost Value = { List (List ℕ) };
+
+    ghost use Rattle.cert_text.specs.RunDraft.{held_of, LiveAt};
+
+    ghost view = { λ a. held_of a [] };
+
+    ghost invariant = { LiveAt };
+}
+
+impl RunLines {
+    /// No line came yet. Takes no memory.
+    pub fn new(alloc: Global) -> Self
+        ensures { result ≡ [] }
+    {
+        RunLines {
+            stage: RunStage::Count,
+            count: 0,
+            runs: Vec::new(alloc),
+        }
+    }
+
+    /// Takes the next line, or says why no lines of runs go on with it and stays as it was.
+    pub fn line(&mut self, line: &[u8]) -> Result<(), FaultKind>
+        ensures ok { OnOk result (self.new ≡ self.old ++ line.now ∷ []) }
+        ensures refused { IfErr result (λ kind. kind ≢ FaultKind.Memory → Begins SpellsRunLines (self.old ++ line.now ∷ []) → ⊥) }
+        ensures err { OnErr result (self.new ≡ self.old) }
+    {
+        match self.stage {
+            RunStage::Count => {
+                let count = match read_keyed(line, RUNS_KEY, MOST_RUNS) {
+                    Ok(count) => count,
+                    Err(kind) => return Err(kind),
+                };
+                self.count = count;
+                self.stage = RunStage::Runs;
+                Ok(())
+            }
+            RunStage::Runs => {
+                if self.runs.len() == self.count as usize {
+                    if !is_line(line, CLOSING) {
+                        return Err(FaultKind::Form);
+                    }
+                    self.stage = RunStage::Done;
+                    return Ok(());
+                }
+                let Some(run) = read_run(line) else {
+                    return Err(FaultKind::Form);
+                };
+                if !may_follow(&self.runs, run.log) {
+                    return Err(FaultKind::Form);
+                }
+                let Ok(()) = self.runs.push(run) else {
+                    return Err(FaultKind::Memory);
+                };
+                Ok(())
+            }
+            RunStage::Done => Err(FaultKind::Ended),
+        }
+    }
+
+    /// Takes as many of the first lines as are runs in plain form, and answers what follows them and how many they were.
+    pub fn lines<'a>(&mut self, bytes: &'a [u8]) -> (&'a [u8], u32)
+        ensures { TakesLines self.old self.new bytes.now result.0.now result.1 }
+    {
+        match self.stage {
+            RunStage::Runs => {
+                let left = self.count - self.runs.len() as u32;
+                take_runs(&mut self.runs, left, bytes)
+            }
+            _ => (bytes, 0),
+        }
+    }
+
+    /// Some lines of runs begin with the lines so far. Runs nothing.
+    pub fn goes_on(&self)
+        ensures { Begins SpellsRunLines self.now }
+    {
+        let _ = &self.stage;
+    }
+
+    /// The lines so far are few. Runs nothing.
+    pub fn few(&self)
+        ensures { length self.now < 2 ^ 31 }
+    {
+        let _ = &self.stage;
+    }
+
+    /// The runs, where the lines so far are theirs.
+    pub fn text(self) -> Option<Seq<Run>>
+        ensures found { IfSome result (λ runs. SpellsRunLines runs self) }
+        ensures none { IfNone result ((runs : List Counted) → SpellsRunLines runs self → ⊥) }
+    {
+        match self.stage {
+            RunStage::Done => Some(Seq::from_vec(self.runs)),
+            _ => None,
+        }
+    }
+}

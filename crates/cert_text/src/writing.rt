@@ -1,0 +1,114 @@
+//! Writing entries and runs.
+
+ghost use Rattle.std.specs.Prelude.{◌≡◌, ◌≤◌, [], ◌∷◌, ◌++◌, length, OnOk};
+ghost use Rattle.text_lines.specs.Text.{ended};
+ghost use Rattle.cert_text.specs.Runs.{log_word, run_line, runs_lines};
+ghost use Rattle.cert_text.specs.Grammar.{first_text, placed_text, entry_text, entry_line, entry_lines};
+
+use crate::decimal::{push_count, push_decimal};
+use crate::entries::{BALLOON_KEY, NONE, NO_FIRST, PAGE_KEY, SOURCE_KEY};
+use crate::runs::{CLOSING, RUNS_KEY, RUN_KEY};
+use migration_types::{Entry, First, LogName, Run};
+use std::alloc::AllocError;
+use text_lines::push_line;
+
+/// Adds a page's first read or write, and the look before it.
+fn push_first(out: &mut Vec<u8>, first: Option<First>) -> Result<(), AllocError>
+    ensures { OnOk result (out.new.items ≡ out.old.items ++ first_text first) }
+{
+    match first {
+        None => out.extend_from_slice(NO_FIRST),
+        Some(first) => {
+            push_decimal(out, first.access)?;
+            out.push(b' ')?;
+            push_decimal(out, first.see)
+        }
+    }
+}
+
+/// Adds a page's placement, its first read or write, and the look before it.
+fn push_placed(out: &mut Vec<u8>, place: u32, first: Option<First>) -> Result<(), AllocError>
+    ensures { OnOk result (out.new.items ≡ out.old.items ++ placed_text place first) }
+{
+    push_decimal(out, place)?;
+    out.push(b' ')?;
+    push_first(out, first)
+}
+
+/// Adds what an entry says.
+fn push_said(out: &mut Vec<u8>, entry: Entry) -> Result<(), AllocError>
+    ensures { OnOk result (out.new.items ≡ out.old.items ++ entry_text entry) }
+{
+    match entry {
+        Entry::Nothing => out.extend_from_slice(NONE),
+        Entry::Source { send, place, first } => {
+            out.extend_from_slice(SOURCE_KEY)?;
+            push_decimal(out, send)?;
+            out.push(b' ')?;
+            push_placed(out, place, first)
+        }
+        Entry::Balloon { place, first } => {
+            out.extend_from_slice(BALLOON_KEY)?;
+            push_placed(out, place, first)
+        }
+    }
+}
+
+/// Adds the line of a page's entry.
+fn push_entry(out: &mut Vec<u8>, page: u32, entry: Entry) -> Result<(), AllocError>
+    ensures { OnOk result (out.new.items ≡ out.old.items ++ (entry_line page entry ++ 10 ∷ [])) }
+{
+    out.extend_from_slice(PAGE_KEY)?;
+    push_decimal(out, page)?;
+    out.push(b' ')?;
+    push_said(out, entry)?;
+    out.push(b'\n')?;
+    Ok(())
+}
+
+/// Adds the lines of the pages' entries, page 0 first.
+pub fn push_entries(out: &mut Vec<u8>, entries: &[Entry]) -> Result<(), AllocError>
+    requires { length entries.now ≤ 65536 }
+    ensures { OnOk result (out.new.items ≡ out.old.items ++ ended (entry_lines 0 entries.now)) }
+{
+    for page in 0..entries.len() {
+        push_entry(out, page as u32, entries[page])?;
+    }
+    Ok(())
+}
+
+/// A log's name.
+fn word_of(log: LogName) -> &'static [u8]
+    ensures { result.now ≡ log_word log }
+{
+    match log {
+        LogName::Guest => b"guest",
+        LogName::Source => b"source",
+        LogName::Link => b"link",
+        LogName::Pager => b"pager",
+    }
+}
+
+/// Adds the line of a run.
+fn push_run(out: &mut Vec<u8>, run: Run) -> Result<(), AllocError>
+    ensures { OnOk result (out.new.items ≡ out.old.items ++ (run_line run ++ 10 ∷ [])) }
+{
+    out.extend_from_slice(RUN_KEY)?;
+    out.extend_from_slice(word_of(run.log))?;
+    out.push(b' ')?;
+    push_decimal(out, run.count)?;
+    out.push(b'\n')?;
+    Ok(())
+}
+
+/// Adds the lines of runs: their number, a line for each, and the closing line.
+pub fn push_runs(out: &mut Vec<u8>, runs: &[Run]) -> Result<(), AllocError>
+    requires { length runs.now ≤ 4194304 }
+    ensures { OnOk result (out.new.items ≡ out.old.items ++ ended (runs_lines runs.now)) }
+{
+    push_count(out, RUNS_KEY, runs.len() as u32)?;
+    for run in runs {
+        push_run(out, *run)?;
+    }
+    push_line(out, CLOSING)
+}
