@@ -1,16 +1,10 @@
 -- The records of a session by their names, and what a receipt names.
-use Rattle.std.specs.Prelude.{ℕ, Bool, true, false, Option, Some, None, length, slice_get}
+use Rattle.std.specs.Prelude.{Bool, true, false, Option, Some, None, slice_get}
 use Rattle.migration_types.specs.declared.records.LogName.{LogName}
 use Rattle.migration_types.specs.declared.records.LogName.TheVariants.{Guest, Source, Link, Pager}
 use Rattle.migration_types.specs.Receipts.{Name, guest_receipt, source_receipt, link_receipt, pager_receipt}
 use Rattle.migration_types.specs.Sessions.{Recorded}
-
--- how many records a log has
-abbrev pub log_length : Recorded → LogName → ℕ
-log_length s Guest = length s.guest
-log_length s Source = length s.source
-log_length s Link = length s.link
-log_length s Pager = length s.pager
+pub use Rattle.migration_types.specs.Sessions.{log_length}
 
 -- f at the record, if there is one
 abbrev pub if_there : {A B : Type 0} → (A → Option B) → Option A → Option B

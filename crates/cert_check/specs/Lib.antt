@@ -1,2 +1,3 @@
 pub mod FirstOfLog
 pub mod Verdicts
+pub mod Texts

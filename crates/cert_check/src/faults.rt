@@ -16,7 +16,7 @@ use page_facts::{
     is_halt_at, is_miss_at, is_placement_at, is_ready_at, is_resume, is_sending_at, is_up_at,
     is_want_at, no_marks,
 };
-use crate::line_stub::line_of;
+use session_log::line_of;
 use std::alloc::{AllocError, Global};
 
 /// The first fault of one log.

@@ -3,12 +3,13 @@
 
 mod entries;
 mod judge;
-mod line_stub;
 mod faults;
 #[cfg(test)]
 mod tests;
+mod texts;
 mod verdict;
 
 pub use judge::check;
 pub use faults::shape;
+pub use texts::check_texts;
 pub use verdict::{ShapeFault, Verdict};

@@ -3,6 +3,7 @@ use Rattle.std.specs.Prelude.{ℕ, ◌+◌, ◌<◌, ◌≤◌, ◌^◌, List, l
 use Rattle.std.specs.List.{AllByRecursion}
 use Rattle.text_lines.specs.Contents.{IsContent}
 use Rattle.migration_types.specs.declared.pages.InitPage.{InitPage}
+use Rattle.migration_types.specs.declared.records.LogName.{LogName}
 use Rattle.migration_types.specs.declared.records.LogName.TheVariants.{Guest, Source, Link, Pager}
 use Rattle.migration_types.specs.declared.records.GuestRec.{GuestRec}
 use Rattle.migration_types.specs.declared.records.GuestRec.TheVariants.{Read, Write, Release, Miss, Halt, Resume, See}
@@ -74,6 +75,13 @@ pub record IsSession (s : Recorded) : Type 0 where
   pub source : AllByRecursion (SourceRecFits s.geometry) s.source
   pub link : AllByRecursion LinkRecFits s.link
   pub pager : AllByRecursion (PagerRecFits s.geometry) s.pager
+
+-- how many records a log has
+abbrev pub log_length : Recorded → LogName → ℕ
+log_length s Guest = length s.guest
+log_length s Source = length s.source
+log_length s Link = length s.link
+log_length s Pager = length s.pager
 
 -- The line at which the text of a session has a record. Five lines and those of the initial pages stand before the
 -- guest's records, and one line before each other log's.

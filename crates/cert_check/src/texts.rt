@@ -1,0 +1,55 @@
+//! The verdict on the texts of a session and a certificate.
+
+ghost use Rattle.std.specs.Prelude.{◌≡◌, ◌≢◌, IfOk, MatchResult};
+ghost use Rattle.audit_model.specs.Mergings.{HasMerging};
+ghost use Rattle.audit_model.specs.World.{IsSafe};
+ghost use Rattle.audit_model.specs.Laws.{FindsResident, ReadsFlat, PlacedOnce, PlacedUntouched, ReleasedAsZeros};
+ghost use Rattle.cert_check.specs.Texts.{IsTextVerdict, SpellsOneSession, OfSpelled};
+
+use crate::judge::check;
+use crate::verdict::Verdict;
+use cert_text::read_cert;
+use migration_types::{FaultKind, TextFault};
+use session_log::{read_session, session_texts_are_unambiguous};
+use std::alloc::{AllocError, Global};
+
+/// The verdict on a text that was refused, or want of memory where that is why.
+fn refused(fault: TextFault, verdict: Verdict) -> Result<Verdict, AllocError>
+    ensures { MatchResult result (λ v. (v ≡ verdict) × (fault.kind ≢ FaultKind.Memory)) (λ _. fault.kind ≡ FaultKind.Memory) }
+{
+    match fault.kind {
+        FaultKind::Memory => Err(AllocError),
+        _ => Ok(verdict),
+    }
+}
+
+/// The verdict on the texts of a session and of its certificate: the first that applies, of all that [`Verdict`] has.
+///
+/// On `Yes` the first text spells exactly one session. There is a merging of its logs, and in every merging each read or
+/// write after handover finds its page resident, each read gives what one machine that never moved gives, each page is
+/// placed at most once, and over no later read, write or release, and a released page is never sent and comes back as
+/// zeros.
+///
+/// Nothing is assumed of who wrote the texts. The only error is want of memory, which may come before a text is judged.
+pub fn check_texts(alloc: Global, session: &[u8], cert: &[u8]) -> Result<Verdict, AllocError>
+    ensures verdict { IfOk result (IsTextVerdict session.now cert.now) }
+    ensures one_session { result ≡ Ok Verdict.Yes → SpellsOneSession session.now }
+    ensures safe { result ≡ Ok Verdict.Yes → OfSpelled session.now IsSafe }
+    ensures has_merging { result ≡ Ok Verdict.Yes → OfSpelled session.now HasMerging }
+    ensures finds_resident { result ≡ Ok Verdict.Yes → OfSpelled session.now FindsResident }
+    ensures reads_flat { result ≡ Ok Verdict.Yes → OfSpelled session.now ReadsFlat }
+    ensures placed_once { result ≡ Ok Verdict.Yes → OfSpelled session.now PlacedOnce }
+    ensures placed_untouched { result ≡ Ok Verdict.Yes → OfSpelled session.now PlacedUntouched }
+    ensures released_as_zeros { result ≡ Ok Verdict.Yes → OfSpelled session.now ReleasedAsZeros }
+{
+    session_texts_are_unambiguous();
+    let recorded = match read_session(alloc, session) {
+        Ok(recorded) => recorded,
+        Err(fault) => return refused(fault, Verdict::SessionText(fault.line)),
+    };
+    let certified = match read_cert(alloc, cert) {
+        Ok(certified) => certified,
+        Err(fault) => return refused(fault, Verdict::CertText(fault.line)),
+    };
+    check(alloc, &recorded, &certified)
+}
