@@ -4,8 +4,11 @@ use Rattle.std.specs.Fmt.{decimal}
 use Rattle.std.specs.Str.{bytes_eq}
 use Rattle.std.specs.Io.KnownBytes.{Appends}
 use Rattle.cert_check.specs.Texts.{IsTextVerdict}
+use Rattle.audit_model.specs.declared.reasons.ShapeReason.{ShapeReason}
+use Rattle.audit_model.specs.declared.reasons.ShapeReason.TheVariants.{Phases, Named, Start, SecondSend}
+use Rattle.cert_check.specs.declared.verdict.ShapeFault.{ShapeFault}
 use Rattle.cert_check.specs.declared.verdict.Verdict.{Verdict}
-use Rattle.cert_check.specs.declared.verdict.Verdict.TheVariants.{SessionText, CertText, Pages, Runs, Page, Yes}
+use Rattle.cert_check.specs.declared.verdict.Verdict.TheVariants.{SessionText, CertText, Shape, Pages, Runs, Page, Yes}
 use Rattle.postcopy.specs.declared.answer.Fault.{Fault}
 use Rattle.postcopy.specs.declared.answer.Fault.TheVariants.{File, Output, Memory}
 use Rattle.postcopy.specs.Cutting.{IsCutAtEnd}
@@ -14,10 +17,22 @@ use Rattle.postcopy.specs.Cutting.{IsCutAtEnd}
 abbrev pub numbered : List ℕ → ℕ → List ℕ
 numbered kind n = kind ++ decimal n ++ 10 ∷ []
 
+-- the word of a reason of shape
+abbrev pub reason_word : ShapeReason → List ℕ
+reason_word Phases = codes "phases"
+reason_word Named = codes "named"
+reason_word Start = codes "start"
+reason_word SecondSend = codes "second-send"
+
+-- the line of a fault of shape
+abbrev pub shape_line : ShapeFault → List ℕ
+shape_line fault = codes "shape line " ++ (decimal fault.line ++ 32 ∷ (reason_word fault.reason ++ 10 ∷ []))
+
 -- the line of a verdict
 abbrev pub line_of : Verdict → List ℕ
 line_of (SessionText n) = numbered (codes "session-text line ") n
 line_of (CertText n) = numbered (codes "certificate-text line ") n
+line_of (Shape fault) = shape_line fault
 line_of Pages = codes "pages\n"
 line_of (Runs n) = numbered (codes "runs line ") n
 line_of (Page n) = numbered (codes "page line ") n
@@ -28,6 +43,7 @@ abbrev pub status_of : Verdict → ℕ
 status_of Yes = 0
 status_of (SessionText n) = 1
 status_of (CertText n) = 1
+status_of (Shape fault) = 1
 status_of Pages = 1
 status_of (Runs n) = 1
 status_of (Page n) = 1

@@ -1,9 +1,10 @@
 //! Verdicts and faults as lines and statuses.
 
-ghost use Rattle.std.specs.Prelude.{◌≡◌, ◌<◌, IfOk};
-ghost use Rattle.postcopy.specs.Answers.{fault_status, line_of, status_of, TellsVerdict};
+ghost use Rattle.std.specs.Prelude.{◌≡◌, ◌++◌, ◌<◌, IfOk, OnOk};
+ghost use Rattle.postcopy.specs.Answers.{fault_status, line_of, reason_word, shape_line, status_of, TellsVerdict};
 
-use cert_check::{Verdict, check_texts};
+use audit_model::ShapeReason;
+use cert_check::{ShapeFault, Verdict, check_texts};
 use std::alloc::{AllocError, Global};
 use std::io::Write;
 use text_lines::{push_keyed, push_line};
@@ -64,6 +65,33 @@ pub fn status(verdict: Verdict) -> u8
     }
 }
 
+/// The word of a reason of shape.
+fn reason_word(reason: ShapeReason) -> &'static [u8]
+    ensures { result.now ≡ reason_word reason }
+{
+    match reason {
+        ShapeReason::Phases => b"phases",
+        ShapeReason::Named => b"named",
+        ShapeReason::Start => b"start",
+        ShapeReason::SecondSend => b"second-send",
+    }
+}
+
+/// Adds the line of a fault of shape.
+pub fn push_shape(
+    alloc: Global,
+    out: &mut Vec<u8>,
+    fault: ShapeFault,
+) -> Result<(), AllocError>
+    ensures { OnOk result (out.new.items ≡ out.old.items ++ shape_line fault) }
+{
+    out.extend_from_slice(b"shape line ")?;
+    let number = u64::from(fault.line).to_string(alloc)?;
+    out.extend_from_slice(number.as_bytes())?;
+    out.push(b' ')?;
+    push_line(out, reason_word(fault.reason))
+}
+
 /// The line of a verdict.
 pub fn line(alloc: Global, verdict: Verdict) -> Result<Vec<u8>, AllocError>
     ensures { IfOk result (λ line. line.items ≡ line_of verdict) }
@@ -82,6 +110,7 @@ pub fn line(alloc: Global, verdict: Verdict) -> Result<Vec<u8>, AllocError>
             b"certificate-text line ",
             u64::from(n),
         )?,
+        Verdict::Shape(fault) => push_shape(alloc, &mut line, fault)?,
         Verdict::Pages => push_line(&mut line, b"pages")?,
         Verdict::Runs(n) => push_keyed(alloc, &mut line, b"runs line ", u64::from(n))?,
         Verdict::Page(n) => push_keyed(alloc, &mut line, b"page line ", u64::from(n))?,
