@@ -23,3 +23,5 @@ pub mod WrittenOut
 pub mod ExampleA
 pub mod ExampleB
 pub mod Certifying
+pub mod FlatPages
+pub mod PageFaultTests

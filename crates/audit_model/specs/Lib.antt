@@ -7,6 +7,7 @@ pub mod Worlds
 pub mod Shape
 pub mod Certificates
 pub mod Faults
+pub mod PageFaultTests
 pub mod FirstFault
 pub mod FoundOrder
 pub mod Delayed
