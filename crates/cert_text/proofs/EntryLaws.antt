@@ -71,6 +71,12 @@ entry_same page x y p q e =
 
 -- ---- entries in a row
 
+pub entries_append : (page : ℕ) (xs ys : List Entry) → entry_lines page (xs ++ ys) ≡ entry_lines page xs ++ entry_lines (page + length xs) ys
+entries_append page [] ys = ap (λ (n : ℕ). entry_lines n ys) (omega arith)
+entries_append page (x ∷ xs) ys =
+    let e : page + 1 + length xs ≡ page + length (x ∷ xs) = omega arith in
+    ap (λ (t : List (List ℕ)). entry_line page x ∷ t) (entries_append (page + 1) xs ys ∙ ap (λ (n : ℕ). entry_lines (page + 1) xs ++ entry_lines n ys) e)
+
 -- one entry more
 pub entries_push : (page : ℕ) (xs : List Entry) (x : Entry) (more : List (List ℕ)) → entry_lines page (xs ++ x ∷ []) ++ more ≡ entry_lines page xs ++ (entry_line (page + length xs) x ∷ more)
 entries_push page [] x more = ap (λ (n : ℕ). entry_line n x ∷ more) (omega arith)

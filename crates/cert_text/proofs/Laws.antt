@@ -3,9 +3,9 @@ use Rattle.std.proofs.Common.{◌≡◌, ℕ, ◌+◌, ◌<◌, ◌≤◌, ◌^�
 use Rattle.std.specs.Prelude.{◌≢◌, Result, Ok, Err, IfErr}
 use Rattle.std.specs.List.{AllByRecursion}
 use Rattle.std.specs.Fmt.{decimal}
-use Rattle.std.proofs.lemmas.List.{append_cancel_left}
+use Rattle.std.proofs.lemmas.List.{append_cancel_left, append-nil}
 use Rattle.std.proofs.lemmas.Fmt.{decimal_injective}
-use Rattle.text_lines.specs.Text.{Begins}
+use Rattle.text_lines.specs.Text.{Begins, TakesLines}
 use Rattle.text_lines.specs.declared.FaultKind.{FaultKind}
 use Rattle.text_lines.specs.declared.FaultKind.TheVariants.{Memory}
 use Rattle.migration_types.specs.declared.cert.Entry.{Entry}
@@ -15,7 +15,8 @@ use Rattle.cert_text.specs.declared.cert_lines.Stage.TheVariants.{Header, Pages,
 use Rattle.cert_text.specs.Runs.{runs_lines, SpellsRunLines}
 use Rattle.cert_text.specs.Grammar.{header, pages_key, entry_line, entry_lines, cert_lines, SpellsCert}
 use Rattle.cert_text.specs.Held.{Draft, entries_onto, held_by, EntriesFit, Live}
-use Rattle.cert_text.proofs.EntryLaws.{next_entry, entries_end, entries_push}
+use Rattle.cert_text.specs.Taken.{TakesEntries}
+use Rattle.cert_text.proofs.EntryLaws.{entries_length, entries_append, next_entry, entries_end, entries_push}
 use Rattle.cert_text.proofs.RunLaws.{all_push}
 
 pub entries_onto_append : (pages : ℕ) (entries : List Entry) (a b : List (List ℕ)) → entries_onto pages entries a ++ b ≡ entries_onto pages entries (a ++ b)
@@ -129,3 +130,29 @@ entry_taken Entries d held line entry is e live less spelled =
     ∙ (ap (λ (t : List ℕ). entries_onto d.pages d.entries [] ++ t ∷ []) (sym spelled)
     ∙ (ap (λ (t : List (List ℕ)). entries_onto d.pages d.entries t ++ line ∷ []) (sym none)
     ∙ ap (λ (t : List (List ℕ)). t ++ line ∷ []) e)))
+
+-- many entries more
+entries_held : (d : Draft) (taken : List Entry) → entries_onto d.pages (d.entries ++ taken) [] ≡ entries_onto d.pages d.entries [] ++ entry_lines (length d.entries) taken
+entries_held d taken =
+    let k : 0 + length d.entries ≡ length d.entries = omega arith in
+    let lines : entry_lines 0 (d.entries ++ taken) ≡ entry_lines 0 d.entries ++ entry_lines (length d.entries) taken = entries_append 0 d.entries taken ∙ ap (λ (i : ℕ). entry_lines 0 d.entries ++ entry_lines i taken) k in
+    ap (λ (t : List (List ℕ)). header ∷ (pages_key ++ decimal d.pages) ∷ t) (append-nil (entry_lines 0 (d.entries ++ taken)) ∙ lines)
+    ∙ sym (entries_onto_append d.pages d.entries [] (entry_lines (length d.entries) taken))
+
+entries_grown : (stage : Stage) (d : Draft) (held : List (List ℕ)) (taken : List Entry) → stage ≡ Entries → held_by stage d ≡ held → Live stage d → length d.entries < d.pages → held_by stage (record d { entries = d.entries ++ taken }) ≡ held ++ entry_lines (length d.entries) taken
+entries_grown Header d held taken is e live less = absurd cc
+entries_grown Pages d held taken is e live less = absurd cc
+entries_grown Entries d held taken is e live less =
+    let none = live.runs less in
+    ap (λ (t : List (List ℕ)). entries_onto d.pages (d.entries ++ taken) t) none
+    ∙ (entries_held d taken
+    ∙ (ap (λ (t : List (List ℕ)). entries_onto d.pages d.entries t ++ entry_lines (length d.entries) taken) (sym none)
+    ∙ ap (λ (t : List (List ℕ)). t ++ entry_lines (length d.entries) taken) e))
+
+pub entries_taken : (stage : Stage) (d : Draft) (held : List (List ℕ)) (new : List Entry) (bytes rest : List ℕ) (n : ℕ) → stage ≡ Entries → held_by stage d ≡ held → Live stage d → length d.entries < d.pages → TakesEntries d.entries new bytes rest n → TakesLines held (held_by stage (record d { entries = new })) bytes rest n
+entries_taken stage d held new bytes rest n is e live less t = record {
+  taken = entry_lines (length d.entries) t.taken;
+  parts = t.parts;
+  grown = ap (λ (entries : List Entry). held_by stage (record d { entries = entries })) t.items ∙ entries_grown stage d held t.taken is e live less;
+  counted = entries_length (length d.entries) t.taken ∙ t.counted;
+}

@@ -1,13 +1,16 @@
--- Runs taken in a row.
-use Rattle.std.proofs.Common.{◌≡◌, ℕ, ◌+◌, List, [], ◌∷◌, ◌++◌, map, sym, ap, subst, ◌∙◌, append_assoc, length-append, arith}
-use Rattle.std.proofs.lemmas.List.{map-append}
+-- Entries and runs taken in a row.
+use Rattle.std.proofs.Common.{◌≡◌, ℕ, ◌+◌, List, [], ◌∷◌, ◌++◌, map, length, sym, ap, subst, ◌∙◌, append_assoc, length-append, arith}
+use Rattle.std.proofs.lemmas.List.{map-append, append-nil}
 use Rattle.text_lines.specs.Text.{ended}
 use Rattle.text_lines.proofs.Cut.{ended-push}
 use Rattle.migration_types.specs.declared.cert.Run.{Run}
-use Rattle.migration_types.specs.Certs.{RunFits, Alternate}
+use Rattle.migration_types.specs.declared.cert.Entry.{Entry}
+use Rattle.migration_types.specs.Certs.{EntryFits, RunFits, Alternate}
 use Rattle.cert_text.specs.Runs.{run_line}
+use Rattle.cert_text.specs.Grammar.{entry_line, entry_lines}
 use Rattle.cert_text.specs.Held.{MayFollow}
-use Rattle.cert_text.specs.Taken.{TakesRuns}
+use Rattle.cert_text.specs.Taken.{TakesEntries, TakesRuns}
+use Rattle.cert_text.proofs.EntryLaws.{entries_push}
 use Rattle.cert_text.proofs.RunLaws.{all_push, alternate_push}
 
 pub took_run : (old mid new : List Run) (bytes rest after : List ℕ) (count : ℕ) (run : Run) → TakesRuns old mid bytes rest count → new ≡ mid ++ run ∷ [] → RunFits run → MayFollow mid run.log → rest ≡ run_line run ++ 10 ∷ after → TakesRuns old new bytes after (count + 1)
@@ -21,3 +24,20 @@ took_run old mid new bytes rest after count run t grown fits follows cut = recor
   fits = all_push RunFits t.taken run t.fits fits;
   alternate = subst Alternate (sym grown) (alternate_push mid run t.alternate follows);
 }
+
+entry_cut : (page n : ℕ) (taken : List Entry) (entry : Entry) (rest after : List ℕ) → n ≡ page + length taken → rest ≡ entry_line n entry ++ 10 ∷ after → ended (entry_lines page taken) ++ rest ≡ ended (entry_lines page (taken ++ entry ∷ [])) ++ after
+entry_cut page n taken entry rest after k cut =
+    let lines : entry_lines page (taken ++ entry ∷ []) ≡ entry_lines page taken ++ entry_line (page + length taken) entry ∷ [] = sym (append-nil (entry_lines page (taken ++ entry ∷ []))) ∙ entries_push page taken entry [] in
+    ap (λ (x : List ℕ). ended (entry_lines page taken) ++ x) (cut ∙ ap (λ (i : ℕ). entry_line i entry ++ 10 ∷ after) k)
+    ∙ (sym (ended-push (entry_lines page taken) (entry_line (page + length taken) entry) after) ∙ ap (λ (x : List (List ℕ)). ended x ++ after) (sym lines))
+
+pub took_entry : (old mid new : List Entry) (bytes rest after : List ℕ) (count n : ℕ) (entry : Entry) → TakesEntries old mid bytes rest count → n ≡ length mid → new ≡ mid ++ entry ∷ [] → EntryFits entry → rest ≡ entry_line n entry ++ 10 ∷ after → TakesEntries old new bytes after (count + 1)
+took_entry old mid new bytes rest after count n entry t k grown fits cut =
+    let page : n ≡ length old + length t.taken = omega (arith, ap (λ (x : List Entry). length x) t.items, length-append old t.taken) in
+    record {
+      taken = t.taken ++ entry ∷ [];
+      items = grown ∙ (ap (λ (x : List Entry). x ++ entry ∷ []) t.items ∙ append_assoc old t.taken (entry ∷ []));
+      parts = t.parts ∙ entry_cut (length old) n t.taken entry rest after page cut;
+      counted = omega (arith, length-append t.taken (entry ∷ []), t.counted);
+      fits = all_push EntryFits t.taken entry t.fits fits;
+    }

@@ -4,6 +4,7 @@ ghost use Rattle.std.specs.Prelude.{◌≡◌, [], ◌∷◌, ◌++◌};
 ghost use Rattle.cert_text.specs.Grammar.{SpellsCert};
 
 use crate::entries::read_entry;
+use crate::entry_front::take_entries;
 use crate::run_lines::RunLines;
 use migration_types::{Cert, Entry, MOST_PAGES, Seq};
 use std::alloc::Global;
@@ -98,6 +99,18 @@ impl LineReader for CertLines {
                 };
                 Ok(())
             }
+        }
+    }
+
+    fn lines<'a>(&mut self, bytes: &'a [u8]) -> (&'a [u8], u32) {
+        match self.stage {
+            Stage::Entries => {
+                if self.entries.len() == self.pages as usize {
+                    return self.runs.lines(bytes);
+                }
+                take_entries(&mut self.entries, self.pages, bytes)
+            }
+            _ => (bytes, 0),
         }
     }
 

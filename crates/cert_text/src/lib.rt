@@ -16,6 +16,7 @@ use text_lines::{TextFault, push_line, read};
 mod cert_lines;
 mod decimal;
 mod entries;
+mod entry_front;
 mod run_front;
 mod run_lines;
 mod runs;

@@ -60,6 +60,14 @@ impl LineReader for RunsText {
         Ok(())
     }
 
+    fn lines<'a>(&mut self, bytes: &'a [u8]) -> (&'a [u8], u32) {
+        if self.headed {
+            self.runs.lines(bytes)
+        } else {
+            (bytes, 0)
+        }
+    }
+
     fn goes_on(&self) {
         self.runs.goes_on();
         self.runs.few();

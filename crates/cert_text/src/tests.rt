@@ -1,16 +1,92 @@
-//! Tests against the rules of the text.
+//! Tests against the rules of the texts.
 
-use crate::read_cert;
-use migration_types::{Entry, LogName, Run};
+use crate::{read_cert, read_runs, write_cert, write_runs};
+use migration_types::{Entry, First, LogName, Run};
+use std::alloc::Global;
 use std::test::Fail;
 
-const TEXT: &str =
-    "postcopy-certificate 1\npages 2\npage 0 none\npage 1 none\nruns 4\nrun guest 3\nrun source 1\nrun link 1048576\nrun guest 1\nend\n";
+const SENT: &str =
+    "postcopy-certificate 1\npages 2\npage 0 source 3 5 5 4\npage 1 source 4 7 7 6\nruns 11\nrun guest 2\nrun source 2\nrun link 1\nrun pager 2\nrun guest 2\nrun pager 2\nrun link 1\nrun source 3\nrun link 2\nrun pager 4\nrun guest 5\nend\n";
+
+const RELEASED: &str =
+    "postcopy-certificate 1\npages 2\npage 0 none\npage 1 balloon 3 5 4\nruns 0\nend\n";
+
+const UNUSED: &str =
+    "postcopy-certificate 1\npages 3\npage 0 source 0 1048575 - -\npage 1 balloon 1048575 - -\npage 2 source 1048575 0 1048575 0\nruns 1\nrun link 1048576\nend\n";
+
+const RUNS: &str =
+    "postcopy-runs 1\nruns 4\nrun guest 3\nrun source 1\nrun link 1048576\nrun pager 1\nend\n";
+
+/// The line at which a certificate's text is refused, and 0 where it is read.
+fn cert_line(alloc: Global, text: &[u8]) -> u32 {
+    match read_cert(alloc, text) {
+        Ok(_) => 0,
+        Err(fault) => fault.line,
+    }
+}
+
+/// The line at which a text of runs is refused, and 0 where it is read.
+fn runs_line(alloc: Global, text: &[u8]) -> u32 {
+    match read_runs(alloc, text) {
+        Ok(_) => 0,
+        Err(fault) => fault.line,
+    }
+}
 
 #[test]
-fn reads_a_certificate(rt: HostRuntime) -> Result<(), Fail> {
-    let cert = read_cert(rt.alloc(), TEXT.as_bytes())?;
-    assert_eq!(rt; cert.entries(), [Entry::Nothing, Entry::Nothing].as_slice());
+fn entries_are_read(rt: HostRuntime) -> Result<(), Fail> {
+    let sent = read_cert(rt.alloc(), SENT.as_bytes())?;
+    let entries = [
+        Entry::Source {
+            send: 3,
+            place: 5,
+            first: Some(First { access: 5, see: 4 }),
+        },
+        Entry::Source {
+            send: 4,
+            place: 7,
+            first: Some(First { access: 7, see: 6 }),
+        },
+    ];
+    assert_eq!(rt; sent.entries(), entries.as_slice());
+    assert_eq!(rt; sent.runs().len(), 11);
+    let released = read_cert(rt.alloc(), RELEASED.as_bytes())?;
+    let entries = [
+        Entry::Nothing,
+        Entry::Balloon {
+            place: 3,
+            first: Some(First { access: 5, see: 4 }),
+        },
+    ];
+    assert_eq!(rt; released.entries(), entries.as_slice());
+    assert_eq!(rt; released.runs().len(), 0);
+    let unused = read_cert(rt.alloc(), UNUSED.as_bytes())?;
+    let entries = [
+        Entry::Source {
+            send: 0,
+            place: 1_048_575,
+            first: None,
+        },
+        Entry::Balloon {
+            place: 1_048_575,
+            first: None,
+        },
+        Entry::Source {
+            send: 1_048_575,
+            place: 0,
+            first: Some(First {
+                access: 1_048_575,
+                see: 0,
+            }),
+        },
+    ];
+    assert_eq!(rt; unused.entries(), entries.as_slice());
+    Ok(())
+}
+
+#[test]
+fn runs_are_read(rt: HostRuntime) -> Result<(), Fail> {
+    let read = read_runs(rt.alloc(), RUNS.as_bytes())?;
     let runs = [
         Run {
             log: LogName::Guest,
@@ -25,68 +101,130 @@ fn reads_a_certificate(rt: HostRuntime) -> Result<(), Fail> {
             count: 1_048_576,
         },
         Run {
-            log: LogName::Guest,
+            log: LogName::Pager,
             count: 1,
         },
     ];
-    assert_eq!(rt; cert.runs(), runs.as_slice());
+    assert_eq!(rt; read.as_slice(), runs.as_slice());
     Ok(())
 }
 
 #[test]
-fn refuses_changed_texts_at_their_line(rt: HostRuntime) -> Result<(), Fail> {
-    for (old, new, line) in [
-        (TEXT, "", 1),
-        ("postcopy-certificate 1", "postcopy-certificate 2", 1),
-        ("postcopy-certificate", "postcopy-runs", 1),
-        ("pages 2", "pages 02", 2),
-        ("pages 2", "pages 0", 2),
-        ("pages 2", "pages 65536", 5),
-        ("pages 2", "pages 65537", 2),
-        ("pages 2\n", "pages 2\r\n", 2),
-        ("page 0 none", "page 00 none", 3),
-        ("page 0 none", "page 1 none", 3),
-        ("page 0 none", "page 0 source 3 5 5 4", 3),
-        ("page 0 none", "page  0 none", 3),
-        ("page 0 none", "page 0 none ", 3),
-        ("page 1 none\n", "", 4),
-        ("page 1 none\n", "page 1 none\npage 2 none\n", 5),
-        ("runs 4", "runs 04", 5),
-        ("runs 4", "runs 3", 9),
-        ("runs 4", "runs 5", 10),
-        ("runs 4", "runs 4194304", 10),
-        ("runs 4", "runs 4194305", 5),
-        ("run guest 3", "guest 3", 6),
-        ("guest 3", "guest 03", 6),
-        ("guest 3", "guest 0", 6),
-        ("guest 3", "guest 1048577", 6),
-        ("guest 3", "target 3", 6),
-        ("guest 3", "guest  3", 6),
-        ("guest 3", "guest 3 ", 6),
-        ("source 1", "guest 1", 7),
-        ("end\n", "end\r\n", 10),
-        ("end\n", "end", 10),
-        ("end\n", "end\nx", 11),
-        ("end\n", "end\n\n", 11),
-    ] {
-        let text = TEXT.replacen(rt.alloc(), old, new, 1)?;
-        match read_cert(rt.alloc(), text.as_bytes()) {
-            Ok(_) => assert!(rt; false, "{new}"),
-            Err(fault) => assert_eq!(rt; fault.line, line, "{new}"),
-        }
+fn what_was_read_is_written_back(rt: HostRuntime) -> Result<(), Fail> {
+    for text in [SENT, RELEASED, UNUSED] {
+        let cert = read_cert(rt.alloc(), text.as_bytes())?;
+        let written = write_cert(rt.alloc(), &cert)?;
+        assert_eq!(rt; written.as_slice(), text.as_bytes());
+    }
+    for text in [RUNS, "postcopy-runs 1\nruns 0\nend\n"] {
+        let runs = read_runs(rt.alloc(), text.as_bytes())?;
+        let written = write_runs(rt.alloc(), runs.as_slice())?;
+        assert_eq!(rt; written.as_slice(), text.as_bytes());
     }
     Ok(())
 }
 
 #[test]
-fn refuses_each_part_of_a_text_at_its_last_line(rt: HostRuntime) -> Result<(), Fail> {
-    let bytes = TEXT.as_bytes();
+fn changed_certificates_are_refused_at_their_line(rt: HostRuntime) -> Result<(), Fail> {
+    for (old, new, line) in [
+        (SENT, "", 1),
+        (SENT, RUNS, 1),
+        ("postcopy-certificate 1", "postcopy-certificate 2", 1),
+        ("pages 2", "pages 02", 2),
+        ("pages 2", "pages 0", 2),
+        ("pages 2", "pages 1", 4),
+        ("pages 2", "pages 65536", 5),
+        ("pages 2", "pages 65537", 2),
+        ("pages 2\n", "pages 2\r\n", 2),
+        ("page 0 source", "page 00 source", 3),
+        ("page 0 source", "page 1 source", 3),
+        ("page 0 source", "page  0 source", 3),
+        ("page 0 source", "page 0 balloon", 3),
+        ("page 0 source", "page 0 none", 3),
+        ("page 0 source", "page 0 sent", 3),
+        ("3 5 5 4\n", "3 5 5 4 \n", 3),
+        ("3 5 5 4\n", "3 5 5 4 4\n", 3),
+        ("3 5 5 4\n", "3 5 5\n", 3),
+        ("3 5 5 4\n", "3 5 - -\n", 0),
+        ("3 5 5 4\n", "3 5 - 4\n", 3),
+        ("3 5 5 4\n", "3 5 5 -\n", 3),
+        ("3 5 5 4\n", "3 5 -\n", 3),
+        ("3 5 5 4\n", "3 - 5 4\n", 3),
+        ("3 5 5 4\n", "03 5 5 4\n", 3),
+        ("3 5 5 4\n", "3 5 5 04\n", 3),
+        ("3 5 5 4\n", "3 5 5 1048575\n", 0),
+        ("3 5 5 4\n", "3 5 5 1048576\n", 3),
+        ("3 5 5 4\n", "3 5 1048576 4\n", 3),
+        ("3 5 5 4\n", "3 1048576 5 4\n", 3),
+        ("3 5 5 4\n", "1048576 5 5 4\n", 3),
+        ("3 5 5 4\n", "18446744073709551619 5 5 4\n", 3),
+        ("page 1 source 4 7 7 6\n", "", 4),
+        ("runs 11", "runs 011", 5),
+        ("runs 11", "runs 10", 16),
+        ("runs 11", "runs 12", 17),
+        ("runs 11", "runs 4194304", 17),
+        ("runs 11", "runs 4194305", 5),
+        ("run guest 2", "guest 2", 6),
+        ("guest 2", "guest 02", 6),
+        ("guest 2", "guest 0", 6),
+        ("guest 2", "guest 1048576", 0),
+        ("guest 2", "guest 1048577", 6),
+        ("guest 2", "target 2", 6),
+        ("guest 2", "guest  2", 6),
+        ("guest 2", "guest 2 ", 6),
+        ("source 2", "guest 2", 7),
+        ("end\n", "end\r\n", 17),
+        ("end\n", "end", 17),
+        ("end\n", "end\nx", 18),
+        ("end\n", "end\n\n", 18),
+    ] {
+        let text = SENT.replacen(rt.alloc(), old, new, 1)?;
+        assert_eq!(rt; cert_line(rt.alloc(), text.as_bytes()), line, "{new}");
+    }
+    Ok(())
+}
+
+#[test]
+fn changed_texts_of_runs_are_refused_at_their_line(rt: HostRuntime) -> Result<(), Fail> {
+    for (old, new, line) in [
+        (RUNS, "", 1),
+        (RUNS, SENT, 1),
+        ("postcopy-runs 1", "postcopy-runs 2", 1),
+        ("postcopy-runs 1\n", "", 1),
+        ("runs 4", "runs 04", 2),
+        ("runs 4", "runs 3", 6),
+        ("runs 4", "runs 5", 7),
+        ("runs 4", "runs 4194305", 2),
+        ("guest 3", "guest 03", 3),
+        ("guest 3", "guest 0", 3),
+        ("guest 3", "guest 1048577", 3),
+        ("source 1", "guest 1", 4),
+        ("pager 1", "link 1", 6),
+        ("end\n", "end", 7),
+        ("end\n", "end\nx", 8),
+    ] {
+        let text = RUNS.replacen(rt.alloc(), old, new, 1)?;
+        assert_eq!(rt; runs_line(rt.alloc(), text.as_bytes()), line, "{new}");
+    }
+    Ok(())
+}
+
+#[test]
+fn each_cut_is_refused_at_its_last_line(rt: HostRuntime) -> Result<(), Fail> {
+    for text in [SENT, RELEASED, UNUSED] {
+        let bytes = text.as_bytes();
+        let mut line: u32 = 1;
+        for length in 0..bytes.len() {
+            assert_eq!(rt; cert_line(rt.alloc(), &bytes[..length]), line, "{length}");
+            if bytes[length] == b'\n' {
+                line = line.saturating_add(1);
+            }
+        }
+    }
+    let bytes = RUNS.as_bytes();
     let mut line: u32 = 1;
     for length in 0..bytes.len() {
-        match read_cert(rt.alloc(), &bytes[..length]) {
-            Ok(_) => assert!(rt; false, "{length}"),
-            Err(fault) => assert_eq!(rt; fault.line, line, "{length}"),
-        }
+        assert_eq!(rt; runs_line(rt.alloc(), &bytes[..length]), line, "{length}");
         if bytes[length] == b'\n' {
             line = line.saturating_add(1);
         }

@@ -1,0 +1,9 @@
+use Rattle.std.proofs.Common.{◌≡◌, ◌+◌, length}
+use Rattle.cert_text.specs.Taken.{TakesEntries}
+use Rattle.cert_text.proofs.entry_front.take_entries.Given as goal
+
+abbrev pub invariant-loop-at : goal.invariant-loop-at
+invariant-loop-at l = record {
+  taken : TakesEntries l.fn.entries.items l.entries.items l.bytes l.rest l.at;
+  count : length l.entries.items ≡ length l.fn.entries.items + l.at;
+}
