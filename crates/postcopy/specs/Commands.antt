@@ -1,7 +1,10 @@
 -- The words of the command line.
-use Rattle.std.specs.Prelude.{◌≡◌, ◌≢◌, [], ◌∷◌, ◌++◌, ◌⊎◌, List, Option, Some, None, true, codes, map, option_and_then}
+use Rattle.std.specs.Prelude.{◌≡◌, ◌≢◌, [], ◌∷◌, ◌++◌, ◌⊎◌, List, Option, Some, None, true, codes, map, option_and_then, if◌then◌else◌}
+use Rattle.std.specs.Str.{bytes_eq}
 use Rattle.std.specs.Borrow.{Bor}
 use Rattle.clap.specs.Simple.{on_top}
+use Rattle.postcopy.specs.declared.command.Job.{Job}
+use Rattle.postcopy.specs.declared.command.Job.TheVariants.{Check, Replay}
 use Rattle.clap.specs.Words.{App, Row, Rule, Text, first_of, new_app, new_rule, subcommand_of, with_rule, with_subcommand}
 
 -- a word that has to be there
@@ -12,21 +15,21 @@ needed id = record (new_rule id) { required = true }
 abbrev pub check_words : App
 check_words = with_rule (with_rule (new_app (codes "check")) (needed (codes "SESSION"))) (needed (codes "CERT"))
 
+-- `replay SESSION RUNS`
+abbrev pub replay_words : App
+replay_words = with_rule (with_rule (new_app (codes "replay")) (needed (codes "SESSION"))) (needed (codes "RUNS"))
+
 -- `postcopy`, which wants a subcommand
 abbrev pub program_words : App
 program_words = on_top (λ s. record s { subcommand_required = true }) (new_app (codes "postcopy"))
 
--- `postcopy check SESSION CERT`
+-- `postcopy check SESSION CERT` and `postcopy replay SESSION RUNS`
 abbrev pub postcopy_words : App
-postcopy_words = with_subcommand program_words check_words.top
+postcopy_words = with_subcommand (with_subcommand program_words check_words.top) replay_words.top
 
 -- the words behind references
 abbrev pub word_texts : List (Bor Text) → List Text
 word_texts words = map (λ w. w.now) words
-
--- the two texts behind references
-abbrev pub pair_texts : Bor Text × Bor Text → Text × Text
-pair_texts names = (names.0.now, names.1.now)
 
 -- two names, where both are there
 abbrev pub both_names : Option Text → Option Text → Option (Text × Text)
@@ -34,13 +37,23 @@ both_names None cert = None
 both_names (Some session) None = None
 both_names (Some session) (Some cert) = Some (session, cert)
 
--- the two names among what a subcommand was given
+-- the two names among what a check was given
+abbrev pub names_among : List Row → Option (Text × Text)
+names_among rows = both_names (first_of (codes "SESSION") rows) (first_of (codes "CERT") rows)
+
+-- the two names among what a subcommand was given, where it is a check
 abbrev pub names_of : Text × List Row → Option (Text × Text)
-names_of given = both_names (first_of (codes "SESSION") given.1) (first_of (codes "CERT") given.1)
+names_of given = if bytes_eq given.0 (codes "check") then names_among given.1 else None
 
 -- the two names that the words give, where they are those of a check
 abbrev pub names_given : List Text → Option (Text × Text)
 names_given words = option_and_then names_of (subcommand_of postcopy_words words)
+
+-- the names of a check that was asked for
+abbrev pub checked_by : Option Job → Option (Text × Text)
+checked_by None = None
+checked_by (Some (Check session cert)) = Some (session.now, cert.now)
+checked_by (Some (Replay session runs)) = None
 
 -- a name that is no option: it is `-`, or does not begin with `-`
 abbrev pub IsPlainName : Text → Type 0

@@ -1,14 +1,28 @@
 //! The words of the command line.
 
-ghost use Rattle.std.specs.Prelude.{◌≡◌, IfOk, IfErr, IfSome, option_map, true, false};
-ghost use Rattle.std.specs.Prelude.{option_and_then};
-ghost use Rattle.postcopy.specs.Commands.{check_words, postcopy_words, names_given, names_of, pair_texts, word_texts};
-ghost use Rattle.clap.specs.Words.{app_of, kind_of, takes, subcommand_rows_of};
+ghost use Rattle.std.specs.Prelude.{◌≡◌, IfOk, IfErr, None, option_and_then, true, false};
+ghost use Rattle.postcopy.specs.Commands.{check_words, replay_words, postcopy_words, checked_by, names_among, names_given, names_of, word_texts};
+ghost use Rattle.clap.specs.Words.{app_of, found_of, kind_of, rows_of, takes, subcommand_rows_of};
 ghost use Rattle.clap.specs.declared.builder.command.Command.TheViews.{out-Command as fields_of};
 
 use clap::error::ErrorKind;
 use clap::{Arg, ArgMatches, Command};
 use std::alloc::{AllocError, Global};
+
+/// What the words ask for, with the names of its texts.
+#[derive(Clone, Copy, Debug)]
+pub enum Job<'a> {
+    /// The verdict on a session and its certificate.
+    Check {
+        session: &'a str,
+        cert: &'a str,
+    },
+    /// Replaying a merging of a session along its runs.
+    Replay {
+        session: &'a str,
+        runs: &'a str,
+    },
+}
 
 // `check SESSION CERT`.
 fn check_command<'a>(alloc: Global) -> Result<Command<'a>, AllocError>
@@ -27,38 +41,72 @@ fn check_command<'a>(alloc: Global) -> Result<Command<'a>, AllocError>
         .arg(cert)
 }
 
+// `replay SESSION RUNS`.
+fn replay_command<'a>(alloc: Global) -> Result<Command<'a>, AllocError>
+    ensures app { IfOk result (λ c. app_of c ≡ replay_words) }
+    ensures local { IfOk result (λ c. (fields_of c).has_globals ≡ false) }
+{
+    let session = Arg::new(alloc, "SESSION")
+        .required(true)
+        .help("The session's file; - is standard input");
+    let runs = Arg::new(alloc, "RUNS")
+        .required(true)
+        .help("The file of a merging's runs; - is standard input");
+    Command::new(alloc, "replay")
+        .about("Replays a merging of a session along its runs")
+        .arg(session)?
+        .arg(runs)
+}
+
 // The command line of the program.
 fn command<'a>(alloc: Global) -> Result<Command<'a>, AllocError>
     ensures { IfOk result (λ c. app_of c ≡ postcopy_words) }
 {
     let check = check_command(alloc)?;
+    let replay = replay_command(alloc)?;
     Command::new(alloc, "postcopy")
-        .about("Checks the certificate of a migration session; with no command it does check - -")
+        .about("Audits recorded migration sessions; with no command it does check - -")
         .subcommand_required(true)
-        .subcommand(check)
+        .subcommand(check)?
+        .subcommand(replay)
 }
 
-// The two names in the matches of a subcommand, if there is one.
-fn names_in<'a>(matches: &ArgMatches<'a>) -> Option<(&'a str, &'a str)>
-    ensures { option_map pair_texts result ≡ option_and_then names_of (subcommand_rows_of matches.now) }
+// What the matches of a replay ask for.
+fn replay_in<'a>(matches: &ArgMatches<'a>) -> Option<Job<'a>>
+    ensures { checked_by result ≡ None }
 {
-    match matches.subcommand() {
-        Some((_, inner)) => inner.get_str("SESSION").zip(inner.get_str("CERT")),
-        None => None,
+    let (session, runs) = matches.get_str("SESSION").zip(matches.get_str("RUNS"))?;
+    Some(Job::Replay { session, runs })
+}
+
+// What the matches of a check ask for.
+fn check_in<'a>(matches: &ArgMatches<'a>) -> Option<Job<'a>>
+    ensures { checked_by result ≡ names_among (rows_of (found_of matches.now)) }
+{
+    let (session, cert) = matches.get_str("SESSION").zip(matches.get_str("CERT"))?;
+    Some(Job::Check { session, cert })
+}
+
+// What the matches of a subcommand ask for, if there is one.
+fn job_in<'a>(matches: &ArgMatches<'a>) -> Option<Job<'a>>
+    ensures { checked_by result ≡ option_and_then names_of (subcommand_rows_of matches.now) }
+{
+    let (name, inner) = matches.subcommand()?;
+    if name == "check" {
+        check_in(inner)
+    } else {
+        replay_in(inner)
     }
 }
 
-/// The two names that the words give, where they are those of a check.
-pub fn names<'a>(
-    alloc: Global,
-    words: &'a [&'a str],
-) -> Result<Option<(&'a str, &'a str)>, clap::Error>
-    ensures ok { IfOk result (λ r. option_map pair_texts r ≡ names_given (word_texts words.entry.now)) }
+/// What the words ask for.
+pub fn job<'a>(alloc: Global, words: &'a [&'a str]) -> Result<Option<Job<'a>>, clap::Error>
+    ensures ok { IfOk result (λ r. checked_by r ≡ names_given (word_texts words.entry.now)) }
     ensures err { IfErr result (λ e. takes postcopy_words (word_texts words.entry.now) ≡ true → kind_of e ≡ ErrorKind.OutOfMemory) }
 {
     let command = command(alloc)?;
     match command.try_get_matches_from(words) {
-        Ok(matches) => Ok(names_in(&matches)),
+        Ok(matches) => Ok(job_in(&matches)),
         Err(error) => Err(error),
     }
 }

@@ -9,8 +9,10 @@
 mod answer;
 mod command;
 mod cutting;
+mod naming;
 mod program;
 mod reading;
+mod replaying;
 #[cfg(test)]
 mod tests;
 

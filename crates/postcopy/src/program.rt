@@ -1,61 +1,18 @@
 //! The program, from its words to its status.
 
-ghost use Rattle.std.specs.Prelude.{◌≡◌, ◌≢◌, ◌<◌, ◌≤◌, ℕ, List, IfOk, IfSome, MatchResult, length, true, false};
+ghost use Rattle.std.specs.Prelude.{◌≡◌, ◌≢◌, ◌<◌, ◌≤◌, ℕ, List, IfOk, IfSome, MatchResult, length, Some, true};
 ghost use Rattle.clap.specs.Words.{kind_of, takes};
-ghost use Rattle.postcopy.specs.Commands.{IsPlainCheck, postcopy_words, names_given, word_texts};
-ghost use Rattle.postcopy.specs.Answers.{Answers, AreNamed, AreOfInput, bytes_under, fault_status, is_dash};
+ghost use Rattle.postcopy.specs.Commands.{IsPlainCheck, postcopy_words, checked_by, names_given, word_texts};
+ghost use Rattle.postcopy.specs.Answers.{Answers, AreNamed, AreOfInput, fault_status};
 
 use crate::answer::{Fault, MEMORY, USAGE, judge, tell};
-use crate::command::names;
-use crate::cutting::cut_at_end;
-use crate::reading::{ReadFault, TextSource, fault_of, read_whole};
+use crate::command::{Job, job};
+use crate::naming::read_pair;
+use crate::reading::TextSource;
+use crate::replaying::replay_texts;
 use clap::error::ErrorKind;
 use std::alloc::Global;
 use std::io::{Read, Write};
-
-// The fault at the text under a name.
-fn fault_at(name: &str, fault: ReadFault) -> Fault<'_> {
-    match fault {
-        ReadFault::File => Fault::File(name),
-        ReadFault::Memory => Fault::Memory,
-    }
-}
-
-// Reads the text under a name; `-` is the input.
-fn read_named<'a, S: TextSource, I: Read>(
-    alloc: Global,
-    name: &'a str,
-    texts: &S,
-    input: &mut I,
-) -> Result<Vec<u8>, Fault<'a>>
-    ensures whole { IfOk result (λ v. IfSome (bytes_under name.entry.now (S.bytes_of texts.now) (I.remaining input.old)) (λ xs. v.items ≡ xs)) }
-    ensures apart { is_dash name.entry.now ≡ false → input.new ≡ input.old }
-{
-    if name == "-" {
-        return read_whole(alloc, input).map_err(|fault| fault_at(name, fault));
-    }
-    match texts.text(name) {
-        Ok(mut text) => read_whole(alloc, &mut text).map_err(|fault| fault_at(name, fault)),
-        Err(error) => Err(fault_at(name, fault_of(&error))),
-    }
-}
-
-// Judges the two texts of the input.
-fn check_input<I: Read, O: Write>(
-    alloc: Global,
-    input: &mut I,
-    output: &mut O,
-) -> Result<u8, Fault<'static>>
-    ensures few { IfOk result (λ status. status < 2) }
-    ensures told { IfOk result (λ status. Answers (AreOfInput (I.remaining input.old)) (O.contents output.old) (O.contents output.new) status) }
-{
-    let bytes = match read_whole(alloc, input) {
-        Ok(bytes) => bytes,
-        Err(fault) => return Err(fault_at("-", fault)),
-    };
-    let (session, cert) = cut_at_end(bytes.as_slice());
-    judge(alloc, session, cert, output)
-}
 
 // Judges the texts under two names, read in this order.
 fn check<'a, S: TextSource, I: Read, O: Write>(
@@ -69,12 +26,55 @@ fn check<'a, S: TextSource, I: Read, O: Write>(
     ensures few { IfOk result (λ status. status < 2) }
     ensures told { IfOk result (λ status. Answers (AreNamed session.entry.now cert.entry.now (S.bytes_of texts.now) (I.remaining input.old)) (O.contents output.old) (O.contents output.new) status) }
 {
-    if session == "-" && cert == "-" {
-        return check_input(alloc, input, output);
+    let pair = read_pair(alloc, session, cert, texts, input)?;
+    let (session, cert) = pair.texts();
+    judge(alloc, session, cert, output)
+}
+
+// Judges the two texts of the input.
+fn check_input<S: TextSource, I: Read, O: Write>(
+    alloc: Global,
+    texts: &S,
+    input: &mut I,
+    output: &mut O,
+) -> Result<u8, Fault<'static>>
+    ensures few { IfOk result (λ status. status < 2) }
+    ensures told { IfOk result (λ status. Answers (AreOfInput (I.remaining input.old)) (O.contents output.old) (O.contents output.new) status) }
+{
+    check(alloc, "-", "-", texts, input, output)
+}
+
+// Replays a session along runs, the texts under two names, read in this order.
+fn replay<'a, S: TextSource, I: Read, O: Write>(
+    alloc: Global,
+    session: &'a str,
+    runs: &'a str,
+    texts: &S,
+    input: &mut I,
+    output: &mut O,
+) -> Result<u8, Fault<'a>>
+    ensures few { IfOk result (λ status. status < 2) }
+{
+    let pair = read_pair(alloc, session, runs, texts, input)?;
+    let (session, runs) = pair.texts();
+    replay_texts(alloc, session, runs, output)
+}
+
+// Does what the words ask for.
+fn perform<'a, S: TextSource, I: Read, O: Write>(
+    alloc: Global,
+    job: Job<'a>,
+    texts: &S,
+    input: &mut I,
+    output: &mut O,
+) -> Result<u8, Fault<'a>>
+    ensures few { IfOk result (λ status. status < 2) }
+    ensures checked { IfOk result (λ status. IfSome (checked_by (Some job)) (λ names. Answers (AreNamed names.0 names.1 (S.bytes_of texts.now) (I.remaining input.old)) (O.contents output.old) (O.contents output.new) status)) }
+{
+    match job {
+        Job::Check { session, cert } => check(alloc, session, cert, texts, input, output),
+        Job::Replay { session, runs } => replay(alloc, session, runs, texts, input, output),
     }
-    let session = read_named(alloc, session, texts, input)?;
-    let cert = read_named(alloc, cert, texts, input)?;
-    judge(alloc, session.as_slice(), cert.as_slice(), output)
 }
 
 // The status of a judgement, whose fault is told.
@@ -128,13 +128,11 @@ pub fn run<S: TextSource, I: Read, O: Write, E: Write>(
     ensures plain { (session cert : List ℕ) → IsPlainCheck (word_texts words.entry.now) session cert → (result ≢ 2) × (result < 2 → Answers (AreNamed session cert (S.bytes_of texts.now) (I.remaining input.old)) (O.contents output.old) (O.contents output.new) result) }
 {
     if words.len() <= 1 {
-        return settle(check_input(alloc, input, output), errors);
+        return settle(check_input(alloc, texts, input, output), errors);
     }
-    match names(alloc, words) {
-        Ok(names) => {
-            let (session, cert) = names.unwrap_or(("-", "-"));
-            settle(check(alloc, session, cert, texts, input, output), errors)
-        }
+    match job(alloc, words) {
+        Ok(Some(job)) => settle(perform(alloc, job, texts, input, output), errors),
+        Ok(None) => settle(check_input(alloc, texts, input, output), errors),
         Err(error) => refuse(error, output, errors),
     }
 }

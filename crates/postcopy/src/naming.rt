@@ -1,0 +1,95 @@
+//! The texts under names.
+
+ghost use Rattle.std.specs.Prelude.{◌≡◌, false, take, drop, IfOk, IfSome};
+ghost use Rattle.postcopy.specs.Answers.{AreNamed, bytes_under, is_dash};
+ghost use Rattle.postcopy.specs.Pairs.{first_of, second_of, IsPair};
+
+use crate::answer::Fault;
+use crate::cutting::cut_at_end;
+use crate::reading::{ReadFault, TextSource, fault_of, read_whole};
+use std::alloc::Global;
+use std::io::Read;
+
+/// Two texts: each by itself, or the parts of one input.
+#[derive(Drop)]
+pub struct Pair {
+    /// The first text, and the second behind it where both are of one input.
+    pub bytes: Vec<u8>,
+    /// Where the first text ends.
+    pub cut: usize,
+    /// The second text, where it is not of the same input.
+    pub other: Option<Vec<u8>>,
+}
+
+impl Pair {
+    /// The two texts.
+    pub fn texts(&self) -> (&[u8], &[u8])
+        requires { IsPair self.now }
+        ensures first { result.0.now ≡ first_of self.now }
+        ensures second { result.1.now ≡ second_of self.now }
+    {
+        let (first, rest) = self.bytes.split_at(self.cut);
+        match &self.other {
+            Some(second) => (first, second.as_slice()),
+            None => (first, rest),
+        }
+    }
+}
+
+// The fault at the text under a name.
+fn fault_at(name: &str, fault: ReadFault) -> Fault<'_> {
+    match fault {
+        ReadFault::File => Fault::File(name),
+        ReadFault::Memory => Fault::Memory,
+    }
+}
+
+/// Reads the text under a name; `-` is the input.
+pub fn read_named<'a, S: TextSource, I: Read>(
+    alloc: Global,
+    name: &'a str,
+    texts: &S,
+    input: &mut I,
+) -> Result<Vec<u8>, Fault<'a>>
+    ensures whole { IfOk result (λ v. IfSome (bytes_under name.entry.now (S.bytes_of texts.now) (I.remaining input.old)) (λ xs. v.items ≡ xs)) }
+    ensures apart { is_dash name.entry.now ≡ false → input.new ≡ input.old }
+{
+    if name == "-" {
+        return read_whole(alloc, input).map_err(|fault| fault_at(name, fault));
+    }
+    match texts.text(name) {
+        Ok(mut text) => read_whole(alloc, &mut text).map_err(|fault| fault_at(name, fault)),
+        Err(error) => Err(fault_at(name, fault_of(&error))),
+    }
+}
+
+/// Reads the texts under two names, in this order. Where both are `-` the input holds both: the first ends with its
+/// first line `end`.
+pub fn read_pair<'a, S: TextSource, I: Read>(
+    alloc: Global,
+    first: &'a str,
+    second: &'a str,
+    texts: &S,
+    input: &mut I,
+) -> Result<Pair, Fault<'a>>
+    ensures pair { IfOk result IsPair }
+    ensures named { IfOk result (λ pair. AreNamed first.entry.now second.entry.now (S.bytes_of texts.now) (I.remaining input.old) (first_of pair) (second_of pair)) }
+{
+    if first == "-" && second == "-" {
+        let bytes = read_named(alloc, first, texts, input)?;
+        let cut = cut_at_end(bytes.as_slice()).0.len();
+        return Ok(Pair {
+            bytes,
+            cut,
+            other: None,
+        });
+    }
+    let bytes = read_named(alloc, first, texts, input)?;
+    let other = read_named(alloc, second, texts, input)?;
+    let cut = bytes.len();
+    Ok(Pair {
+        bytes,
+        cut,
+        other: Some(other),
+    })
+}
