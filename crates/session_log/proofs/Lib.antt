@@ -3,5 +3,7 @@ pub mod Taken
 pub mod Sections
 pub mod Laws
 pub mod Goes
+pub mod Written
+pub mod RecordLines
 pub mod Tells
 pub mod Values

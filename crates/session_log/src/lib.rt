@@ -1,4 +1,4 @@
-//! The text of a recorded session, and its reader.
+//! The text of a recorded session, its reader and its writer.
 #![tactic(auto)]
 
 ghost use Rattle.text_lines.specs.Text.{IsUnambiguous};
@@ -12,9 +12,14 @@ mod link;
 mod pager;
 mod pages;
 mod parts;
+mod places;
 mod source;
 #[cfg(test)]
 mod tests;
+mod writing;
+
+pub use places::line_of;
+pub use writing::write_session;
 
 use crate::lines::SessionLines;
 use migration_types::Session;

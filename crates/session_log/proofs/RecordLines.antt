@@ -1,0 +1,53 @@
+-- Where a text has the line of a record.
+use Rattle.std.proofs.Common.{◌≡◌, ℕ, zero, suc, ◌+◌, ◌-◌, ◌<◌, ◌≤◌, List, [], ◌∷◌, ◌++◌, length, map, refl, sym, ap, ◌∙◌, arith}
+use Rattle.std.specs.Prelude.{slice_get}
+use Rattle.std.specs.Fmt.{decimal}
+use Rattle.std.proofs.lemmas.List.{length-map}
+use Rattle.migration_types.specs.Sessions.{Recorded, IsSession, line_of}
+use Rattle.migration_types.specs.Receipts.{Name}
+use Rattle.migration_types.specs.declared.records.LogName.{LogName}
+use Rattle.migration_types.specs.declared.records.LogName.TheVariants.{Guest, Source, Link, Pager}
+use Rattle.session_log.specs.Records.{guest_line, source_line, link_line, pager_line}
+use Rattle.session_log.specs.Grammar.{header, pages_key, cells_key, init_key, guest_key, source_key, link_key, pager_key, page_line, closing, counted, session_lines, record_line, log_length}
+use Rattle.session_log.proofs.Laws.{guest_lines, source_lines, link_lines, pager_lines}
+
+past : (xs ys : List (List ℕ)) (k : ℕ) → slice_get (xs ++ ys) (length xs + k) ≡ slice_get ys k
+past [] ys k = ap (slice_get ys) (omega arith)
+past (x ∷ xs) ys k = let next : length (x ∷ xs) + k ≡ suc (length xs + k) = omega arith in ap (slice_get (x ∷ (xs ++ ys))) next ∙ past xs ys k
+
+within : (xs ys : List (List ℕ)) (k : ℕ) → k < length xs → slice_get (xs ++ ys) k ≡ slice_get xs k
+within [] ys k lt = absurd (omega arith)
+within (x ∷ xs) ys zero lt = refl
+within (x ∷ xs) ys (suc k) lt = within xs ys k (omega arith)
+
+-- the lines of a list, and those behind it
+in_list : {X : Type 0} (key : List ℕ) (spell : X → List ℕ) (xs : List X) (more : List (List ℕ)) (i k : ℕ) → i ≡ suc k → k < length xs → slice_get (counted key spell xs more) i ≡ slice_get (map spell xs) k
+in_list key spell xs more i k e lt = ap (slice_get (counted key spell xs more)) e ∙ within (map spell xs) more k (omega (arith, length-map xs spell))
+
+behind_list : {X : Type 0} (key : List ℕ) (spell : X → List ℕ) (xs : List X) (more : List (List ℕ)) (i k : ℕ) → i ≡ suc (length xs + k) → slice_get (counted key spell xs more) i ≡ slice_get more k
+behind_list key spell xs more i k e =
+    let same : i ≡ suc (length (map spell xs) + k) = omega (arith, length-map xs spell) in
+    ap (slice_get (counted key spell xs more)) same ∙ past (map spell xs) more k
+
+behind_init : (s : Recorded) (i k : ℕ) → i ≡ 4 + length s.init + k → slice_get (session_lines s) i ≡ slice_get (guest_lines s) k
+behind_init s i k e =
+    let three : i ≡ suc (suc (suc (1 + length s.init + k))) = omega arith in
+    ap (slice_get (session_lines s)) three ∙ behind_list init_key page_line s.init (guest_lines s) (1 + length s.init + k) k (omega arith)
+
+behind_guest : (s : Recorded) (i k : ℕ) → i ≡ 5 + length s.init + length s.guest + k → slice_get (session_lines s) i ≡ slice_get (source_lines s) k
+behind_guest s i k e = behind_init s i (1 + length s.guest + k) (omega arith) ∙ behind_list guest_key guest_line s.guest (source_lines s) (1 + length s.guest + k) k (omega arith)
+
+behind_source : (s : Recorded) (i k : ℕ) → i ≡ 6 + length s.init + length s.guest + length s.source + k → slice_get (session_lines s) i ≡ slice_get (link_lines s) k
+behind_source s i k e = behind_guest s i (1 + length s.source + k) (omega arith) ∙ behind_list source_key source_line s.source (link_lines s) (1 + length s.source + k) k (omega arith)
+
+behind_link : (s : Recorded) (i k : ℕ) → i ≡ 7 + length s.init + length s.guest + length s.source + length s.link + k → slice_get (session_lines s) i ≡ slice_get (pager_lines s) k
+behind_link s i k e = behind_source s i (1 + length s.link + k) (omega arith) ∙ behind_list link_key link_line s.link (pager_lines s) (1 + length s.link + k) k (omega arith)
+
+line_at : (s : Recorded) (log : LogName) (n : ℕ) → n < log_length s log → slice_get (session_lines s) (line_of s (log, n) - 1) ≡ record_line s (log, n)
+line_at s Guest n lt = behind_init s (line_of s (Guest, n) - 1) (1 + n) (omega arith) ∙ in_list guest_key guest_line s.guest (source_lines s) (1 + n) n (omega arith) lt
+line_at s Source n lt = behind_guest s (line_of s (Source, n) - 1) (1 + n) (omega arith) ∙ in_list source_key source_line s.source (link_lines s) (1 + n) n (omega arith) lt
+line_at s Link n lt = behind_source s (line_of s (Link, n) - 1) (1 + n) (omega arith) ∙ in_list link_key link_line s.link (pager_lines s) (1 + n) n (omega arith) lt
+line_at s Pager n lt = behind_link s (line_of s (Pager, n) - 1) (1 + n) (omega arith) ∙ in_list pager_key pager_line s.pager (closing ∷ []) (1 + n) n (omega arith) lt
+
+pub line_is : (s : Recorded) (log : LogName) (n line : ℕ) → n < log_length s log → line ≡ line_of s (log, n) → slice_get (session_lines s) (line - 1) ≡ record_line s (log, n)
+line_is s log n line lt is = ap (λ (k : ℕ). slice_get (session_lines s) (k - 1)) is ∙ line_at s log n lt
