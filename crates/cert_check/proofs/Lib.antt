@@ -2,3 +2,4 @@ pub mod Reading
 pub mod FirstOfLog
 pub mod FirstOfAll
 pub mod RightEntries
+pub mod Spelled

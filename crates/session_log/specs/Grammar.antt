@@ -15,7 +15,6 @@ use Rattle.std.specs.Prelude.{◌≡◌, ℕ, List, [], ◌∷◌, ◌++◌, len
 use Rattle.std.specs.Fmt.{decimal}
 use Rattle.text_lines.specs.Contents.{contents_text}
 use Rattle.migration_types.specs.declared.pages.InitPage.{InitPage}
-use Rattle.migration_types.specs.declared.records.LogName.{LogName}
 use Rattle.migration_types.specs.declared.records.LogName.TheVariants.{Guest, Source, Link, Pager}
 use Rattle.migration_types.specs.Receipts.{Name}
 use Rattle.migration_types.specs.Sessions.{Recorded, IsSession}
@@ -72,13 +71,6 @@ session_lines s =
 -- these are the lines of this session's text
 abbrev pub SpellsSession : Recorded → List (List ℕ) → Type 0
 SpellsSession s lines = IsSession s × (lines ≡ session_lines s)
-
--- how many records a log has
-abbrev pub log_length : Recorded → LogName → ℕ
-log_length s Guest = length s.guest
-log_length s Source = length s.source
-log_length s Link = length s.link
-log_length s Pager = length s.pager
 
 -- the line of a record that is named by its log and its place there, if there is one
 abbrev pub record_line : Recorded → Name → Option (List ℕ)

@@ -1,8 +1,8 @@
 //! Where records stand in a session's text.
 
 ghost use Rattle.std.specs.Prelude.{◌≡◌, ◌<◌, ◌-◌, slice_get};
-ghost use Rattle.migration_types.specs.Sessions.{line_of};
-ghost use Rattle.session_log.specs.Grammar.{session_lines, record_line, log_length};
+ghost use Rattle.migration_types.specs.Sessions.{line_of, log_length};
+ghost use Rattle.session_log.specs.Grammar.{session_lines, record_line};
 
 use migration_types::{LogName, Session};
 
