@@ -100,7 +100,7 @@ fn job_in<'a>(matches: &ArgMatches<'a>) -> Option<Job<'a>>
 }
 
 /// What the words ask for.
-pub fn job<'a>(alloc: Global, words: &'a [&'a str]) -> Result<Option<Job<'a>>, clap::Error>
+pub fn read_words<'a>(alloc: Global, words: &'a [&'a str]) -> Result<Option<Job<'a>>, clap::Error>
     ensures ok { IfOk result (λ r. checked_by r ≡ names_given (word_texts words.entry.now)) }
     ensures err { IfErr result (λ e. takes postcopy_words (word_texts words.entry.now) ≡ true → kind_of e ≡ ErrorKind.OutOfMemory) }
 {

@@ -6,7 +6,7 @@ ghost use Rattle.postcopy.specs.Commands.{IsPlainCheck, postcopy_words, checked_
 ghost use Rattle.postcopy.specs.Answers.{Answers, AreNamed, AreOfInput, fault_status};
 
 use crate::answer::{Fault, MEMORY, USAGE, judge, tell};
-use crate::command::{Job, job};
+use crate::command::{Job, read_words};
 use crate::naming::read_pair;
 use crate::reading::TextSource;
 use crate::replaying::replay_texts;
@@ -130,7 +130,7 @@ pub fn run<S: TextSource, I: Read, O: Write, E: Write>(
     if words.len() <= 1 {
         return settle(check_input(alloc, texts, input, output), errors);
     }
-    match job(alloc, words) {
+    match read_words(alloc, words) {
         Ok(Some(job)) => settle(perform(alloc, job, texts, input, output), errors),
         Ok(None) => settle(check_input(alloc, texts, input, output), errors),
         Err(error) => refuse(error, output, errors),
