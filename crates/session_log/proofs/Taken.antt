@@ -3,20 +3,16 @@ use Rattle.std.proofs.Common.{◌≡◌, ℕ, ◌+◌, List, [], ◌∷◌, ◌+
 use Rattle.std.proofs.lemmas.List.{map-append}
 use Rattle.text_lines.specs.Text.{ended}
 use Rattle.text_lines.proofs.Cut.{ended-push}
-use Rattle.migration_types.specs.declared.records.GuestRec.{GuestRec}
-use Rattle.migration_types.specs.Extents.{Extent}
-use Rattle.migration_types.specs.Sessions.{GuestRecFits}
-use Rattle.session_log.specs.Records.{record_line}
 use Rattle.session_log.specs.Taken.{TakesRecords}
 use Rattle.session_log.proofs.Lists.{all_append}
 
-pub took_one : (e : Extent) (old mid new : List GuestRec) (bytes rest after : List ℕ) (count : ℕ) (r : GuestRec) → TakesRecords e old mid bytes rest count → new ≡ mid ++ r ∷ [] → GuestRecFits e r → rest ≡ record_line r ++ 10 ∷ after → TakesRecords e old new bytes after (count + 1)
-took_one e old mid new bytes rest after count r t grown fits cut = record {
+pub took_one : {X : Type 0} (spell : X → List ℕ) (Fits : X → Type 0) (old mid new : List X) (bytes rest after : List ℕ) (count : ℕ) (r : X) → TakesRecords spell Fits old mid bytes rest count → new ≡ mid ++ r ∷ [] → Fits r → rest ≡ spell r ++ 10 ∷ after → TakesRecords spell Fits old new bytes after (count + 1)
+took_one {X} spell Fits old mid new bytes rest after count r t grown fits cut = record {
   taken = t.taken ++ r ∷ [];
-  items = grown ∙ (ap (λ (x : List GuestRec). x ++ r ∷ []) t.items ∙ append_assoc old t.taken (r ∷ []));
+  items = grown ∙ (ap (λ (x : List X). x ++ r ∷ []) t.items ∙ append_assoc old t.taken (r ∷ []));
   parts =
-      t.parts ∙ (ap (λ (x : List ℕ). ended (map record_line t.taken) ++ x) cut ∙ (sym (ended-push (map record_line t.taken) (record_line r) after)
-      ∙ ap (λ (x : List (List ℕ)). ended x ++ after) (sym (map-append record_line t.taken (r ∷ [])))));
+      t.parts ∙ (ap (λ (x : List ℕ). ended (map spell t.taken) ++ x) cut ∙ (sym (ended-push (map spell t.taken) (spell r) after)
+      ∙ ap (λ (x : List (List ℕ)). ended x ++ after) (sym (map-append spell t.taken (r ∷ [])))));
   counted = omega (arith, length-append t.taken (r ∷ []), t.counted);
-  fits = all_append (GuestRecFits e) t.taken (r ∷ []) t.fits (fits, tt);
+  fits = all_append Fits t.taken (r ∷ []) t.fits (fits, tt);
 }
