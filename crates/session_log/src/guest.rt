@@ -5,10 +5,13 @@ ghost use Rattle.migration_types.specs.Extents.{IsExtent};
 ghost use Rattle.migration_types.specs.Sessions.{GuestRecFits};
 ghost use Rattle.migration_types.specs.declared.records.GuestRec.{GuestRec as Rec};
 ghost use Rattle.session_log.specs.Records.{access_text, vcpu_page_text, guest_line};
+ghost use Rattle.session_log.specs.Taken.{TakesRecords};
 
-use crate::fields::read_numbered;
+use crate::fields::{front_last, front_numbered, read_numbered};
 use migration_types::{GuestRec, LAST_VCPU, PageNo};
-use text_lines::{after_key, is_line, number_then, read_decimal, read_keyed};
+use text_lines::{
+    after_key, front_number, is_line, number_then, read_decimal, read_keyed, short_then,
+};
 
 const READ_KEY: &[u8] = b"r ";
 
@@ -19,6 +22,8 @@ const RELEASE_KEY: &[u8] = b"z ";
 const MISS_KEY: &[u8] = b"miss ";
 
 const HALT: &[u8] = b"halt";
+
+const HALT_ENDED: &[u8] = b"halt\n";
 
 const RESUME_KEY: &[u8] = b"resume ";
 
@@ -120,4 +125,159 @@ pub(crate) fn read_guest(line: &[u8], pages: u32, cells: u32) -> Option<GuestRec
         return Some(GuestRec::See { placement });
     }
     None
+}
+
+/// The processor, page, cell and value of a read or a write at the front of a text of whole lines, and what follows
+/// the line. It may answer `None` at any text.
+#[inline(always)]
+fn front_access(text: &[u8], pages: u32, cells: u32) -> Option<(u8, u16, u16, u64, &[u8])>
+    requires extent { IsExtent (record { pages = pages; cells = cells }) }
+    ensures { IfSome result (λ a. (a.0 < 64) × (a.1 < pages) × (a.2 < cells) × (a.3 < 2 ^ 64) × (text.now ≡ access_text a.0 a.1 a.2 a.3 ++ 10 ∷ a.4.now)) }
+{
+    if text.len() < 24 {
+        return None;
+    }
+    let Some((vcpu, rest)) = short_then(text, LAST_VCPU) else {
+        return None;
+    };
+    let Some((page, rest)) = short_then(rest, pages - 1) else {
+        return None;
+    };
+    let Some((cell, rest)) = short_then(rest, cells - 1) else {
+        return None;
+    };
+    let Some((value, rest)) = front_number(rest) else {
+        return None;
+    };
+    let Some((end, rest)) = rest.split_first() else {
+        return None;
+    };
+    if *end != b'\n' {
+        return None;
+    }
+    Some((vcpu as u8, page as u16, cell as u16, value, rest))
+}
+
+/// The processor and the page of a release or a miss at the front of a text of whole lines, and what follows the line.
+/// It may answer `None` at any text.
+#[inline(always)]
+fn front_vcpu_page(text: &[u8], pages: u32) -> Option<(u8, u16, &[u8])>
+    requires some { 0 < pages }
+    requires few { pages ≤ 65536 }
+    ensures { IfSome result (λ a. (a.0 < 64) × (a.1 < pages) × (text.now ≡ vcpu_page_text a.0 a.1 ++ 10 ∷ a.2.now)) }
+{
+    if text.len() < 8 {
+        return None;
+    }
+    let Some((vcpu, rest)) = short_then(text, LAST_VCPU) else {
+        return None;
+    };
+    let Some((page, rest)) = front_last(rest, pages - 1) else {
+        return None;
+    };
+    Some((vcpu as u8, page as u16, rest))
+}
+
+/// A record that is no access and no release at the front of a text of whole lines, and what follows its line. It may
+/// answer `None` at any text.
+fn front_event(text: &[u8], pages: u32, cells: u32) -> Option<(GuestRec, &[u8])>
+    requires extent { IsExtent (record { pages = pages; cells = cells }) }
+    ensures { IfSome result (λ found. GuestRecFits (record { pages = pages; cells = cells }) found.0 × (text.now ≡ guest_line found.0 ++ 10 ∷ found.1.now)) }
+{
+    let _cells = cells;
+    if let Some((placement, rest)) = front_numbered(text, SEE_KEY) {
+        return Some((GuestRec::See { placement }, rest));
+    }
+    if let Some(text) = after_key(text, MISS_KEY) {
+        let Some((vcpu, page, rest)) = front_vcpu_page(text, pages) else {
+            return None;
+        };
+        let page = PageNo::new(page);
+        return Some((GuestRec::Miss { vcpu, page }, rest));
+    }
+    if let Some((ready, rest)) = front_numbered(text, RESUME_KEY) {
+        return Some((GuestRec::Resume { ready }, rest));
+    }
+    let Some(rest) = after_key(text, HALT_ENDED) else {
+        return None;
+    };
+    Some((GuestRec::Halt, rest))
+}
+
+/// The record at the front of a text of whole lines, and what follows its line. It may answer `None` at any text.
+#[inline(always)]
+fn front_guest(text: &[u8], pages: u32, cells: u32) -> Option<(GuestRec, &[u8])>
+    requires extent { IsExtent (record { pages = pages; cells = cells }) }
+    ensures { IfSome result (λ found. GuestRecFits (record { pages = pages; cells = cells }) found.0 × (text.now ≡ guest_line found.0 ++ 10 ∷ found.1.now)) }
+{
+    let Some((kind, after)) = text.split_first() else {
+        return None;
+    };
+    let Some((space, rest)) = after.split_first() else {
+        return None;
+    };
+    if *space != b' ' {
+        return front_event(text, pages, cells);
+    }
+    if *kind == b'z' {
+        let Some((vcpu, page, rest)) = front_vcpu_page(rest, pages) else {
+            return None;
+        };
+        let page = PageNo::new(page);
+        return Some((GuestRec::Release { vcpu, page }, rest));
+    }
+    let is_read = *kind == b'r';
+    if !is_read && *kind != b'w' {
+        return None;
+    }
+    let Some((vcpu, page, cell, value, rest)) = front_access(rest, pages, cells) else {
+        return None;
+    };
+    let page = PageNo::new(page);
+    if is_read {
+        return Some((
+            GuestRec::Read {
+                vcpu,
+                page,
+                cell,
+                value,
+            },
+            rest,
+        ));
+    }
+    Some((
+        GuestRec::Write {
+            vcpu,
+            page,
+            cell,
+            value,
+        },
+        rest,
+    ))
+}
+
+/// Takes records at the front of the bytes, up to `most` of them, and stops where it likes. Answers what follows, and
+/// how many they were.
+pub(crate) fn take_guest<'a>(
+    guest: &mut Vec<GuestRec>,
+    most: u32,
+    pages: u32,
+    cells: u32,
+    bytes: &'a [u8],
+) -> (&'a [u8], u32)
+    requires extent { IsExtent (record { pages = pages; cells = cells }) }
+    ensures taken { TakesRecords guest_line (GuestRecFits (record { pages = pages; cells = cells })) guest.old.items guest.new.items bytes.now result.0.now result.1 }
+    ensures most { result.1 ≤ most }
+{
+    let mut rest = bytes;
+    for at in 0..most {
+        let Some((record, after)) = front_guest(rest, pages, cells) else {
+            return (rest, at);
+        };
+        if guest.push(record).is_err() {
+            return (rest, at);
+        }
+        rest = after;
+    }
+    (rest, most)
 }

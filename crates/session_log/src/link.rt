@@ -1,9 +1,10 @@
 //! Lines of the link's records.
 
-ghost use Rattle.std.specs.Prelude.{◌≡◌, ◌≢◌, ◌∷◌, ◌++◌, MatchOption, IfSome};
+ghost use Rattle.std.specs.Prelude.{◌≡◌, ◌≢◌, ◌∷◌, ◌++◌, ◌≤◌, MatchOption, IfSome};
 ghost use Rattle.migration_types.specs.Sessions.{LinkRecFits};
 ghost use Rattle.migration_types.specs.declared.records.LinkRec.{LinkRec as Rec};
 ghost use Rattle.session_log.specs.Records.{link_line};
+ghost use Rattle.session_log.specs.Taken.{TakesRecords};
 
 use crate::fields::{front_numbered, read_numbered};
 use migration_types::LinkRec;
@@ -39,4 +40,27 @@ fn front_link(text: &[u8]) -> Option<(LinkRec, &[u8])>
         return Some((LinkRec::Up { asking }, rest));
     }
     None
+}
+
+/// Takes records at the front of the bytes, up to `most` of them, and stops where it likes. Answers what follows, and
+/// how many they were.
+pub(crate) fn take_link<'a>(
+    link: &mut Vec<LinkRec>,
+    most: u32,
+    bytes: &'a [u8],
+) -> (&'a [u8], u32)
+    ensures taken { TakesRecords link_line LinkRecFits link.old.items link.new.items bytes.now result.0.now result.1 }
+    ensures most { result.1 ≤ most }
+{
+    let mut rest = bytes;
+    for at in 0..most {
+        let Some((record, after)) = front_link(rest) else {
+            return (rest, at);
+        };
+        if link.push(record).is_err() {
+            return (rest, at);
+        }
+        rest = after;
+    }
+    (rest, most)
 }
