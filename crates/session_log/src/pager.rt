@@ -1,17 +1,21 @@
 //! Lines of the pager's records.
 
-ghost use Rattle.std.specs.Prelude.{◌≡◌, ◌≢◌, ◌<◌, ◌≤◌, ◌∷◌, ◌++◌, List, ℕ, MatchOption, IfOk, IfErr, IfSome};
+ghost use Rattle.std.specs.Prelude.{◌≡◌, ◌≢◌, ◌<◌, ◌≤◌, ◌∷◌, ◌++◌, List, ℕ, IfOk, IfErr, IfSome};
 ghost use Rattle.std.specs.Fmt.{decimal};
 ghost use Rattle.text_lines.specs.Contents.{IsContent};
 ghost use Rattle.migration_types.specs.Extents.{IsExtent};
 ghost use Rattle.migration_types.specs.Sessions.{PagerRecFits};
 ghost use Rattle.migration_types.specs.declared.records.PagerRec.{PagerRec as Rec};
 ghost use Rattle.session_log.specs.Records.{placed_text, pager_line};
+ghost use Rattle.session_log.specs.Taken.{TakesRecords};
 
-use crate::fields::{read_numbered, read_page_contents};
+use crate::fields::{
+    front_contents, front_ended, front_last, front_numbered, read_numbered, read_page,
+    read_page_contents,
+};
 use migration_types::{Contents, LAST_RECORD, PageNo, PagerRec};
 use std::alloc::Global;
-use text_lines::{FaultKind, after_key, is_line, number_then, read_keyed};
+use text_lines::{FaultKind, after_key, is_line, number_then, short_then};
 
 const GOT_KEY: &[u8] = b"got ";
 
@@ -31,27 +35,13 @@ const SKIP_KEY: &[u8] = b"skip ";
 
 const ALL: &[u8] = b"all";
 
-/// The page, where a line is a key and the number of a page.
-fn read_page_number(line: &[u8], key: &[u8], pages: u32) -> Option<PageNo>
-    requires some { 0 < pages }
-    requires few { pages ≤ 65536 }
-    ensures { MatchOption result
-        ((p : ℕ) → p < pages → line.now ≢ key.now ++ decimal p)
-        (λ p. (p < pages) × (line.now ≡ key.now ++ decimal p)) }
-{
-    match read_keyed(line, key, pages - 1) {
-        Ok(page) => Some(PageNo::new(page as u16)),
-        Err(_) => None,
-    }
-}
-
 /// The page, the number and the contents of a placement, and nothing behind them.
 fn read_placed(
     alloc: Global,
     text: &[u8],
     pages: u32,
     cells: u32,
-) -> Result<(u16, u32, Contents), FaultKind>
+) -> Result<(PageNo, u32, Contents), FaultKind>
     requires some { 0 < pages }
     requires few { pages ≤ 65536 }
     ensures found { IfOk result (λ a. (a.0 < pages) × (a.1 < 1048576) × IsContent cells a.2 × (text.now ≡ placed_text a.0 a.1 a.2)) }
@@ -63,10 +53,8 @@ fn read_placed(
     let Some((got, text)) = number_then(text, u64::from(LAST_RECORD)) else {
         return Err(FaultKind::Form);
     };
-    match read_page_contents(alloc, text, cells) {
-        Ok(contents) => Ok((page as u16, got as u32, contents)),
-        Err(kind) => Err(kind),
-    }
+    let contents = read_page_contents(alloc, text, cells)?;
+    Ok((PageNo::new(page as u16), got as u32, contents))
 }
 
 /// The record that a line spells, on a machine of so many pages and cells.
@@ -81,14 +69,8 @@ pub(crate) fn read_pager(
     ensures refused { IfErr result (λ kind. kind ≢ FaultKind.Memory → (r : Rec) → PagerRecFits (record { pages = pages; cells = cells }) r → line.now ≢ pager_line r) }
 {
     if let Some(text) = after_key(line, PLACE_KEY) {
-        return match read_placed(alloc, text, pages, cells) {
-            Ok((page, got, contents)) => Ok(PagerRec::Place {
-                page: PageNo::new(page),
-                got,
-                contents,
-            }),
-            Err(kind) => Err(kind),
-        };
+        let (page, got, contents) = read_placed(alloc, text, pages, cells)?;
+        return Ok(PagerRec::Place { page, got, contents });
     }
     if let Some(down) = read_numbered(line, GOT_KEY) {
         return Ok(PagerRec::Got { down });
@@ -102,10 +84,10 @@ pub(crate) fn read_pager(
     if let Some(got) = read_numbered(line, SKIP_KEY) {
         return Ok(PagerRec::Skip { got });
     }
-    if let Some(page) = read_page_number(line, WANT_KEY, pages) {
+    if let Some(page) = read_page(line, WANT_KEY, pages) {
         return Ok(PagerRec::Want { page });
     }
-    if let Some(page) = read_page_number(line, ZERO_KEY, pages) {
+    if let Some(page) = read_page(line, ZERO_KEY, pages) {
         return Ok(PagerRec::Zero { page });
     }
     if is_line(line, READY) {
@@ -115,4 +97,105 @@ pub(crate) fn read_pager(
         return Ok(PagerRec::All);
     }
     Err(FaultKind::Form)
+}
+
+/// The page, the number and the contents of a placement, at the front of a text of whole lines, and what follows the
+/// line. It may answer `None` at any text.
+#[inline(always)]
+fn front_placed(
+    alloc: Global,
+    text: &[u8],
+    pages: u32,
+    cells: u32,
+) -> Option<(PageNo, u32, Contents, &[u8])>
+    requires some { 0 < pages }
+    requires few { pages ≤ 65536 }
+    ensures { IfSome result (λ a. (a.0 < pages) × (a.1 < 1048576) × IsContent cells a.2 × (text.now ≡ placed_text a.0 a.1 a.2 ++ 10 ∷ a.3.now)) }
+{
+    if text.len() < 16 {
+        return None;
+    }
+    let (page, rest) = short_then(text, pages - 1)?;
+    let (got, rest) = short_then(rest, LAST_RECORD)?;
+    let (contents, rest) = front_contents(alloc, rest, cells)?;
+    Some((PageNo::new(page as u16), got, contents, rest))
+}
+
+/// A page of so many behind a key at the front of a text of whole lines, and what follows the line. It may answer
+/// `None` at any text.
+#[inline(always)]
+fn front_page<'a>(text: &'a [u8], key: &[u8], pages: u32) -> Option<(PageNo, &'a [u8])>
+    requires some { 0 < pages }
+    requires few { pages ≤ 65536 }
+    ensures { IfSome result (λ found. (found.0 < pages) × (text.now ≡ key.now ++ (decimal found.0 ++ 10 ∷ found.1.now))) }
+{
+    let (page, rest) = front_last(after_key(text, key)?, pages - 1)?;
+    Some((PageNo::new(page as u16), rest))
+}
+
+/// The record at the front of a text of whole lines, and what follows its line. It may answer `None` at any text.
+#[inline(always)]
+fn front_pager(
+    alloc: Global,
+    text: &[u8],
+    pages: u32,
+    cells: u32,
+) -> Option<(PagerRec, &[u8])>
+    requires extent { IsExtent (record { pages = pages; cells = cells }) }
+    ensures { IfSome result (λ found. PagerRecFits (record { pages = pages; cells = cells }) found.0 × (text.now ≡ pager_line found.0 ++ 10 ∷ found.1.now)) }
+{
+    if let Some((down, rest)) = front_numbered(text, GOT_KEY) {
+        return Some((PagerRec::Got { down }, rest));
+    }
+    if let Some(rest) = after_key(text, PLACE_KEY) {
+        let (page, got, contents, rest) = front_placed(alloc, rest, pages, cells)?;
+        return Some((PagerRec::Place { page, got, contents }, rest));
+    }
+    if let Some((page, rest)) = front_page(text, WANT_KEY, pages) {
+        return Some((PagerRec::Want { page }, rest));
+    }
+    if let Some((miss, rest)) = front_numbered(text, FAULT_KEY) {
+        return Some((PagerRec::Fault { miss }, rest));
+    }
+    if let Some((want, rest)) = front_numbered(text, JOIN_KEY) {
+        return Some((PagerRec::Join { want }, rest));
+    }
+    if let Some((got, rest)) = front_numbered(text, SKIP_KEY) {
+        return Some((PagerRec::Skip { got }, rest));
+    }
+    if let Some((page, rest)) = front_page(text, ZERO_KEY, pages) {
+        return Some((PagerRec::Zero { page }, rest));
+    }
+    if let Some(rest) = after_key(text, READY) {
+        return Some((PagerRec::Ready, front_ended(rest)?));
+    }
+    let rest = front_ended(after_key(text, ALL)?)?;
+    Some((PagerRec::All, rest))
+}
+
+/// Takes records at the front of the bytes, up to `most` of them, and stops where it likes. Answers what follows, and
+/// how many they were.
+pub(crate) fn take_pager<'a>(
+    alloc: Global,
+    pager: &mut Vec<PagerRec>,
+    most: u32,
+    pages: u32,
+    cells: u32,
+    bytes: &'a [u8],
+) -> (&'a [u8], u32)
+    requires extent { IsExtent (record { pages = pages; cells = cells }) }
+    ensures taken { TakesRecords pager_line (PagerRecFits (record { pages = pages; cells = cells })) pager.old.items pager.new.items bytes.now result.0.now result.1 }
+    ensures most { result.1 ≤ most }
+{
+    let mut rest = bytes;
+    for at in 0..most {
+        let Some((record, after)) = front_pager(alloc, rest, pages, cells) else {
+            return (rest, at);
+        };
+        if pager.push(record).is_err() {
+            return (rest, at);
+        }
+        rest = after;
+    }
+    (rest, most)
 }

@@ -6,11 +6,14 @@ ghost use Rattle.migration_types.specs.Extents.{IsExtent};
 ghost use Rattle.migration_types.specs.Sessions.{SourceRecFits};
 ghost use Rattle.migration_types.specs.declared.records.SourceRec.{SourceRec as Rec};
 ghost use Rattle.session_log.specs.Records.{page_text, source_line};
+ghost use Rattle.session_log.specs.Taken.{TakesRecords};
 
-use crate::fields::{read_numbered, read_page_contents};
+use crate::fields::{
+    front_contents, front_ended, front_numbered, read_numbered, read_page_contents,
+};
 use migration_types::{Contents, PageNo, SourceRec};
 use std::alloc::Global;
-use text_lines::{FaultKind, after_key, is_line, number_then};
+use text_lines::{FaultKind, after_key, is_line, number_then, short_then};
 
 const HALTED_KEY: &[u8] = b"halted ";
 
@@ -30,7 +33,7 @@ fn read_sent(
     text: &[u8],
     pages: u32,
     cells: u32,
-) -> Result<(u16, Contents), FaultKind>
+) -> Result<(PageNo, Contents), FaultKind>
     requires some { 0 < pages }
     requires few { pages ≤ 65536 }
     ensures found { IfOk result (λ a. (a.0 < pages) × IsContent cells a.1 × (text.now ≡ page_text a.0 a.1)) }
@@ -39,10 +42,8 @@ fn read_sent(
     let Some((page, text)) = number_then(text, u64::from(pages) - 1) else {
         return Err(FaultKind::Form);
     };
-    match read_page_contents(alloc, text, cells) {
-        Ok(contents) => Ok((page as u16, contents)),
-        Err(kind) => Err(kind),
-    }
+    let contents = read_page_contents(alloc, text, cells)?;
+    Ok((PageNo::new(page as u16), contents))
 }
 
 /// The record that a line spells, on a machine of so many pages and cells.
@@ -57,13 +58,8 @@ pub(crate) fn read_source(
     ensures refused { IfErr result (λ kind. kind ≢ FaultKind.Memory → (r : Rec) → SourceRecFits (record { pages = pages; cells = cells }) r → line.now ≢ source_line r) }
 {
     if let Some(text) = after_key(line, SEND_KEY) {
-        return match read_sent(alloc, text, pages, cells) {
-            Ok((page, contents)) => Ok(SourceRec::Send {
-                page: PageNo::new(page),
-                contents,
-            }),
-            Err(kind) => Err(kind),
-        };
+        let (page, contents) = read_sent(alloc, text, pages, cells)?;
+        return Ok(SourceRec::Send { page, contents });
     }
     if let Some(sending) = read_numbered(line, AGAIN_KEY) {
         return Ok(SourceRec::Again { sending });
@@ -81,4 +77,83 @@ pub(crate) fn read_source(
         return Ok(SourceRec::Done);
     }
     Err(FaultKind::Form)
+}
+
+/// The page and the contents that were sent, at the front of a text of whole lines, and what follows the line. It may
+/// answer `None` at any text.
+#[inline(always)]
+fn front_sent(
+    alloc: Global,
+    text: &[u8],
+    pages: u32,
+    cells: u32,
+) -> Option<(PageNo, Contents, &[u8])>
+    requires some { 0 < pages }
+    requires few { pages ≤ 65536 }
+    ensures { IfSome result (λ a. (a.0 < pages) × IsContent cells a.1 × (text.now ≡ page_text a.0 a.1 ++ 10 ∷ a.2.now)) }
+{
+    if text.len() < 8 {
+        return None;
+    }
+    let (page, rest) = short_then(text, pages - 1)?;
+    let (contents, rest) = front_contents(alloc, rest, cells)?;
+    Some((PageNo::new(page as u16), contents, rest))
+}
+
+/// The record at the front of a text of whole lines, and what follows its line. It may answer `None` at any text.
+#[inline(always)]
+fn front_source(
+    alloc: Global,
+    text: &[u8],
+    pages: u32,
+    cells: u32,
+) -> Option<(SourceRec, &[u8])>
+    requires extent { IsExtent (record { pages = pages; cells = cells }) }
+    ensures { IfSome result (λ found. SourceRecFits (record { pages = pages; cells = cells }) found.0 × (text.now ≡ source_line found.0 ++ 10 ∷ found.1.now)) }
+{
+    if let Some(rest) = after_key(text, SEND_KEY) {
+        let (page, contents, rest) = front_sent(alloc, rest, pages, cells)?;
+        return Some((SourceRec::Send { page, contents }, rest));
+    }
+    if let Some((up, rest)) = front_numbered(text, ASK_KEY) {
+        return Some((SourceRec::Ask { up }, rest));
+    }
+    if let Some((sending, rest)) = front_numbered(text, AGAIN_KEY) {
+        return Some((SourceRec::Again { sending }, rest));
+    }
+    if let Some((halt, rest)) = front_numbered(text, HALTED_KEY) {
+        return Some((SourceRec::Halted { halt }, rest));
+    }
+    if let Some(rest) = after_key(text, STATE) {
+        return Some((SourceRec::State, front_ended(rest)?));
+    }
+    let rest = front_ended(after_key(text, DONE)?)?;
+    Some((SourceRec::Done, rest))
+}
+
+/// Takes records at the front of the bytes, up to `most` of them, and stops where it likes. Answers what follows, and
+/// how many they were.
+pub(crate) fn take_source<'a>(
+    alloc: Global,
+    source: &mut Vec<SourceRec>,
+    most: u32,
+    pages: u32,
+    cells: u32,
+    bytes: &'a [u8],
+) -> (&'a [u8], u32)
+    requires extent { IsExtent (record { pages = pages; cells = cells }) }
+    ensures taken { TakesRecords source_line (SourceRecFits (record { pages = pages; cells = cells })) source.old.items source.new.items bytes.now result.0.now result.1 }
+    ensures most { result.1 ≤ most }
+{
+    let mut rest = bytes;
+    for at in 0..most {
+        let Some((record, after)) = front_source(alloc, rest, pages, cells) else {
+            return (rest, at);
+        };
+        if source.push(record).is_err() {
+            return (rest, at);
+        }
+        rest = after;
+    }
+    (rest, most)
 }
