@@ -18,7 +18,7 @@ pub(crate) fn read_numbered(line: &[u8], key: &[u8]) -> Option<u32>
 }
 
 /// A page of so many, where a line is a key and its number.
-pub(crate) fn read_page(line: &[u8], key: &[u8], pages: u32) -> Option<PageNo>
+pub(crate) fn read_page_number(line: &[u8], key: &[u8], pages: u32) -> Option<PageNo>
     requires some { 0 < pages }
     requires few { pages ≤ 65536 }
     ensures { MatchOption result

@@ -44,11 +44,7 @@ fn front_link(text: &[u8]) -> Option<(LinkRec, &[u8])>
 
 /// Takes records at the front of the bytes, up to `most` of them, and stops where it likes. Answers what follows, and
 /// how many they were.
-pub(crate) fn take_link<'a>(
-    link: &mut Vec<LinkRec>,
-    most: u32,
-    bytes: &'a [u8],
-) -> (&'a [u8], u32)
+pub(crate) fn take_link<'a>(link: &mut Vec<LinkRec>, most: u32, bytes: &'a [u8]) -> (&'a [u8], u32)
     ensures taken { TakesRecords link_line LinkRecFits link.old.items link.new.items bytes.now result.0.now result.1 }
     ensures most { result.1 ≤ most }
 {

@@ -10,8 +10,8 @@ ghost use Rattle.session_log.specs.Records.{placed_text, pager_line};
 ghost use Rattle.session_log.specs.Taken.{TakesRecords};
 
 use crate::fields::{
-    front_contents, front_ended, front_last, front_numbered, read_numbered, read_page,
-    read_page_contents,
+    front_contents, front_ended, front_last, front_numbered, read_numbered, read_page_contents,
+    read_page_number,
 };
 use migration_types::{Contents, LAST_RECORD, PageNo, PagerRec};
 use std::alloc::Global;
@@ -70,7 +70,11 @@ pub(crate) fn read_pager(
 {
     if let Some(text) = after_key(line, PLACE_KEY) {
         let (page, got, contents) = read_placed(alloc, text, pages, cells)?;
-        return Ok(PagerRec::Place { page, got, contents });
+        return Ok(PagerRec::Place {
+            page,
+            got,
+            contents,
+        });
     }
     if let Some(down) = read_numbered(line, GOT_KEY) {
         return Ok(PagerRec::Got { down });
@@ -84,10 +88,10 @@ pub(crate) fn read_pager(
     if let Some(got) = read_numbered(line, SKIP_KEY) {
         return Ok(PagerRec::Skip { got });
     }
-    if let Some(page) = read_page(line, WANT_KEY, pages) {
+    if let Some(page) = read_page_number(line, WANT_KEY, pages) {
         return Ok(PagerRec::Want { page });
     }
-    if let Some(page) = read_page(line, ZERO_KEY, pages) {
+    if let Some(page) = read_page_number(line, ZERO_KEY, pages) {
         return Ok(PagerRec::Zero { page });
     }
     if is_line(line, READY) {
@@ -124,7 +128,7 @@ fn front_placed(
 /// A page of so many behind a key at the front of a text of whole lines, and what follows the line. It may answer
 /// `None` at any text.
 #[inline(always)]
-fn front_page<'a>(text: &'a [u8], key: &[u8], pages: u32) -> Option<(PageNo, &'a [u8])>
+fn front_page_number<'a>(text: &'a [u8], key: &[u8], pages: u32) -> Option<(PageNo, &'a [u8])>
     requires some { 0 < pages }
     requires few { pages ≤ 65536 }
     ensures { IfSome result (λ found. (found.0 < pages) × (text.now ≡ key.now ++ (decimal found.0 ++ 10 ∷ found.1.now))) }
@@ -135,12 +139,7 @@ fn front_page<'a>(text: &'a [u8], key: &[u8], pages: u32) -> Option<(PageNo, &'a
 
 /// The record at the front of a text of whole lines, and what follows its line. It may answer `None` at any text.
 #[inline(always)]
-fn front_pager(
-    alloc: Global,
-    text: &[u8],
-    pages: u32,
-    cells: u32,
-) -> Option<(PagerRec, &[u8])>
+fn front_pager(alloc: Global, text: &[u8], pages: u32, cells: u32) -> Option<(PagerRec, &[u8])>
     requires extent { IsExtent (record { pages = pages; cells = cells }) }
     ensures { IfSome result (λ found. PagerRecFits (record { pages = pages; cells = cells }) found.0 × (text.now ≡ pager_line found.0 ++ 10 ∷ found.1.now)) }
 {
@@ -149,9 +148,16 @@ fn front_pager(
     }
     if let Some(rest) = after_key(text, PLACE_KEY) {
         let (page, got, contents, rest) = front_placed(alloc, rest, pages, cells)?;
-        return Some((PagerRec::Place { page, got, contents }, rest));
+        return Some((
+            PagerRec::Place {
+                page,
+                got,
+                contents,
+            },
+            rest,
+        ));
     }
-    if let Some((page, rest)) = front_page(text, WANT_KEY, pages) {
+    if let Some((page, rest)) = front_page_number(text, WANT_KEY, pages) {
         return Some((PagerRec::Want { page }, rest));
     }
     if let Some((miss, rest)) = front_numbered(text, FAULT_KEY) {
@@ -163,7 +169,7 @@ fn front_pager(
     if let Some((got, rest)) = front_numbered(text, SKIP_KEY) {
         return Some((PagerRec::Skip { got }, rest));
     }
-    if let Some((page, rest)) = front_page(text, ZERO_KEY, pages) {
+    if let Some((page, rest)) = front_page_number(text, ZERO_KEY, pages) {
         return Some((PagerRec::Zero { page }, rest));
     }
     if let Some(rest) = after_key(text, READY) {

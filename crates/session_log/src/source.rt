@@ -102,12 +102,7 @@ fn front_sent(
 
 /// The record at the front of a text of whole lines, and what follows its line. It may answer `None` at any text.
 #[inline(always)]
-fn front_source(
-    alloc: Global,
-    text: &[u8],
-    pages: u32,
-    cells: u32,
-) -> Option<(SourceRec, &[u8])>
+fn front_source(alloc: Global, text: &[u8], pages: u32, cells: u32) -> Option<(SourceRec, &[u8])>
     requires extent { IsExtent (record { pages = pages; cells = cells }) }
     ensures { IfSome result (λ found. SourceRecFits (record { pages = pages; cells = cells }) found.0 × (text.now ≡ source_line found.0 ++ 10 ∷ found.1.now)) }
 {
