@@ -50,7 +50,7 @@ pub(crate) fn read_page_contents(
     Ok(Contents::from_vec(values))
 }
 
-/// What follows a line feed.
+/// What follows the line feed at the front of a text.
 #[inline(always)]
 pub(crate) fn front_ended(text: &[u8]) -> Option<&[u8]>
     ensures { IfSome result (λ rest. text.now ≡ 10 ∷ rest.now) }
