@@ -75,27 +75,35 @@ fn command<'a>(alloc: Global) -> Result<Command<'a>, AllocError>
 fn replay_in<'a>(matches: &ArgMatches<'a>) -> Option<Job<'a>>
     ensures { checked_by result ≡ None }
 {
-    let (session, runs) = matches.get_str("SESSION").zip(matches.get_str("RUNS"))?;
-    Some(Job::Replay { session, runs })
+    match matches.get_str("SESSION").zip(matches.get_str("RUNS")) {
+        Some((session, runs)) => Some(Job::Replay { session, runs }),
+        None => None,
+    }
 }
 
 // What the matches of a check ask for.
 fn check_in<'a>(matches: &ArgMatches<'a>) -> Option<Job<'a>>
     ensures { checked_by result ≡ names_among (rows_of (found_of matches.now)) }
 {
-    let (session, cert) = matches.get_str("SESSION").zip(matches.get_str("CERT"))?;
-    Some(Job::Check { session, cert })
+    match matches.get_str("SESSION").zip(matches.get_str("CERT")) {
+        Some((session, cert)) => Some(Job::Check { session, cert }),
+        None => None,
+    }
 }
 
 // What the matches of a subcommand ask for, if there is one.
 fn job_in<'a>(matches: &ArgMatches<'a>) -> Option<Job<'a>>
     ensures { checked_by result ≡ option_and_then names_of (subcommand_rows_of matches.now) }
 {
-    let (name, inner) = matches.subcommand()?;
-    if name == "check" {
-        check_in(inner)
-    } else {
-        replay_in(inner)
+    match matches.subcommand() {
+        Some((name, inner)) => {
+            if name == "check" {
+                check_in(inner)
+            } else {
+                replay_in(inner)
+            }
+        }
+        None => None,
     }
 }
 

@@ -69,7 +69,7 @@ fn perform<'a, S: TextSource, I: Read, O: Write>(
     output: &mut O,
 ) -> Result<u8, Fault<'a>>
     ensures few { IfOk result (λ status. status < 2) }
-    ensures checked { IfOk result (λ status. IfSome (checked_by (Some job)) (λ names. Answers (AreNamed names.0 names.1 (S.bytes_of texts.now) (I.remaining input.old)) (O.contents output.old) (O.contents output.new) status)) }
+    ensures checked { IfOk result (λ status. IfSome (checked_by (Some job.entry)) (λ names. Answers (AreNamed names.0 names.1 (S.bytes_of texts.now) (I.remaining input.old)) (O.contents output.old) (O.contents output.new) status)) }
 {
     match job {
         Job::Check { session, cert } => check(alloc, session, cert, texts, input, output),
