@@ -6,8 +6,8 @@ ghost use Rattle.cert_text.specs.Runs.{log_word, run_line, runs_lines};
 ghost use Rattle.cert_text.specs.Grammar.{first_text, placed_text, entry_text, entry_line, entry_lines};
 
 use crate::decimal::{push_count, push_decimal};
-use crate::entries::{BALLOON_KEY, NONE, NO_FIRST, PAGE_KEY, SOURCE_KEY};
-use crate::runs::{CLOSING, RUNS_KEY, RUN_KEY};
+use crate::entries::{BALLOON_KEY, NO_FIRST, NONE, PAGE_KEY, SOURCE_KEY};
+use crate::runs::{CLOSING, RUN_KEY, RUNS_KEY};
 use migration_types::{Entry, First, LogName, Run};
 use std::alloc::AllocError;
 use text_lines::push_line;
