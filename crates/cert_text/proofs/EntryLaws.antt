@@ -45,7 +45,6 @@ placed_same n m x y p q f g e =
     let one = number_tells n m (first_text x) (first_text y) (omega arith) (omega arith) e in
     (one.0, first_same x y f g one.1)
 
-
 text_same : (x y : Entry) → EntryFits x → EntryFits y → entry_text x ≡ entry_text y → x ≡ y
 text_same Nothing Nothing p q e = refl
 text_same (Source s n x) (Source t m y) p q e =

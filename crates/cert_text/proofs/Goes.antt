@@ -1,5 +1,5 @@
 -- Each state of a reader of certificates goes on to a text, and only a whole one is a text.
-use Rattle.std.proofs.Common.{◌≡◌, ◌≢◌, ℕ, zero, suc, ◌+◌, ◌-◌, ◌<◌, ◌^◌, List, [], ◌∷◌, ◌++◌, length, refl, sym, ap, subst, ◌∙◌, length-append, arith, inl, inr}
+use Rattle.std.proofs.Common.{◌≡◌, ℕ, zero, suc, ◌+◌, ◌-◌, ◌<◌, ◌^◌, List, [], ◌∷◌, ◌++◌, length, refl, sym, ap, subst, ◌∙◌, length-append, arith, inl, inr}
 use Rattle.std.specs.Fmt.{decimal}
 use Rattle.std.proofs.lemmas.Bool.{cases_lt}
 use Rattle.text_lines.specs.Text.{Begins}
@@ -17,31 +17,8 @@ use Rattle.cert_text.proofs.EntryLaws.{entries_length}
 use Rattle.cert_text.proofs.RunGoes.{one_list_of_runs}
 use Rattle.cert_text.proofs.Laws.{entries_onto_append, runs_at, entries_agree, entry_held, entry_push}
 
--- where lines of runs came, all the entries did
-pub whole_entries : (d : Draft) (runs : List Run) → EntriesFit d → SpellsRunLines runs d.runs → length d.entries ≡ d.pages
-whole_entries d runs f s =
-    let spelled = s.1 in
-    let count = f.count in
-    elim (cases_lt (length d.entries) d.pages) [
-      | inl lt ↦ let none = f.runs lt in absurd cc
-      | inr le ↦ omega arith
-    ]
-
 abbrev cert_of : Draft → List Run → Certified
 cert_of d runs = record { entries = d.entries; runs = runs }
-
-pub cert_fits : (d : Draft) (runs : List Run) → EntriesFit d → SpellsRunLines runs d.runs → IsCert (cert_of d runs)
-cert_fits d runs f s =
-    let whole = whole_entries d runs f s in
-    let some = f.some_pages in
-    let few = f.few_pages in
-    record { some_pages = omega arith; few_pages = omega arith; entries = f.each; runs = s.0 }
-
-pub cert_spelled : (d : Draft) (runs : List Run) → EntriesFit d → SpellsRunLines runs d.runs → SpellsCert (cert_of d runs) (held_by Entries d)
-cert_spelled d runs f s = (
-  cert_fits d runs f s,
-  ap (λ (n : ℕ). entries_onto n d.entries d.runs) (sym (whole_entries d runs f s)) ∙ ap (λ (t : List (List ℕ)). entries_onto (length d.entries) d.entries t) s.1,
-)
 
 -- ---- each state goes on
 
@@ -106,14 +83,6 @@ not_whole_at Entries d c live stops fits e = no_runs d c live stops fits e
 
 pub not_whole : (stage : Stage) (d : Draft) (held : List (List ℕ)) → held_by stage d ≡ held → Live stage d → ((runs : List Run) → SpellsRunLines runs d.runs → ⊥) → (c : Certified) → SpellsCert c held → ⊥
 not_whole stage d held e live stops c s = not_whole_at stage d c live stops s.0 (e ∙ s.1)
-
-not_begun_at : (stage : Stage) (d : Draft) (c : Certified) → stage ≢ Entries → held_by stage d ≡ cert_lines c → ⊥
-not_begun_at Header d c other e = absurd cc
-not_begun_at Pages d c other e = absurd cc
-not_begun_at Entries d c other e = absurd (other refl)
-
-pub not_begun : (stage : Stage) (d : Draft) (held : List (List ℕ)) → held_by stage d ≡ held → stage ≢ Entries → (c : Certified) → SpellsCert c held → ⊥
-not_begun stage d held e other c s = not_begun_at stage d c other (e ∙ s.1)
 
 -- ---- the lines are few
 

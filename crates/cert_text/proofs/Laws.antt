@@ -86,7 +86,7 @@ entry_at d line f less g =
     (n.0, n.1, n.2 ∙ ap (λ (i : ℕ). entry_line i n.0) k)
 
 -- what stands behind all the entries begins the lines of runs
-pub behind_entries : (d : Draft) (lines : List (List ℕ)) → EntriesFit d → length d.entries ≡ d.pages → Begins SpellsCert (entries_onto d.pages d.entries lines) → Begins SpellsRunLines lines
+behind_entries : (d : Draft) (lines : List (List ℕ)) → EntriesFit d → length d.entries ≡ d.pages → Begins SpellsCert (entries_onto d.pages d.entries lines) → Begins SpellsRunLines lines
 behind_entries d lines f full b =
     let r = runs_at d.pages d.entries (lines ++ b.1) b.0 f.few_pages full f.each b.2.0 (sym (entries_onto_append d.pages d.entries lines b.1) ∙ b.2.1) in
     (b.0.runs, b.1, (b.2.0.runs, r.1))

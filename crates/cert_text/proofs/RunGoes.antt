@@ -40,12 +40,6 @@ goes_from stage at d held line e is b = subst (λ (s : RunStage). Goes s d line)
   whole = sym (held_append stage d (line ∷ b.1)) ∙ (ap (λ (t : List (List ℕ)). t ++ (line ∷ b.1)) e ∙ (sym (append_assoc held (line ∷ []) b.1) ∙ b.2.1));
 })
 
-pub count_at : (d : RunDraft) (line : List ℕ) → Goes Count d line → (n : ℕ) × (n ≤ 4194304) × (line ≡ runs_key ++ decimal n)
-count_at d line g =
-    let whole = g.whole in
-    let l : line ≡ runs_key ++ decimal (length g.runs) = cc in
-    (length g.runs, g.fits.few, l)
-
 pub run_at : (d : RunDraft) (line : List ℕ) → RunsFit d → length d.runs < d.count → Goes Runs d line → NextRun d.runs line
 run_at d line f less g = next_run d.count g.runs d.runs line g.more f.few g.fits f.each less g.whole
 
@@ -74,7 +68,7 @@ run_push d run f less fits follows = record {
 step : (stage next : RunStage) (d e : RunDraft) (more : List (List ℕ)) → runs_held stage d [] ++ more ≡ runs_held next e [] → Begins SpellsRunLines (runs_held next e []) → Begins SpellsRunLines (runs_held stage d [])
 step stage next d e more eq b = Begins-front SpellsRunLines (runs_held stage d []) more (subst (Begins SpellsRunLines) (sym eq) b)
 
-pub done_spells : (d : RunDraft) → RunsFit d → length d.runs ≡ d.count → SpellsRunLines d.runs (runs_held Done d [])
+done_spells : (d : RunDraft) → RunsFit d → length d.runs ≡ d.count → SpellsRunLines d.runs (runs_held Done d [])
 done_spells d f full =
     let few = f.few in (
       record { few = omega arith; each = f.each; alternate = f.alternate },

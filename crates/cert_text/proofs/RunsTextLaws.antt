@@ -1,5 +1,5 @@
 -- A text of runs is a header before the lines of its runs.
-use Rattle.std.proofs.Common.{◌≡◌, ◌+◌, ◌<◌, ◌^◌, ℕ, List, [], ◌∷◌, ◌++◌, length, sym, ap, ◌∙◌, arith}
+use Rattle.std.proofs.Common.{◌≡◌, ℕ, List, [], ◌∷◌, ◌++◌, sym, ap, ◌∙◌}
 use Rattle.std.specs.Prelude.{Bool, true, false}
 use Rattle.text_lines.specs.Text.{Begins}
 use Rattle.migration_types.specs.declared.cert.Run.{Run}
@@ -7,17 +7,7 @@ use Rattle.cert_text.specs.Runs.{runs_text_header, runs_lines, SpellsRunLines, S
 use Rattle.cert_text.specs.Held.{headed_by, HeadedLive}
 use Rattle.cert_text.proofs.RunGoes.{one_list_of_runs}
 
-pub header_first : (line : List ℕ) → Begins SpellsRuns (line ∷ []) → line ≡ runs_text_header
-header_first line b = let whole = b.2.1 in cc
-
--- what stands behind the header begins the lines of runs
-pub behind_header : (lines : List (List ℕ)) → Begins SpellsRuns (runs_text_header ∷ lines) → Begins SpellsRunLines lines
-behind_header lines b =
-    let whole = b.2.1 in
-    let rest : lines ++ b.1 ≡ runs_lines b.0 = cc in
-    (b.0, b.1, (b.2.0, rest))
-
-pub under_header : (lines : List (List ℕ)) → Begins SpellsRunLines lines → Begins SpellsRuns (runs_text_header ∷ lines)
+under_header : (lines : List (List ℕ)) → Begins SpellsRunLines lines → Begins SpellsRuns (runs_text_header ∷ lines)
 under_header lines b = (b.0, b.1, (b.2.0, ap (λ (t : List (List ℕ)). runs_text_header ∷ t) b.2.1))
 
 pub headed_begins : (headed : Bool) (lines : List (List ℕ)) → Begins SpellsRunLines lines → HeadedLive headed lines → Begins SpellsRuns (headed_by headed lines)
@@ -25,10 +15,6 @@ headed_begins true lines b live = under_header lines b
 headed_begins false lines b live =
     let u = under_header lines b in
     (u.0, runs_text_header ∷ (lines ++ u.1), u.2)
-
-pub headed_few : (headed : Bool) (lines : List (List ℕ)) → length lines < 2 ^ 31 → length (headed_by headed lines) + 1 < 2 ^ 32
-headed_few true lines lt = omega arith
-headed_few false lines lt = omega arith
 
 pub headed_one_text : (v w : List Run) (a more : List (List ℕ)) → SpellsRuns v a → SpellsRuns w (a ++ more) → (v ≡ w) × (more ≡ [])
 headed_one_text v w a more s t =

@@ -40,7 +40,7 @@ runs_lines runs = (runs_key ++ decimal (length runs)) ∷ (map run_line runs ++ 
 abbrev pub SpellsRunLines : List Run → List (List ℕ) → Type 0
 SpellsRunLines runs lines = AreRuns runs × (lines ≡ runs_lines runs)
 
--- A text of two runs, line by line:
+-- These lines are the text of these runs, which are within all limits. A text of two runs, line by line:
 --   postcopy-runs 1
 --   runs 2
 --   run guest 3

@@ -1,6 +1,6 @@
 //! Reading a certificate line by line.
 
-ghost use Rattle.std.specs.Prelude.{◌≡◌, [], ◌∷◌, ◌++◌};
+ghost use Rattle.std.specs.Prelude.{◌≡◌, []};
 ghost use Rattle.cert_text.specs.Grammar.{SpellsCert};
 
 use crate::entries::read_entry;

@@ -6,7 +6,7 @@ ghost use Rattle.migration_types.specs.Certs.{FirstFits, EntryFits};
 ghost use Rattle.cert_text.specs.Grammar.{first_text, placed_text, entry_text, entry_line};
 ghost use Rattle.cert_text.specs.Taken.{TakesEntries};
 
-use crate::entries::{BALLOON_KEY, NONE, NO_FIRST, PAGE_KEY, SOURCE_KEY};
+use crate::entries::{BALLOON_KEY, NO_FIRST, NONE, PAGE_KEY, SOURCE_KEY};
 use migration_types::{Entry, First, LAST_RECORD};
 use text_lines::{after_key, front_number, short_then};
 

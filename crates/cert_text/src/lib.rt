@@ -2,7 +2,6 @@
 #![tactic(auto)]
 
 ghost use Rattle.std.specs.Prelude.{IfOk};
-
 ghost use Rattle.text_lines.specs.Answer.{Reads};
 ghost use Rattle.text_lines.specs.Text.{IsSpelling, IsUnambiguous};
 ghost use Rattle.migration_types.specs.Certs.{AreRuns};

@@ -2,7 +2,7 @@
 
 ghost use Rattle.std.specs.Prelude.{◌≡◌, ◌≤◌, ◌∷◌, ◌++◌, IfSome};
 ghost use Rattle.migration_types.specs.Certs.{RunFits, Alternate};
-ghost use Rattle.cert_text.specs.Runs.{log_word, run_text, run_line};
+ghost use Rattle.cert_text.specs.Runs.{log_word, run_line};
 ghost use Rattle.cert_text.specs.Taken.{TakesRuns};
 
 use crate::runs::{GUEST_KEY, LINK_KEY, PAGER_KEY, RUN_KEY, SOURCE_KEY, may_follow};

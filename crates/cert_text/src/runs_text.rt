@@ -1,6 +1,6 @@
 //! Reading a text of runs line by line.
 
-ghost use Rattle.std.specs.Prelude.{◌≡◌, [], ◌∷◌, ◌++◌};
+ghost use Rattle.std.specs.Prelude.{◌≡◌, []};
 ghost use Rattle.cert_text.specs.Runs.{SpellsRuns};
 
 use crate::run_lines::RunLines;

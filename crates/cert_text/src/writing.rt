@@ -2,12 +2,12 @@
 
 ghost use Rattle.std.specs.Prelude.{◌≡◌, ◌≤◌, [], ◌∷◌, ◌++◌, length, OnOk};
 ghost use Rattle.text_lines.specs.Text.{ended};
-ghost use Rattle.cert_text.specs.Runs.{log_word, run_line, runs_lines};
+ghost use Rattle.cert_text.specs.Runs.{run_key, log_word, run_line, runs_lines};
 ghost use Rattle.cert_text.specs.Grammar.{first_text, placed_text, entry_text, entry_line, entry_lines};
 
 use crate::decimal::{push_count, push_decimal};
-use crate::entries::{BALLOON_KEY, NONE, NO_FIRST, PAGE_KEY, SOURCE_KEY};
-use crate::runs::{CLOSING, RUNS_KEY, RUN_KEY};
+use crate::entries::{BALLOON_KEY, NO_FIRST, NONE, PAGE_KEY, SOURCE_KEY};
+use crate::runs::{CLOSING, RUNS_KEY};
 use migration_types::{Entry, First, LogName, Run};
 use std::alloc::AllocError;
 use text_lines::push_line;
@@ -77,15 +77,15 @@ pub fn push_entries(out: &mut Vec<u8>, entries: &[Entry]) -> Result<(), AllocErr
     Ok(())
 }
 
-/// A log's name.
-fn word_of(log: LogName) -> &'static [u8]
-    ensures { result.now ≡ log_word log }
+/// How the line of a run of this log begins.
+fn front_of(log: LogName) -> &'static [u8]
+    ensures { result.now ≡ run_key ++ (log_word log ++ 32 ∷ []) }
 {
     match log {
-        LogName::Guest => b"guest",
-        LogName::Source => b"source",
-        LogName::Link => b"link",
-        LogName::Pager => b"pager",
+        LogName::Guest => b"run guest ",
+        LogName::Source => b"run source ",
+        LogName::Link => b"run link ",
+        LogName::Pager => b"run pager ",
     }
 }
 
@@ -93,9 +93,7 @@ fn word_of(log: LogName) -> &'static [u8]
 fn push_run(out: &mut Vec<u8>, run: Run) -> Result<(), AllocError>
     ensures { OnOk result (out.new.items ≡ out.old.items ++ (run_line run ++ 10 ∷ [])) }
 {
-    out.extend_from_slice(RUN_KEY)?;
-    out.extend_from_slice(word_of(run.log))?;
-    out.push(b' ')?;
+    out.extend_from_slice(front_of(run.log))?;
     push_decimal(out, run.count)?;
     out.push(b'\n')?;
     Ok(())
