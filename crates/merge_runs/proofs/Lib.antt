@@ -1,1 +1,6 @@
 pub mod Walking
+pub mod Reading
+pub mod Machines
+pub mod Demanding
+pub mod OneMore
+pub mod AllRuns

@@ -49,7 +49,7 @@ cursors_run c log place (suc count) = cursors_run (next c log) log (suc place) c
 pub own_next : (c : Cursors) (log : LogName) → next c log log ≡ suc (c log)
 own_next c log = ap (λ t. cond t (suc (c log)) (c log)) (same_log_itself log)
 
-cursors_append : (c : Cursors) (xs ys : List Name) → cursors_from c (xs ++ ys) ≡ cursors_from (cursors_from c xs) ys
+pub cursors_append : (c : Cursors) (xs ys : List Name) → cursors_from c (xs ++ ys) ≡ cursors_from (cursors_from c xs) ys
 cursors_append c [] ys = refl
 cursors_append c (x ∷ xs) ys = cursors_append (next c x.0) xs ys
 
@@ -58,7 +58,7 @@ walks_append s c [] ys a b = b
 walks_append s c (x ∷ xs) ys a b = (a.0, walks_append s (next c x.0) xs ys a.1 b)
 
 -- the front of a walk is one
-walks_front : (s : Recorded) (c : Cursors) (xs ys : List Name) → Walks s c (xs ++ ys) → Walks s c xs
+pub walks_front : (s : Recorded) (c : Cursors) (xs ys : List Name) → Walks s c (xs ++ ys) → Walks s c xs
 walks_front s c [] ys w = tt
 walks_front s c (x ∷ xs) ys w = (w.0, walks_front s (next c x.0) xs ys w.1)
 
@@ -79,19 +79,19 @@ spelled_push c (r ∷ runs) run =
     ∙ sym (append_assoc names (spelled_from d runs) (run_names run.log (cursors_from c (names ++ spelled_from d runs) run.log) run.count))
 
 module _ (s : Recorded) (runs : List Run) (place : ℕ) (d : Run) (within : place < length runs) where
-  abbrev so_far : List Name
+  abbrev pub so_far : List Name
   so_far = spelled (take place runs)
 
-  abbrev here : Cursors
+  abbrev pub here : Cursors
   here = cursors_from at_start so_far
 
-  abbrev the_run : Run
+  abbrev pub the_run : Run
   the_run = get_or runs place d
 
-  abbrev its_names : List Name
+  abbrev pub its_names : List Name
   its_names = run_names the_run.log (here the_run.log) the_run.count
 
-  with_it : spelled (take (place + 1) runs) ≡ so_far ++ its_names
+  pub with_it : spelled (take (place + 1) runs) ≡ so_far ++ its_names
   with_it = ap spelled (take_more runs place d within) ∙ spelled_push at_start (take place runs) the_run
 
   -- the walk goes on by the run
@@ -221,7 +221,7 @@ taken_all s t all = record { guest = all Guest; source = all Source; link = all 
 
 -- ---- where a run is bad there is no merging
 
-spelled_front : (c : Cursors) (xs ys : List Run) → (rest : List Name) × (spelled_from c (xs ++ ys) ≡ spelled_from c xs ++ rest)
+pub spelled_front : (c : Cursors) (xs ys : List Run) → (rest : List Name) × (spelled_from c (xs ++ ys) ≡ spelled_from c xs ++ rest)
 spelled_front c [] ys = (spelled_from c ys, refl)
 spelled_front c (x ∷ xs) ys =
     let names = run_names x.log (c x.log) x.count in

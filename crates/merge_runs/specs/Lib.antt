@@ -1,2 +1,6 @@
 pub mod BadRuns
 pub mod Taken
+pub mod Replays
+pub mod Moving
+pub mod Demands
+pub mod Replaying

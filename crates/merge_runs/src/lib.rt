@@ -7,11 +7,17 @@ ghost use Rattle.audit_model.specs.Mergings.{IsMerging, spelled};
 use audit_model::mergings_are_walks;
 use migration_types::{Run, Session};
 
+mod demands;
+mod moving;
+mod outcome;
+mod replaying;
 mod taken;
 #[cfg(test)]
 mod tests;
 mod walk;
 
+pub use outcome::{MergeFault, Replay};
+pub use replaying::replay;
 pub use walk::first_bad_run;
 
 /// Whether the runs spell a merging: each record of each log is taken once, in its log's order, and each receipt after

@@ -1,0 +1,172 @@
+-- One record more of a replay.
+use Rattle.std.proofs.Common.{◌≡◌, ℕ, zero, suc, ◌+◌, ◌<◌, ◌≤◌, ◌⊎◌, inl, inr, Bool, true, false, cond, List, [], ◌∷◌, ◌++◌, length, take, drop, get_or, Option, Some, None, refl, sym, ap, ◌∙◌, subst, arith}
+use Rattle.std.specs.Prelude.{slice_get}
+use Rattle.std.specs.Option.{MatchOption}
+use Rattle.std.proofs.lemmas.List.{append_assoc, append-nil, take-append-drop}
+use Rattle.migration_types.specs.declared.records.LogName.{LogName}
+use Rattle.migration_types.specs.declared.records.LogName.TheVariants.{Guest, Source, Link, Pager}
+use Rattle.migration_types.specs.declared.records.GuestRec.{GuestRec}
+use Rattle.migration_types.specs.declared.records.SourceRec.{SourceRec}
+use Rattle.migration_types.specs.declared.records.PagerRec.{PagerRec}
+use Rattle.migration_types.specs.declared.cert.Run.{Run}
+use Rattle.migration_types.specs.Extents.{Extent}
+use Rattle.migration_types.specs.Memory.{Memory}
+use Rattle.migration_types.specs.Receipts.{Name}
+use Rattle.migration_types.specs.Sessions.{Recorded, IsSession}
+use Rattle.audit_model.specs.Flat.{changed, flat, cell_after}
+use Rattle.audit_model.specs.Names.{log_length, same_log}
+use Rattle.audit_model.specs.Mergings.{Cursors, at_start, moved, run_names, spelled, StandsAfter}
+use Rattle.audit_model.specs.Walks.{next, cursors_from, Walks, IsWholeWalk}
+use Rattle.audit_model.specs.World.{World, start, step, run_from, world_after, guest_step, pager_step, Demand, IsSafeOrder, guest_demand, source_demand, pager_demand, if_record}
+use Rattle.page_store.specs.Frames.{Frames, memory_of, IsWith}
+use Rattle.merge_runs.specs.declared.replaying.Replaying.{Replaying}
+use Rattle.merge_runs.specs.Moving.{world_of, IsSized, IsMoved, stepped}
+use Rattle.merge_runs.specs.Demands.{guest_met, source_met, pager_met}
+use Rattle.merge_runs.specs.Replays.{IsFirstBroken}
+use Rattle.merge_runs.specs.Replaying.{AllMet, Breaks, or_this, noted, AreSized, IsReplaying, HasRun, IsGuestStep, IsPagerStep}
+use Rattle.merge_runs.proofs.Walking.{cursors_append, cursors_run, own_moved, walks_front, walk_back, walks_run, spelled_front}
+use Rattle.merge_runs.proofs.Demanding.{guest_yes, guest_from, source_yes, source_from, pager_yes, pager_from}
+
+-- ---- records whose demands are met
+
+pub run_append : (s : Recorded) (w : World) (xs ys : List Name) → run_from s w (xs ++ ys) ≡ run_from s (run_from s w xs) ys
+run_append s w [] ys = refl
+run_append s w (x ∷ xs) ys = run_append s (step s x w) xs ys
+
+all_append : (s : Recorded) (w : World) (xs ys : List Name) → AllMet s w xs → AllMet s (run_from s w xs) ys → AllMet s w (xs ++ ys)
+all_append s w [] ys a b = b
+all_append s w (x ∷ xs) ys a b = (a.0, all_append s (step s x w) xs ys a.1 b)
+
+met_at : (s : Recorded) (w : World) (order earlier : List Name) (name : Name) → AllMet s w order → StandsAfter order earlier name → Demand s name (run_from s w earlier)
+met_at s w [] [] name all stands = absurd (cc)
+met_at s w [] (e ∷ es) name all stands = absurd (cc)
+met_at s w (x ∷ xs) [] name all stands = let is = stands.1 in let same : x ≡ name = cc in subst (λ (y : Name). Demand s y w) same all.0
+met_at s w (x ∷ xs) (e ∷ es) name all stands =
+    let is = stands.1 in
+    let same : x ≡ e = cc in
+    let rest : xs ≡ es ++ name ∷ stands.0 = cc in
+    subst (λ (y : Name). Demand s name (run_from s (step s y w) es)) same (met_at s (step s x w) xs es name all.1 (stands.0, rest))
+
+pub all_safe : (s : Recorded) (order : List Name) → AllMet s (start s) order → IsSafeOrder s order
+all_safe s order all earlier name stands = met_at s (start s) order earlier name all stands
+
+-- what is told of all records
+pub told : (s : Recorded) (order : List Name) (o : Option Name) → MatchOption o (AllMet s (start s) order) (Breaks s (start s) order) → MatchOption o (IsSafeOrder s order) (IsFirstBroken s order)
+told s order None all = all_safe s order all
+told s order (Some name) b = record {
+  earlier = b.earlier;
+  stands = (b.later, b.stands);
+  is_broken = b.fails;
+  is_first = all_safe s b.earlier b.met;
+}
+
+-- one record more
+broken_more : (s : Recorded) (w : World) (names : List Name) (name : Name) (o : Option Name) (met : Bool) → (met ≡ true → Demand s name (run_from s w names)) → (Demand s name (run_from s w names) → met ≡ true) → MatchOption o (AllMet s w names) (Breaks s w names) → MatchOption (noted met o name) (AllMet s w (names ++ name ∷ [])) (Breaks s w (names ++ name ∷ []))
+broken_more s w names name (Some first) met holds back b = go met
+  where
+    on : Breaks s w (names ++ name ∷ []) first
+    on = record {
+      earlier = b.earlier;
+      later = b.later ++ name ∷ [];
+      stands = ap (λ xs. xs ++ name ∷ []) b.stands ∙ append_assoc b.earlier (first ∷ b.later) (name ∷ []);
+      met = b.met;
+      fails = b.fails;
+    }
+
+    go : (met : Bool) → MatchOption (noted met (Some first) name) (AllMet s w (names ++ name ∷ [])) (Breaks s w (names ++ name ∷ []))
+    go true = on
+    go false = on
+broken_more s w names name None true holds back all = all_append s w names (name ∷ []) all (holds refl, tt)
+broken_more s w names name None false holds back all = record {
+  earlier = names;
+  later = [];
+  stands = refl;
+  met = all;
+  fails = λ d. let t = back d in absurd (cc);
+}
+
+-- ---- the state after one record more
+
+module _ (s : Recorded) (order : List Name) where
+  world_more : (name : Name) → world_after s (order ++ name ∷ []) ≡ step s name (world_after s order)
+  world_more name = run_append s (start s) order (name ∷ [])
+
+  cursors_more : (name : Name) → cursors_from at_start (order ++ name ∷ []) ≡ next (cursors_from at_start order) name.0
+  cursors_more name = cursors_append at_start order (name ∷ [])
+
+  -- a record that changes no machine
+  quiet_more : (name : Name) (old new : Replaying) (met : Bool) → IsReplaying s order old → ((w : World) → step s name w ≡ w) → same_log name.0 Guest ≡ false → new.moving ≡ old.moving → new.flat ≡ old.flat → new.first_broken ≡ noted met old.first_broken name → (met ≡ true → Demand s name (world_after s order)) → (Demand s name (world_after s order) → met ≡ true) → IsReplaying s (order ++ name ∷ []) new
+  quiet_more name old new met is still other moving flat_is first holds back = record {
+    world = ap world_of moving ∙ is.world ∙ sym (still (world_after s order)) ∙ sym (world_more name);
+    flat = ap memory_of flat_is ∙ is.flat ∙ sym (ap (λ (c : Cursors). flat s (c Guest)) (cursors_more name) ∙ ap (λ b. flat s (cond b (suc (cursors_from at_start order Guest)) (cursors_from at_start order Guest))) other);
+    broken = subst (λ (o : Option Name). MatchOption o (AllMet s (start s) (order ++ name ∷ [])) (Breaks s (start s) (order ++ name ∷ []))) (sym first) (broken_more s (start s) order name old.first_broken met holds back is.broken);
+  }
+
+  pub link_more : (n : ℕ) (r : Replaying) → IsReplaying s order r → IsReplaying s (order ++ (Link, n) ∷ []) r
+  link_more n r is = quiet_more (Link, n) r r true is (λ w. refl) refl refl refl refl (λ e. tt) (λ d. refl)
+
+  pub source_more : (n : ℕ) (r : SourceRec) (old new : Replaying) → slice_get s.source n ≡ Some r → AreSized s.geometry old → IsReplaying s order old → new.moving ≡ old.moving → new.flat ≡ old.flat → new.first_broken ≡ noted (source_met old.moving.source.geometry.cells r (world_of old.moving)) old.first_broken (Source, n) → IsReplaying s (order ++ (Source, n) ∷ []) new
+  source_more n r old new at sized is moving flat_is first =
+      quiet_more (Source, n) old new (source_met s.geometry.cells r (world_after s order)) is (λ w. refl) refl moving flat_is
+      (first ∙ ap (λ b. noted b old.first_broken (Source, n)) (ap (λ (e : Extent). source_met e.cells r (world_of old.moving)) sized.moving.source ∙ ap (λ (w : World). source_met s.geometry.cells r w) is.world))
+      (λ e. subst (λ (o : Option SourceRec). if_record (source_demand s) o (world_after s order)) (sym at) (source_yes s r (world_after s order) e))
+      (λ d. source_from s r (world_after s order) (subst (λ (o : Option SourceRec). if_record (source_demand s) o (world_after s order)) at d))
+
+  pub pager_more : (n : ℕ) (r : PagerRec) (old new : Replaying) → slice_get s.pager n ≡ Some r → AreSized s.geometry old → IsReplaying s order old → IsPagerStep r n old new → IsReplaying s (order ++ (Pager, n) ∷ []) new
+  pager_more n r old new at sized is on =
+      let met = pager_met s.geometry.cells r (world_after s order) in
+      let first : new.first_broken ≡ noted met old.first_broken (Pager, n) = on.broken ∙ ap (λ b. noted b old.first_broken (Pager, n)) (ap (λ (e : Extent). pager_met e.cells r (world_of old.moving)) sized.moving.source ∙ ap (λ (w : World). pager_met s.geometry.cells r w) is.world) in
+      record {
+        world = on.moving.world ∙ ap (λ (w : World). pager_step r w) is.world ∙ sym (ap (λ (o : Option PagerRec). changed pager_step o (world_after s order)) at) ∙ sym (world_more (Pager, n));
+        flat = ap memory_of on.flat ∙ is.flat ∙ sym (ap (λ (c : Cursors). flat s (c Guest)) (cursors_more (Pager, n)));
+        broken = subst (λ (o : Option Name). MatchOption o (AllMet s (start s) (order ++ (Pager, n) ∷ [])) (Breaks s (start s) (order ++ (Pager, n) ∷ []))) (sym first) (broken_more s (start s) order (Pager, n) old.first_broken met
+          (λ e. subst (λ (o : Option PagerRec). if_record (pager_demand s) o (world_after s order)) (sym at) (pager_yes s r (world_after s order) e))
+          (λ d. pager_from s r (world_after s order) (subst (λ (o : Option PagerRec). if_record (pager_demand s) o (world_after s order)) at d)) is.broken);
+      }
+
+  flat_more : (n : ℕ) (r : GuestRec) → slice_get s.guest n ≡ Some r → stepped r (flat s n) ≡ flat s (suc n)
+  flat_more n r at = λ i p c. cell p c i
+    where
+      cell : (p c : ℕ) → stepped r (flat s n) p c ≡ flat s (suc n) p c
+      cell p c = ap (λ (o : Option GuestRec). changed (cell_after p c) o (flat s n p c)) (sym at)
+
+  pub guest_more : (n : ℕ) (r : GuestRec) (old new : Replaying) → slice_get s.guest n ≡ Some r → cursors_from at_start order Guest ≡ n → IsReplaying s order old → IsGuestStep r n old new → IsReplaying s (order ++ (Guest, n) ∷ []) new
+  guest_more n r old new at here is on =
+      let flat_is : memory_of old.flat ≡ flat s n = is.flat ∙ ap (λ k. flat s k) here in
+      let met = guest_met (flat s n) r (world_after s order) in
+      let first : new.first_broken ≡ noted met old.first_broken (Guest, n) = on.broken ∙ ap (λ b. noted b old.first_broken (Guest, n)) (ap (λ (f : Memory). guest_met f r (world_of old.moving)) flat_is ∙ ap (λ (w : World). guest_met (flat s n) r w) is.world) in
+      record {
+        world = on.moving.world ∙ ap (λ (w : World). guest_step r w) is.world ∙ sym (ap (λ (o : Option GuestRec). changed guest_step o (world_after s order)) at) ∙ sym (world_more (Guest, n));
+        flat = on.flat.memory_is ∙ ap (λ (m : Memory). stepped r m) flat_is ∙ flat_more n r at ∙ ap (λ k. flat s (suc k)) (sym here) ∙ sym (ap (λ (c : Cursors). flat s (c Guest)) (cursors_more (Guest, n)));
+        broken = subst (λ (o : Option Name). MatchOption o (AllMet s (start s) (order ++ (Guest, n) ∷ [])) (Breaks s (start s) (order ++ (Guest, n) ∷ []))) (sym first) (broken_more s (start s) order (Guest, n) old.first_broken met
+          (λ e. subst (λ (o : Option GuestRec). if_record (guest_demand s n) o (world_after s order)) (sym at) (guest_yes s n r (world_after s order) e))
+          (λ d. guest_from s n r (world_after s order) (subst (λ (o : Option GuestRec). if_record (guest_demand s n) o (world_after s order)) at d)) is.broken);
+      }
+
+-- ---- runs
+
+names_push : (log : LogName) (place count : ℕ) → run_names log place (suc count) ≡ run_names log place count ++ (log, place + count) ∷ []
+names_push log place zero = let none : place ≡ place + zero = omega arith in ap (λ k. (log, k) ∷ []) none
+names_push log place (suc count) = let same : suc place + count ≡ place + suc count = omega arith in ap (λ xs. (log, place) ∷ xs) (names_push log (suc place) count ∙ ap (λ k. run_names log (suc place) count ++ (log, k) ∷ []) same)
+
+pub run_none : (s : Recorded) (log : LogName) (from : ℕ) (r : Replaying) → HasRun s log from 0 r r
+run_none s log from r order here is = subst (λ (xs : List Name). IsReplaying s xs r) (sym (append-nil order)) is
+
+-- a run of one record more
+pub run_more : (s : Recorded) (log : LogName) (from k : ℕ) (first old new : Replaying) → HasRun s log from k first old → ((order : List Name) → cursors_from at_start order log ≡ from + k → IsReplaying s order old → IsReplaying s (order ++ (log, from + k) ∷ []) new) → HasRun s log from (k + 1) first new
+run_more s log from k first old new ran more order here is =
+    subst (λ (xs : List Name). IsReplaying s xs new) (sym (longer ∙ sym (append_assoc order (run_names log from k) ((log, from + k) ∷ [])))) (more (order ++ run_names log from k) there (ran order here is))
+  where
+    longer : order ++ run_names log from (k + 1) ≡ order ++ (run_names log from k ++ (log, from + k) ∷ [])
+    longer = let one : k + 1 ≡ suc k = omega arith in ap (λ m. order ++ run_names log from m) one ∙ ap (λ xs. order ++ xs) (names_push log from k)
+
+    there : cursors_from at_start (order ++ run_names log from k) log ≡ from + k
+    there =
+        ap (λ (c : Cursors). c log) (cursors_append at_start order (run_names log from k) ∙ cursors_run (cursors_from at_start order) log from k)
+        ∙ own_moved (cursors_from at_start order) log k
+        ∙ ap (λ m. m + k) here
+
+-- the records of the link
+pub link_run : (s : Recorded) (from count : ℕ) (r : Replaying) → HasRun s Link from count r r
+link_run s from zero r = run_none s Link from r
+link_run s from (suc count) r = let one : count + 1 ≡ suc count = omega arith in subst (λ n. HasRun s Link from n r r) one (run_more s Link from count r r r (link_run s from count r) (λ order here is. link_more s order (from + count) r is))

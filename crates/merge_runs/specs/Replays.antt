@@ -1,0 +1,43 @@
+-- What the replay of a merging says: the first record whose demand fails, and the guest's memory after all records.
+use Rattle.std.specs.Prelude.{◌≡◌, List}
+use Rattle.std.specs.Option.{MatchOption}
+use Rattle.migration_types.specs.Memory.{Memory}
+use Rattle.migration_types.specs.Receipts.{Name}
+use Rattle.migration_types.specs.Sessions.{Recorded}
+use Rattle.audit_model.specs.declared.flat.Home.{Home}
+use Rattle.audit_model.specs.declared.flat.Home.TheVariants.{AtSource, Nowhere, AtTarget}
+use Rattle.audit_model.specs.Mergings.{IsMerging, StandsAfter}
+use Rattle.audit_model.specs.World.{World, world_after, Demand, IsSafeOrder}
+use Rattle.page_store.specs.Frames.{memory_of}
+use Rattle.merge_runs.specs.declared.outcome.Replay.{Replay}
+use Rattle.merge_runs.specs.declared.outcome.MergeFault.{MergeFault}
+use Rattle.merge_runs.specs.declared.outcome.MergeFault.TheVariants.{NoMerging, Memory as NoMemory}
+
+-- the demand of the record of this name fails, and the demand of each record that stands before it holds
+pub record IsFirstBroken (s : Recorded) (order : List Name) (name : Name) : Type 0 where
+  pub earlier : List Name
+  pub stands : StandsAfter order earlier name
+  pub is_broken : Demand s name (world_after s earlier) → ⊥
+  pub is_first : IsSafeOrder s earlier
+
+-- the target's memory when the guest was resumed there, and the source's before
+abbrev pub final_memory_at : Home → World → Memory
+final_memory_at AtSource w = w.source
+final_memory_at Nowhere w = w.source
+final_memory_at AtTarget w = w.target
+
+-- the memory that the guest has, or had when it was halted
+abbrev pub final_memory : World → Memory
+final_memory w = final_memory_at w.home w
+
+-- the order is a merging, its first broken record is told, or it is safe, and the memory is the guest's after all records
+pub record IsReplay (s : Recorded) (order : List Name) (r : Replay) : Type 0 where
+  pub is_merging : IsMerging s order
+  pub first_broken : MatchOption r.first_broken (IsSafeOrder s order) (IsFirstBroken s order)
+  pub memory : memory_of r.memory ≡ final_memory (world_after s order)
+  pub geometry : r.memory.geometry ≡ s.geometry
+
+-- the order is no merging, or there is no memory for its replay
+abbrev pub IsMergeFault : Recorded → List Name → MergeFault → Type 0
+IsMergeFault s order NoMerging = IsMerging s order → ⊥
+IsMergeFault s order NoMemory = IsMerging s order

@@ -1,0 +1,111 @@
+//! What each record demands of the machines before it.
+
+ghost use Rattle.std.specs.Prelude.{◌≡◌, not};
+ghost use Rattle.migration_types.specs.Sessions.{GuestRecFits};
+ghost use Rattle.audit_model.specs.World.{memory_at};
+ghost use Rattle.page_store.specs.Frames.{memory_of};
+ghost use Rattle.merge_runs.specs.Moving.{marked, world_of, HasPage, HasCell, GuestHas, SourceHas, PagerHas};
+ghost use Rattle.merge_runs.specs.Demands.{finds, has_left, is_open, guest_met, source_met, pager_met};
+
+use crate::moving::Moving;
+use audit_model::Home;
+use migration_types::{GuestRec, PageNo, PagerRec, SourceRec};
+use page_store::Store;
+
+/// Whether a read or a write finds its page.
+fn finds(moving: &Moving, page: PageNo) -> bool
+    requires { HasPage moving.now page }
+    ensures { result ≡ finds moving.now.home (marked moving.now.placed.items page) }
+{
+    match moving.home {
+        Home::AtSource => true,
+        Home::Nowhere => false,
+        Home::AtTarget => moving.placed[page.index()],
+    }
+}
+
+/// The value of a cell where the guest is, or at the target while it is nowhere.
+fn value_here(moving: &Moving, page: PageNo, cell: u16) -> u64
+    requires page { HasPage moving.now page }
+    requires cell { HasCell moving.now cell }
+    ensures { result ≡ memory_at moving.now.home (world_of moving.now) page cell }
+{
+    match moving.home {
+        Home::AtSource => moving.source.read(page, cell),
+        Home::Nowhere => moving.target.read(page, cell),
+        Home::AtTarget => moving.target.read(page, cell),
+    }
+}
+
+/// Whether the guest has left the source.
+fn has_left(home: Home) -> bool
+    ensures { result ≡ has_left home }
+{
+    match home {
+        Home::AtSource => false,
+        Home::Nowhere => true,
+        Home::AtTarget => true,
+    }
+}
+
+/// Whether a page was neither placed at the target nor used there.
+fn is_open(moving: &Moving, page: PageNo) -> bool
+    requires { HasPage moving.now page }
+    ensures { result ≡ is_open (world_of moving.now) page }
+{
+    !moving.placed[page.index()] && !moving.touched[page.index()]
+}
+
+/// Whether the demand of a record of the guest is met: a read finds its page, and its value both where the guest is and
+/// on the machine that never moved, and a write finds its page.
+pub(crate) fn guest_met(moving: &Moving, flat: &Store, rec: &GuestRec) -> bool
+    requires moving { GuestHas moving.now rec.now }
+    requires flat { GuestRecFits flat.now.geometry rec.now }
+    ensures { result ≡ guest_met (memory_of flat.now) rec.now (world_of moving.now) }
+{
+    match *rec {
+        GuestRec::Read {
+            page,
+            cell,
+            value,
+            ..
+        } => {
+            finds(moving, page)
+                && value_here(moving, page, cell) == value
+                && flat.read(page, cell) == value
+        }
+        GuestRec::Write { page, .. } => finds(moving, page),
+        _ => true,
+    }
+}
+
+/// Whether the demand of a record of the source is met: what is sent is a page that the source owes, as it is there
+/// once the guest has left.
+pub(crate) fn source_met(moving: &Moving, rec: &SourceRec) -> bool
+    requires { SourceHas moving.now rec.now }
+    ensures { result ≡ source_met moving.now.source.geometry.cells rec.now (world_of moving.now) }
+{
+    match rec {
+        SourceRec::Send { page, contents } => {
+            has_left(moving.home)
+                && !moving.released[page.index()]
+                && contents.as_slice() == moving.source.page(*page)
+        }
+        _ => true,
+    }
+}
+
+/// Whether the demand of a record of the pager is met: a page is placed once, before the guest uses it, as it is at the
+/// source, or as zeros where it is released there.
+pub(crate) fn pager_met(moving: &Moving, rec: &PagerRec) -> bool
+    requires { PagerHas moving.now rec.now }
+    ensures { result ≡ pager_met moving.now.source.geometry.cells rec.now (world_of moving.now) }
+{
+    match rec {
+        PagerRec::Place { page, contents, .. } => {
+            is_open(moving, *page) && contents.as_slice() == moving.source.page(*page)
+        }
+        PagerRec::Zero { page } => is_open(moving, *page) && moving.released[page.index()],
+        _ => true,
+    }
+}
