@@ -25,3 +25,6 @@ pub mod ExampleB
 pub mod Certifying
 pub mod FlatPages
 pub mod PageFaultTests
+pub mod FirstNames
+pub mod SpotSteps
+pub mod DemandTests

@@ -12,3 +12,6 @@ pub mod FirstFault
 pub mod FoundOrder
 pub mod Delayed
 pub mod Laws
+pub mod MergingTests
+pub mod Spots
+pub mod DemandTests

@@ -8,8 +8,10 @@
 mod faults;
 mod flat;
 mod laws;
+mod merging;
 mod reasons;
 mod shape;
+mod world;
 #[cfg(test)]
 mod tests;
 
@@ -19,5 +21,7 @@ pub use laws::{
     certified_is_safe, clean_is_certified, faults_are_unsafe, mergings_are_walks, premises_can_be_met,
     worlds_follow_cursors,
 };
+pub use merging::is_merging;
 pub use reasons::{PageReason, ShapeReason};
 pub use shape::is_right;
+pub use world::{Spot, demand_holds, first_broken, spot_after};
