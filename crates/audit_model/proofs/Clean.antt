@@ -88,7 +88,7 @@ module _ (s : Recorded) (clean : HasNoPageFault s) where
   not_twice page n m (Skip k) t is js e f lt = absurd (cc)
   not_twice page n m All t is js e f lt = absurd (cc)
 
-  clean_kept : (page : ℕ) → IsKept s page
+  pub clean_kept : (page : ℕ) → IsKept s page
   clean_kept page = record {
     honest = record {
       reads = λ n v c x is. same_if_not_not (cases_eq x (flat s n page c)) (λ e. guest_clean WrongRead n (Read v page c x) is e);

@@ -22,3 +22,4 @@ pub mod Knots
 pub mod WrittenOut
 pub mod ExampleA
 pub mod ExampleB
+pub mod Certifying

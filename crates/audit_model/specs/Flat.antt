@@ -2,6 +2,8 @@
 use Rattle.std.specs.Prelude.{◌≡◌, ℕ, zero, suc, Bool, true, false, ◌==◌, ◌&&◌, List, [], ◌∷◌, Option, Some, None, slice_get, if◌then◌else◌}
 use Rattle.migration_types.specs.declared.records.GuestRec.{GuestRec}
 use Rattle.migration_types.specs.declared.records.GuestRec.TheVariants.{Read, Write, Release, Halt, Resume}
+pub use Rattle.audit_model.specs.declared.flat.Home.{Home}
+pub use Rattle.audit_model.specs.declared.flat.Home.TheVariants.{AtSource, Nowhere, AtTarget}
 use Rattle.migration_types.specs.Memory.{Memory, initial}
 use Rattle.migration_types.specs.Sessions.{Recorded}
 
@@ -38,12 +40,6 @@ released_after page _ old = old
 -- the ledger before guest record n: the pages that are released
 abbrev pub in_ledger : Recorded → ℕ → ℕ → Bool
 in_ledger s n page = before (released_after page) false s.guest n
-
--- where the guest is
-pub data Home : Type 0 where
-  AtSource : Home
-  Nowhere : Home
-  AtTarget : Home
 
 -- a halt takes the guest off the source, and a resume brings it to the target
 abbrev pub home_after : GuestRec → Home → Home

@@ -12,7 +12,7 @@ ghost use Rattle.audit_model.specs.FoundOrder.{IsKnot};
 ghost use Rattle.audit_model.specs.World.{IsSafe};
 ghost use Rattle.audit_model.specs.Worlds.{FollowsCursors};
 ghost use Rattle.audit_model.specs.Shape.{IsRightShape};
-ghost use Rattle.audit_model.specs.Laws.{IsCertified, FindsResident, ReadsFlat, PlacedOnce, PlacedUntouched, ReleasedAsZeros, IsMigrated, IsFaultless, FaultsBreak, DelayedBreaks, UnplacedBreaks, SafeExactlyIfClean, CertifiedFromSource, CertifiedBalloon};
+ghost use Rattle.audit_model.specs.Laws.{IsCertified, FindsResident, ReadsFlat, PlacedOnce, PlacedUntouched, ReleasedAsZeros, IsMigrated, IsFaultless, FaultsBreak, DelayedBreaks, UnplacedBreaks, SafeExactlyIfClean, HasCertificate, CertifiedFromSource, CertifiedBalloon};
 
 /// A list of names is a merging exactly where it is a walk of one cursor for each log, to the end of each. Where
 /// records are left and none of the next ones may follow, there is no merging; nor is there one where the found order
@@ -54,6 +54,11 @@ pub fn faults_are_unsafe()
     ensures delayed { (s : Recorded) → IsRightShape s → DelayedBreaks s }
     ensures unplaced { (s : Recorded) → IsRightShape s → UnplacedBreaks s }
     ensures exactly { (s : Recorded) → SafeExactlyIfClean s }
+{}
+
+/// A session of the right shape with no fault of a page has a right certificate over any runs that spell a merging.
+pub fn clean_is_certified()
+    ensures { (s : Recorded) → IsFaultless s → HasCertificate s }
 {}
 
 /// There are sessions of the right shape with right certificates: one in which a page comes from the source, and one in

@@ -11,9 +11,9 @@ mod reasons;
 #[cfg(test)]
 mod tests;
 
-pub use flat::flat_value;
+pub use flat::{Home, flat_value, halt_place, home_before, is_released};
 pub use laws::{
-    certified_is_safe, faults_are_unsafe, mergings_are_walks, premises_can_be_met,
+    certified_is_safe, clean_is_certified, faults_are_unsafe, mergings_are_walks, premises_can_be_met,
     worlds_follow_cursors,
 };
 pub use reasons::{PageReason, ShapeReason};
