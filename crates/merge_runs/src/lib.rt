@@ -12,7 +12,8 @@ mod taken;
 mod tests;
 mod walk;
 
-pub use walk::first_bad_run;
+pub use taken::Taken;
+pub use walk::{first_bad_run, is_whole, records_of};
 
 /// Whether the runs spell a merging: each record of each log is taken once, in its log's order, and each receipt after
 /// the record that it names. Takes one pass over the runs and over the records, and no memory.
