@@ -67,7 +67,7 @@ walks_rest s c [] ys w = w
 walks_rest s c (x ∷ xs) ys w = walks_rest s (next c x.0) xs ys w.1
 
 -- the names of one run more
-spelled_push : (c : Cursors) (runs : List Run) (run : Run) → spelled_from c (runs ++ run ∷ []) ≡ spelled_from c runs ++ run_names run.log (cursors_from c (spelled_from c runs) run.log) run.count
+pub spelled_push : (c : Cursors) (runs : List Run) (run : Run) → spelled_from c (runs ++ run ∷ []) ≡ spelled_from c runs ++ run_names run.log (cursors_from c (spelled_from c runs) run.log) run.count
 spelled_push c [] run = append-nil (run_names run.log (c run.log) run.count)
 spelled_push c (r ∷ runs) run =
     let d = moved c r.log r.count in
@@ -136,7 +136,7 @@ receipt_other s Source n sent e = elim (source_other _ sent e) [ inl h ↦ ap (�
 receipt_other s Link n sent e = elim (link_other _ sent e) [ inl h ↦ ap (λ l. same_log Link l) h | inr h ↦ ap (λ l. same_log Link l) h ]
 receipt_other s Pager n sent e = elim (pager_other _ sent e) [ inl h ↦ ap (λ l. same_log Pager l) h | inr h ↦ ap (λ l. same_log Pager l) h ]
 
-other_next : (c : Cursors) (log m : LogName) → same_log log m ≡ false → next c log m ≡ c m
+pub other_next : (c : Cursors) (log m : LogName) → same_log log m ≡ false → next c log m ≡ c m
 other_next c log m e = ap (λ t. cond t (suc (c m)) (c m)) e
 
 pub received_at : (c : Cursors) (o : Option Name) (sent : Name) → is_received c o ≡ true → o ≡ Some sent → sent.1 < c sent.0

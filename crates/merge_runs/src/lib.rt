@@ -18,7 +18,8 @@ mod walk;
 
 pub use outcome::{MergeFault, Replay};
 pub use replaying::replay;
-pub use walk::first_bad_run;
+pub use taken::Taken;
+pub use walk::{first_bad_run, is_whole, records_of};
 
 /// Whether the runs spell a merging: each record of each log is taken once, in its log's order, and each receipt after
 /// the record that it names. Takes one pass over the runs and over the records, and no memory.

@@ -7,7 +7,7 @@ use migration_types::LogName;
 
 /// How many records of each log were taken, from its front.
 #[derive(Clone, Copy, Debug, PartialEq, Eq)]
-pub(crate) struct Taken {
+pub struct Taken {
     pub guest: usize,
     pub source: usize,
     pub link: usize,
@@ -19,7 +19,7 @@ impl Taken {
     ghost use Rattle.merge_runs.specs.Taken.{cursors_of};
 
     /// Nothing was taken.
-    pub(crate) fn nothing() -> Taken
+    pub fn nothing() -> Taken
         ensures { cursors_of result ≡ at_start }
     {
         Taken {
@@ -31,7 +31,7 @@ impl Taken {
     }
 
     /// How many records of this log were taken.
-    pub(crate) fn of(&self, log: LogName) -> usize
+    pub fn of(&self, log: LogName) -> usize
         ensures { result ≡ cursors_of self.now log }
     {
         match log {
@@ -43,7 +43,7 @@ impl Taken {
     }
 
     /// The next records of this log are taken too.
-    pub(crate) fn moved(&self, log: LogName, count: usize) -> Taken
+    pub fn moved(&self, log: LogName, count: usize) -> Taken
         requires { cursors_of self.now log + count < 2 ^ 64 }
         ensures { cursors_of result ≡ moved (cursors_of self.now) log count }
     {
@@ -58,7 +58,7 @@ impl Taken {
     }
 
     /// Whether what a record is a receipt for was taken.
-    pub(crate) fn received(&self, named: Option<(LogName, u32)>) -> bool
+    pub fn received(&self, named: Option<(LogName, u32)>) -> bool
         ensures { result ≡ is_received (cursors_of self.now) named }
     {
         match named {

@@ -81,7 +81,7 @@ fn run_received(session: &Session, taken: &Taken, log: LogName, from: usize, to:
 }
 
 /// How many records a log has.
-fn records_of(session: &Session, log: LogName) -> usize
+pub fn records_of(session: &Session, log: LogName) -> usize
     ensures { result ≡ log_length session.now log }
 {
     match log {
@@ -112,7 +112,7 @@ fn walk_run(session: &Session, taken: &Taken, run: &Run) -> Option<Taken>
 }
 
 /// Whether all records were taken.
-fn is_whole(session: &Session, taken: &Taken) -> bool
+pub fn is_whole(session: &Session, taken: &Taken) -> bool
     ensures { MatchBool result (AreAllTaken session.now taken.now) (AreAllTaken session.now taken.now → ⊥) }
 {
     if taken.guest != session.guest().len() {

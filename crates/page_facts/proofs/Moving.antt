@@ -72,7 +72,7 @@ sent_more s n r j old new limits is judged sent e =
     go (Ask i) f = sent
     go Done f = sent
 
-first_more : (s : Recorded) (n : ℕ) (r : PagerRec) (table : List (Option ℕ)) (f : ℕ → Option ℕ) → PagerPage s.geometry.pages r → IsTable s.geometry.pages None table f → IsTable s.geometry.pages None (placed_by table n r) (λ p. or_here (f p) (is_placement_of p r) n)
+pub first_more : (s : Recorded) (n : ℕ) (r : PagerRec) (table : List (Option ℕ)) (f : ℕ → Option ℕ) → PagerPage s.geometry.pages r → IsTable s.geometry.pages None table f → IsTable s.geometry.pages None (placed_by table n r) (λ p. or_here (f p) (is_placement_of p r) n)
 first_more s n r table f = go r
   where
     none : (o : Option ℕ) → or_here o false n ≡ o

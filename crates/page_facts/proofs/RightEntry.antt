@@ -17,9 +17,9 @@ use Rattle.migration_types.specs.Sessions.{Recorded}
 use Rattle.migration_types.specs.declared.cert.First.{First}
 use Rattle.migration_types.specs.declared.cert.Entry.{Entry}
 use Rattle.migration_types.specs.declared.cert.Entry.TheVariants.{Nothing, Source, Balloon}
-use Rattle.audit_model.specs.Flat.{flat, in_ledger, home, at_halt}
 use Rattle.audit_model.specs.declared.flat.Home.{Home}
 use Rattle.audit_model.specs.declared.flat.Home.TheVariants.{AtSource, Nowhere, AtTarget}
+use Rattle.audit_model.specs.Flat.{flat, in_ledger, home, at_halt}
 use Rattle.audit_model.specs.Shape.{passes, is_send_of, is_placement_of, delivery}
 use Rattle.audit_model.specs.Certificates.{is_access_of, IsLateAccess, IsHonest, IsOnlyPlacement, IsCovered, IsNothing, IsFromSource, IsBalloon, IsOf, IsRightEntry}
 use Rattle.page_facts.specs.declared.facts.PageFacts.{PageFacts}
@@ -56,7 +56,7 @@ first_late s page k e = (late_from s page k f.by f.stands f.passes_test, λ n a.
     go n a (inr le) = le
 
 -- covered
-sees_at : (s : Recorded) (n place : ℕ) → passes (sees_from place) (slice_get s.guest n) ≡ true → (k : ℕ) × (slice_get s.guest n ≡ Some (See k)) × (place ≤ k)
+pub sees_at : (s : Recorded) (n place : ℕ) → passes (sees_from place) (slice_get s.guest n) ≡ true → (k : ℕ) × (slice_get s.guest n ≡ Some (See k)) × (place ≤ k)
 sees_at s n place e = go (slice_get s.guest n) refl e
   where
     at : (r : GuestRec) → slice_get s.guest n ≡ Some r → sees_from place r ≡ true → (k : ℕ) × (slice_get s.guest n ≡ Some (See k)) × (place ≤ k)
@@ -259,11 +259,11 @@ ledger_zero : (s : Recorded) (page n : ℕ) → in_ledger s (at_halt s) page ≡
 ledger_zero s page n e = ap (λ b. b && not (in_ledger s (at_halt s) page)) (same_page page) ∙ ap (λ b. not b) e
 
 -- the parts of `is_once`
-place_some : (o : Option ℕ) (place : ℕ) → is_place o place ≡ true → o ≡ Some place
+pub place_some : (o : Option ℕ) (place : ℕ) → is_place o place ≡ true → o ≡ Some place
 place_some None place e = absurd (cc)
 place_some (Some n) place e = ap (λ k. Some k) (eqb-true n place e)
 
-absent_none : (o : Option ℕ) → is_absent o ≡ true → o ≡ None
+pub absent_none : (o : Option ℕ) → is_absent o ≡ true → o ≡ None
 absent_none None e = refl
 absent_none (Some n) e = absurd (cc)
 
@@ -282,13 +282,13 @@ once_test : (f : PageFacts) (place : ℕ) → IsOnce f place → is_once f place
 once_test f place o = and_from (is_place f.placement place && not f.again) (not f.altered) (and_from (is_place f.placement place) (not f.again) (ap (λ x. is_place x place) o.placement ∙ same_page place) (not_from_false f.again o.again)) (not_from_false f.altered o.altered)
 
 -- what stands at a place
-record IsPlaceAt (s : Recorded) (page send place : ℕ) : Type 0 where
-  got : ℕ
-  content : List ℕ
-  stands : slice_get s.pager place ≡ Some (Place page got content)
-  delivered : ℕ
-  is_delivery : delivery s got ≡ Some delivered
-  is_the_send : (delivered ≡ send) ⊎ (slice_get s.source delivered ≡ Some (Again send))
+pub record IsPlaceAt (s : Recorded) (page send place : ℕ) : Type 0 where
+  pub got : ℕ
+  pub content : List ℕ
+  pub stands : slice_get s.pager place ≡ Some (Place page got content)
+  pub delivered : ℕ
+  pub is_delivery : delivery s got ≡ Some delivered
+  pub is_the_send : (delivered ≡ send) ⊎ (slice_get s.source delivered ≡ Some (Again send))
 
 repeats_is : (s : Recorded) (d send : ℕ) → passes (repeats send) (slice_get s.source d) ≡ true → slice_get s.source d ≡ Some (Again send)
 repeats_is s d send e = go (slice_get s.source d) refl e
@@ -316,7 +316,7 @@ delivered_test s send o d e is = ap (λ x. delivers_from s send x) e ∙ go is
     go (inl h) = or_left (d == send) (passes (repeats send) (slice_get s.source d)) (eq-eqb d send h)
     go (inr h) = or_right (d == send) (passes (repeats send) (slice_get s.source d)) (ap (λ x. passes (repeats send) x) h ∙ same_page send)
 
-place_at : (s : Recorded) (page send place : ℕ) → passes (places_from s page send) (slice_get s.pager place) ≡ true → IsPlaceAt s page send place
+pub place_at : (s : Recorded) (page send place : ℕ) → passes (places_from s page send) (slice_get s.pager place) ≡ true → IsPlaceAt s page send place
 place_at s page send place e = go (slice_get s.pager place) refl e
   where
     at : (r : PagerRec) → slice_get s.pager place ≡ Some r → places_from s page send r ≡ true → IsPlaceAt s page send place
@@ -330,7 +330,7 @@ place_at s page send place e = go (slice_get s.pager place) refl e
     go None is t = absurd (cc)
     go (Some r) is t = at r is t
 
-zero_at : (s : Recorded) (page place : ℕ) → passes (zeroes page) (slice_get s.pager place) ≡ true → slice_get s.pager place ≡ Some (Zero page)
+pub zero_at : (s : Recorded) (page place : ℕ) → passes (zeroes page) (slice_get s.pager place) ≡ true → slice_get s.pager place ≡ Some (Zero page)
 zero_at s page place e = go (slice_get s.pager place) refl e
   where
     at : (r : PagerRec) → slice_get s.pager place ≡ Some r → zeroes page r ≡ true → slice_get s.pager place ≡ Some (Zero page)
@@ -341,7 +341,7 @@ zero_at s page place e = go (slice_get s.pager place) refl e
     go None is t = absurd (cc)
     go (Some r) is t = at r is t
 
-send_at : (s : Recorded) (page send : ℕ) → passes (is_send_of page) (slice_get s.source send) ≡ true → (content : List ℕ) × (slice_get s.source send ≡ Some (Send page content))
+pub send_at : (s : Recorded) (page send : ℕ) → passes (is_send_of page) (slice_get s.source send) ≡ true → (content : List ℕ) × (slice_get s.source send ≡ Some (Send page content))
 send_at s page send e = go (slice_get s.source send) refl e
   where
     at : (r : SourceRec) → slice_get s.source send ≡ Some r → is_send_of page r ≡ true → (content : List ℕ) × (slice_get s.source send ≡ Some (Send page content))

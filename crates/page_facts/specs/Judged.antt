@@ -9,9 +9,9 @@ use Rattle.migration_types.specs.declared.records.PagerRec.{PagerRec}
 use Rattle.migration_types.specs.declared.records.PagerRec.TheVariants.{Place, Zero}
 use Rattle.migration_types.specs.Memory.{Memory, page_of}
 use Rattle.migration_types.specs.Sessions.{Recorded}
-use Rattle.audit_model.specs.Flat.{cell_after, flat, in_ledger, home, at_halt}
 use Rattle.audit_model.specs.declared.flat.Home.{Home}
 use Rattle.audit_model.specs.declared.flat.Home.TheVariants.{AtTarget}
+use Rattle.audit_model.specs.Flat.{cell_after, flat, in_ledger, home, at_halt}
 use Rattle.audit_model.specs.Certificates.{is_access_of}
 use Rattle.page_store.specs.Frames.{memory_of, IsWith}
 use Rattle.page_facts.specs.Tables.{some_before, first_before, noted, IsTable}

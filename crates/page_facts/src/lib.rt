@@ -20,6 +20,7 @@ pub use kinds::{
     is_halt, is_halt_at, is_miss_at, is_placement_at, is_ready_at, is_resume, is_send_of,
     is_sending_at, is_up_at, is_want_at,
 };
-pub use marks::no_marks;
+pub use marks::{no_marks, no_places};
+pub use moved::note_placement;
 pub use entries::is_right_entry;
 pub use facts::{PageFacts, PageTables, facts_of, tables_of};

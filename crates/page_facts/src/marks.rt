@@ -12,8 +12,8 @@ pub fn no_marks(alloc: Global, pages: u32) -> Result<Vec<bool>, AllocError>
     vec![in alloc; false; pages as usize]
 }
 
-/// No page has a record.
-pub(crate) fn no_places(alloc: Global, pages: u32) -> Result<Vec<Option<u32>>, AllocError>
+/// The number of a record for each page, none of them there. An error: there is no memory for it.
+pub fn no_places(alloc: Global, pages: u32) -> Result<Vec<Option<u32>>, AllocError>
     ensures { IfOk result (λ v. v.items ≡ replicate pages None) }
 {
     let none: Option<u32> = None;

@@ -1,0 +1,113 @@
+//! The entries of a certificate, by the facts of the pages.
+
+ghost use Rattle.std.specs.Prelude.{◌≡◌, ◌<◌, length, slice_get, IfOk, MatchOption, None};
+ghost use Rattle.migration_types.specs.Sessions.{IsSession};
+ghost use Rattle.audit_model.specs.Names.{if_there};
+ghost use Rattle.page_facts.specs.Facts.{IsFacts, AreTables};
+ghost use Rattle.page_facts.specs.Tables.{IsTable};
+ghost use Rattle.cert_maker.specs.Looks.{first_look};
+ghost use Rattle.cert_maker.specs.Entries.{send_of, first_of, entry_at, entry_of, IsMadeEntry, HasNoEntry, AreMade, HasBarePage};
+
+use crate::looks::first_looks;
+use migration_types::{Entry, First, PageNo, PagerRec, Seq, Session, SourceRec};
+use page_facts::{PageFacts, PageTables, delivery, facts_of, is_right_entry, tables_of};
+use std::alloc::{AllocError, Global};
+
+/// The `send` whose contents came with a `got` of the pager, itself or by an `again`.
+fn send_of(session: &Session, got: u32) -> Option<u32>
+    ensures { result ≡ send_of session.now got }
+{
+    let delivered = delivery(session, got)?;
+    match session.source().get(delivered as usize) {
+        Some(SourceRec::Again { sending }) => Some(*sending),
+        _ => Some(delivered),
+    }
+}
+
+/// A page's first access with its first look, where the look is not missing.
+fn first_of(access: Option<u32>, look: Option<u32>) -> Option<Option<First>>
+    ensures { result ≡ first_of access look }
+{
+    let Some(access) = access else {
+        return Some(None);
+    };
+    let see = look?;
+    Some(Some(First { access, see }))
+}
+
+/// The entry for this placement.
+fn entry_at(session: &Session, place: u32, first: Option<First>) -> Option<Entry>
+    ensures { result ≡ if_there (entry_at session.now place first) (slice_get session.now.pager place) }
+{
+    match session.pager().get(place as usize)? {
+        PagerRec::Place { got, .. } => {
+            let send = send_of(session, *got)?;
+            Some(Entry::Source { send, place, first })
+        }
+        PagerRec::Zero { .. } => Some(Entry::Balloon { place, first }),
+        _ => None,
+    }
+}
+
+/// The one entry that can be right for a page with these facts and this first look.
+fn entry_of(session: &Session, facts: &PageFacts, look: Option<u32>) -> Option<Entry>
+    ensures { result ≡ entry_of session.now facts.now look }
+{
+    let Some(place) = facts.placement else {
+        return Some(Entry::Nothing);
+    };
+    let first = first_of(facts.access, look)?;
+    entry_at(session, place, first)
+}
+
+/// The right entry of a page, where it has one.
+fn made_entry(session: &Session, page: PageNo, facts: &PageFacts, look: Option<u32>) -> Option<Entry>
+    requires facts { IsFacts session.now page facts.now }
+    requires look { look ≡ first_look session.now (length session.now.guest) page }
+    ensures { MatchOption result (HasNoEntry session.now page) (IsMadeEntry session.now page) }
+{
+    let Some(entry) = entry_of(session, facts, look) else {
+        return None;
+    };
+    if is_right_entry(session, page, facts, &entry) {
+        Some(entry)
+    } else {
+        None
+    }
+}
+
+/// A right entry for each page, by the tables of the session. None: a page has no right entry.
+fn entries_in(
+    alloc: Global,
+    session: &Session,
+    tables: &PageTables,
+    looks: &[Option<u32>],
+) -> Result<Option<Seq<Entry>>, AllocError>
+    requires limits { IsSession session.now }
+    requires tables { AreTables session.now tables.now }
+    requires looks { IsTable session.now.geometry.pages None looks.now (first_look session.now (length session.now.guest)) }
+    ensures { IfOk result (λ o. MatchOption o (HasBarePage session.now) (AreMade session.now)) }
+{
+    let mut entries = Vec::with_capacity(alloc, looks.len())?;
+    for page in 0..looks.len() {
+        let number = PageNo::new(page as u16);
+        let facts = facts_of(session, tables, number);
+        let Some(entry) = made_entry(session, number, &facts, looks[page]) else {
+            return Ok(None);
+        };
+        entries.push(entry)?;
+    }
+    Ok(Some(Seq::from_vec(entries)))
+}
+
+/// A right entry for each page, with the earliest look that serves. None: a page has no right entry. Takes two passes
+/// over the logs of the guest and the pager and one over the source's, memory for the frames of one machine and a few
+/// numbers for each page. An error: there is no memory for them.
+pub(crate) fn entries_of(alloc: Global, session: &Session) -> Result<Option<Seq<Entry>>, AllocError>
+    ensures { IfOk result (λ o. MatchOption o (HasBarePage session.now) (AreMade session.now)) }
+{
+    session.keeps_limits();
+    let tables = tables_of(alloc, session)?;
+    let looks = first_looks(alloc, session)?;
+    entries_in(alloc, session, &tables, &looks)
+}

@@ -1,0 +1,12 @@
+//! The maker of certificates: an order of a session's records, and a certificate over an order.
+#![tactic(auto)]
+
+mod entries;
+mod line_stub;
+mod looks;
+mod maker;
+mod order;
+mod ready;
+
+pub use maker::{MakeFault, make};
+pub use order::{Order, find_order};

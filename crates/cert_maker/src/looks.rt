@@ -1,0 +1,80 @@
+//! The guest's first look that reaches a placement of each page.
+
+ghost use Rattle.std.specs.Prelude.{◌≡◌, ◌≤◌, length, IfOk, None};
+ghost use Rattle.migration_types.specs.declared.records.GuestRec.TheVariants.{See};
+ghost use Rattle.migration_types.specs.Sessions.{IsSession};
+ghost use Rattle.audit_model.specs.Faults.{looks_at};
+ghost use Rattle.page_facts.specs.Tables.{or_here, IsTable};
+ghost use Rattle.cert_maker.specs.Looks.{look_of, first_look, AreNoted, AreLooks, AreLooksOf};
+
+use migration_types::{GuestRec, Session};
+use page_facts::{no_places, note_placement};
+use std::alloc::{AllocError, Global};
+
+/// What the walk over the guest's log keeps.
+#[derive(Drop)]
+pub(crate) struct Looks {
+    /// The guest's first look at a placement of each page, or at a later record of the pager.
+    pub first: Vec<Option<u32>>,
+    /// How many of the pager's records the looks reach.
+    pub reached: usize,
+}
+
+/// The pager's record that a look sees.
+fn look_of(logged: &GuestRec) -> Option<u32>
+    ensures { result ≡ look_of logged.now }
+{
+    match *logged {
+        GuestRec::See { placement } => Some(placement),
+        _ => None,
+    }
+}
+
+/// Notes a look for the pages that these records of the pager place, where no look is noted.
+fn note_reached(session: &Session, first: &mut Vec<Option<u32>>, from: usize, to: usize, n: u32)
+    requires limits { IsSession session.now }
+    requires order { from ≤ to }
+    requires within { to ≤ length session.now.pager }
+    requires noted { AreNoted session.now n from first.old.items }
+    ensures { AreNoted session.now n to first.new.items }
+{
+    let pager = session.pager();
+    for place in from..to {
+        note_placement(first, &pager[place], n);
+    }
+}
+
+/// Takes in a look at this record of the pager.
+fn take_look(session: &Session, looks: &mut Looks, placement: u32, n: u32)
+    requires limits { IsSession session.now }
+    requires looks { AreLooks session.now n looks.old }
+    ensures { AreLooksOf session.now (λ page. or_here (first_look session.now n page) (looks_at session.now page (See placement)) n) looks.new }
+{
+    let records = session.pager().len();
+    let seen = placement as usize;
+    let to = if seen < records { seen + 1 } else { records };
+    if looks.reached < to {
+        note_reached(session, &mut looks.first, looks.reached, to, n);
+        looks.reached = to;
+    }
+}
+
+/// The guest's first look at a placement of each page, or at a later record of the pager. Takes each record of the guest
+/// and of the pager once, and memory for a number for each page. An error: there is no memory for them.
+pub(crate) fn first_looks(
+    alloc: Global,
+    session: &Session,
+) -> Result<Vec<Option<u32>>, AllocError>
+    ensures { IfOk result (λ table. IsTable session.now.geometry.pages None table.items (first_look session.now (length session.now.guest))) }
+{
+    session.keeps_limits();
+    let first = no_places(alloc, session.geometry().pages())?;
+    let mut looks = Looks { first, reached: 0 };
+    let guest = session.guest();
+    for n in 0..guest.len() {
+        if let Some(placement) = look_of(&guest[n]) {
+            take_look(session, &mut looks, placement, n as u32);
+        }
+    }
+    Ok(looks.first)
+}

@@ -1,0 +1,42 @@
+//! Certificates.
+
+ghost use Rattle.std.specs.Prelude.{MatchResult};
+ghost use Rattle.migration_types.specs.Certs.{AreRuns};
+ghost use Rattle.cert_maker.specs.Made.{IsMade, IsRefused};
+
+use crate::entries::entries_of;
+use merge_runs::is_merging;
+use migration_types::{Cert, Run, Seq, Session};
+use std::alloc::Global;
+use thiserror::Error;
+
+/// Why no certificate was made.
+#[derive(Clone, Copy, Debug, PartialEq, Eq, Error)]
+pub enum MakeFault {
+    /// There is no right certificate with these runs: they are no merging, or a page has no right entry.
+    #[error("no certificate")]
+    NoCertificate,
+    /// Memory was refused.
+    #[error("out of memory")]
+    Memory,
+}
+
+/// The right certificate of a session with these runs. Each entry with a first access names the earliest look that
+/// covers the page's placement. Takes one pass over the runs and a few over the records, and memory for the frames of
+/// one machine, the entries, and a few numbers for each page. On an error the runs are dropped.
+pub fn make(alloc: Global, session: &Session, runs: Seq<Run>) -> Result<Cert, MakeFault>
+    requires { AreRuns runs }
+    ensures { MatchResult result (IsMade session.now runs) (IsRefused session.now runs) }
+{
+    session.keeps_limits();
+    if !is_merging(session, runs.as_slice()) {
+        return Err(MakeFault::NoCertificate);
+    }
+    let Ok(made) = entries_of(alloc, session) else {
+        return Err(MakeFault::Memory);
+    };
+    let Some(entries) = made else {
+        return Err(MakeFault::NoCertificate);
+    };
+    Ok(Cert::new(entries, runs))
+}
