@@ -2,3 +2,4 @@ pub mod Cuts
 pub mod Names
 pub mod Verdicts
 pub mod Plain
+pub mod Broken

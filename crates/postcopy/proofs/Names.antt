@@ -33,3 +33,8 @@ names_of_other None name found n is e = absurd cc
 names_of_other (Some given) name found n is e =
     let same_name : name ≡ given.0 = cc in
     e ∙ sym (ap (λ t. cond t (names_among given.1) None) (ap (λ (x : Text). bytes_eq x (codes "check")) (sym same_name) ∙ is))
+
+-- words that ask for nothing name no check
+pub nothing_checked : (found : Option Job) (names : Text × Text) → found ≡ None → checked_by found ≡ Some names → ⊥
+nothing_checked None names e h = let none : None ≡ Some names = h in absurd cc
+nothing_checked (Some job) names e h = absurd cc

@@ -10,6 +10,7 @@ mod answer;
 mod command;
 mod cutting;
 mod naming;
+mod pair;
 mod program;
 mod reading;
 mod replaying;

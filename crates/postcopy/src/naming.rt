@@ -1,40 +1,15 @@
 //! The texts under names.
 
-ghost use Rattle.std.specs.Prelude.{◌≡◌, false, take, drop, IfOk, IfSome};
+ghost use Rattle.std.specs.Prelude.{◌≡◌, false, IfOk, IfSome};
 ghost use Rattle.postcopy.specs.Answers.{AreNamed, bytes_under, is_dash};
-ghost use Rattle.postcopy.specs.Pairs.{first_of, second_of, IsPair};
+ghost use Rattle.postcopy.specs.Pairs.{first_text, second_text, IsPair};
 
 use crate::answer::Fault;
 use crate::cutting::cut_at_end;
+use crate::pair::Pair;
 use crate::reading::{ReadFault, TextSource, fault_of, read_whole};
 use std::alloc::Global;
 use std::io::Read;
-
-/// Two texts: each by itself, or the parts of one input.
-#[derive(Drop)]
-pub struct Pair {
-    /// The first text, and the second behind it where both are of one input.
-    pub bytes: Vec<u8>,
-    /// Where the first text ends.
-    pub cut: usize,
-    /// The second text, where it is not of the same input.
-    pub other: Option<Vec<u8>>,
-}
-
-impl Pair {
-    /// The two texts.
-    pub fn texts(&self) -> (&[u8], &[u8])
-        requires { IsPair self.now }
-        ensures first { result.0.now ≡ first_of self.now }
-        ensures second { result.1.now ≡ second_of self.now }
-    {
-        let (first, rest) = self.bytes.split_at(self.cut);
-        match &self.other {
-            Some(second) => (first, second.as_slice()),
-            None => (first, rest),
-        }
-    }
-}
 
 // The fault at the text under a name.
 fn fault_at(name: &str, fault: ReadFault) -> Fault<'_> {
@@ -73,7 +48,7 @@ pub fn read_pair<'a, S: TextSource, I: Read>(
     input: &mut I,
 ) -> Result<Pair, Fault<'a>>
     ensures pair { IfOk result IsPair }
-    ensures named { IfOk result (λ pair. AreNamed first.entry.now second.entry.now (S.bytes_of texts.now) (I.remaining input.old) (first_of pair) (second_of pair)) }
+    ensures named { IfOk result (λ pair. AreNamed first.entry.now second.entry.now (S.bytes_of texts.now) (I.remaining input.old) (first_text pair) (second_text pair)) }
 {
     if first == "-" && second == "-" {
         let bytes = read_named(alloc, first, texts, input)?;

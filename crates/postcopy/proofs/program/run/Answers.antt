@@ -1,15 +1,21 @@
-use Rattle.std.proofs.Common.{◌≡◌, ℕ, ◌∙◌, arith}
+use Rattle.std.proofs.Common.{◌≡◌, ℕ, ◌∙◌, sym, ap, arith}
+use Rattle.clap.specs.Words.{Text}
 use Rattle.postcopy.specs.Answers.{Answers, AreNamed}
+use Rattle.postcopy.specs.Commands.{checked_by}
+use Rattle.postcopy.proofs.Names.{nothing_checked}
 use Rattle.postcopy.proofs.Plain.{taken_plain}
-use Rattle.postcopy.proofs.Verdicts.{settled, names_used}
+use Rattle.postcopy.proofs.Verdicts.{settled_named}
 use Rattle.postcopy.proofs.program.run.Goals as goal
 
-pub returns-in-Ok-clause-plain : goal.returns-in-Ok-clause-plain
-returns-in-Ok-clause-plain g c = λ session cert plain.
-    let used = names_used c.in-Ok.names _ c.unwrap_or.result session cert (c.in-Ok.ensures.ok ∙ (taken_plain _ session cert plain).given) c.unwrap_or.ensures in
-    rw (← used.0, ← used.1) (settled c.check.result c.settle-in-Ok.result
-    (λ (status : ℕ). Answers (AreNamed c.unwrap_or.result.0.now c.unwrap_or.result.1.now (g.S.TextSource.bytes_of c.args.texts.now) (g.I.Read.remaining c.args.input.now)) (g.O.Write.contents c.args.output.now) (g.O.Write.contents c.check.new.output) status)
-    c.settle-in-Ok.ensures c.check.ensures.few c.check.ensures.told)
+pub returns-in-Ok-Some-clause-plain : goal.returns-in-Ok-Some-clause-plain
+returns-in-Ok-Some-clause-plain g c = λ session cert plain.
+    settled_named c.perform.result c.settle-in-Ok-Some.result _ session cert
+    (λ (session cert : Text) (status : ℕ). Answers (AreNamed session cert (g.S.TextSource.bytes_of c.args.texts.now) (g.I.Read.remaining c.args.input.now)) (g.O.Write.contents c.args.output.now) (g.O.Write.contents c.perform.new.output) status)
+    (ap checked_by (sym c.in-Ok-Some.field-0-is) ∙ c.in-Ok-Some.ensures.ok ∙ (taken_plain _ session cert plain).given) c.settle-in-Ok-Some.ensures c.perform.ensures.few c.perform.ensures.checked
+
+pub returns-in-Ok-None-clause-plain : goal.returns-in-Ok-None-clause-plain
+returns-in-Ok-None-clause-plain g c = λ session cert plain.
+    absurd (nothing_checked c.in-Ok-None.field-0 (session, cert) c.in-Ok-None.field-0-is (c.in-Ok-None.ensures.ok ∙ (taken_plain _ session cert plain).given))
 
 pub returns-in-Err-clause-plain : goal.returns-in-Err-clause-plain
 returns-in-Err-clause-plain g c = λ session cert plain.

@@ -1,0 +1,1 @@
+use Rattle.postcopy.proofs.replaying.find_outcome.Goals as goal
