@@ -289,7 +289,8 @@ fn fields(log: &str, kind: &str) -> Option<&'static [Field]> {
 
 /// The number that a word is, up to a limit.
 fn number(word: &str, limit: u64) -> Option<u64> {
-    if !word.bytes().all(|byte| byte.is_ascii_digit()) || (word.len() > 1 && word.starts_with('0'))
+    if !word.bytes().all(|byte| byte.is_ascii_digit())
+        || (word.len() > 1 && word.starts_with('0'))
     {
         return None;
     }
@@ -299,9 +300,7 @@ fn number(word: &str, limit: u64) -> Option<u64> {
 
 fn is_contents(word: &str, cells: u64) -> bool {
     word.len() as u64 == cells.saturating_mul(16)
-        && word
-            .bytes()
-            .all(|byte| byte.is_ascii_digit() || (b'a'..=b'f').contains(&byte))
+        && word.bytes().all(|byte| byte.is_ascii_digit() || (b'a'..=b'f').contains(&byte))
 }
 
 fn is_field(word: &str, field: Field, pages: u64, cells: u64) -> bool {
@@ -379,7 +378,10 @@ fn is_session(lines: &mut Lines) -> Option<()> {
         if words.next()? != "page" {
             return None;
         }
-        let page = number(words.next()?, pages.saturating_sub(to_come.saturating_add(1)))?;
+        let page = number(
+            words.next()?,
+            pages.saturating_sub(to_come.saturating_add(1)),
+        )?;
         let contents = words.next()?;
         let is_right = low <= page && is_contents(contents, cells) && words.next().is_none();
         if !is_right || contents.bytes().all(|byte| byte == b'0') {
