@@ -1,17 +1,13 @@
 -- Each state of a reader goes on to a text.
-use Rattle.std.proofs.Common.{◌≡◌, ◌≢◌, ℕ, zero, suc, ◌+◌, ◌-◌, ◌<◌, ◌≤◌, ◌^◌, List, [], ◌∷◌, ◌++◌, length, map, replicate, refl, sym, ap, subst, ◌∙◌, append_assoc, length-append, arith}
+use Rattle.std.proofs.Common.{◌≡◌, ◌≢◌, ℕ, zero, suc, ◌+◌, ◌-◌, ◌<◌, ◌≤◌, ◌^◌, List, [], ◌∷◌, ◌++◌, length, map, replicate, refl, sym, ap, subst, ◌∙◌, length-append, arith}
 use Rattle.std.specs.List.{AllByRecursion}
 use Rattle.std.specs.Fmt.{decimal}
 use Rattle.std.proofs.lemmas.List.{append-nil, length-map, length-replicate}
-use Rattle.text_lines.specs.Text.{Begins, TakesLines}
+use Rattle.text_lines.specs.Text.{Begins}
 use Rattle.text_lines.proofs.Cut.{Begins-front}
-use Rattle.migration_types.specs.declared.records.GuestRec.{GuestRec}
 use Rattle.migration_types.specs.declared.records.GuestRec.TheVariants.{Halt}
-use Rattle.migration_types.specs.declared.records.SourceRec.{SourceRec}
 use Rattle.migration_types.specs.declared.records.SourceRec.TheVariants.{State}
-use Rattle.migration_types.specs.declared.records.LinkRec.{LinkRec}
 use Rattle.migration_types.specs.declared.records.LinkRec.TheVariants.{Down}
-use Rattle.migration_types.specs.declared.records.PagerRec.{PagerRec}
 use Rattle.migration_types.specs.declared.records.PagerRec.TheVariants.{All}
 use Rattle.migration_types.specs.declared.pages.InitPage.{InitPage}
 use Rattle.migration_types.specs.Extents.{Extent, IsExtent}
@@ -21,8 +17,8 @@ use Rattle.session_log.specs.declared.parts.Stage.{Stage}
 use Rattle.session_log.specs.declared.parts.Stage.TheVariants.{Header, Pages, Cells, InitCount, Init, Guest, Source, Link, Pager, Done}
 use Rattle.session_log.specs.Records.{guest_line, source_line, link_line, pager_line}
 use Rattle.session_log.specs.InitPages.{Rise, rise_long, rise_increases}
-use Rattle.session_log.specs.Grammar.{header, pages_key, cells_key, init_key, guest_key, source_key, link_key, pager_key, page_line, closing, counted, session_lines, SpellsSession}
-use Rattle.session_log.specs.Held.{Draft, Part, part_onto, geometry_onto, init_onto, guest_onto, source_onto, link_onto, pager_onto, held_onto, IsWhole, InitFits, LogFits, GuestFits, SourceFits, LinkFits, PagerFits, Live}
+use Rattle.session_log.specs.Grammar.{header, pages_key, cells_key, init_key, guest_key, source_key, link_key, pager_key, page_line, closing, session_lines, SpellsSession}
+use Rattle.session_log.specs.Held.{Draft, Part, part_onto, geometry_onto, init_onto, guest_onto, source_onto, link_onto, pager_onto, held_onto, IsWhole, LogFits, GuestFits, SourceFits, LinkFits, PagerFits, Live}
 use Rattle.session_log.proofs.Lists.{all_append, all_replicate}
 use Rattle.session_log.proofs.Sections.{with_items, onto_more, onto_whole, fresh, fresh_fits, missing, filled_whole, filled_fits}
 use Rattle.session_log.proofs.Laws.{held_append, StartFits, guest_part, source_part, link_part, pager_part, pager_lines, link_lines, source_lines, guest_lines, init_agrees, guest_agrees, source_agrees, link_agrees, pager_agrees}
@@ -81,7 +77,7 @@ pager_begins d f =
     let more = missing d.pager All in
     let e : Draft = record d { pager = with_items d.pager more } in
     step Pager Done d e (map pager_line more ++ closing ∷ []) (ap (link_onto d) (onto_more pager_key pager_line d.pager more (closing ∷ [])))
-      (done_begins e (filled_fits (LinkFits d) d.link (PagerRecFits d.geometry) d.pager All f tt) (filled_whole d.pager All f.within))
+    (done_begins e (filled_fits (LinkFits d) d.link (PagerRecFits d.geometry) d.pager All f tt) (filled_whole d.pager All f.within))
 
 link_begins : (d : Draft) → LinkFits d → Begins SpellsSession (held_onto Link d [])
 link_begins d f =
@@ -90,7 +86,7 @@ link_begins d f =
     let line = pager_key ++ decimal 0 in
     let e : Draft = record d { link = log; pager = fresh 0 } in
     step Link Pager d e (map link_line more ++ line ∷ []) (ap (source_onto d) (onto_more link_key link_line d.link more (line ∷ [])))
-      (pager_begins e (fresh_fits (LinkFits e) log (PagerRecFits d.geometry) 0 (filled_fits (SourceFits d) d.source LinkRecFits d.link (Down 0) f (omega arith)) (filled_whole d.link (Down 0) f.within) (omega arith)))
+    (pager_begins e (fresh_fits (LinkFits e) log (PagerRecFits d.geometry) 0 (filled_fits (SourceFits d) d.source LinkRecFits d.link (Down 0) f (omega arith)) (filled_whole d.link (Down 0) f.within) (omega arith)))
 
 source_begins : (d : Draft) → SourceFits d → Begins SpellsSession (held_onto Source d [])
 source_begins d f =
@@ -99,7 +95,7 @@ source_begins d f =
     let line = link_key ++ decimal 0 in
     let e : Draft = record d { source = log; link = fresh 0 } in
     step Source Link d e (map source_line more ++ line ∷ []) (ap (guest_onto d) (onto_more source_key source_line d.source more (line ∷ [])))
-      (link_begins e (fresh_fits (SourceFits e) log LinkRecFits 0 (filled_fits (GuestFits d) d.guest (SourceRecFits d.geometry) d.source State f tt) (filled_whole d.source State f.within) (omega arith)))
+    (link_begins e (fresh_fits (SourceFits e) log LinkRecFits 0 (filled_fits (GuestFits d) d.guest (SourceRecFits d.geometry) d.source State f tt) (filled_whole d.source State f.within) (omega arith)))
 
 guest_begins : (d : Draft) → GuestFits d → Begins SpellsSession (held_onto Guest d [])
 guest_begins d f =
@@ -108,7 +104,7 @@ guest_begins d f =
     let line = source_key ++ decimal 0 in
     let e : Draft = record d { guest = log; source = fresh 0 } in
     step Guest Source d e (map guest_line more ++ line ∷ []) (ap (init_onto d) (onto_more guest_key guest_line d.guest more (line ∷ [])))
-      (source_begins e (fresh_fits (GuestFits e) log (SourceRecFits d.geometry) 0 (filled_fits (StartFits d) d.init (GuestRecFits d.geometry) d.guest Halt f tt) (filled_whole d.guest Halt f.within) (omega arith)))
+    (source_begins e (fresh_fits (GuestFits e) log (SourceRecFits d.geometry) 0 (filled_fits (StartFits d) d.init (GuestRecFits d.geometry) d.guest Halt f tt) (filled_whole d.guest Halt f.within) (omega arith)))
 
 -- pages that go on rising, each with a cell that is not 0
 abbrev page_at : ℕ → ℕ → InitPage
@@ -166,7 +162,7 @@ init_begins d f =
       room = omega arith;
     } in
     step Init Guest d e (map page_line more ++ line ∷ []) (ap (geometry_onto d.geometry) (onto_more init_key page_line d.init more (line ∷ [])))
-      (guest_begins e (fresh_fits (StartFits e) list (GuestRecFits d.geometry) 0 fits (omega arith) (omega arith)))
+    (guest_begins e (fresh_fits (StartFits e) list (GuestRecFits d.geometry) 0 fits (omega arith) (omega arith)))
 
 abbrev empty_draft : Extent → Draft
 empty_draft e = record { geometry = e; next_page = 0; init = fresh 0; guest = fresh 0; source = fresh 0; link = fresh 0; pager = fresh 0 }

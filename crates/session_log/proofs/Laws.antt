@@ -1,5 +1,5 @@
 -- What the lines that a reader holds say of each text that begins with them.
-use Rattle.std.proofs.Common.{◌≡◌, ◌≢◌, ℕ, ◌+◌, ◌-◌, ◌<◌, ◌≤◌, ◌^◌, List, [], ◌∷◌, ◌++◌, length, map, refl, sym, ap, subst, ◌∙◌, append_assoc, length-append, arith, inl, inr}
+use Rattle.std.proofs.Common.{◌≡◌, ◌≢◌, ℕ, ◌+◌, ◌-◌, ◌<◌, ◌≤◌, ◌^◌, List, [], ◌∷◌, ◌++◌, length, map, refl, sym, ap, subst, ◌∙◌, length-append, arith, inl, inr}
 use Rattle.std.specs.List.{AllByRecursion}
 use Rattle.std.specs.Fmt.{decimal}
 use Rattle.std.proofs.lemmas.List.{append_cancel_left, length-map}
@@ -22,7 +22,7 @@ use Rattle.session_log.specs.declared.parts.Stage.{Stage}
 use Rattle.session_log.specs.declared.parts.Stage.TheVariants.{Header, Pages, Cells, InitCount, Init, Guest, Source, Link, Pager, Done}
 use Rattle.session_log.specs.Records.{guest_line, source_line, link_line, pager_line}
 use Rattle.session_log.specs.InitPages.{IsInitContent, Rise, rise_long, rise_of, few_init}
-use Rattle.session_log.specs.Grammar.{header, pages_key, cells_key, init_key, guest_key, source_key, link_key, pager_key, page_key, page_line, closing, counted, session_lines, SpellsSession}
+use Rattle.session_log.specs.Grammar.{pages_key, cells_key, init_key, guest_key, source_key, link_key, pager_key, page_key, page_line, closing, counted, session_lines, SpellsSession}
 use Rattle.session_log.specs.Held.{Draft, Part, part_onto, geometry_onto, init_onto, guest_onto, source_onto, link_onto, pager_onto, held_onto, IsWhole, InitFits, GuestFits, SourceFits, LinkFits, PagerFits, Live}
 use Rattle.session_log.proofs.Lists.{all_at, all_append}
 use Rattle.session_log.proofs.Sections.{part_append, with_items, agrees, item_at, count_at}

@@ -1,14 +1,12 @@
 -- Where a text has the line of a record.
-use Rattle.std.proofs.Common.{◌≡◌, ℕ, zero, suc, ◌+◌, ◌-◌, ◌<◌, ◌≤◌, List, [], ◌∷◌, ◌++◌, length, map, refl, sym, ap, ◌∙◌, arith}
+use Rattle.std.proofs.Common.{◌≡◌, ℕ, zero, suc, ◌+◌, ◌-◌, ◌<◌, List, [], ◌∷◌, ◌++◌, length, map, refl, ap, ◌∙◌, arith}
 use Rattle.std.specs.Prelude.{slice_get}
-use Rattle.std.specs.Fmt.{decimal}
 use Rattle.std.proofs.lemmas.List.{length-map}
-use Rattle.migration_types.specs.Sessions.{Recorded, IsSession, line_of, log_length}
-use Rattle.migration_types.specs.Receipts.{Name}
+use Rattle.migration_types.specs.Sessions.{Recorded, line_of, log_length}
 use Rattle.migration_types.specs.declared.records.LogName.{LogName}
 use Rattle.migration_types.specs.declared.records.LogName.TheVariants.{Guest, Source, Link, Pager}
 use Rattle.session_log.specs.Records.{guest_line, source_line, link_line, pager_line}
-use Rattle.session_log.specs.Grammar.{header, pages_key, cells_key, init_key, guest_key, source_key, link_key, pager_key, page_line, closing, counted, session_lines, record_line}
+use Rattle.session_log.specs.Grammar.{init_key, guest_key, source_key, link_key, pager_key, page_line, closing, counted, session_lines, record_line}
 use Rattle.session_log.proofs.Laws.{guest_lines, source_lines, link_lines, pager_lines}
 
 past : (xs ys : List (List ℕ)) (k : ℕ) → slice_get (xs ++ ys) (length xs + k) ≡ slice_get ys k

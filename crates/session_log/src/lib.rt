@@ -20,13 +20,12 @@ mod source;
 mod tests;
 mod writing;
 
-pub use places::line_of;
-pub use writing::write_session;
-
 use crate::lines::SessionLines;
 use migration_types::Session;
+pub use places::line_of;
 use std::alloc::Global;
 use text_lines::{TextFault, read};
+pub use writing::write_session;
 
 /// The session that the bytes are the text of. The bytes stay as they are.
 ///

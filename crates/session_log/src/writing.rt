@@ -188,12 +188,7 @@ fn push_access(
 }
 
 /// Adds a line that is a key, a processor and a page.
-fn push_vcpu_page(
-    out: &mut Vec<u8>,
-    key: &[u8],
-    vcpu: u8,
-    page: PageNo,
-) -> Result<(), AllocError>
+fn push_vcpu_page(out: &mut Vec<u8>, key: &[u8], vcpu: u8, page: PageNo) -> Result<(), AllocError>
     ensures { OnOk result (out.new.items ≡ out.old.items ++ (key.now ++ vcpu_page_text vcpu page ++ 10 ∷ [])) }
 {
     out.extend_from_slice(key)?;

@@ -1,4 +1,4 @@
-use Rattle.std.proofs.Common.{[], ◌∷◌, ◌++◌, List, ℕ, sym, ap, subst, ◌∙◌}
+use Rattle.std.proofs.Common.{sym, subst, ◌∙◌}
 use Rattle.text_lines.specs.Text.{Begins}
 use Rattle.session_log.specs.Grammar.{SpellsSession}
 use Rattle.session_log.specs.Steps.{draft_of}

@@ -4,14 +4,20 @@ use Rattle.session_log.proofs.Laws.{pager_count_refused, link_refused}
 use Rattle.session_log.proofs.parts.Parts.at_link.Goals as goal
 
 pub returns-in-Err : goal.returns-in-Err
-returns-in-Err c = (refl, λ _ b.
-    let p = c.args.self.now in
-    let full : length p.link.items ≡ p.link_count = omega (arith, p.link.ok.0) in
-    pager_count_refused (draft_of p) c.args.line.now c.requires.0 full c.in-Err.ensures.refused b)
+returns-in-Err c = (
+  refl,
+  λ _ b.
+      let p = c.args.self.now in
+      let full : length p.link.items ≡ p.link_count = omega (arith, p.link.ok.0) in
+      pager_count_refused (draft_of p) c.args.line.now c.requires.0 full c.in-Err.ensures.refused b,
+)
 
 pub returns-in_default : goal.returns-in_default
-returns-in_default c = (refl, λ _ b.
-    let p = c.args.self.now in
-    let within = c.requires.0.within in
-    let less : length p.link.items < p.link_count = omega (arith, p.link.ok.0) in
-    link_refused (draft_of p) c.args.line.now c.requires.0 less c.in_default.ensures b)
+returns-in_default c = (
+  refl,
+  λ _ b.
+      let p = c.args.self.now in
+      let within = c.requires.0.within in
+      let less : length p.link.items < p.link_count = omega (arith, p.link.ok.0) in
+      link_refused (draft_of p) c.args.line.now c.requires.0 less c.in_default.ensures b,
+)

@@ -9,8 +9,11 @@ use Rattle.session_log.proofs.Laws.{live_at, more_refused}
 use Rattle.session_log.proofs.parts.Parts.take.Goals as goal
 
 pub returns-in-Done : goal.returns-in-Done
-returns-in-Done c = (refl, λ _ b.
-    let d = draft_of c.args.self.now in
-    let line = c.args.line.now in
-    let live = live_at c.args.stage Done d c.in-Done.is c.requires in
-    more_refused d line live.0 live.1 (subst (λ (s : Stage). Begins SpellsSession (held_onto s d (line ∷ []))) c.in-Done.is b))
+returns-in-Done c = (
+  refl,
+  λ _ b.
+      let d = draft_of c.args.self.now in
+      let line = c.args.line.now in
+      let live = live_at c.args.stage Done d c.in-Done.is c.requires in
+      more_refused d line live.0 live.1 (subst (λ (s : Stage). Begins SpellsSession (held_onto s d (line ∷ []))) c.in-Done.is b),
+)
