@@ -2,7 +2,8 @@
 
 use super::*;
 use migration_types::{
-    Contents, Entry, First, Geometry, GuestRec, LinkRec, LogName, PageNo, PagerRec, Run, Seq, Session, SourceRec,
+    Contents, Entry, First, Geometry, GuestRec, LinkRec, LogName, PageNo, PagerRec, Run, Seq,
+    Session, SourceRec,
 };
 use std::test::Fail;
 
@@ -12,19 +13,32 @@ fn finds_and_makes(rt: HostRuntime) -> Result<(), Fail> {
     geometry.keeps_limits();
     let page = PageNo::new(0);
     let guest = vec![in rt.alloc();
-        GuestRec::Write { vcpu: 0, page, cell: 0, value: 7 },
+        GuestRec::Write {
+            vcpu: 0,
+            page,
+            cell: 0,
+            value: 7
+        },
         GuestRec::Halt,
         GuestRec::Resume { ready: 1 },
         GuestRec::Miss { vcpu: 0, page },
         GuestRec::See { placement: 5 },
         GuestRec::See { placement: 5 },
-        GuestRec::Read { vcpu: 0, page, cell: 0, value: 7 },
+        GuestRec::Read {
+            vcpu: 0,
+            page,
+            cell: 0,
+            value: 7
+        },
     ]?;
     let source = vec![in rt.alloc();
         SourceRec::Halted { halt: 1 },
         SourceRec::State,
         SourceRec::Ask { up: 1 },
-        SourceRec::Send { page, contents: Contents::one(7) },
+        SourceRec::Send {
+            page,
+            contents: Contents::one(7)
+        },
     ]?;
     let link = vec![in rt.alloc();
         LinkRec::Down { sending: 1 },
@@ -37,7 +51,11 @@ fn finds_and_makes(rt: HostRuntime) -> Result<(), Fail> {
         PagerRec::Fault { miss: 3 },
         PagerRec::Want { page },
         PagerRec::Got { down: 2 },
-        PagerRec::Place { page, got: 4, contents: Contents::one(7) },
+        PagerRec::Place {
+            page,
+            got: 4,
+            contents: Contents::one(7)
+        },
     ]?;
     let session = Session::new(
         geometry,
@@ -51,22 +69,59 @@ fn finds_and_makes(rt: HostRuntime) -> Result<(), Fail> {
         panic!(rt; "a knot");
     };
     let want = [
-        Run { log: LogName::Guest, count: 2 },
-        Run { log: LogName::Source, count: 2 },
-        Run { log: LogName::Link, count: 1 },
-        Run { log: LogName::Pager, count: 2 },
-        Run { log: LogName::Guest, count: 2 },
-        Run { log: LogName::Pager, count: 2 },
-        Run { log: LogName::Link, count: 1 },
-        Run { log: LogName::Source, count: 2 },
-        Run { log: LogName::Link, count: 1 },
-        Run { log: LogName::Pager, count: 2 },
-        Run { log: LogName::Guest, count: 3 },
+        Run {
+            log: LogName::Guest,
+            count: 2,
+        },
+        Run {
+            log: LogName::Source,
+            count: 2,
+        },
+        Run {
+            log: LogName::Link,
+            count: 1,
+        },
+        Run {
+            log: LogName::Pager,
+            count: 2,
+        },
+        Run {
+            log: LogName::Guest,
+            count: 2,
+        },
+        Run {
+            log: LogName::Pager,
+            count: 2,
+        },
+        Run {
+            log: LogName::Link,
+            count: 1,
+        },
+        Run {
+            log: LogName::Source,
+            count: 2,
+        },
+        Run {
+            log: LogName::Link,
+            count: 1,
+        },
+        Run {
+            log: LogName::Pager,
+            count: 2,
+        },
+        Run {
+            log: LogName::Guest,
+            count: 3,
+        },
     ];
     assert_eq!(rt; runs.as_slice(), want.as_slice());
     let cert = make(rt.alloc(), &session, runs)?;
     let entries = [
-        Entry::Source { send: 3, place: 5, first: Some(First { access: 6, see: 4 }) },
+        Entry::Source {
+            send: 3,
+            place: 5,
+            first: Some(First { access: 6, see: 4 }),
+        },
         Entry::Nothing,
     ];
     assert_eq!(rt; cert.entries(), entries.as_slice());
