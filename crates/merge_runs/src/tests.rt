@@ -78,10 +78,12 @@ fn run(log: LogName, count: u32) -> Run {
     Run { log, count }
 }
 
-#[test]
-fn replays_a_safe_merging(rt: HostRuntime) -> Result<(), Fail> {
+/// The guest writes page 1, moves, reads page 0, looks at page 1's placement, writes page 1 and reads it.
+fn whole_session(alloc: Global) -> Result<Session, Fail>
+    ensures { IfOk result (λ s. s.geometry ≡ record { pages = 2; cells = 1 }) }
+{
     let (first, second) = (PageNo::new(0), PageNo::new(1));
-    let guest = vec![in rt.alloc();
+    let guest = vec![in alloc;
         GuestRec::Write {
             vcpu: 0,
             page: second,
@@ -115,32 +117,15 @@ fn replays_a_safe_merging(rt: HostRuntime) -> Result<(), Fail> {
             value: 9
         },
     ]?;
-    let session = session_of(rt.alloc(), guest)?;
-    let runs = [
-        run(LogName::Guest, 2),
-        run(LogName::Source, 2),
-        run(LogName::Link, 1),
-        run(LogName::Pager, 2),
-        run(LogName::Guest, 2),
-        run(LogName::Pager, 2),
-        run(LogName::Link, 1),
-        run(LogName::Source, 3),
-        run(LogName::Link, 2),
-        run(LogName::Pager, 4),
-        run(LogName::Guest, 5),
-    ];
-    assert!(rt; is_merging(&session, &runs));
-    let replayed = replay(rt.alloc(), &session, &runs)?;
-    assert_eq!(rt; replayed.first_broken, None);
-    assert_eq!(rt; replayed.memory.page(first), [5].as_slice());
-    assert_eq!(rt; replayed.memory.page(second), [9].as_slice());
-    Ok(())
+    session_of(alloc, guest)
 }
 
-#[test]
-fn tells_a_broken_record(rt: HostRuntime) -> Result<(), Fail> {
+/// The same session in which the guest does not look at page 1's placement.
+fn session_without_look(alloc: Global) -> Result<Session, Fail>
+    ensures { IfOk result (λ s. s.geometry ≡ record { pages = 2; cells = 1 }) }
+{
     let (first, second) = (PageNo::new(0), PageNo::new(1));
-    let guest = vec![in rt.alloc();
+    let guest = vec![in alloc;
         GuestRec::Write {
             vcpu: 0,
             page: second,
@@ -173,8 +158,29 @@ fn tells_a_broken_record(rt: HostRuntime) -> Result<(), Fail> {
             value: 9
         },
     ]?;
-    let session = session_of(rt.alloc(), guest)?;
-    let late = [
+    session_of(alloc, guest)
+}
+
+/// All pages are placed before the guest's last records, of which there are so many.
+fn early_runs(last: u32) -> [Run; 11] {
+    [
+        run(LogName::Guest, 2),
+        run(LogName::Source, 2),
+        run(LogName::Link, 1),
+        run(LogName::Pager, 2),
+        run(LogName::Guest, 2),
+        run(LogName::Pager, 2),
+        run(LogName::Link, 1),
+        run(LogName::Source, 3),
+        run(LogName::Link, 2),
+        run(LogName::Pager, 4),
+        run(LogName::Guest, last),
+    ]
+}
+
+/// Page 1 is placed after all records of the guest.
+fn late_runs() -> [Run; 12] {
+    [
         run(LogName::Guest, 2),
         run(LogName::Source, 2),
         run(LogName::Link, 1),
@@ -187,31 +193,47 @@ fn tells_a_broken_record(rt: HostRuntime) -> Result<(), Fail> {
         run(LogName::Pager, 3),
         run(LogName::Guest, 4),
         run(LogName::Pager, 1),
-    ];
-    let replayed = replay(rt.alloc(), &session, &late)?;
-    assert_eq!(rt; replayed.first_broken, Some((LogName::Guest, 6)));
-    assert_eq!(rt; replayed.memory.page(first), [5].as_slice());
-    assert_eq!(rt; replayed.memory.page(second), [7].as_slice());
-    let early = [
-        run(LogName::Guest, 2),
-        run(LogName::Source, 2),
-        run(LogName::Link, 1),
-        run(LogName::Pager, 2),
-        run(LogName::Guest, 2),
-        run(LogName::Pager, 2),
-        run(LogName::Link, 1),
-        run(LogName::Source, 3),
-        run(LogName::Link, 2),
-        run(LogName::Pager, 4),
-        run(LogName::Guest, 4),
-    ];
-    let replayed = replay(rt.alloc(), &session, &early)?;
+    ]
+}
+
+#[test]
+fn replays_a_safe_merging(rt: HostRuntime) -> Result<(), Fail> {
+    let session = whole_session(rt.alloc())?;
+    let runs = early_runs(5);
+    assert!(rt; is_merging(&session, &runs));
+    let replayed = replay(rt.alloc(), &session, &runs)?;
     assert_eq!(rt; replayed.first_broken, None);
-    assert_eq!(rt; replayed.memory.page(second), [9].as_slice());
-    let short = [run(LogName::Guest, 3)];
-    assert!(rt; !is_merging(&session, &short));
-    assert_eq!(rt; first_bad_run(&session, &short), Some(0));
-    let refused = replay(rt.alloc(), &session, &short);
+    assert_eq!(rt; replayed.memory.page(PageNo::new(0)), [5].as_slice());
+    assert_eq!(rt; replayed.memory.page(PageNo::new(1)), [9].as_slice());
+    Ok(())
+}
+
+#[test]
+fn tells_the_first_broken_record(rt: HostRuntime) -> Result<(), Fail> {
+    let session = session_without_look(rt.alloc())?;
+    let replayed = replay(rt.alloc(), &session, &late_runs())?;
+    assert_eq!(rt; replayed.first_broken, Some((LogName::Guest, 6)));
+    assert_eq!(rt; replayed.memory.page(PageNo::new(0)), [5].as_slice());
+    assert_eq!(rt; replayed.memory.page(PageNo::new(1)), [7].as_slice());
+    Ok(())
+}
+
+#[test]
+fn finds_another_order_safe(rt: HostRuntime) -> Result<(), Fail> {
+    let session = session_without_look(rt.alloc())?;
+    let replayed = replay(rt.alloc(), &session, &early_runs(4))?;
+    assert_eq!(rt; replayed.first_broken, None);
+    assert_eq!(rt; replayed.memory.page(PageNo::new(1)), [9].as_slice());
+    Ok(())
+}
+
+#[test]
+fn refuses_what_is_no_merging(rt: HostRuntime) -> Result<(), Fail> {
+    let session = session_without_look(rt.alloc())?;
+    let runs = [run(LogName::Guest, 3)];
+    assert!(rt; !is_merging(&session, &runs));
+    assert_eq!(rt; first_bad_run(&session, &runs), Some(0));
+    let refused = replay(rt.alloc(), &session, &runs);
     assert!(rt; matches!(refused, Err(MergeFault::NoMerging)));
     Ok(())
 }
