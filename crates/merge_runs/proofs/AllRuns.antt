@@ -1,5 +1,5 @@
 -- A replay of all runs of a merging.
-use Rattle.std.proofs.Common.{◌≡◌, ℕ, ◌+◌, ◌<◌, ◌≤◌, List, ◌++◌, length, take, drop, Option, refl, sym, ap, ◌∙◌, subst, arith}
+use Rattle.std.proofs.Common.{◌≡◌, ℕ, ◌+◌, ◌<◌, ◌≤◌, List, ◌++◌, length, take, drop, Option, refl, sym, ap, ◌∙◌, subst}
 use Rattle.std.specs.Option.{MatchOption}
 use Rattle.std.proofs.lemmas.List.{take-append-drop, take_all}
 use Rattle.migration_types.specs.declared.records.LogName.{LogName}
@@ -21,7 +21,7 @@ use Rattle.merge_runs.specs.declared.replaying.Replaying.{Replaying}
 use Rattle.merge_runs.specs.Moving.{world_of, frames_at, IsSized}
 use Rattle.merge_runs.specs.Replays.{final_memory, final_memory_at, IsFirstBroken, IsReplay}
 use Rattle.merge_runs.specs.Replaying.{AreSized, IsReplaying, HasRun}
-use Rattle.merge_runs.proofs.Walking.{walks_front, walk_back, walks_run, spelled_front, with_it, so_far, the_run}
+use Rattle.merge_runs.proofs.Walking.{walks_front, walk_back, walks_run, spelled_front, with_it, the_run}
 use Rattle.merge_runs.proofs.OneMore.{told}
 
 pub few_records : (s : Recorded) → IsSession s → (log : LogName) → log_length s log ≤ 1048576

@@ -1,30 +1,29 @@
 -- One record more of a replay.
-use Rattle.std.proofs.Common.{◌≡◌, ℕ, zero, suc, ◌+◌, ◌<◌, ◌≤◌, ◌⊎◌, inl, inr, Bool, true, false, cond, List, [], ◌∷◌, ◌++◌, length, take, drop, get_or, Option, Some, None, refl, sym, ap, ◌∙◌, subst, arith}
+use Rattle.std.proofs.Common.{◌≡◌, ℕ, zero, suc, ◌+◌, Bool, true, false, cond, List, [], ◌∷◌, ◌++◌, Option, Some, None, refl, sym, ap, ◌∙◌, subst, arith}
 use Rattle.std.specs.Prelude.{slice_get}
 use Rattle.std.specs.Option.{MatchOption}
-use Rattle.std.proofs.lemmas.List.{append_assoc, append-nil, take-append-drop}
+use Rattle.std.proofs.lemmas.List.{append_assoc, append-nil}
 use Rattle.migration_types.specs.declared.records.LogName.{LogName}
 use Rattle.migration_types.specs.declared.records.LogName.TheVariants.{Guest, Source, Link, Pager}
 use Rattle.migration_types.specs.declared.records.GuestRec.{GuestRec}
 use Rattle.migration_types.specs.declared.records.SourceRec.{SourceRec}
 use Rattle.migration_types.specs.declared.records.PagerRec.{PagerRec}
-use Rattle.migration_types.specs.declared.cert.Run.{Run}
 use Rattle.migration_types.specs.Extents.{Extent}
 use Rattle.migration_types.specs.Memory.{Memory}
 use Rattle.migration_types.specs.Receipts.{Name}
-use Rattle.migration_types.specs.Sessions.{Recorded, IsSession}
+use Rattle.migration_types.specs.Sessions.{Recorded}
 use Rattle.audit_model.specs.Flat.{changed, flat, cell_after}
-use Rattle.audit_model.specs.Names.{log_length, same_log}
-use Rattle.audit_model.specs.Mergings.{Cursors, at_start, moved, run_names, spelled, StandsAfter}
-use Rattle.audit_model.specs.Walks.{next, cursors_from, Walks, IsWholeWalk}
+use Rattle.audit_model.specs.Names.{same_log}
+use Rattle.audit_model.specs.Mergings.{Cursors, at_start, run_names, StandsAfter}
+use Rattle.audit_model.specs.Walks.{next, cursors_from}
 use Rattle.audit_model.specs.World.{World, start, step, run_from, world_after, guest_step, pager_step, Demand, IsSafeOrder, guest_demand, source_demand, pager_demand, if_record}
-use Rattle.page_store.specs.Frames.{Frames, memory_of, IsWith}
+use Rattle.page_store.specs.Frames.{memory_of}
 use Rattle.merge_runs.specs.declared.replaying.Replaying.{Replaying}
-use Rattle.merge_runs.specs.Moving.{world_of, IsSized, IsMoved, stepped}
+use Rattle.merge_runs.specs.Moving.{world_of, stepped}
 use Rattle.merge_runs.specs.Demands.{guest_met, source_met, pager_met}
 use Rattle.merge_runs.specs.Replays.{IsFirstBroken}
-use Rattle.merge_runs.specs.Replaying.{AllMet, Breaks, or_this, noted, AreSized, IsReplaying, HasRun, IsGuestStep, IsPagerStep}
-use Rattle.merge_runs.proofs.Walking.{cursors_append, cursors_run, own_moved, walks_front, walk_back, walks_run, spelled_front}
+use Rattle.merge_runs.specs.Replaying.{AllMet, Breaks, noted, AreSized, IsReplaying, HasRun, IsGuestStep, IsPagerStep}
+use Rattle.merge_runs.proofs.Walking.{cursors_append, cursors_run, own_moved}
 use Rattle.merge_runs.proofs.Demanding.{guest_yes, guest_from, source_yes, source_from, pager_yes, pager_from}
 
 -- ---- records whose demands are met
@@ -120,8 +119,8 @@ module _ (s : Recorded) (order : List Name) where
         world = on.moving.world ∙ ap (λ (w : World). pager_step r w) is.world ∙ sym (ap (λ (o : Option PagerRec). changed pager_step o (world_after s order)) at) ∙ sym (world_more (Pager, n));
         flat = ap memory_of on.flat ∙ is.flat ∙ sym (ap (λ (c : Cursors). flat s (c Guest)) (cursors_more (Pager, n)));
         broken = subst (λ (o : Option Name). MatchOption o (AllMet s (start s) (order ++ (Pager, n) ∷ [])) (Breaks s (start s) (order ++ (Pager, n) ∷ []))) (sym first) (broken_more s (start s) order (Pager, n) old.first_broken met
-          (λ e. subst (λ (o : Option PagerRec). if_record (pager_demand s) o (world_after s order)) (sym at) (pager_yes s r (world_after s order) e))
-          (λ d. pager_from s r (world_after s order) (subst (λ (o : Option PagerRec). if_record (pager_demand s) o (world_after s order)) at d)) is.broken);
+            (λ e. subst (λ (o : Option PagerRec). if_record (pager_demand s) o (world_after s order)) (sym at) (pager_yes s r (world_after s order) e))
+            (λ d. pager_from s r (world_after s order) (subst (λ (o : Option PagerRec). if_record (pager_demand s) o (world_after s order)) at d)) is.broken);
       }
 
   flat_more : (n : ℕ) (r : GuestRec) → slice_get s.guest n ≡ Some r → stepped r (flat s n) ≡ flat s (suc n)
@@ -139,8 +138,8 @@ module _ (s : Recorded) (order : List Name) where
         world = on.moving.world ∙ ap (λ (w : World). guest_step r w) is.world ∙ sym (ap (λ (o : Option GuestRec). changed guest_step o (world_after s order)) at) ∙ sym (world_more (Guest, n));
         flat = on.flat.memory_is ∙ ap (λ (m : Memory). stepped r m) flat_is ∙ flat_more n r at ∙ ap (λ k. flat s (suc k)) (sym here) ∙ sym (ap (λ (c : Cursors). flat s (c Guest)) (cursors_more (Guest, n)));
         broken = subst (λ (o : Option Name). MatchOption o (AllMet s (start s) (order ++ (Guest, n) ∷ [])) (Breaks s (start s) (order ++ (Guest, n) ∷ []))) (sym first) (broken_more s (start s) order (Guest, n) old.first_broken met
-          (λ e. subst (λ (o : Option GuestRec). if_record (guest_demand s n) o (world_after s order)) (sym at) (guest_yes s n r (world_after s order) e))
-          (λ d. guest_from s n r (world_after s order) (subst (λ (o : Option GuestRec). if_record (guest_demand s n) o (world_after s order)) at d)) is.broken);
+            (λ e. subst (λ (o : Option GuestRec). if_record (guest_demand s n) o (world_after s order)) (sym at) (guest_yes s n r (world_after s order) e))
+            (λ d. guest_from s n r (world_after s order) (subst (λ (o : Option GuestRec). if_record (guest_demand s n) o (world_after s order)) at d)) is.broken);
       }
 
 -- ---- runs

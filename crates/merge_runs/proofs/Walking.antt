@@ -23,7 +23,7 @@ use Rattle.audit_model.specs.FoundOrder.{is_received}
 use Rattle.audit_model.proofs.Cuts.{same_log_itself, same_from_test}
 use Rattle.merge_runs.specs.declared.taken.Taken.{Taken}
 use Rattle.merge_runs.specs.BadRuns.{IsFirstBadRun}
-use Rattle.merge_runs.specs.Taken.{cursors_of, AreReceived, IsOneUnreceived, RunWalks, AreAllTaken}
+use Rattle.merge_runs.specs.Taken.{cursors_of, AreReceived, IsOneUnreceived, AreAllTaken}
 
 -- ---- cursors and runs
 
@@ -183,7 +183,6 @@ module _ (s : Recorded) (log : LogName) where
 pub received_not_one : {A : Type 0} (s : Recorded) (c : Cursors) (log : LogName) (from to : ℕ) → AreReceived s c log from to → IsOneUnreceived s c log from to → A
 received_not_one s c log from to are one = let t = are one.0 one.1 one.2 in let f = one.3 in absurd (cc)
 
-
 -- ---- all runs
 
 pub all_walked : (s : Recorded) (runs : List Run) (place : ℕ) → length runs ≤ place → Walks s at_start (spelled (take place runs)) → Walks s at_start (spelled runs)
@@ -194,7 +193,6 @@ all_at runs place c le at = ap (λ rs. cursors_from at_start (spelled rs)) (sym 
 
 pub up_to_end : (s : Recorded) (runs : List Run) → Walks s at_start (spelled runs) → Walks s at_start (spelled (take (length runs) runs))
 up_to_end s runs walks = subst (λ rs. Walks s at_start (spelled rs)) (sym (take_all (length runs) runs (omega arith))) walks
-
 
 pub own_moved : (c : Cursors) (log : LogName) (count : ℕ) → moved c log count log ≡ c log + count
 own_moved c log count = ap (λ t. cond t (c log + count) (c log)) (same_log_itself log)

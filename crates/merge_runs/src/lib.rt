@@ -1,4 +1,5 @@
-//! Runs of a merging: whether the records that they take, run after run, are a merging of a session's logs.
+//! Runs of a merging: whether the records that they take, run after run, are a merging of a session's logs, and how the
+//! guest moves in it.
 #![tactic(auto)]
 
 ghost use Rattle.std.specs.Prelude.{◌↔◌, IsTrue};

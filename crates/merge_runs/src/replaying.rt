@@ -99,7 +99,12 @@ fn run_source(session: &Session, replaying: &mut Replaying, from: usize, count: 
     let source = session.source();
     for k in 0..count {
         let met = source_met(&replaying.moving, &source[from + k]);
-        note(met, &mut replaying.first_broken, LogName::Source, (from + k) as u32);
+        note(
+            met,
+            &mut replaying.first_broken,
+            LogName::Source,
+            (from + k) as u32,
+        );
     }
 }
 

@@ -1,11 +1,11 @@
-use Rattle.std.proofs.Common.{◌≡◌, ◌+◌, ◌≤◌, ◌∙◌, sym, ap, subst, arith, get_or}
+use Rattle.std.proofs.Common.{◌+◌, ◌≤◌, ◌∙◌, sym, ap, subst, get_or}
 use Rattle.migration_types.specs.declared.records.LogName.TheVariants.{Guest}
 use Rattle.migration_types.specs.declared.cert.Run.{Run}
 use Rattle.audit_model.specs.Names.{log_length}
 use Rattle.audit_model.specs.Mergings.{Cursors, spelled, moved}
 use Rattle.merge_runs.specs.Taken.{cursors_of}
 use Rattle.merge_runs.proofs.Walking.{cursors_on, nothing_within, within_after, own_moved}
-use Rattle.merge_runs.proofs.AllRuns.{run_fits, run_on, whole_replayed}
+use Rattle.merge_runs.proofs.AllRuns.{run_fits, run_on}
 use Rattle.merge_runs.proofs.replaying.run_all.Goals as goal
 
 -- what stands in a list's place past its end

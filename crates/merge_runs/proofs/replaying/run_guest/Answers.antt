@@ -1,4 +1,4 @@
-use Rattle.std.proofs.Common.{ℕ, ◌+◌, ◌<◌, ◌∙◌, List, length, ap, arith}
+use Rattle.std.proofs.Common.{◌+◌, ◌∙◌, List, length, ap, arith}
 use Rattle.migration_types.specs.declared.records.LogName.TheVariants.{Guest}
 use Rattle.migration_types.specs.declared.records.GuestRec.{GuestRec}
 use Rattle.merge_runs.proofs.Reading.{read_at}

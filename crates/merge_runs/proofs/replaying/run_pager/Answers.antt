@@ -1,4 +1,4 @@
-use Rattle.std.proofs.Common.{ℕ, ◌+◌, ◌<◌, ◌∙◌, List, length, ap, arith}
+use Rattle.std.proofs.Common.{◌+◌, ◌∙◌, List, length, ap, arith}
 use Rattle.migration_types.specs.declared.records.LogName.TheVariants.{Pager}
 use Rattle.migration_types.specs.declared.records.PagerRec.{PagerRec}
 use Rattle.page_store.specs.Frames.{Frames}

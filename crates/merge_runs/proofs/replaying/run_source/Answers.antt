@@ -1,4 +1,4 @@
-use Rattle.std.proofs.Common.{ℕ, ◌+◌, ◌<◌, ◌∙◌, List, length, refl, ap, arith}
+use Rattle.std.proofs.Common.{◌+◌, ◌∙◌, List, length, refl, ap, arith}
 use Rattle.migration_types.specs.declared.records.LogName.TheVariants.{Source}
 use Rattle.migration_types.specs.declared.records.SourceRec.{SourceRec}
 use Rattle.merge_runs.specs.Replaying.{noted}
