@@ -9,48 +9,107 @@ use migration_types::{
 use std::alloc::Global;
 use std::test::Fail;
 
-ghost use Rattle.std.specs.Prelude.{◌≡◌, ◌∷◌, []};
-ghost use Rattle.migration_types.specs.declared.records.GuestRec.TheVariants.{Read, See};
-ghost use Rattle.migration_types.specs.declared.records.SourceRec.TheVariants.{Send};
-ghost use Rattle.migration_types.specs.declared.records.PagerRec.TheVariants.{Fault, Place};
 ghost use Rattle.migration_types.specs.Sessions.{GuestRecFits, SourceRecFits, PagerRecFits};
 
 const LOGS: [LogName; 4] = [LogName::Guest, LogName::Source, LogName::Link, LogName::Pager];
 
-/// Records of the worked session that a test changes.
-#[derive(Drop)]
-struct Changes {
-    look: GuestRec,
-    last_read: GuestRec,
-    second_send: SourceRec,
-    fault: PagerRec,
-    second_place: PagerRec,
+/// What a test changes in a session.
+#[derive(Clone, Copy, Debug)]
+enum Change {
+    Nothing,
+    WrongName,
+    LateRelease,
+    SecondSend,
+    SecondState,
+    EarlierLook,
+    WrongRead,
+    StaleSend,
+    AlteredPage,
+    SecondPlacement,
+    GivenPage,
+    UnfitZeros,
 }
 
-/// The records as they should be.
-fn unchanged() -> Changes
-    ensures look { result.look ≡ See 7 }
-    ensures last_read { result.last_read ≡ Read 0 1 0 9 }
-    ensures second_send { result.second_send ≡ Send 1 (7 ∷ []) }
-    ensures fault { result.fault ≡ Fault 3 }
-    ensures second_place { result.second_place ≡ Place 1 6 (7 ∷ []) }
+/// The worked session's look before the uses of page 1.
+fn look(change: Change) -> GuestRec
+    ensures { GuestRecFits (record { pages = 2; cells = 1 }) result }
+{
+    match change {
+        Change::EarlierLook => GuestRec::See { placement: 5 },
+        _ => GuestRec::See { placement: 7 },
+    }
+}
+
+/// The worked session's last record of the guest.
+fn last_read(change: Change) -> GuestRec
+    ensures { GuestRecFits (record { pages = 2; cells = 1 }) result }
 {
     let page = PageNo::new(1);
-    Changes {
-        look: GuestRec::See { placement: 7 },
-        last_read: GuestRec::Read {
+    match change {
+        Change::LateRelease => GuestRec::Release { vcpu: 0, page },
+        Change::WrongRead => GuestRec::Read {
+            vcpu: 0,
+            page,
+            cell: 0,
+            value: 8,
+        },
+        _ => GuestRec::Read {
             vcpu: 0,
             page,
             cell: 0,
             value: 9,
         },
-        second_send: SourceRec::Send {
-            page,
+    }
+}
+
+/// The worked session's last record of the source.
+fn second_send(change: Change) -> SourceRec
+    ensures { SourceRecFits (record { pages = 2; cells = 1 }) result }
+{
+    match change {
+        Change::SecondState => SourceRec::State,
+        Change::SecondSend => SourceRec::Send {
+            page: PageNo::new(0),
+            contents: Contents::one(5),
+        },
+        Change::StaleSend => SourceRec::Send {
+            page: PageNo::new(1),
+            contents: Contents::one(0),
+        },
+        _ => SourceRec::Send {
+            page: PageNo::new(1),
             contents: Contents::one(7),
         },
-        fault: PagerRec::Fault { miss: 3 },
-        second_place: PagerRec::Place {
-            page,
+    }
+}
+
+/// The worked session's record of the fault.
+fn fault(change: Change) -> PagerRec
+    ensures { PagerRecFits (record { pages = 2; cells = 1 }) result }
+{
+    match change {
+        Change::WrongName => PagerRec::Fault { miss: 4 },
+        _ => PagerRec::Fault { miss: 3 },
+    }
+}
+
+/// The worked session's last record of the pager.
+fn second_place(change: Change) -> PagerRec
+    ensures { PagerRecFits (record { pages = 2; cells = 1 }) result }
+{
+    match change {
+        Change::SecondPlacement => PagerRec::Place {
+            page: PageNo::new(0),
+            got: 4,
+            contents: Contents::one(5),
+        },
+        Change::AlteredPage => PagerRec::Place {
+            page: PageNo::new(1),
+            got: 6,
+            contents: Contents::one(8),
+        },
+        _ => PagerRec::Place {
+            page: PageNo::new(1),
             got: 6,
             contents: Contents::one(7),
         },
@@ -59,13 +118,7 @@ fn unchanged() -> Changes
 
 /// Two pages of one cell, page 0 beginning as 5: page 1 is written, the guest moves, misses page 0 and is given it, and
 /// later uses page 1.
-fn worked_session(alloc: Global, changes: Changes) -> Result<Session, Fail>
-    requires look { GuestRecFits (record { pages = 2; cells = 1 }) changes.look }
-    requires last_read { GuestRecFits (record { pages = 2; cells = 1 }) changes.last_read }
-    requires second_send { SourceRecFits (record { pages = 2; cells = 1 }) changes.second_send }
-    requires fault { PagerRecFits (record { pages = 2; cells = 1 }) changes.fault }
-    requires second_place { PagerRecFits (record { pages = 2; cells = 1 }) changes.second_place }
-{
+fn worked_session(alloc: Global, change: Change) -> Result<Session, Fail> {
     let geometry = Geometry::new(2, 1)?;
     geometry.keeps_limits();
     let (zero, one) = (PageNo::new(0), PageNo::new(1));
@@ -95,14 +148,14 @@ fn worked_session(alloc: Global, changes: Changes) -> Result<Session, Fail>
             cell: 0,
             value: 5
         },
-        changes.look,
+        look(change),
         GuestRec::Write {
             vcpu: 0,
             page: one,
             cell: 0,
             value: 9
         },
-        changes.last_read,
+        last_read(change),
     ]?;
     let source = vec![in alloc;
         SourceRec::Halted { halt: 1 },
@@ -112,7 +165,7 @@ fn worked_session(alloc: Global, changes: Changes) -> Result<Session, Fail>
             page: zero,
             contents: Contents::one(5),
         },
-        changes.second_send,
+        second_send(change),
     ]?;
     let link = vec![in alloc;
         LinkRec::Down { sending: 1 },
@@ -123,7 +176,7 @@ fn worked_session(alloc: Global, changes: Changes) -> Result<Session, Fail>
     let pager = vec![in alloc;
         PagerRec::Got { down: 0 },
         PagerRec::Ready,
-        changes.fault,
+        fault(change),
         PagerRec::Want { page: zero },
         PagerRec::Got { down: 2 },
         PagerRec::Place {
@@ -132,7 +185,7 @@ fn worked_session(alloc: Global, changes: Changes) -> Result<Session, Fail>
             contents: Contents::one(5),
         },
         PagerRec::Got { down: 3 },
-        changes.second_place,
+        second_place(change),
     ]?;
     Ok(Session::new(
         geometry,
@@ -144,57 +197,37 @@ fn worked_session(alloc: Global, changes: Changes) -> Result<Session, Fail>
     ))
 }
 
-/// The worked session with another look before the uses of page 1.
-fn with_look(alloc: Global, look: GuestRec) -> Result<Session, Fail>
-    requires { GuestRecFits (record { pages = 2; cells = 1 }) look }
+/// The first record of the guest in the session with a released page.
+fn first_record(change: Change) -> GuestRec
+    ensures { GuestRecFits (record { pages = 2; cells = 1 }) result }
 {
-    let mut changes = unchanged();
-    changes.look = look;
-    worked_session(alloc, changes)
+    let page = PageNo::new(1);
+    match change {
+        Change::UnfitZeros => GuestRec::Write {
+            vcpu: 0,
+            page,
+            cell: 0,
+            value: 0,
+        },
+        _ => GuestRec::Release { vcpu: 0, page },
+    }
 }
 
-/// The worked session with another last record of the guest.
-fn with_last_read(alloc: Global, last_read: GuestRec) -> Result<Session, Fail>
-    requires { GuestRecFits (record { pages = 2; cells = 1 }) last_read }
+/// The last record of the source in the session with a released page.
+fn last_of_source(change: Change) -> SourceRec
+    ensures { SourceRecFits (record { pages = 2; cells = 1 }) result }
 {
-    let mut changes = unchanged();
-    changes.last_read = last_read;
-    worked_session(alloc, changes)
+    match change {
+        Change::GivenPage => SourceRec::Send {
+            page: PageNo::new(1),
+            contents: Contents::one(0),
+        },
+        _ => SourceRec::Done,
+    }
 }
 
-/// The worked session with another last record of the source.
-fn with_second_send(alloc: Global, second_send: SourceRec) -> Result<Session, Fail>
-    requires { SourceRecFits (record { pages = 2; cells = 1 }) second_send }
-{
-    let mut changes = unchanged();
-    changes.second_send = second_send;
-    worked_session(alloc, changes)
-}
-
-/// The worked session with another record of the pager in the place of the fault.
-fn with_fault(alloc: Global, fault: PagerRec) -> Result<Session, Fail>
-    requires { PagerRecFits (record { pages = 2; cells = 1 }) fault }
-{
-    let mut changes = unchanged();
-    changes.fault = fault;
-    worked_session(alloc, changes)
-}
-
-/// The worked session with another last record of the pager.
-fn with_second_place(alloc: Global, second_place: PagerRec) -> Result<Session, Fail>
-    requires { PagerRecFits (record { pages = 2; cells = 1 }) second_place }
-{
-    let mut changes = unchanged();
-    changes.second_place = second_place;
-    worked_session(alloc, changes)
-}
-
-/// Page 1 is released before the guest moves, and read as zeros. The first record and what the source does last are
-/// given.
-fn balloon_session(alloc: Global, first: GuestRec, last: SourceRec) -> Result<Session, Fail>
-    requires first { GuestRecFits (record { pages = 2; cells = 1 }) first }
-    requires last { SourceRecFits (record { pages = 2; cells = 1 }) last }
-{
+/// Page 1 is released before the guest moves, and read as zeros.
+fn balloon_session(alloc: Global, change: Change) -> Result<Session, Fail> {
     let geometry = Geometry::new(2, 1)?;
     geometry.keeps_limits();
     let (zero, one) = (PageNo::new(0), PageNo::new(1));
@@ -209,7 +242,7 @@ fn balloon_session(alloc: Global, first: GuestRec, last: SourceRec) -> Result<Se
         },
     ]?;
     let guest = vec![in alloc;
-        first,
+        first_record(change),
         GuestRec::Halt,
         GuestRec::Resume { ready: 1 },
         GuestRec::Miss { vcpu: 0, page: one },
@@ -221,7 +254,7 @@ fn balloon_session(alloc: Global, first: GuestRec, last: SourceRec) -> Result<Se
             value: 0
         },
     ]?;
-    let source = vec![in alloc; SourceRec::Halted { halt: 1 }, SourceRec::State, last]?;
+    let source = vec![in alloc; SourceRec::Halted { halt: 1 }, SourceRec::State, last_of_source(change)]?;
     let link = vec![in alloc; LinkRec::Down { sending: 1 }]?;
     let pager = vec![in alloc;
         PagerRec::Got { down: 0 },
@@ -309,123 +342,56 @@ fn spelled(alloc: Global, runs: &[(LogName, u32)]) -> Result<Vec<(LogName, u32)>
 }
 
 #[test]
-fn finds_a_wrong_name(rt: HostRuntime) -> Result<(), Fail> {
-    let session = with_fault(rt.alloc(), PagerRec::Fault { miss: 4 })?;
-    assert_eq!(rt; first_shape_fault(&session), Some((ShapeReason::Named, LogName::Pager, 2)));
+fn finds_faults_of_shape(rt: HostRuntime) -> Result<(), Fail> {
+    for (change, fault) in [
+        (Change::Nothing, None),
+        (Change::WrongName, Some((ShapeReason::Named, LogName::Pager, 2))),
+        (Change::LateRelease, Some((ShapeReason::Phases, LogName::Guest, 8))),
+        (Change::SecondSend, Some((ShapeReason::SecondSend, LogName::Source, 4))),
+        (Change::SecondState, Some((ShapeReason::Start, LogName::Source, 4))),
+    ] {
+        let session = worked_session(rt.alloc(), change)?;
+        assert_eq!(rt; first_shape_fault(&session), fault, "at {change:?}");
+    }
     Ok(())
 }
 
 #[test]
-fn finds_a_late_release(rt: HostRuntime) -> Result<(), Fail> {
-    let page = PageNo::new(0);
-    let session = with_last_read(rt.alloc(), GuestRec::Release { vcpu: 0, page })?;
-    assert_eq!(rt; first_shape_fault(&session), Some((ShapeReason::Phases, LogName::Guest, 8)));
-    Ok(())
-}
-
-#[test]
-fn finds_a_second_send(rt: HostRuntime) -> Result<(), Fail> {
-    let page = PageNo::new(0);
-    let contents = Contents::one(5);
-    let session = with_second_send(rt.alloc(), SourceRec::Send { page, contents })?;
-    assert_eq!(rt;
-        first_shape_fault(&session),
-        Some((ShapeReason::SecondSend, LogName::Source, 4))
-    );
-    Ok(())
-}
-
-#[test]
-fn finds_a_second_state(rt: HostRuntime) -> Result<(), Fail> {
-    let session = with_second_send(rt.alloc(), SourceRec::State)?;
-    assert_eq!(rt; first_shape_fault(&session), Some((ShapeReason::Start, LogName::Source, 4)));
-    Ok(())
-}
-
-#[test]
-fn finds_an_early_use(rt: HostRuntime) -> Result<(), Fail> {
-    let session = with_look(rt.alloc(), GuestRec::See { placement: 5 })?;
-    assert_eq!(rt; first_page_fault(&session), Some((PageReason::Early, LogName::Guest, 7)));
-    Ok(())
-}
-
-#[test]
-fn finds_a_wrong_read(rt: HostRuntime) -> Result<(), Fail> {
-    let read = GuestRec::Read {
-        vcpu: 0,
-        page: PageNo::new(1),
-        cell: 0,
-        value: 8,
-    };
-    let session = with_last_read(rt.alloc(), read)?;
-    assert_eq!(rt; first_page_fault(&session), Some((PageReason::Read, LogName::Guest, 8)));
-    Ok(())
-}
-
-#[test]
-fn finds_a_stale_send(rt: HostRuntime) -> Result<(), Fail> {
-    let page = PageNo::new(1);
-    let contents = Contents::one(0);
-    let session = with_second_send(rt.alloc(), SourceRec::Send { page, contents })?;
-    assert_eq!(rt; first_page_fault(&session), Some((PageReason::Stale, LogName::Source, 4)));
-    Ok(())
-}
-
-#[test]
-fn finds_an_altered_page(rt: HostRuntime) -> Result<(), Fail> {
-    let place = PagerRec::Place {
-        page: PageNo::new(1),
-        got: 6,
-        contents: Contents::one(8),
-    };
-    let session = with_second_place(rt.alloc(), place)?;
-    assert_eq!(rt; first_page_fault(&session), Some((PageReason::Altered, LogName::Pager, 7)));
-    Ok(())
-}
-
-#[test]
-fn finds_a_second_placement(rt: HostRuntime) -> Result<(), Fail> {
-    let place = PagerRec::Place {
-        page: PageNo::new(0),
-        got: 4,
-        contents: Contents::one(5),
-    };
-    let session = with_second_place(rt.alloc(), place)?;
+fn finds_faults_of_pages(rt: HostRuntime) -> Result<(), Fail> {
+    for (change, fault) in [
+        (Change::Nothing, None),
+        (Change::EarlierLook, Some((PageReason::Early, LogName::Guest, 7))),
+        (Change::WrongRead, Some((PageReason::Read, LogName::Guest, 8))),
+        (Change::StaleSend, Some((PageReason::Stale, LogName::Source, 4))),
+        (Change::AlteredPage, Some((PageReason::Altered, LogName::Pager, 7))),
+    ] {
+        let session = worked_session(rt.alloc(), change)?;
+        assert_eq!(rt; first_page_fault(&session), fault, "at {change:?}");
+    }
+    let session = worked_session(rt.alloc(), Change::SecondPlacement)?;
     assert!(rt; is_page_fault(&session, PageReason::Twice, LogName::Pager, 7));
     assert!(rt; !is_page_fault(&session, PageReason::Twice, LogName::Pager, 5));
     Ok(())
 }
 
 #[test]
-fn finds_a_given_page(rt: HostRuntime) -> Result<(), Fail> {
-    let page = PageNo::new(1);
-    let contents = Contents::one(0);
-    let release = GuestRec::Release { vcpu: 0, page };
-    let session = balloon_session(rt.alloc(), release, SourceRec::Send { page, contents })?;
-    assert_eq!(rt; first_page_fault(&session), Some((PageReason::Given, LogName::Source, 2)));
-    Ok(())
-}
-
-#[test]
-fn finds_unfit_zeros(rt: HostRuntime) -> Result<(), Fail> {
-    let write = GuestRec::Write {
-        vcpu: 0,
-        page: PageNo::new(1),
-        cell: 0,
-        value: 0,
-    };
-    let session = balloon_session(rt.alloc(), write, SourceRec::Done)?;
-    assert_eq!(rt; first_page_fault(&session), Some((PageReason::Unfit, LogName::Pager, 3)));
+fn finds_faults_of_released_pages(rt: HostRuntime) -> Result<(), Fail> {
+    for (change, fault) in [
+        (Change::Nothing, None),
+        (Change::GivenPage, Some((PageReason::Given, LogName::Source, 2))),
+        (Change::UnfitZeros, Some((PageReason::Unfit, LogName::Pager, 3))),
+    ] {
+        let session = balloon_session(rt.alloc(), change)?;
+        assert_eq!(rt; first_shape_fault(&session), None, "at {change:?}");
+        assert_eq!(rt; first_page_fault(&session), fault, "at {change:?}");
+    }
     Ok(())
 }
 
 #[test]
 fn follows_a_released_page(rt: HostRuntime) -> Result<(), Fail> {
     let page = PageNo::new(1);
-    let release = GuestRec::Release { vcpu: 0, page };
-    let session = balloon_session(rt.alloc(), release, SourceRec::Done)?;
-    assert_eq!(rt; first_shape_fault(&session), None);
-    assert_eq!(rt; first_page_fault(&session), None);
+    let session = balloon_session(rt.alloc(), Change::Nothing)?;
     assert_eq!(rt; halt_place(&session), 1);
     for (place, value, released, home) in [
         (0, 6, false, Home::AtSource),
@@ -474,30 +440,26 @@ const DELAYED: [(LogName, u32); 12] = [
 ];
 
 #[test]
-fn follows_a_safe_order(rt: HostRuntime) -> Result<(), Fail> {
+fn follows_orders(rt: HostRuntime) -> Result<(), Fail> {
     let alloc = rt.alloc();
-    let session = worked_session(alloc, unchanged())?;
-    assert_eq!(rt; first_shape_fault(&session), None);
-    assert_eq!(rt; first_page_fault(&session), None);
     let found = spelled(alloc, &FOUND)?;
-    assert!(rt; is_merging(&session, &found));
-    assert!(rt; !is_merging(&session, &spelled(alloc, &DELAYED)?));
-    assert!(rt; !is_merging(&session, &spelled(alloc, &[(LogName::Guest, 3)])?));
-    assert_eq!(rt; first_broken(&session, &found), None);
-    assert!(rt; !demand_holds(&session, &found, LogName::Pager, 5));
-    let spot = spot_after(&session, &found, PageNo::new(1), 0);
-    assert_eq!(rt; (spot.home, spot.source, spot.target), (Home::AtTarget, 7, 9));
-    assert!(rt; spot.resident && spot.placed && spot.touched && !spot.released);
-    Ok(())
-}
-
-#[test]
-fn finds_a_broken_order(rt: HostRuntime) -> Result<(), Fail> {
-    let alloc = rt.alloc();
-    let session = with_look(alloc, GuestRec::See { placement: 5 })?;
     let delayed = spelled(alloc, &DELAYED)?;
-    assert!(rt; is_merging(&session, &delayed));
-    assert_eq!(rt; first_broken(&session, &spelled(alloc, &FOUND)?), None);
-    assert_eq!(rt; first_broken(&session, &delayed), Some((LogName::Guest, 7)));
+    for (change, is_order, broken) in [
+        (Change::Nothing, false, None),
+        (Change::EarlierLook, true, Some((LogName::Guest, 7))),
+    ] {
+        let session = worked_session(alloc, change)?;
+        assert!(rt; is_merging(&session, &found));
+        assert_eq!(rt; first_broken(&session, &found), None);
+        assert_eq!(rt; is_merging(&session, &delayed), is_order);
+        if is_order {
+            assert_eq!(rt; first_broken(&session, &delayed), broken);
+        }
+        assert!(rt; !is_merging(&session, &found[..found.len() / 2]));
+        assert!(rt; !demand_holds(&session, &found, LogName::Pager, 5));
+        let spot = spot_after(&session, &found, PageNo::new(1), 0);
+        assert_eq!(rt; (spot.home, spot.source, spot.target), (Home::AtTarget, 7, 9));
+        assert!(rt; spot.resident && spot.placed && spot.touched && !spot.released);
+    }
     Ok(())
 }
