@@ -1,6 +1,8 @@
 //! The plain programs on a session in which both pages come from the source, on one in which a released page comes
 //! back as zeros, and on faulty changes of both.
 
+ghost use Rattle.migration_types.specs.Sessions.{GuestRecFits, SourceRecFits, PagerRecFits};
+
 use super::*;
 use migration_types::{
     Contents, Geometry, GuestRec, InitPage, LinkRec, LogName, PageNo, PagerRec, Seq, Session,
@@ -9,9 +11,12 @@ use migration_types::{
 use std::alloc::Global;
 use std::test::Fail;
 
-ghost use Rattle.migration_types.specs.Sessions.{GuestRecFits, SourceRecFits, PagerRecFits};
-
-const LOGS: [LogName; 4] = [LogName::Guest, LogName::Source, LogName::Link, LogName::Pager];
+const LOGS: [LogName; 4] = [
+    LogName::Guest,
+    LogName::Source,
+    LogName::Link,
+    LogName::Pager,
+];
 
 /// What a test changes in a session.
 #[derive(Clone, Copy, Debug)]
@@ -254,7 +259,11 @@ fn balloon_session(alloc: Global, change: Change) -> Result<Session, Fail> {
             value: 0
         },
     ]?;
-    let source = vec![in alloc; SourceRec::Halted { halt: 1 }, SourceRec::State, last_of_source(change)]?;
+    let source = vec![in alloc;
+        SourceRec::Halted { halt: 1 },
+        SourceRec::State,
+        last_of_source(change),
+    ]?;
     let link = vec![in alloc; LinkRec::Down { sending: 1 }]?;
     let pager = vec![in alloc;
         PagerRec::Got { down: 0 },
@@ -345,10 +354,22 @@ fn spelled(alloc: Global, runs: &[(LogName, u32)]) -> Result<Vec<(LogName, u32)>
 fn finds_faults_of_shape(rt: HostRuntime) -> Result<(), Fail> {
     for (change, fault) in [
         (Change::Nothing, None),
-        (Change::WrongName, Some((ShapeReason::Named, LogName::Pager, 2))),
-        (Change::LateRelease, Some((ShapeReason::Phases, LogName::Guest, 8))),
-        (Change::SecondSend, Some((ShapeReason::SecondSend, LogName::Source, 4))),
-        (Change::SecondState, Some((ShapeReason::Start, LogName::Source, 4))),
+        (
+            Change::WrongName,
+            Some((ShapeReason::Named, LogName::Pager, 2)),
+        ),
+        (
+            Change::LateRelease,
+            Some((ShapeReason::Phases, LogName::Guest, 8)),
+        ),
+        (
+            Change::SecondSend,
+            Some((ShapeReason::SecondSend, LogName::Source, 4)),
+        ),
+        (
+            Change::SecondState,
+            Some((ShapeReason::Start, LogName::Source, 4)),
+        ),
     ] {
         let session = worked_session(rt.alloc(), change)?;
         assert_eq!(rt; first_shape_fault(&session), fault, "at {change:?}");
@@ -360,10 +381,22 @@ fn finds_faults_of_shape(rt: HostRuntime) -> Result<(), Fail> {
 fn finds_faults_of_pages(rt: HostRuntime) -> Result<(), Fail> {
     for (change, fault) in [
         (Change::Nothing, None),
-        (Change::EarlierLook, Some((PageReason::Early, LogName::Guest, 7))),
-        (Change::WrongRead, Some((PageReason::Read, LogName::Guest, 8))),
-        (Change::StaleSend, Some((PageReason::Stale, LogName::Source, 4))),
-        (Change::AlteredPage, Some((PageReason::Altered, LogName::Pager, 7))),
+        (
+            Change::EarlierLook,
+            Some((PageReason::Early, LogName::Guest, 7)),
+        ),
+        (
+            Change::WrongRead,
+            Some((PageReason::Read, LogName::Guest, 8)),
+        ),
+        (
+            Change::StaleSend,
+            Some((PageReason::Stale, LogName::Source, 4)),
+        ),
+        (
+            Change::AlteredPage,
+            Some((PageReason::Altered, LogName::Pager, 7)),
+        ),
     ] {
         let session = worked_session(rt.alloc(), change)?;
         assert_eq!(rt; first_page_fault(&session), fault, "at {change:?}");
@@ -378,8 +411,14 @@ fn finds_faults_of_pages(rt: HostRuntime) -> Result<(), Fail> {
 fn finds_faults_of_released_pages(rt: HostRuntime) -> Result<(), Fail> {
     for (change, fault) in [
         (Change::Nothing, None),
-        (Change::GivenPage, Some((PageReason::Given, LogName::Source, 2))),
-        (Change::UnfitZeros, Some((PageReason::Unfit, LogName::Pager, 3))),
+        (
+            Change::GivenPage,
+            Some((PageReason::Given, LogName::Source, 2)),
+        ),
+        (
+            Change::UnfitZeros,
+            Some((PageReason::Unfit, LogName::Pager, 3)),
+        ),
     ] {
         let session = balloon_session(rt.alloc(), change)?;
         assert_eq!(rt; first_shape_fault(&session), None, "at {change:?}");
@@ -458,7 +497,10 @@ fn follows_orders(rt: HostRuntime) -> Result<(), Fail> {
         assert!(rt; !is_merging(&session, &found[..found.len() / 2]));
         assert!(rt; !demand_holds(&session, &found, LogName::Pager, 5));
         let spot = spot_after(&session, &found, PageNo::new(1), 0);
-        assert_eq!(rt; (spot.home, spot.source, spot.target), (Home::AtTarget, 7, 9));
+        assert_eq!(rt;
+            (spot.home, spot.source, spot.target),
+            (Home::AtTarget, 7, 9)
+        );
         assert!(rt; spot.resident && spot.placed && spot.touched && !spot.released);
     }
     Ok(())
