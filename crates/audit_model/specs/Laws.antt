@@ -105,6 +105,11 @@ DelayedBreaks s =
     IsEarly s n r page → IsFirstPlacement s page place → (delayed : List Name) →
     IsDelayedOrder s order (Pager, place) delayed → IsMerging s delayed × BreaksAt s delayed (Guest, n)
 
+-- each merging has a delayed order for each record of the pager
+abbrev pub HasDelayedOrders : Recorded → Type 0
+HasDelayedOrders s =
+    (order : List Name) → IsMerging s order → (place : ℕ) → (delayed : List Name) × IsDelayedOrder s order (Pager, place) delayed
+
 -- an access after handover to a page with no placement breaks the demand in every merging
 abbrev pub UnplacedBreaks : Recorded → Type 0
 UnplacedBreaks s =

@@ -1,14 +1,16 @@
 //! The plain programs on a session in which both pages come from the source, on one in which a released page comes
 //! back as zeros, and on faulty changes of both.
 
-ghost use Rattle.migration_types.specs.Sessions.{GuestRecFits, SourceRecFits, PagerRecFits};
+ghost use Rattle.std.specs.Prelude.{◌≤◌, IfOk, length};
+ghost use Rattle.std.specs.List.{AllByRecursion};
+ghost use Rattle.migration_types.specs.Sessions.{GuestRecFits, SourceRecFits, LinkRecFits, PagerRecFits};
 
 use super::*;
 use migration_types::{
     Contents, Geometry, GuestRec, InitPage, LinkRec, LogName, PageNo, PagerRec, Seq, Session,
     SourceRec,
 };
-use std::alloc::Global;
+use std::alloc::{AllocError, Global};
 use std::test::Fail;
 
 const LOGS: [LogName; 4] = [
@@ -121,19 +123,13 @@ fn second_place(change: Change) -> PagerRec
     }
 }
 
-/// Two pages of one cell, page 0 beginning as 5: page 1 is written, the guest moves, misses page 0 and is given it, and
-/// later uses page 1.
-fn worked_session(alloc: Global, change: Change) -> Result<Session, Fail> {
-    let geometry = Geometry::new(2, 1)?;
-    geometry.keeps_limits();
+/// The worked session's log of the guest.
+fn worked_guest(alloc: Global, change: Change) -> Result<Vec<GuestRec>, AllocError>
+    ensures fits { IfOk result (λ v. AllByRecursion (GuestRecFits (record { pages = 2; cells = 1 })) v.items) }
+    ensures few { IfOk result (λ v. length v.items ≤ 1048576) }
+{
     let (zero, one) = (PageNo::new(0), PageNo::new(1));
-    let init = vec![in alloc;
-        InitPage {
-            page: zero,
-            cells: Contents::one(5),
-        },
-    ]?;
-    let guest = vec![in alloc;
+    let log = vec![in alloc;
         GuestRec::Write {
             vcpu: 0,
             page: one,
@@ -162,7 +158,16 @@ fn worked_session(alloc: Global, change: Change) -> Result<Session, Fail> {
         },
         last_read(change),
     ]?;
-    let source = vec![in alloc;
+    Ok(log)
+}
+
+/// The worked session's log of the source.
+fn worked_source(alloc: Global, change: Change) -> Result<Vec<SourceRec>, AllocError>
+    ensures fits { IfOk result (λ v. AllByRecursion (SourceRecFits (record { pages = 2; cells = 1 })) v.items) }
+    ensures few { IfOk result (λ v. length v.items ≤ 1048576) }
+{
+    let zero = PageNo::new(0);
+    let log = vec![in alloc;
         SourceRec::Halted { halt: 1 },
         SourceRec::State,
         SourceRec::Ask { up: 1 },
@@ -172,13 +177,30 @@ fn worked_session(alloc: Global, change: Change) -> Result<Session, Fail> {
         },
         second_send(change),
     ]?;
-    let link = vec![in alloc;
+    Ok(log)
+}
+
+/// The worked session's log of the link.
+fn worked_link(alloc: Global) -> Result<Vec<LinkRec>, AllocError>
+    ensures fits { IfOk result (λ v. AllByRecursion (LinkRecFits) v.items) }
+    ensures few { IfOk result (λ v. length v.items ≤ 1048576) }
+{
+    let log = vec![in alloc;
         LinkRec::Down { sending: 1 },
         LinkRec::Up { asking: 3 },
         LinkRec::Down { sending: 3 },
         LinkRec::Down { sending: 4 },
     ]?;
-    let pager = vec![in alloc;
+    Ok(log)
+}
+
+/// The worked session's log of the pager.
+fn worked_pager(alloc: Global, change: Change) -> Result<Vec<PagerRec>, AllocError>
+    ensures fits { IfOk result (λ v. AllByRecursion (PagerRecFits (record { pages = 2; cells = 1 })) v.items) }
+    ensures few { IfOk result (λ v. length v.items ≤ 1048576) }
+{
+    let zero = PageNo::new(0);
+    let log = vec![in alloc;
         PagerRec::Got { down: 0 },
         PagerRec::Ready,
         fault(change),
@@ -192,6 +214,24 @@ fn worked_session(alloc: Global, change: Change) -> Result<Session, Fail> {
         PagerRec::Got { down: 3 },
         second_place(change),
     ]?;
+    Ok(log)
+}
+
+/// Two pages of one cell, page 0 beginning as 5: page 1 is written, the guest moves, misses page 0 and is given it, and
+/// later uses page 1.
+fn worked_session(alloc: Global, change: Change) -> Result<Session, Fail> {
+    let geometry = Geometry::new(2, 1)?;
+    geometry.keeps_limits();
+    let init = vec![in alloc;
+        InitPage {
+            page: PageNo::new(0),
+            cells: Contents::one(5),
+        },
+    ]?;
+    let guest = worked_guest(alloc, change)?;
+    let source = worked_source(alloc, change)?;
+    let link = worked_link(alloc)?;
+    let pager = worked_pager(alloc, change)?;
     Ok(Session::new(
         geometry,
         Seq::from_vec(init),
