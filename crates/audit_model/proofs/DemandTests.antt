@@ -1,8 +1,7 @@
 -- The tests for demands tell these demands; and safe orders, one name after another.
-use Rattle.std.proofs.Common.{◌≡◌, ◌≢◌, ℕ, suc, ◌+◌, ◌<◌, ◌≤◌, ◌⊎◌, inl, inr, Bool, true, false, not, ◌&&◌, ◌==◌, List, [], ◌∷◌, ◌++◌, length, take, get_or, Option, Some, None, refl, sym, ap, ◌∙◌, subst, eqb-true, eq-eqb}
+use Rattle.std.proofs.Common.{◌≡◌, ◌≢◌, ℕ, ◌+◌, ◌<◌, ◌≤◌, ◌⊎◌, inl, inr, Bool, true, not, ◌&&◌, ◌==◌, List, [], ◌∷◌, ◌++◌, length, take, get_or, Option, Some, None, refl, sym, ap, ◌∙◌, subst, eqb-true, eq-eqb}
 use Rattle.std.specs.Prelude.{slice_get}
 use Rattle.std.specs.Bool.{Decides}
-use Rattle.std.specs.Str.{bytes_eq}
 use Rattle.std.proofs.lemmas.Bool.{and_from, and_parts}
 use Rattle.std.proofs.lemmas.List.{take_more, take_all}
 use Rattle.std.proofs.lemmas.Slice.Eq.{bytes_eq-Decides}
@@ -16,12 +15,12 @@ use Rattle.migration_types.specs.declared.records.PagerRec.TheVariants.{Place, Z
 use Rattle.migration_types.specs.Memory.{page_of}
 use Rattle.migration_types.specs.Receipts.{Name}
 use Rattle.migration_types.specs.Sessions.{Recorded}
-use Rattle.audit_model.specs.Mergings.{StandsAfter}
 use Rattle.audit_model.specs.Flat.{flat, Home, AtSource, Nowhere, AtTarget}
 use Rattle.audit_model.specs.Shape.{keeps}
-use Rattle.audit_model.specs.World.{World, world_after, memory_at, ReadDemand, WriteDemand, guest_demand, source_demand, pager_demand, if_record, Demand, IsSafeOrder, IsFirstBroken}
+use Rattle.audit_model.specs.World.{World, world_after, memory_at, guest_demand, source_demand, pager_demand, if_record, Demand, IsSafeOrder, IsFirstBroken}
 use Rattle.audit_model.specs.DemandTests.{finds, value_at, is_source, is_source_page, guest_test, source_test, pager_test, demand_test}
 use Rattle.audit_model.proofs.FirstNames.{stands_here}
+use Rattle.audit_model.proofs.PageFaultTests.{not_true}
 use Rattle.audit_model.proofs.Rearranged.{append_stands}
 
 finds_somewhere : (h : Home) (r : Bool) → finds h r ≡ true → h ≢ Nowhere
@@ -49,27 +48,23 @@ left AtSource = (λ e is. cc, λ f. absurd (f refl))
 left Nowhere = (λ e is. cc, λ f. refl)
 left AtTarget = (λ e is. cc, λ f. refl)
 
-not_true : (b : Bool) → Decides (not b) (b ≡ false)
-not_true true = (λ e. absurd (cc), λ e. absurd (cc))
-not_true false = (λ e. refl, λ e. refl)
-
 always : Decides true (Unit {0})
 always = (λ e. tt, λ u. refl)
 
 guest_Decides : (s : Recorded) (w : World) (n : ℕ) (r : GuestRec) → Decides (guest_test s w n r) (guest_demand s n r w)
 guest_Decides s w n (Read v p c x) = (
   λ e.
-    let a = and_parts (finds w.home (w.resident p)) ((x == value_at w.home (w.source p c) (w.target p c)) && (x == flat s n p c)) e in
-    let b = and_parts (x == value_at w.home (w.source p c) (w.target p c)) (x == flat s n p c) a.1 in
-    record {
-      is_somewhere = finds_somewhere w.home (w.resident p) a.0;
-      is_resident = finds_resident w.home (w.resident p) a.0;
-      is_the_cell = eqb-true _ _ b.0 ∙ value_is w.home w p c;
-      is_flat = eqb-true _ _ b.1;
-    },
+      let a = and_parts (finds w.home (w.resident p)) ((x == value_at w.home (w.source p c) (w.target p c)) && (x == flat s n p c)) e in
+      let b = and_parts (x == value_at w.home (w.source p c) (w.target p c)) (x == flat s n p c) a.1 in
+      record {
+        is_somewhere = finds_somewhere w.home (w.resident p) a.0;
+        is_resident = finds_resident w.home (w.resident p) a.0;
+        is_the_cell = eqb-true _ _ b.0 ∙ value_is w.home w p c;
+        is_flat = eqb-true _ _ b.1;
+      },
   λ d. and_from (finds w.home (w.resident p)) ((x == value_at w.home (w.source p c) (w.target p c)) && (x == flat s n p c))
-    (finds_from w.home (w.resident p) d.is_somewhere d.is_resident)
-    (and_from (x == value_at w.home (w.source p c) (w.target p c)) (x == flat s n p c) (eq-eqb _ _ (d.is_the_cell ∙ sym (value_is w.home w p c))) (eq-eqb _ _ d.is_flat)),
+      (finds_from w.home (w.resident p) d.is_somewhere d.is_resident)
+      (and_from (x == value_at w.home (w.source p c) (w.target p c)) (x == flat s n p c) (eq-eqb _ _ (d.is_the_cell ∙ sym (value_is w.home w p c))) (eq-eqb _ _ d.is_flat)),
 )
 guest_Decides s w n (Write v p c x) = (
   λ e. record { is_somewhere = finds_somewhere w.home (w.resident p) e; is_resident = finds_resident w.home (w.resident p) e },
@@ -80,38 +75,38 @@ guest_Decides s w n r = always
 source_Decides : (s : Recorded) (w : World) (r : SourceRec) → Decides (source_test s w r) (source_demand s r w)
 source_Decides s w (Send p content) = (
   λ e.
-    let a = and_parts (not (is_source w.home)) (not (w.ledger p) && is_source_page s w p content) e in
-    let b = and_parts (not (w.ledger p)) (is_source_page s w p content) a.1 in
-    record {
-      has_left = (left w.home).0 a.0;
-      is_the_page = (bytes_eq-Decides content (page_of s.geometry.cells w.source p)).0 b.1;
-      is_owed = (not_true (w.ledger p)).0 b.0;
-    },
+      let a = and_parts (not (is_source w.home)) (not (w.ledger p) && is_source_page s w p content) e in
+      let b = and_parts (not (w.ledger p)) (is_source_page s w p content) a.1 in
+      record {
+        has_left = (left w.home).0 a.0;
+        is_the_page = (bytes_eq-Decides content (page_of s.geometry.cells w.source p)).0 b.1;
+        is_owed = (not_true (w.ledger p)).0 b.0;
+      },
   λ d. and_from (not (is_source w.home)) (not (w.ledger p) && is_source_page s w p content) ((left w.home).1 d.has_left)
-    (and_from (not (w.ledger p)) (is_source_page s w p content) ((not_true (w.ledger p)).1 d.is_owed) ((bytes_eq-Decides content (page_of s.geometry.cells w.source p)).1 d.is_the_page)),
+      (and_from (not (w.ledger p)) (is_source_page s w p content) ((not_true (w.ledger p)).1 d.is_owed) ((bytes_eq-Decides content (page_of s.geometry.cells w.source p)).1 d.is_the_page)),
 )
 source_Decides s w r = always
 
 pager_Decides : (s : Recorded) (w : World) (r : PagerRec) → Decides (pager_test s w r) (pager_demand s r w)
 pager_Decides s w (Place p got content) = (
   λ e.
-    let a = and_parts (not (w.placed p)) (not (w.touched p) && is_source_page s w p content) e in
-    let b = and_parts (not (w.touched p)) (is_source_page s w p content) a.1 in
-    record {
-      is_new = (not_true (w.placed p)).0 a.0;
-      is_untouched = (not_true (w.touched p)).0 b.0;
-      is_the_page = (bytes_eq-Decides content (page_of s.geometry.cells w.source p)).0 b.1;
-    },
+      let a = and_parts (not (w.placed p)) (not (w.touched p) && is_source_page s w p content) e in
+      let b = and_parts (not (w.touched p)) (is_source_page s w p content) a.1 in
+      record {
+        is_new = (not_true (w.placed p)).0 a.0;
+        is_untouched = (not_true (w.touched p)).0 b.0;
+        is_the_page = (bytes_eq-Decides content (page_of s.geometry.cells w.source p)).0 b.1;
+      },
   λ d. and_from (not (w.placed p)) (not (w.touched p) && is_source_page s w p content) ((not_true (w.placed p)).1 d.is_new)
-    (and_from (not (w.touched p)) (is_source_page s w p content) ((not_true (w.touched p)).1 d.is_untouched) ((bytes_eq-Decides content (page_of s.geometry.cells w.source p)).1 d.is_the_page)),
+      (and_from (not (w.touched p)) (is_source_page s w p content) ((not_true (w.touched p)).1 d.is_untouched) ((bytes_eq-Decides content (page_of s.geometry.cells w.source p)).1 d.is_the_page)),
 )
 pager_Decides s w (Zero p) = (
   λ e.
-    let a = and_parts (not (w.placed p)) (not (w.touched p) && w.ledger p) e in
-    let b = and_parts (not (w.touched p)) (w.ledger p) a.1 in
-    record { is_new = (not_true (w.placed p)).0 a.0; is_untouched = (not_true (w.touched p)).0 b.0; is_released = b.1 },
+      let a = and_parts (not (w.placed p)) (not (w.touched p) && w.ledger p) e in
+      let b = and_parts (not (w.touched p)) (w.ledger p) a.1 in
+      record { is_new = (not_true (w.placed p)).0 a.0; is_untouched = (not_true (w.touched p)).0 b.0; is_released = b.1 },
   λ d. and_from (not (w.placed p)) (not (w.touched p) && w.ledger p) ((not_true (w.placed p)).1 d.is_new)
-    (and_from (not (w.touched p)) (w.ledger p) ((not_true (w.touched p)).1 d.is_untouched) d.is_released),
+      (and_from (not (w.touched p)) (w.ledger p) ((not_true (w.touched p)).1 d.is_untouched) d.is_released),
 )
 pager_Decides s w r = always
 

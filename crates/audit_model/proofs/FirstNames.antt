@@ -1,6 +1,6 @@
 -- The first names of an order, one after another.
-use Rattle.std.proofs.Common.{◌≡◌, ℕ, suc, cond, ◌+◌, ◌<◌, ◌≤◌, Bool, true, false, List, [], ◌∷◌, ◌++◌, length, take, drop, get_or, refl, sym, ap, ◌∙◌, subst, arith, eqb-true, eq-eqb}
-use Rattle.std.specs.Prelude.{Option, Some, None, nat_lt, ◌==◌, ◌&&◌}
+use Rattle.std.proofs.Common.{◌≡◌, ℕ, suc, cond, ◌+◌, ◌<◌, ◌≤◌, true, false, List, length, take, drop, get_or, refl, sym, ap, ◌∙◌, subst, arith, eqb-true, eq-eqb}
+use Rattle.std.specs.Prelude.{Option, Some, None, nat_lt, ◌==◌}
 use Rattle.std.specs.Bool.{Decides}
 use Rattle.std.proofs.lemmas.Bool.{and_from, and_parts, lt-ltb, ltb-true}
 use Rattle.std.proofs.lemmas.List.{take_more, take_all}
@@ -11,7 +11,7 @@ use Rattle.migration_types.specs.Receipts.{Name}
 use Rattle.migration_types.specs.Sessions.{Recorded}
 use Rattle.audit_model.specs.Names.{log_length, receipt, same_log}
 use Rattle.audit_model.specs.Mergings.{StandsAfter, IsMerging, Cursors, at_start}
-use Rattle.audit_model.specs.Walks.{next, cursors_from, MayFollow, Walks, IsWholeWalk}
+use Rattle.audit_model.specs.Walks.{next, cursors_from, MayFollow, Walks}
 use Rattle.audit_model.specs.FoundOrder.{is_received}
 use Rattle.audit_model.specs.MergingTests.{may, all_taken}
 use Rattle.audit_model.proofs.Cuts.{cursors_push, may_follow}
@@ -47,11 +47,11 @@ received_Decides c (Some name) = (
 pub may_Decides : (s : Recorded) (c : Cursors) (name : Name) → Decides (may s c name) (MayFollow s c name)
 may_Decides s c name = (
   λ e.
-    let a = and_parts (name.1 == c name.0) _ e in
-    let b = and_parts (nat_lt name.1 (log_length s name.0)) _ a.1 in
-    record { is_next = eqb-true _ _ a.0; is_there = ltb-true _ _ b.0; sent_before = (received_Decides c (receipt s name)).0 b.1 },
+      let a = and_parts (name.1 == c name.0) _ e in
+      let b = and_parts (nat_lt name.1 (log_length s name.0)) _ a.1 in
+      record { is_next = eqb-true _ _ a.0; is_there = ltb-true _ _ b.0; sent_before = (received_Decides c (receipt s name)).0 b.1 },
   λ m. and_from (name.1 == c name.0) _ (eq-eqb _ _ m.is_next)
-    (and_from (nat_lt name.1 (log_length s name.0)) _ (lt-ltb _ _ m.is_there) ((received_Decides c (receipt s name)).1 m.sent_before)),
+      (and_from (nat_lt name.1 (log_length s name.0)) _ (lt-ltb _ _ m.is_there) ((received_Decides c (receipt s name)).1 m.sent_before)),
 )
 
 pub walks_more : (s : Recorded) (order : List Name) (at : ℕ) (d : Name) → at < length order → Walks s at_start (take at order) → may s (cursors_from at_start (take at order)) (get_or order at d) ≡ true → Walks s at_start (take (at + 1) order)
@@ -70,13 +70,13 @@ no_merging s order at d lt e merging =
 all_taken_Decides : (s : Recorded) (c : Cursors) → Decides (all_taken s c) ((l : LogName) → c l ≡ log_length s l)
 all_taken_Decides s c = (
   λ e l.
-    let a = and_parts (c Guest == log_length s Guest) _ e in
-    let b = and_parts (c Source == log_length s Source) _ a.1 in
-    let d = and_parts (c Link == log_length s Link) _ b.1 in
-    each (eqb-true _ _ a.0) (eqb-true _ _ b.0) (eqb-true _ _ d.0) (eqb-true _ _ d.1) l,
+      let a = and_parts (c Guest == log_length s Guest) _ e in
+      let b = and_parts (c Source == log_length s Source) _ a.1 in
+      let d = and_parts (c Link == log_length s Link) _ b.1 in
+      each (eqb-true _ _ a.0) (eqb-true _ _ b.0) (eqb-true _ _ d.0) (eqb-true _ _ d.1) l,
   λ f. and_from (c Guest == log_length s Guest) _ (eq-eqb _ _ (f Guest))
-    (and_from (c Source == log_length s Source) _ (eq-eqb _ _ (f Source))
-    (and_from (c Link == log_length s Link) _ (eq-eqb _ _ (f Link)) (eq-eqb _ _ (f Pager)))),
+      (and_from (c Source == log_length s Source) _ (eq-eqb _ _ (f Source))
+      (and_from (c Link == log_length s Link) _ (eq-eqb _ _ (f Link)) (eq-eqb _ _ (f Pager)))),
 )
   where
     each : c Guest ≡ log_length s Guest → c Source ≡ log_length s Source → c Link ≡ log_length s Link → c Pager ≡ log_length s Pager → (l : LogName) → c l ≡ log_length s l

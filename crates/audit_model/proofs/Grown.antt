@@ -5,7 +5,7 @@ use Rattle.migration_types.specs.Sessions.{Recorded}
 use Rattle.migration_types.specs.Receipts.{Name}
 use Rattle.audit_model.specs.Names.{log_length, same_log}
 use Rattle.audit_model.specs.Mergings.{places_of, IsMerging, Cursors, at_start}
-use Rattle.audit_model.specs.Walks.{next, cursors_from, MayFollow, Walks, IsWholeWalk, IsGrown}
+use Rattle.audit_model.specs.Walks.{next, cursors_from, MayFollow, Walks, IsGrown}
 use Rattle.audit_model.proofs.Cuts.{cursors_push, same_log_itself, cursor_next, cursor_count, from_start, merging_walks}
 use Rattle.audit_model.proofs.Walked.{walk_merges, length_range}
 

@@ -17,7 +17,6 @@ pub mod Rearranged
 pub mod Late
 pub mod Delays
 pub mod Unsafe
-pub mod Longer
 pub mod Knots
 pub mod WrittenOut
 pub mod ExampleA

@@ -1,5 +1,5 @@
 -- The tests for faults of pages tell these faults.
-use Rattle.std.proofs.Common.{◌≡◌, ℕ, Bool, true, false, not, ◌&&◌, ◌==◌, List, Option, Some, None, refl, sym, ap, ◌∙◌, subst, eqb-true, eq-eqb}
+use Rattle.std.proofs.Common.{◌≡◌, ℕ, Bool, true, false, not, ◌==◌, Option, Some, None, refl, sym, ap, ◌∙◌, eqb-true, eq-eqb}
 use Rattle.std.specs.Prelude.{slice_get, IsTrue, ◌↔◌}
 use Rattle.std.specs.Bool.{Decides}
 use Rattle.std.proofs.lemmas.Bool.{and_from, and_parts}
@@ -31,7 +31,7 @@ at_target AtTarget e = refl
 at_target AtSource e = absurd (cc)
 at_target Nowhere e = absurd (cc)
 
-not_true : (b : Bool) → Decides (not b) (b ≡ false)
+pub not_true : (b : Bool) → Decides (not b) (b ≡ false)
 not_true true = (λ e. absurd (cc), λ e. absurd (cc))
 not_true false = (λ e. refl, λ e. refl)
 
@@ -46,11 +46,11 @@ none (Some x) never f = never x f
 uncovered : (s : Recorded) (n p : ℕ) (r : GuestRec) → ((q : ℕ) → is_access_of q r ≡ (p == q)) → Decides (is_uncovered s p n) ((page : ℕ) × IsEarly s n r page)
 uncovered s n p r of = (
   λ e.
-    let parts = and_parts (is_target (home s n)) (not (has_looked s p n)) e in
-    (p, record { is_access = of p ∙ eq-eqb p p refl; is_late = at_target (home s n) parts.0; is_uncovered = (not_true (has_looked s p n)).0 parts.1 }),
+      let parts = and_parts (is_target (home s n)) (not (has_looked s p n)) e in
+      (p, record { is_access = of p ∙ eq-eqb p p refl; is_late = at_target (home s n) parts.0; is_uncovered = (not_true (has_looked s p n)).0 parts.1 }),
   λ f.
-    let same : p ≡ f.0 = eqb-true p f.0 (sym (of f.0) ∙ f.1.is_access) in
-    and_from (is_target (home s n)) (not (has_looked s p n)) (ap is_target f.1.is_late) ((not_true (has_looked s p n)).1 (ap (λ k. has_looked s k n) same ∙ f.1.is_uncovered)),
+      let same : p ≡ f.0 = eqb-true p f.0 (sym (of f.0) ∙ f.1.is_access) in
+      and_from (is_target (home s n)) (not (has_looked s p n)) (ap is_target f.1.is_late) ((not_true (has_looked s p n)).1 (ap (λ k. has_looked s k n) same ∙ f.1.is_uncovered)),
 )
 
 no_access : (s : Recorded) (n : ℕ) (r : GuestRec) → ((q : ℕ) → is_access_of q r ≡ false) → ((page : ℕ) × IsEarly s n r page) → ⊥

@@ -11,7 +11,7 @@ use Rattle.migration_types.specs.Memory.{with_cell, with_zeros}
 use Rattle.migration_types.specs.Receipts.{Name}
 use Rattle.migration_types.specs.Sessions.{Recorded}
 use Rattle.audit_model.specs.Flat.{changed, Home, AtSource, Nowhere, AtTarget}
-use Rattle.audit_model.specs.World.{World, guest_step, guest_step_at, write_at, release_at, read_at, pager_step, step, run_from, world_after}
+use Rattle.audit_model.specs.World.{World, guest_step, write_at, release_at, read_at, pager_step, step, run_from, world_after}
 use Rattle.audit_model.specs.Spots.{spot_at, spot_written, spot_released, spot_read, guest_spot, pager_spot, spot_step}
 
 picked : (t q r r' : Bool) (x y : ℕ) → (t ≡ true → r ≡ r') → cond r (cond (t && q) x y) y ≡ cond ((t && q) && r') x y

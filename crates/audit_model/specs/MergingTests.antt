@@ -1,5 +1,5 @@
 -- Tests for mergings, which the plain program computes. These serve proofs alone.
-use Rattle.std.specs.Prelude.{Bool, true, ◌==◌, ◌&&◌, nat_lt, List}
+use Rattle.std.specs.Prelude.{Bool, ◌==◌, ◌&&◌, nat_lt}
 use Rattle.migration_types.specs.declared.records.LogName.TheVariants.{Guest, Source, Link, Pager}
 use Rattle.migration_types.specs.Receipts.{Name}
 use Rattle.migration_types.specs.Sessions.{Recorded}

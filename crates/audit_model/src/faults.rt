@@ -72,9 +72,14 @@ fn is_wrong_read(session: &Session, place: usize) -> bool
     ensures { result ≡ passes (is_wrong_read session.now place) (slice_get session.now.guest place) }
 {
     match session.guest().get(place) {
-        Some(GuestRec::Read { page, cell, value, .. }) => {
-            *value != flat_value(session, place, *page, *cell)
-        }
+        Some(
+            GuestRec::Read {
+                page,
+                cell,
+                value,
+                ..
+            },
+        ) => { *value != flat_value(session, place, *page, *cell) }
         _ => false,
     }
 }

@@ -77,7 +77,10 @@ fn delivers_state(session: &Session, got: u32) -> bool
     match session.source().get(sending as usize) {
         Some(SourceRec::State) => true,
         Some(SourceRec::Again { sending }) => {
-            matches!(session.source().get(*sending as usize), Some(SourceRec::State))
+            matches!(
+                session.source().get(*sending as usize),
+                Some(SourceRec::State)
+            )
         }
         _ => false,
     }
@@ -176,18 +179,30 @@ fn pager_named(session: &Session, place: usize, logged: &PagerRec) -> bool
 {
     match logged {
         PagerRec::Got { down } => {
-            matches!(session.link().get(*down as usize), Some(LinkRec::Down { .. }))
+            matches!(
+                session.link().get(*down as usize),
+                Some(LinkRec::Down { .. })
+            )
         }
         PagerRec::Fault { miss } => {
-            matches!(session.guest().get(*miss as usize), Some(GuestRec::Miss { .. }))
+            matches!(
+                session.guest().get(*miss as usize),
+                Some(GuestRec::Miss { .. })
+            )
         }
         PagerRec::Join { want } => {
             (*want as usize) < place
-                && matches!(session.pager().get(*want as usize), Some(PagerRec::Want { .. }))
+                && matches!(
+                    session.pager().get(*want as usize),
+                    Some(PagerRec::Want { .. })
+                )
         }
         PagerRec::Skip { got } => {
             (*got as usize) < place
-                && matches!(session.pager().get(*got as usize), Some(PagerRec::Got { .. }))
+                && matches!(
+                    session.pager().get(*got as usize),
+                    Some(PagerRec::Got { .. })
+                )
         }
         PagerRec::Place { page, got, .. } => {
             (*got as usize) < place && delivers_page(session, *got, *page)

@@ -142,7 +142,9 @@ fn after_pager(spot: Spot, page: PageNo, cell: u16, logged: &PagerRec) -> Spot
 {
     match logged {
         PagerRec::Place {
-            page: p, contents, ..
+            page: p,
+            contents,
+            ..
         } => {
             let value = value_at(contents.as_slice(), cell);
             placed(spot, p.number() == page.number(), value)
@@ -251,7 +253,10 @@ fn guest_demand(
 {
     match *logged {
         GuestRec::Read {
-            page, cell, value, ..
+            page,
+            cell,
+            value,
+            ..
         } => {
             let spot = spot_after(session, order, page, cell);
             finds(spot)

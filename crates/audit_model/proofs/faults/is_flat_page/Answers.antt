@@ -1,4 +1,4 @@
-use Rattle.std.proofs.Common.{◌≡◌, ◌<◌, ℕ, length, sym, ◌∙◌, arith}
+use Rattle.std.proofs.Common.{arith}
 use Rattle.audit_model.specs.Flat.{flat}
 use Rattle.audit_model.proofs.FlatPages.{other_length, other_cell, same_page}
 use Rattle.audit_model.proofs.faults.is_flat_page.Goals as goal

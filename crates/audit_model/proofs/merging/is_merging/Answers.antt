@@ -1,4 +1,4 @@
-use Rattle.std.proofs.Common.{sym, ◌∙◌, arith}
+use Rattle.std.proofs.Common.{sym, ◌∙◌}
 use Rattle.audit_model.proofs.FirstNames.{walks_more, no_merging, walked_all, whole_Decides}
 use Rattle.audit_model.proofs.PageFaultTests.{told}
 use Rattle.audit_model.proofs.merging.is_merging.Goals as goal

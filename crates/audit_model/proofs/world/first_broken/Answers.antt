@@ -1,4 +1,4 @@
-use Rattle.std.proofs.Common.{sym, ◌∙◌, arith}
+use Rattle.std.proofs.Common.{sym, ◌∙◌}
 use Rattle.migration_types.specs.declared.records.LogName.TheVariants.{Guest}
 use Rattle.audit_model.proofs.DemandTests.{nothing_is_safe, safe_more, safe_all, broken_here}
 use Rattle.audit_model.proofs.world.first_broken.Goals as goal

@@ -1,4 +1,4 @@
-use Rattle.std.proofs.Common.{◌≡◌, ◌<◌, ℕ, arith, ap, ◌∙◌, sym}
+use Rattle.std.proofs.Common.{arith, ap}
 use Rattle.audit_model.specs.World.{world_after}
 use Rattle.audit_model.specs.declared.world.Spot.{Spot}
 use Rattle.audit_model.proofs.FlatPages.{other_length, other_cell, same_page}

@@ -1,4 +1,4 @@
-use Rattle.std.proofs.Common.{sym, ap, ◌∙◌, arith, get_or}
+use Rattle.std.proofs.Common.{ap, ◌∙◌, get_or}
 use Rattle.migration_types.specs.declared.records.LogName.TheVariants.{Guest}
 use Rattle.audit_model.specs.Spots.{spot_step}
 use Rattle.audit_model.proofs.SpotSteps.{spot_more}
