@@ -2,7 +2,6 @@
 #![tactic(auto)]
 
 mod entries;
-mod line_stub;
 mod looks;
 mod maker;
 mod order;

@@ -9,11 +9,11 @@ ghost use Rattle.merge_runs.specs.Taken.{cursors_of, AreAllTaken};
 ghost use Rattle.cert_maker.specs.Orders.{IsOrderOf};
 ghost use Rattle.cert_maker.specs.Ready.{GoesTo};
 
-use crate::line_stub::line_of;
 use crate::ready::{first_ready, goes_to};
 use audit_model::mergings_are_walks;
 use merge_runs::{Taken, is_whole, records_of};
 use migration_types::{LogName, Run, Seq, Session};
+use session_log::line_of;
 use std::alloc::{AllocError, Global};
 
 /// An order of a session's records, or that there is none.
