@@ -6,7 +6,7 @@ ghost use Rattle.text_lines.specs.Contents.{contents_text, IsContent};
 
 use migration_types::{Contents, LAST_RECORD, PageNo};
 use std::alloc::Global;
-use text_lines::{FaultKind, after_key, front_number, read_cell, read_contents, read_keyed};
+use text_lines::{FaultKind, after_key, read_cell, read_contents, read_keyed, short_before};
 
 /// The number of a record, where a line is a key and such a number.
 pub(crate) fn read_numbered(line: &[u8], key: &[u8]) -> Option<u32>
@@ -50,7 +50,7 @@ pub(crate) fn read_page_contents(
     Ok(Contents::from_vec(values))
 }
 
-/// What follows a line feed.
+/// What follows the line feed at the front of a text.
 #[inline(always)]
 pub(crate) fn front_ended(text: &[u8]) -> Option<&[u8]>
     ensures { IfSome result (λ rest. text.now ≡ 10 ∷ rest.now) }
@@ -68,12 +68,10 @@ pub(crate) fn front_ended(text: &[u8]) -> Option<&[u8]>
 pub(crate) fn front_last(text: &[u8], limit: u32) -> Option<(u32, &[u8])>
     ensures { IfSome result (λ found. (found.0 ≤ limit) × (text.now ≡ decimal found.0 ++ 10 ∷ found.1.now)) }
 {
-    let (number, after) = front_number(text)?;
-    if number > u64::from(limit) {
+    if text.len() < 8 {
         return None;
     }
-    let rest = front_ended(after)?;
-    Some((number as u32, rest))
+    short_before(text, b'\n', limit)
 }
 
 /// The number of a record behind a key at the front of a text of whole lines, and what follows the line. It may answer

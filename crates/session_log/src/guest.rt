@@ -144,20 +144,29 @@ fn front_event(text: &[u8], pages: u32) -> Option<(GuestRec, &[u8])>
     requires few { pages ≤ 65536 }
     ensures { IfSome result (λ found. ((cells : ℕ) → GuestRecFits (record { pages = pages; cells = cells }) found.0) × (text.now ≡ guest_line found.0 ++ 10 ∷ found.1.now)) }
 {
-    if let Some((placement, rest)) = front_numbered(text, SEE_KEY) {
-        return Some((GuestRec::See { placement }, rest));
+    let (first, _) = text.split_first()?;
+    match *first {
+        b's' => {
+            let (placement, rest) = front_numbered(text, SEE_KEY)?;
+            Some((GuestRec::See { placement }, rest))
+        }
+        b'm' => {
+            let rest = after_key(text, MISS_KEY)?;
+            let Some((vcpu, page, rest)) = front_vcpu_page(rest, pages) else {
+                return None;
+            };
+            Some((GuestRec::Miss { vcpu, page }, rest))
+        }
+        b'r' => {
+            let (ready, rest) = front_numbered(text, RESUME_KEY)?;
+            Some((GuestRec::Resume { ready }, rest))
+        }
+        b'h' => {
+            let rest = front_ended(after_key(text, HALT)?)?;
+            Some((GuestRec::Halt, rest))
+        }
+        _ => None,
     }
-    if let Some(rest) = after_key(text, MISS_KEY) {
-        let Some((vcpu, page, rest)) = front_vcpu_page(rest, pages) else {
-            return None;
-        };
-        return Some((GuestRec::Miss { vcpu, page }, rest));
-    }
-    if let Some((ready, rest)) = front_numbered(text, RESUME_KEY) {
-        return Some((GuestRec::Resume { ready }, rest));
-    }
-    let rest = front_ended(after_key(text, HALT)?)?;
-    Some((GuestRec::Halt, rest))
 }
 
 /// The record at the front of a text of whole lines, and what follows its line. It may answer `None` at any text.

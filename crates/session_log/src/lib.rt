@@ -13,6 +13,8 @@ mod pager;
 mod pages;
 mod parts;
 mod places;
+#[cfg(test)]
+mod record_tests;
 mod source;
 #[cfg(test)]
 mod tests;

@@ -143,40 +143,58 @@ fn front_pager(alloc: Global, text: &[u8], pages: u32, cells: u32) -> Option<(Pa
     requires extent { IsExtent (record { pages = pages; cells = cells }) }
     ensures { IfSome result (λ found. PagerRecFits (record { pages = pages; cells = cells }) found.0 × (text.now ≡ pager_line found.0 ++ 10 ∷ found.1.now)) }
 {
-    if let Some((down, rest)) = front_numbered(text, GOT_KEY) {
-        return Some((PagerRec::Got { down }, rest));
+    let (first, _) = text.split_first()?;
+    match *first {
+        b'g' => {
+            let (down, rest) = front_numbered(text, GOT_KEY)?;
+            Some((PagerRec::Got { down }, rest))
+        }
+        b'p' => {
+            let rest = after_key(text, PLACE_KEY)?;
+            let (page, got, contents, rest) = front_placed(alloc, rest, pages, cells)?;
+            Some((
+                PagerRec::Place {
+                    page,
+                    got,
+                    contents,
+                },
+                rest,
+            ))
+        }
+        b'w' => {
+            let Some((page, rest)) = front_page_number(text, WANT_KEY, pages) else {
+                return None;
+            };
+            Some((PagerRec::Want { page }, rest))
+        }
+        b'f' => {
+            let (miss, rest) = front_numbered(text, FAULT_KEY)?;
+            Some((PagerRec::Fault { miss }, rest))
+        }
+        b'j' => {
+            let (want, rest) = front_numbered(text, JOIN_KEY)?;
+            Some((PagerRec::Join { want }, rest))
+        }
+        b's' => {
+            let (got, rest) = front_numbered(text, SKIP_KEY)?;
+            Some((PagerRec::Skip { got }, rest))
+        }
+        b'z' => {
+            let Some((page, rest)) = front_page_number(text, ZERO_KEY, pages) else {
+                return None;
+            };
+            Some((PagerRec::Zero { page }, rest))
+        }
+        b'r' => {
+            let rest = front_ended(after_key(text, READY)?)?;
+            Some((PagerRec::Ready, rest))
+        }
+        b'a' => {
+            let rest = front_ended(after_key(text, ALL)?)?;
+            Some((PagerRec::All, rest))
+        }
+        _ => None,
     }
-    if let Some(rest) = after_key(text, PLACE_KEY) {
-        let (page, got, contents, rest) = front_placed(alloc, rest, pages, cells)?;
-        return Some((
-            PagerRec::Place {
-                page,
-                got,
-                contents,
-            },
-            rest,
-        ));
-    }
-    if let Some((page, rest)) = front_page_number(text, WANT_KEY, pages) {
-        return Some((PagerRec::Want { page }, rest));
-    }
-    if let Some((miss, rest)) = front_numbered(text, FAULT_KEY) {
-        return Some((PagerRec::Fault { miss }, rest));
-    }
-    if let Some((want, rest)) = front_numbered(text, JOIN_KEY) {
-        return Some((PagerRec::Join { want }, rest));
-    }
-    if let Some((got, rest)) = front_numbered(text, SKIP_KEY) {
-        return Some((PagerRec::Skip { got }, rest));
-    }
-    if let Some((page, rest)) = front_page_number(text, ZERO_KEY, pages) {
-        return Some((PagerRec::Zero { page }, rest));
-    }
-    if let Some(rest) = after_key(text, READY) {
-        return Some((PagerRec::Ready, front_ended(rest)?));
-    }
-    let rest = front_ended(after_key(text, ALL)?)?;
-    Some((PagerRec::All, rest))
 }
 
 /// Takes records at the front of the bytes, up to `most` of them, and stops where it likes. Answers what follows, and

@@ -106,24 +106,33 @@ fn front_source(alloc: Global, text: &[u8], pages: u32, cells: u32) -> Option<(S
     requires extent { IsExtent (record { pages = pages; cells = cells }) }
     ensures { IfSome result (λ found. SourceRecFits (record { pages = pages; cells = cells }) found.0 × (text.now ≡ source_line found.0 ++ 10 ∷ found.1.now)) }
 {
-    if let Some(rest) = after_key(text, SEND_KEY) {
-        let (page, contents, rest) = front_sent(alloc, rest, pages, cells)?;
-        return Some((SourceRec::Send { page, contents }, rest));
+    let (first, _) = text.split_first()?;
+    match *first {
+        b's' => {
+            let Some(rest) = after_key(text, SEND_KEY) else {
+                let rest = front_ended(after_key(text, STATE)?)?;
+                return Some((SourceRec::State, rest));
+            };
+            let (page, contents, rest) = front_sent(alloc, rest, pages, cells)?;
+            Some((SourceRec::Send { page, contents }, rest))
+        }
+        b'a' => {
+            if let Some((up, rest)) = front_numbered(text, ASK_KEY) {
+                return Some((SourceRec::Ask { up }, rest));
+            }
+            let (sending, rest) = front_numbered(text, AGAIN_KEY)?;
+            Some((SourceRec::Again { sending }, rest))
+        }
+        b'h' => {
+            let (halt, rest) = front_numbered(text, HALTED_KEY)?;
+            Some((SourceRec::Halted { halt }, rest))
+        }
+        b'd' => {
+            let rest = front_ended(after_key(text, DONE)?)?;
+            Some((SourceRec::Done, rest))
+        }
+        _ => None,
     }
-    if let Some((up, rest)) = front_numbered(text, ASK_KEY) {
-        return Some((SourceRec::Ask { up }, rest));
-    }
-    if let Some((sending, rest)) = front_numbered(text, AGAIN_KEY) {
-        return Some((SourceRec::Again { sending }, rest));
-    }
-    if let Some((halt, rest)) = front_numbered(text, HALTED_KEY) {
-        return Some((SourceRec::Halted { halt }, rest));
-    }
-    if let Some(rest) = after_key(text, STATE) {
-        return Some((SourceRec::State, front_ended(rest)?));
-    }
-    let rest = front_ended(after_key(text, DONE)?)?;
-    Some((SourceRec::Done, rest))
 }
 
 /// Takes records at the front of the bytes, up to `most` of them, and stops where it likes. Answers what follows, and

@@ -22,7 +22,7 @@ mod writing;
 pub use contents::{read_cell, read_contents};
 pub use fields::{after_key, front_number, is_line, number_then, read_decimal, read_keyed};
 pub use pieces::TextReader;
-pub use short::short_then;
+pub use short::{short_before, short_then};
 pub use taking::take_lines;
 pub use writing::{push_keyed, push_line};
 

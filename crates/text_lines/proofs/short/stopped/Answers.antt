@@ -7,9 +7,9 @@ use Rattle.text_lines.proofs.short.stopped.Goals.{else-count-gt1-via-then-count-
 pub returns-clause-found : goal.returns-clause-found
 returns-clause-found c = (
   omega arith,
-  short_found c.args.text.now c.args.n c.args.count c.requires.count c.requires.long c.requires.digits c.requires.value c.if-count-eq0.false (λ more.
+  short_found c.args.text.now c.args.n c.args.count c.args.end c.requires.count c.requires.long c.requires.end c.requires.digits c.requires.value c.if-count-eq0.false (λ more.
       elim c.else-count-gt1.branch [
         | else-count-gt1-via-then-count-gt1+else-text-eq48 w ↦ w.if-text-eq48.false
         | else-count-gt1-via-else-count-gt1 w ↦ absurd (omega arith)
-      ]) c.if-text-count-ne-SPACE.false ∙ ap (λ (t : List ℕ). decimal c.args.n ++ 32 ∷ t) (sym c.split_at.ensures.back),
+      ]) c.if-text-count.false ∙ ap (λ (t : List ℕ). decimal c.args.n ++ c.args.end ∷ t) (sym c.split_at.ensures.back),
 )

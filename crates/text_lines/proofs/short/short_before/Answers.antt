@@ -1,7 +1,7 @@
 use Rattle.std.proofs.Common.{◌≡◌, ◌<◌, ◌+◌, ◌*◌, ◌%◌, ℕ, take, length, get_or, subst, ◌∙◌, arith}
 use Rattle.std.specs.Str.Parse.{digits_value}
 use Rattle.text_lines.proofs.Fronts.{short_value, digit_push, byte_digit, value_push}
-use Rattle.text_lines.proofs.short.short_then.Goals as goal
+use Rattle.text_lines.proofs.short.short_before.Goals as goal
 
 pub overflow_mul-n : goal.overflow_mul-n
 overflow_mul-n c =
