@@ -137,10 +137,7 @@ impl Parts {
         requires { Live Stage.Pages (draft_of self.old) }
         ensures { Steps Stage.Pages (draft_of self.old) line.now (draft_of self.new) result }
     {
-        let pages = match read_keyed(line, PAGES_KEY, MOST_PAGES) {
-            Ok(pages) => pages,
-            Err(kind) => return Err(kind),
-        };
+        let pages = read_keyed(line, PAGES_KEY, MOST_PAGES)?;
         if pages == 0 {
             return Err(FaultKind::Range);
         }
@@ -153,10 +150,7 @@ impl Parts {
         requires { Live Stage.Cells (draft_of self.old) }
         ensures { Steps Stage.Cells (draft_of self.old) line.now (draft_of self.new) result }
     {
-        let cells = match read_keyed(line, CELLS_KEY, MOST_CELLS) {
-            Ok(cells) => cells,
-            Err(kind) => return Err(kind),
-        };
+        let cells = read_keyed(line, CELLS_KEY, MOST_CELLS)?;
         let Ok(_geometry) = Geometry::new(self.pages, cells) else {
             return Err(FaultKind::Range);
         };
@@ -169,10 +163,7 @@ impl Parts {
         requires { Live Stage.InitCount (draft_of self.old) }
         ensures { Steps Stage.InitCount (draft_of self.old) line.now (draft_of self.new) result }
     {
-        let count = match read_keyed(line, INIT_KEY, self.pages) {
-            Ok(count) => count,
-            Err(kind) => return Err(kind),
-        };
+        let count = read_keyed(line, INIT_KEY, self.pages)?;
         self.init_count = count;
         self.next_page = 0;
         Ok(Stage::Init)
@@ -185,18 +176,12 @@ impl Parts {
     {
         let left = self.init_count - self.init.len() as u32;
         if left == 0 {
-            let count = match read_keyed(line, GUEST_KEY, MOST_RECORDS) {
-                Ok(count) => count,
-                Err(kind) => return Err(kind),
-            };
+            let count = read_keyed(line, GUEST_KEY, MOST_RECORDS)?;
             self.guest_count = count;
             return Ok(Stage::Guest);
         }
         let last = self.pages - left;
-        let page = match read_page(self.alloc, line, self.next_page, last, self.cells) {
-            Ok(page) => page,
-            Err(kind) => return Err(kind),
-        };
+        let page = read_page(self.alloc, line, self.next_page, last, self.cells)?;
         let next = u32::from(page.page.number()) + 1;
         let Ok(()) = self.init.push(page) else {
             return Err(FaultKind::Memory);
@@ -211,10 +196,7 @@ impl Parts {
         ensures { Steps Stage.Guest (draft_of self.old) line.now (draft_of self.new) result }
     {
         if self.guest.len() == self.guest_count as usize {
-            let count = match read_keyed(line, SOURCE_KEY, MOST_RECORDS) {
-                Ok(count) => count,
-                Err(kind) => return Err(kind),
-            };
+            let count = read_keyed(line, SOURCE_KEY, MOST_RECORDS)?;
             self.source_count = count;
             return Ok(Stage::Source);
         }
@@ -233,17 +215,11 @@ impl Parts {
         ensures { Steps Stage.Source (draft_of self.old) line.now (draft_of self.new) result }
     {
         if self.source.len() == self.source_count as usize {
-            let count = match read_keyed(line, LINK_KEY, MOST_RECORDS) {
-                Ok(count) => count,
-                Err(kind) => return Err(kind),
-            };
+            let count = read_keyed(line, LINK_KEY, MOST_RECORDS)?;
             self.link_count = count;
             return Ok(Stage::Link);
         }
-        let record = match read_source(self.alloc, line, self.pages, self.cells) {
-            Ok(record) => record,
-            Err(kind) => return Err(kind),
-        };
+        let record = read_source(self.alloc, line, self.pages, self.cells)?;
         let Ok(()) = self.source.push(record) else {
             return Err(FaultKind::Memory);
         };
@@ -256,10 +232,7 @@ impl Parts {
         ensures { Steps Stage.Link (draft_of self.old) line.now (draft_of self.new) result }
     {
         if self.link.len() == self.link_count as usize {
-            let count = match read_keyed(line, PAGER_KEY, MOST_RECORDS) {
-                Ok(count) => count,
-                Err(kind) => return Err(kind),
-            };
+            let count = read_keyed(line, PAGER_KEY, MOST_RECORDS)?;
             self.pager_count = count;
             return Ok(Stage::Pager);
         }
@@ -283,10 +256,7 @@ impl Parts {
             }
             return Ok(Stage::Done);
         }
-        let record = match read_pager(self.alloc, line, self.pages, self.cells) {
-            Ok(record) => record,
-            Err(kind) => return Err(kind),
-        };
+        let record = read_pager(self.alloc, line, self.pages, self.cells)?;
         let Ok(()) = self.pager.push(record) else {
             return Err(FaultKind::Memory);
         };

@@ -7,6 +7,6 @@ pub returns-in_default : goal.returns-in_default
 returns-in_default c = (
   refl,
   λ _ b.
-      let found = c.in-Ok.ensures.found in
-      no_fault c.args.self.now.pages c.in-Ok.cells c.in_default.field-0 c.in_default.ensures (cells_at (draft_of c.args.self.now) c.args.line.now c.in-Ok.cells c.requires.2 found.0 found.1 b),
+      let found = c.in_ok-cells.ensures.found in
+      no_fault c.args.self.now.pages c.in_ok-cells.cells c.in_default.field-0 c.in_default.ensures (cells_at (draft_of c.args.self.now) c.args.line.now c.in_ok-cells.cells c.requires.2 found.0 found.1 b),
 )
