@@ -1,18 +1,19 @@
-//! Two sessions: one with a page that is sent and placed, with its found order and its certificate; and a knot.
+//! A session with a page that is sent, placed and read, with its found order and its certificate; and a knot.
 
 use super::*;
 use migration_types::{
     Contents, Entry, First, Geometry, GuestRec, LinkRec, LogName, PageNo, PagerRec, Run, Seq,
     Session, SourceRec,
 };
+use std::alloc::Global;
 use std::test::Fail;
 
-#[test]
-fn finds_and_makes(rt: HostRuntime) -> Result<(), Fail> {
+/// A page is written, sent, missed, placed, seen twice and read.
+fn session_with_a_miss(alloc: Global) -> Result<Session, Fail> {
     let geometry = Geometry::new(2, 1)?;
     geometry.keeps_limits();
     let page = PageNo::new(0);
-    let guest = vec![in rt.alloc();
+    let guest = vec![in alloc;
         GuestRec::Write {
             vcpu: 0,
             page,
@@ -22,8 +23,8 @@ fn finds_and_makes(rt: HostRuntime) -> Result<(), Fail> {
         GuestRec::Halt,
         GuestRec::Resume { ready: 1 },
         GuestRec::Miss { vcpu: 0, page },
-        GuestRec::See { placement: 5 },
-        GuestRec::See { placement: 5 },
+        GuestRec::See { placement: 4 },
+        GuestRec::See { placement: 4 },
         GuestRec::Read {
             vcpu: 0,
             page,
@@ -31,40 +32,57 @@ fn finds_and_makes(rt: HostRuntime) -> Result<(), Fail> {
             value: 7
         },
     ]?;
-    let source = vec![in rt.alloc();
+    let source = vec![in alloc;
         SourceRec::Halted { halt: 1 },
         SourceRec::State,
-        SourceRec::Ask { up: 1 },
         SourceRec::Send {
             page,
             contents: Contents::one(7)
         },
     ]?;
-    let link = vec![in rt.alloc();
-        LinkRec::Down { sending: 1 },
-        LinkRec::Up { asking: 3 },
-        LinkRec::Down { sending: 3 },
-    ]?;
-    let pager = vec![in rt.alloc();
+    let link = vec![in alloc; LinkRec::Down { sending: 1 }, LinkRec::Down { sending: 2 }]?;
+    let pager = vec![in alloc;
         PagerRec::Got { down: 0 },
         PagerRec::Ready,
         PagerRec::Fault { miss: 3 },
-        PagerRec::Want { page },
-        PagerRec::Got { down: 2 },
+        PagerRec::Got { down: 1 },
         PagerRec::Place {
             page,
-            got: 4,
+            got: 3,
             contents: Contents::one(7)
         },
     ]?;
-    let session = Session::new(
+    Ok(Session::new(
         geometry,
-        Seq::from_vec(Vec::new(rt.alloc())),
+        Seq::from_vec(Vec::new(alloc)),
         Seq::from_vec(guest),
         Seq::from_vec(source),
         Seq::from_vec(link),
         Seq::from_vec(pager),
-    );
+    ))
+}
+
+/// The guest resumes by a record that came with nothing that the source sends.
+fn tied_session(alloc: Global) -> Result<Session, Fail> {
+    let geometry = Geometry::new(1, 1)?;
+    geometry.keeps_limits();
+    let guest = vec![in alloc; GuestRec::Halt, GuestRec::Resume { ready: 0 }]?;
+    let source = vec![in alloc; SourceRec::Halted { halt: 1 }]?;
+    let link = vec![in alloc; LinkRec::Down { sending: 0 }]?;
+    let pager = vec![in alloc; PagerRec::Got { down: 0 }]?;
+    Ok(Session::new(
+        geometry,
+        Seq::from_vec(Vec::new(alloc)),
+        Seq::from_vec(guest),
+        Seq::from_vec(source),
+        Seq::from_vec(link),
+        Seq::from_vec(pager),
+    ))
+}
+
+#[test]
+fn finds_and_makes(rt: HostRuntime) -> Result<(), Fail> {
+    let session = session_with_a_miss(rt.alloc())?;
     let Order::Found(runs) = find_order(rt.alloc(), &session)? else {
         panic!(rt; "a knot");
     };
@@ -75,11 +93,11 @@ fn finds_and_makes(rt: HostRuntime) -> Result<(), Fail> {
         },
         Run {
             log: LogName::Source,
-            count: 2,
+            count: 3,
         },
         Run {
             log: LogName::Link,
-            count: 1,
+            count: 2,
         },
         Run {
             log: LogName::Pager,
@@ -91,23 +109,7 @@ fn finds_and_makes(rt: HostRuntime) -> Result<(), Fail> {
         },
         Run {
             log: LogName::Pager,
-            count: 2,
-        },
-        Run {
-            log: LogName::Link,
-            count: 1,
-        },
-        Run {
-            log: LogName::Source,
-            count: 2,
-        },
-        Run {
-            log: LogName::Link,
-            count: 1,
-        },
-        Run {
-            log: LogName::Pager,
-            count: 2,
+            count: 3,
         },
         Run {
             log: LogName::Guest,
@@ -116,19 +118,26 @@ fn finds_and_makes(rt: HostRuntime) -> Result<(), Fail> {
     ];
     assert_eq!(rt; runs.as_slice(), want.as_slice());
     let cert = make(rt.alloc(), &session, runs)?;
+    let first = Some(First { access: 6, see: 4 });
     let entries = [
         Entry::Source {
-            send: 3,
-            place: 5,
-            first: Some(First { access: 6, see: 4 }),
+            send: 2,
+            place: 4,
+            first,
         },
         Entry::Nothing,
     ];
     assert_eq!(rt; cert.entries(), entries.as_slice());
     assert_eq!(rt; cert.runs(), want.as_slice());
-    let none = Seq::from_vec(Vec::new(rt.alloc()));
-    match make(rt.alloc(), &session, none) {
-        Ok(_) => panic!(rt; "no runs are a merging"),
+    Ok(())
+}
+
+#[test]
+fn refuses_runs_that_are_no_merging(rt: HostRuntime) -> Result<(), Fail> {
+    let session = tied_session(rt.alloc())?;
+    let runs = Seq::from_vec(Vec::new(rt.alloc()));
+    match make(rt.alloc(), &session, runs) {
+        Ok(_) => panic!(rt; "a certificate"),
         Err(fault) => assert_eq!(rt; fault, MakeFault::NoCertificate),
     }
     Ok(())
@@ -136,20 +145,7 @@ fn finds_and_makes(rt: HostRuntime) -> Result<(), Fail> {
 
 #[test]
 fn tells_a_knot(rt: HostRuntime) -> Result<(), Fail> {
-    let geometry = Geometry::new(1, 1)?;
-    geometry.keeps_limits();
-    let guest = vec![in rt.alloc(); GuestRec::Halt, GuestRec::Resume { ready: 0 }]?;
-    let link = vec![in rt.alloc(); LinkRec::Down { sending: 0 }]?;
-    let pager = vec![in rt.alloc(); PagerRec::Got { down: 0 }]?;
-    let source = vec![in rt.alloc(); SourceRec::Halted { halt: 1 }]?;
-    let session = Session::new(
-        geometry,
-        Seq::from_vec(Vec::new(rt.alloc())),
-        Seq::from_vec(guest),
-        Seq::from_vec(source),
-        Seq::from_vec(link),
-        Seq::from_vec(pager),
-    );
+    let session = tied_session(rt.alloc())?;
     match find_order(rt.alloc(), &session)? {
         Order::Found(_) => panic!(rt; "an order"),
         Order::Knot(line) => assert_eq!(rt; line, 7),
