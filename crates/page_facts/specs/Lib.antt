@@ -1,4 +1,5 @@
 pub mod Tables
+pub mod Machines
 pub mod Judged
 pub mod Moved
 pub mod Facts

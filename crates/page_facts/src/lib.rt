@@ -9,6 +9,7 @@ mod entries;
 mod facts;
 mod guest;
 mod kinds;
+mod machine;
 mod marks;
 mod moved;
 
