@@ -53,7 +53,7 @@ mark_more pages q marks f false lt is = table_same pages false marks f (λ p. ((
     off false b = refl
 
 -- at the halt, the frames' page is the flat content, and the table is the ledger
-differs_is : (s : Recorded) (f : Frames) (p : ℕ) (content : List ℕ) → f.geometry ≡ s.geometry → memory_of f ≡ flat s (at_halt s) → differs f p content ≡ not (bytes_eq content (page_of s.geometry.cells (flat s (at_halt s)) p))
+pub differs_is : (s : Recorded) (f : Frames) (p : ℕ) (content : List ℕ) → f.geometry ≡ s.geometry → memory_of f ≡ flat s (at_halt s) → differs f p content ≡ not (bytes_eq content (page_of s.geometry.cells (flat s (at_halt s)) p))
 differs_is s f p content geometry memory = ap (λ (e : Extent). not (bytes_eq content (page_of e.cells (memory_of f) p))) geometry ∙ ap (λ (m : Memory). not (bytes_eq content (page_of s.geometry.cells m p))) memory
 
 pub sent_more : (s : Recorded) (n : ℕ) (r : SourceRec) (m : Machine) (old new : List Bool) → IsSession s → slice_get s.source n ≡ Some r → IsMachine s (at_halt s) m → AreSent s n old → new ≡ sent_by m.store m.released.items old r → AreSent s (n + 1) new
@@ -93,6 +93,12 @@ first_more s n r table f = go r
     go (Want p) fits is = other is
     go (Skip g) fits is = other is
     go All fits is = other is
+
+pub placements_more : (s : Recorded) (n : ℕ) (r : PagerRec) (old new : List (Option ℕ)) → IsSession s → slice_get s.pager n ≡ Some r → IsTable s.geometry.pages None old (λ p. first_before (λ m. is_placement_of p) s.pager n) → new ≡ placed_by old n r → IsTable s.geometry.pages None new (λ p. first_before (λ m. is_placement_of p) s.pager (suc n))
+placements_more s n r old new limits is table e = subst (λ (t : List (Option ℕ)). IsTable s.geometry.pages None t (λ p. first_before (λ m. is_placement_of p) s.pager (suc n))) (sym e) (table_same s.geometry.pages None _ _ (λ p. first_before (λ m. is_placement_of p) s.pager (suc n)) (first_more s n r old (λ p. first_before (λ m. is_placement_of p) s.pager n) fits table) (λ p. ap (λ o. or_here (first_before (λ m. is_placement_of p) s.pager n) (passes (is_placement_of p) o) n) is))
+  where
+    fits : PagerPage s.geometry.pages r
+    fits = pager_page s.geometry r (each_at (PagerRecFits s.geometry) s.pager n r limits.pager is)
 
 again_more : (s : Recorded) (n : ℕ) (r : PagerRec) (table : List (Option ℕ)) (marks : List Bool) (g : ℕ → Option ℕ) (f : ℕ → Bool) → PagerPage s.geometry.pages r → IsTable s.geometry.pages None table g → IsTable s.geometry.pages false marks f → IsTable s.geometry.pages false (again_by table marks r) (λ p. (is_placement_of p r && is_some (g p)) || f p)
 again_more s n r table marks g f = go r
@@ -134,7 +140,7 @@ altered_more s n All m marks f machine fits is = is
 
 pub placed_more : (s : Recorded) (n : ℕ) (r : PagerRec) (m : Machine) (old new : Placed) → IsSession s → slice_get s.pager n ≡ Some r → IsMachine s (at_halt s) m → IsPlaced s n old → IsPlacedOn m.store m.released.items r n old new → IsPlaced s (n + 1) new
 placed_more s n r m old new limits is machine placed on = subst (λ k. IsPlaced s k new) (sym one) (record {
-  first = onto (λ t. IsTable s.geometry.pages None t (λ p. first_before (λ m. is_placement_of p) s.pager (suc n))) on.first (table_same s.geometry.pages None _ _ (λ p. first_before (λ m. is_placement_of p) s.pager (suc n)) (first_more s n r old.first.items (λ p. first_before (λ m. is_placement_of p) s.pager n) fits placed.first) (λ p. ap (λ o. or_here (first_before (λ m. is_placement_of p) s.pager n) (passes (is_placement_of p) o) n) is));
+  first = placements_more s n r old.first.items new.first.items limits is placed.first on.first;
   again = onto (λ t. IsTable s.geometry.pages false t (λ p. some_before (is_again s p) s.pager (suc n))) on.again (table_same s.geometry.pages false _ _ (λ p. some_before (is_again s p) s.pager (suc n)) (again_more s n r old.first.items old.again.items (λ p. first_before (λ m. is_placement_of p) s.pager n) (λ p. some_before (is_again s p) s.pager n) fits placed.first placed.again) (λ p. ap (λ o. passes (is_again s p n) o || some_before (is_again s p) s.pager n) is));
   altered = onto (λ t. IsTable s.geometry.pages false t (λ p. some_before (is_altered s p) s.pager (suc n))) on.altered (table_same s.geometry.pages false _ _ (λ p. some_before (is_altered s p) s.pager (suc n)) (altered_more s n r m old.altered.items (λ p. some_before (is_altered s p) s.pager n) machine fits placed.altered) (λ p. ap (λ o. passes (is_altered s p n) o || some_before (is_altered s p) s.pager n) is));
 })

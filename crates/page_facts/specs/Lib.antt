@@ -4,3 +4,5 @@ pub mod Judged
 pub mod Moved
 pub mod Facts
 pub mod EntryTests
+pub mod Frontier
+pub mod FirstOfLog

@@ -7,11 +7,13 @@
 
 mod entries;
 mod facts;
+mod frontier;
 mod guest;
 mod kinds;
 mod machine;
 mod marks;
 mod moved;
+mod page_fault;
 
 #[cfg(test)]
 mod tests;
@@ -25,3 +27,4 @@ pub use marks::{no_marks, no_places};
 pub use moved::note_placement;
 pub use entries::is_right_entry;
 pub use facts::{PageFacts, PageTables, facts_of, tables_of};
+pub use page_fault::{PageFault, first_page_fault};

@@ -24,7 +24,7 @@ pub(crate) struct Placed {
 }
 
 /// Whether contents are not those of a page.
-fn differs(store: &Store, page: PageNo, contents: &Contents) -> bool
+pub(crate) fn differs(store: &Store, page: PageNo, contents: &Contents) -> bool
     requires { page < store.now.geometry.pages }
     ensures { result ≡ differs store.now page contents.now }
 {
