@@ -1,5 +1,5 @@
 -- The tests that the passes make at a record give its least reason.
-use Rattle.std.proofs.Common.{◌≡◌, ℕ, suc, ◌+◌, ◌<◌, Bool, false, not, ◌&&◌, List, length, get_or, Option, Some, None, refl, sym, ap, ◌∙◌, subst, arith}
+use Rattle.std.proofs.Common.{◌≡◌, ℕ, suc, ◌+◌, ◌<◌, false, not, ◌&&◌, List, get_or, Option, Some, None, refl, sym, ap, ◌∙◌, arith}
 use Rattle.std.specs.Prelude.{slice_get, ◌==◌}
 use Rattle.migration_types.specs.declared.records.LogName.TheVariants.{Guest, Source, Pager}
 use Rattle.migration_types.specs.declared.records.GuestRec.{GuestRec}
@@ -11,16 +11,16 @@ use Rattle.migration_types.specs.declared.records.PagerRec.TheVariants.{Got, Rea
 use Rattle.migration_types.specs.Memory.{Memory}
 use Rattle.migration_types.specs.Sessions.{Recorded, IsSession, GuestRecFits, SourceRecFits, PagerRecFits}
 use Rattle.audit_model.specs.declared.reasons.PageReason.TheVariants.{Read as WrongRead, Early, Given, Stale, Twice, Altered, Unfit}
-use Rattle.audit_model.specs.Flat.{changed, flat, in_ledger, home, at_halt}
+use Rattle.audit_model.specs.Flat.{changed, in_ledger, at_halt}
 use Rattle.audit_model.specs.Shape.{passes, is_placement_of, earlier}
 use Rattle.audit_model.specs.Faults.{has_looked}
-use Rattle.audit_model.specs.PageFaultTests.{is_target, is_uncovered, is_wrong_read, is_early, is_flat_page, is_given, is_stale, is_second, is_altered, is_unfit}
+use Rattle.audit_model.specs.PageFaultTests.{is_uncovered, is_wrong_read, is_early, is_flat_page, is_given, is_stale, is_second, is_altered, is_unfit}
 use Rattle.audit_model.proofs.Lists.{each_at}
 use Rattle.page_store.specs.Frames.{memory_of}
 use Rattle.page_facts.specs.declared.machine.Machine.{Machine}
 use Rattle.page_facts.specs.declared.page_fault.Watch.{Watch}
 use Rattle.page_facts.specs.Machines.{GuestPage, IsMachine}
-use Rattle.page_facts.specs.Moved.{SourcePage, PagerPage, differs}
+use Rattle.page_facts.specs.Moved.{SourcePage, PagerPage}
 use Rattle.page_facts.specs.Frontier.{seen_by, frontier, reaches, is_before}
 use Rattle.page_facts.specs.FirstOfLog.{or_else, reason_at, ArePlacements, is_unseen, guest_reason, source_reason, pager_reason, IsWatched, IsWatchedOn}
 use Rattle.page_facts.proofs.Judging.{guest_page, machine_more}

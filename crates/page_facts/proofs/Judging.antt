@@ -51,7 +51,7 @@ ledger_more pages table f (Resume i) fits is = is
 ledger_more pages table f (See k) fits is = is
 
 wrong_more : (s : Recorded) (n : ℕ) (table : List Bool) (m : Memory) (f : ℕ → Bool) (r : GuestRec) → m ≡ flat s n → GuestPage s.geometry.pages r → IsTable s.geometry.pages false table f → IsTable s.geometry.pages false (wrong_by m table r) (λ p. is_wrong_read s p n r || f p)
-wrong_more s n table m f (Read v q c x  ) e fits is = go (eqb x (m q c)) refl
+wrong_more s n table m f (Read v q c x) e fits is = go (eqb x (m q c)) refl
   where
     at_flat : eqb x (m q c) ≡ eqb x (flat s n q c)
     at_flat = ap (λ k. eqb x (k q c)) e
@@ -65,12 +65,12 @@ wrong_more s n table m f (Read v q c x  ) e fits is = go (eqb x (m q c)) refl
     go false t = table_set s.geometry.pages false table f (λ p. ((q == p) && not (x == flat s n q c)) || f p) q true fits is
         (ap (λ b. ((q == q) && not b) || f q) (sym at_flat ∙ t) ∙ ap (λ a. (a && true) || f q) (eq-eqb q q refl))
         (λ p other. ap (λ a. (a && not (x == flat s n q c)) || f p) (ne_eqb q p (λ h. other (sym h))))
-wrong_more s n table m f (Write v q c x  ) e fits is = is
-wrong_more s n table m f (Release v q  ) e fits is = is
-wrong_more s n table m f (Miss v q  ) e fits is = is
+wrong_more s n table m f (Write v q c x) e fits is = is
+wrong_more s n table m f (Release v q) e fits is = is
+wrong_more s n table m f (Miss v q) e fits is = is
 wrong_more s n table m f Halt e fits is = is
-wrong_more s n table m f (Resume i  ) e fits is = is
-wrong_more s n table m f (See k  ) e fits is = is
+wrong_more s n table m f (Resume i) e fits is = is
+wrong_more s n table m f (See k) e fits is = is
 
 pub note_more : (pages n q : ℕ) (table : List (Option ℕ)) (f : ℕ → Option ℕ) → q < pages → IsTable pages None table f → IsTable pages None (noted table q n) (λ p. or_here (f p) (q == p) n)
 note_more pages n q table f lt is = table_set pages None table f (λ p. or_here (f p) (q == p) n) q (or_here (get_or table q None) true n) lt is

@@ -1,5 +1,5 @@
 -- What the passes have at their start.
-use Rattle.std.proofs.Common.{◌≡◌, ℕ, false, List, length, replicate, get_or, None, refl, ap, ◌∙◌}
+use Rattle.std.proofs.Common.{◌≡◌, ℕ, List, length, replicate, get_or, ap, ◌∙◌}
 use Rattle.std.proofs.lemmas.List.{length-replicate, get_or-replicate}
 use Rattle.page_facts.specs.Tables.{IsTable}
 

@@ -72,7 +72,11 @@ fn judge_altered(machine: &Machine, altered: &mut Vec<bool>, rec: &PagerRec)
 {
     match rec {
         PagerRec::Place { page, contents, .. } => {
-            mark_if(altered, page.index(), differs(&machine.store, *page, contents));
+            mark_if(
+                altered,
+                page.index(),
+                differs(&machine.store, *page, contents),
+            );
         }
         PagerRec::Zero { page } => {
             mark_if(altered, page.index(), !machine.released[page.index()]);

@@ -77,12 +77,7 @@ fn is_unseen(placements: &Vec<Option<u32>>, late: bool, seen: Option<u32>, page:
 }
 
 /// Whether a record uses a page at the target that no look before it covers.
-fn comes_early(
-    placements: &Vec<Option<u32>>,
-    late: bool,
-    seen: Option<u32>,
-    rec: &GuestRec,
-) -> bool
+fn comes_early(placements: &Vec<Option<u32>>, late: bool, seen: Option<u32>, rec: &GuestRec) -> bool
     requires { GuestPage (length placements.now.items) rec.now }
     ensures { result ≡ comes_early placements.now.items late seen rec.now }
 {
@@ -94,11 +89,7 @@ fn comes_early(
 }
 
 /// Why a record of the guest is a fault.
-fn guest_reason(
-    watch: &Watch,
-    placements: &Vec<Option<u32>>,
-    rec: &GuestRec,
-) -> Option<PageReason>
+fn guest_reason(watch: &Watch, placements: &Vec<Option<u32>>, rec: &GuestRec) -> Option<PageReason>
     requires fits { GuestRecFits watch.now.machine.store.geometry rec.now }
     requires placed { GuestPage (length placements.now.items) rec.now }
     ensures { result ≡ guest_reason (memory_of watch.now.machine.store) placements.now.items watch.now.machine.late watch.now.seen rec.now }
@@ -275,7 +266,10 @@ pub fn first_page_fault(alloc: Global, session: &Session) -> Result<Option<PageF
     session.keeps_limits();
     let placements = first_placements(alloc, session)?;
     let machine = machine_at_start(alloc, session)?;
-    let mut watch = Watch { machine, seen: None };
+    let mut watch = Watch {
+        machine,
+        seen: None,
+    };
     let halt = halt_place(session.guest());
     if let Some(fault) = guest_fault(session, &placements, &mut watch, 0, halt) {
         return Ok(Some(fault));

@@ -192,10 +192,20 @@ fn tells_a_later_fault_of_the_guest_first(rt: HostRuntime) -> Result<(), Fail> {
 #[test]
 fn tells_twice_before_altered(rt: HostRuntime) -> Result<(), Fail> {
     let pager = vec![in rt.alloc(); place(0, 5), place(1, 0), place(0, 6)]?;
-    let found = first_of(rt.alloc(), Vec::new(rt.alloc()), Vec::new(rt.alloc()), pager)?;
+    let found = first_of(
+        rt.alloc(),
+        Vec::new(rt.alloc()),
+        Vec::new(rt.alloc()),
+        pager,
+    )?;
     assert_eq!(rt; found, fault(LogName::Pager, 2, PageReason::Twice));
     let pager = vec![in rt.alloc(); place(1, 8), place(0, 6)]?;
-    let found = first_of(rt.alloc(), Vec::new(rt.alloc()), Vec::new(rt.alloc()), pager)?;
+    let found = first_of(
+        rt.alloc(),
+        Vec::new(rt.alloc()),
+        Vec::new(rt.alloc()),
+        pager,
+    )?;
     assert_eq!(rt; found, fault(LogName::Pager, 0, PageReason::Altered));
     Ok(())
 }

@@ -1,4 +1,4 @@
-use Rattle.std.proofs.Common.{◌≡◌, ℕ, suc, ◌+◌, None, sym, subst, arith}
+use Rattle.std.proofs.Common.{◌≡◌, suc, ◌+◌, None, sym, subst, arith}
 use Rattle.audit_model.specs.Shape.{is_placement_of}
 use Rattle.page_facts.specs.Tables.{first_before, IsTable}
 use Rattle.page_facts.proofs.Reading.{read_at}
