@@ -41,6 +41,47 @@ fn keeps_lists(rt: HostRuntime) -> Result<(), Fail> {
 }
 
 #[test]
+fn keeps_contents(rt: HostRuntime) -> Result<(), Fail> {
+    assert_eq!(rt; Contents::one(7).as_slice(), [7].as_slice());
+    let two = Contents::from_vec(vec![in rt.alloc(); 3, 1]?);
+    assert_eq!(rt; two.as_slice(), [3, 1].as_slice());
+    for cells in [[7].as_slice(), [3, 1, 2].as_slice()] {
+        assert_eq!(rt; Contents::copied(rt.alloc(), cells)?.as_slice(), cells);
+    }
+    Ok(())
+}
+
+#[test]
+fn names_receipts(rt: HostRuntime) -> Result<(), Fail> {
+    let page = PageNo::new(1);
+    for (record, named) in [
+        (GuestRec::Resume { ready: 1 }, Some((LogName::Pager, 1))),
+        (GuestRec::See { placement: 5 }, Some((LogName::Pager, 5))),
+        (GuestRec::Halt, None),
+        (GuestRec::Miss { vcpu: 0, page }, None),
+    ] {
+        assert_eq!(rt; record.named(), named);
+    }
+    let halted = SourceRec::Halted { halt: 2 };
+    assert_eq!(rt; halted.named(), Some((LogName::Guest, 2)));
+    let ask = SourceRec::Ask { up: 3 };
+    assert_eq!(rt; ask.named(), Some((LogName::Link, 3)));
+    let again = SourceRec::Again { sending: 1 };
+    assert_eq!(rt; again.named(), None);
+    let down = LinkRec::Down { sending: 4 };
+    assert_eq!(rt; down.named(), Some((LogName::Source, 4)));
+    let up = LinkRec::Up { asking: 6 };
+    assert_eq!(rt; up.named(), Some((LogName::Pager, 6)));
+    let got = PagerRec::Got { down: 0 };
+    assert_eq!(rt; got.named(), Some((LogName::Link, 0)));
+    let fault = PagerRec::Fault { miss: 3 };
+    assert_eq!(rt; fault.named(), Some((LogName::Guest, 3)));
+    let skip = PagerRec::Skip { got: 3 };
+    assert_eq!(rt; skip.named(), None);
+    Ok(())
+}
+
+#[test]
 fn keeps_a_session(rt: HostRuntime) -> Result<(), Fail> {
     let geometry = Geometry::new(2, 1)?;
     geometry.keeps_limits();
@@ -48,18 +89,32 @@ fn keeps_a_session(rt: HostRuntime) -> Result<(), Fail> {
         vcpu: 63,
         page: PageNo::new(1),
     };
-    let guest = Seq::from_vec(Vec::new(rt.alloc()));
-    let session = Session::new(geometry, Seq::from_vec(Vec::new(rt.alloc())), guest);
+    let session = Session::new(
+        geometry,
+        Seq::from_vec(Vec::new(rt.alloc())),
+        Seq::from_vec(Vec::new(rt.alloc())),
+        Seq::from_vec(Vec::new(rt.alloc())),
+        Seq::from_vec(Vec::new(rt.alloc())),
+        Seq::from_vec(Vec::new(rt.alloc())),
+    );
     session.keeps_limits();
     assert_eq!(rt; session.geometry(), geometry);
     assert_eq!(rt; session.init().len(), 0);
     assert!(rt; !session.guest().contains(&record));
+    assert_eq!(rt; session.source().len(), 0);
+    assert_eq!(rt; session.link().len(), 0);
+    assert_eq!(rt; session.pager().len(), 0);
     Ok(())
 }
 
 #[test]
 fn keeps_a_certificate(rt: HostRuntime) -> Result<(), Fail> {
-    let entries = Seq::from_vec(vec![in rt.alloc(); Entry::Nothing]?);
+    let entry = Entry::Source {
+        send: 3,
+        place: 5,
+        first: Some(First { access: 5, see: 4 }),
+    };
+    let entries = Seq::from_vec(vec![in rt.alloc(); entry]?);
     let runs = Seq::from_vec(vec![in rt.alloc();
         Run {
             log: LogName::Guest,
@@ -68,7 +123,7 @@ fn keeps_a_certificate(rt: HostRuntime) -> Result<(), Fail> {
     ]?);
     let cert = Cert::new(entries, runs);
     cert.keeps_limits();
-    assert_eq!(rt; cert.entries(), [Entry::Nothing].as_slice());
+    assert_eq!(rt; cert.entries(), [entry].as_slice());
     assert_eq!(rt;
         cert.runs(),
         [Run {

@@ -5,7 +5,8 @@ ghost use Rattle.std.specs.Prelude.{◌≡◌, ◌<◌, ◌≤◌};
 use crate::answer::{line, status};
 use crate::reading::{ReadFault, TextSource, read_within};
 use crate::run;
-use cert_check::Verdict;
+use audit_model::ShapeReason;
+use cert_check::{ShapeFault, Verdict};
 use std::alloc::Global;
 use std::cell::Cell;
 use std::io;
@@ -21,6 +22,20 @@ const CERT: &[u8] = b"postcopy-certificate 1\npages 1\npage 0 none\nruns 1\nrun 
 
 const BOTH: &[u8] =
     b"postcopy-session 1\npages 1\ncells 1\ninit 0\nguest 4\nw 0 0 0 3\nr 0 0 0 3\nz 0 0\nr 0 0 0 0\nsource 0\nlink 0\npager 0\nend\npostcopy-certificate 1\npages 1\npage 0 none\nruns 1\nrun guest 4\nend\n";
+
+// A session with a handover, in which no look at the second page's placement stands before its use.
+const HANDOVER: &[u8] =
+    b"postcopy-session 1\npages 2\ncells 1\ninit 1\npage 0 0000000000000005\nguest 8\nw 0 1 0 7\nhalt\nresume 1\nmiss 0 0\nsee 5\nr 0 0 0 5\nw 0 1 0 9\nr 0 1 0 9\nsource 5\nhalted 1\nstate\nask 1\nsend 0 0000000000000005\nsend 1 0000000000000007\nlink 4\ndown 1\nup 3\ndown 3\ndown 4\npager 8\ngot 0\nready\nfault 3\nwant 0\ngot 2\nplace 0 4 0000000000000005\ngot 3\nplace 1 6 0000000000000007\nend\n";
+
+// A merging of it in which that page is used before it is placed.
+const BROKEN_RUNS: &[u8] =
+    b"postcopy-runs 1\nruns 12\nrun guest 2\nrun source 2\nrun link 1\nrun pager 2\nrun guest 2\nrun pager 2\nrun link 1\nrun source 3\nrun link 2\nrun pager 3\nrun guest 4\nrun pager 1\nend\n";
+
+// A merging of it in which all goes well.
+const SAFE_RUNS: &[u8] =
+    b"postcopy-runs 1\nruns 11\nrun guest 2\nrun source 2\nrun link 1\nrun pager 2\nrun guest 2\nrun pager 2\nrun link 1\nrun source 3\nrun link 2\nrun pager 4\nrun guest 4\nend\n";
+
+const FEW_RUNS: &[u8] = b"postcopy-runs 1\nruns 1\nrun guest 3\nend\n";
 
 const ACCEPTED_LINE: &[u8] = b"yes\n";
 // Of the session and an empty certificate.
@@ -93,7 +108,14 @@ struct Outcome {
     asked: u32,
 }
 
-const TEXTS: [(&str, &[u8]); 2] = [("session", SESSION), ("cert", CERT)];
+const TEXTS: [(&str, &[u8]); 6] = [
+    ("session", SESSION),
+    ("cert", CERT),
+    ("handover", HANDOVER),
+    ("broken-runs", BROKEN_RUNS),
+    ("safe-runs", SAFE_RUNS),
+    ("few-runs", FEW_RUNS),
+];
 
 // Runs the program on these words after its name, over the two texts and an input.
 fn ran_over<I: Read>(alloc: Global, words: &[&str], input: &mut I) -> Outcome {
@@ -138,6 +160,26 @@ fn verdicts(rt: HostRuntime) {
         ([].as_slice(), BOTH, 0, ACCEPTED_LINE),
     ] {
         let found = ran(alloc, words, input);
+        assert_eq!(rt; found.status, status, "at {words:?}");
+        assert_eq!(rt; found.output.as_slice(), line, "at {words:?}");
+        assert_eq!(rt; found.errors.as_slice(), b"".as_slice(), "at {words:?}");
+    }
+}
+
+#[test]
+fn replays(rt: HostRuntime) {
+    let alloc = rt.alloc();
+    for (session, runs, input, status, line) in [
+        ("handover", "broken-runs", b"".as_slice(), 1, b"broken line 13\n".as_slice()),
+        ("handover", "safe-runs", b"".as_slice(), 0, b"safe\n".as_slice()),
+        ("handover", "few-runs", b"".as_slice(), 1, b"no-merging\n".as_slice()),
+        ("handover", "-", SAFE_RUNS, 0, b"safe\n".as_slice()),
+        ("-", "-", HANDOVER, 1, b"runs-text line 1\n".as_slice()),
+        ("cert", "safe-runs", b"".as_slice(), 1, b"session-text line 1\n".as_slice()),
+        ("handover", "cert", b"".as_slice(), 1, b"runs-text line 1\n".as_slice()),
+    ] {
+        let words = ["postcopy", "replay", session, runs];
+        let found = ran(alloc, words.as_slice(), input);
         assert_eq!(rt; found.status, status, "at {words:?}");
         assert_eq!(rt; found.output.as_slice(), line, "at {words:?}");
         assert_eq!(rt; found.errors.as_slice(), b"".as_slice(), "at {words:?}");
@@ -312,6 +354,14 @@ fn lines(rt: HostRuntime) -> Result<(), Fail> {
         (
             Verdict::CertText(12),
             b"certificate-text line 12\n".as_slice(),
+            1,
+        ),
+        (
+            Verdict::Shape(ShapeFault {
+                line: 9,
+                reason: ShapeReason::SecondSend,
+            }),
+            b"shape line 9 second-send\n".as_slice(),
             1,
         ),
         (Verdict::Pages, b"pages\n".as_slice(), 1),
