@@ -2,7 +2,7 @@
 use Rattle.std.proofs.Common.{◌≡◌, ℕ, zero, suc, ◌+◌, ◌<◌, ◌≤◌, ◌⊎◌, inl, inr, Bool, true, false, ◌&&◌, List, [], ◌∷◌, length, map, Option, Some, None, refl, sym, ap, ◌∙◌, subst, arith, eqb-true}
 use Rattle.std.specs.Prelude.{slice_get, nat_lt}
 use Rattle.std.specs.List.{range_with_len}
-use Rattle.std.proofs.lemmas.Bool.{cases_lt}
+use Rattle.std.proofs.lemmas.Bool.{cases_lt, and_parts}
 use Rattle.std.proofs.lemmas.Option.{slice_get_within}
 use Rattle.migration_types.specs.declared.records.LogName.TheVariants.{Pager}
 use Rattle.migration_types.specs.declared.records.GuestRec.{GuestRec}
@@ -65,10 +65,6 @@ has_send s page got e = by_delivery (delivery s got) refl e
     by_delivery : (o : Option ℕ) → delivery s got ≡ o → passes (λ sending. passes (is_or_repeats s (is_send_of page)) (slice_get s.source sending)) o ≡ true → HasSend s page got
     by_delivery None is e = absurd (cc)
     by_delivery (Some d) is e = by_record d is (slice_get s.source d) refl e
-
-and_right : (x y : Bool) → (x && y) ≡ true → y ≡ true
-and_right true y e = e
-and_right false y e = absurd (cc)
 
 -- guest record n is an access of the page after handover, or it is none
 is_late_or_not : (s : Recorded) (page n : ℕ) → IsLateAccess s page n ⊎ (IsLateAccess s page n → ⊥)
@@ -150,7 +146,7 @@ module _ (s : Recorded) (shape : IsRightShape s) (clean : HasNoPageFault s) (pag
       let same : p ≡ page = eqb-true p page places in
       let at : slice_get s.pager place ≡ Some (Place page got content) = stands ∙ ap (λ k. Some (Place k got content)) same in
       let named : (nat_lt got place && delivers s (is_send_of page) got) ≡ true = sym (ap (λ o. keeps (pager_named s place) o) at) ∙ shape Named (Pager, place) in
-      let send = has_send s page got (and_right (nat_lt got place) (delivers s (is_send_of page) got) named) in
+      let send = has_send s page got (and_parts (nat_lt got place) (delivers s (is_send_of page) got) named).1 in
       let cover = covered place (Place p got content) stands places in (
         Source send.send place cover.0,
         (
@@ -202,10 +198,16 @@ module _ (s : Recorded) (shape : IsRightShape s) (clean : HasNoPageFault s) (pag
 
       go : (b : Bool) → earlier (is_placement_of page) s.pager (length s.pager) ≡ b → (entry : Entry) × IsRightEntry s page entry
       go true e = let w = earlier_witness (is_placement_of page) s.pager (length s.pager) e in placed w.0 w.1 w.3 w.4
-      go false e = (Nothing, (kept.honest, record {
-        unplaced = never e;
-        unaccessed = λ n late. let look = kept.looks n late in clash _ look.places (never e look.place look.by look.stands);
-      }))
+      go false e = (
+        Nothing,
+        (
+          kept.honest,
+          record {
+            unplaced = never e;
+            unaccessed = λ n late. let look = kept.looks n late in clash _ look.places (never e look.place look.by look.stands);
+          },
+        ),
+      )
 
 entry_at : (f : ℕ → Entry) (n a k : ℕ) (entry : Entry) → slice_get (map f (range_with_len a n)) k ≡ Some entry → f (a + k) ≡ entry
 entry_at f zero a k entry is = absurd (cc)

@@ -5,7 +5,7 @@ use Rattle.migration_types.specs.Sessions.{Recorded}
 use Rattle.migration_types.specs.Receipts.{Name}
 use Rattle.audit_model.specs.Names.{log_length, same_log}
 use Rattle.audit_model.specs.Mergings.{places_of, IsMerging, Cursors, at_start}
-use Rattle.audit_model.specs.Walks.{next, cursors_from, MayFollow, Walks, IsWholeWalk, IsGrown}
+use Rattle.audit_model.specs.Walks.{next, cursors_from, MayFollow, Walks, IsGrown}
 use Rattle.audit_model.proofs.Cuts.{cursors_push, same_log_itself, cursor_next, cursor_count, from_start, merging_walks}
 use Rattle.audit_model.proofs.Walked.{walk_merges, length_range}
 
@@ -24,7 +24,7 @@ walks_grown s t name grown c (n ∷ names) walks = (
   walks_grown s t name grown (next c n.0) names walks.1,
 )
 
-walks_push : (s : Recorded) (c : Cursors) (names : List Name) (n : Name) → Walks s c names → MayFollow s (cursors_from c names) n → Walks s c (names ++ n ∷ [])
+pub walks_push : (s : Recorded) (c : Cursors) (names : List Name) (n : Name) → Walks s c names → MayFollow s (cursors_from c names) n → Walks s c (names ++ n ∷ [])
 walks_push s c [] n walks may = (may, tt)
 walks_push s c (m ∷ names) n walks may = (walks.0, walks_push s (next c m.0) names n walks.1 may)
 

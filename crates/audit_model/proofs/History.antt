@@ -1,7 +1,7 @@
 -- What the guest's log says before each of its records, in a session of the right shape.
 use Rattle.std.proofs.Common.{◌≡◌, ◌≢◌, ℕ, zero, suc, ◌<◌, ◌≤◌, ◌⊎◌, inl, inr, Bool, true, false, not, ◌&&◌, ◌||◌, List, [], ◌∷◌, Option, Some, None, refl, sym, ap, ◌∙◌, subst, arith}
 use Rattle.std.specs.Prelude.{slice_get}
-use Rattle.std.proofs.lemmas.Bool.{cases_lt}
+use Rattle.std.proofs.lemmas.Bool.{cases_lt, and_parts}
 use Rattle.migration_types.specs.declared.records.LogName.TheVariants.{Guest}
 use Rattle.migration_types.specs.declared.records.GuestRec.{GuestRec}
 use Rattle.migration_types.specs.declared.records.GuestRec.TheVariants.{Read, Write, Release, Miss, Halt, Resume, See}
@@ -91,10 +91,6 @@ halted_home true halted ok e = cc
 halted_home false true ok e = cc
 halted_home false false ok e = cc
 
-and_right : (x y : Bool) → (x && y) ≡ true → y ≡ true
-and_right true y e = e
-and_right false y e = absurd (cc)
-
 module _ (s : Recorded) (shape : IsRightShape s) where
   halted : ℕ → Bool
   halted n = earlier is_halt s.guest n
@@ -109,7 +105,7 @@ module _ (s : Recorded) (shape : IsRightShape s) where
       go : (earlier is_resume s.guest n ≡ true → earlier is_halt s.guest n ≡ true) → (o : Option GuestRec) → slice_get s.guest n ≡ o → changed (λ x found. is_resume x || found) o (earlier is_resume s.guest n) ≡ true → changed (λ x found. is_halt x || found) o (earlier is_halt s.guest n) ≡ true
       go rec None is e = rec e
       go rec (Some Halt) is e = refl
-      go rec (Some (Resume i)) is e = and_right _ _ (in_phase_at n (Resume i) is)
+      go rec (Some (Resume i)) is e = (and_parts (not (earlier is_resume s.guest n)) (earlier is_halt s.guest n) (in_phase_at n (Resume i) is)).1
       go rec (Some (Read v p c x)) is e = rec e
       go rec (Some (Write v p c x)) is e = rec e
       go rec (Some (Release v p)) is e = rec e

@@ -17,9 +17,13 @@ pub mod Rearranged
 pub mod Late
 pub mod Delays
 pub mod Unsafe
-pub mod Longer
 pub mod Knots
 pub mod WrittenOut
 pub mod ExampleA
 pub mod ExampleB
 pub mod Certifying
+pub mod FlatPages
+pub mod PageFaultTests
+pub mod FirstNames
+pub mod SpotSteps
+pub mod DemandTests

@@ -12,7 +12,7 @@ use Rattle.audit_model.specs.Flat.{changed, cell_after, flat, released_after, in
 use Rattle.migration_types.specs.Memory.{with_content, with_zeros, with_cell}
 use Rattle.migration_types.specs.PageSets.{with_page}
 use Rattle.audit_model.specs.World.{World, start, guest_step_at, pager_step}
-use Rattle.audit_model.specs.Shape.{IsRightShape, is_placement_of, earlier}
+use Rattle.audit_model.specs.Shape.{IsRightShape, is_placement_of}
 use Rattle.audit_model.proofs.History.{AtSource≢Nowhere, AtSource≢AtTarget, Nowhere≢AtTarget, home_at_read, home_at_write, home_at_release, home_at_resume, home_at_halt, halt_is_at_halt}
 use Rattle.audit_model.specs.Worlds.{come_to, touched, touch_after, placed_before, IsWorld}
 use Rattle.audit_model.proofs.Touched.{flat_kept, released_zero}

@@ -1,8 +1,9 @@
 -- Tests by which a session and a certificate that are written out meet the definitions.
-use Rattle.std.proofs.Common.{◌≡◌, ℕ, zero, suc, ◌<◌, ◌≤◌, Bool, true, false, not, ◌&&◌, List, [], ◌∷◌, Option, Some, None, refl, sym, ap, ◌∙◌, arith, eqb-true, eq-eqb}
+use Rattle.std.proofs.Common.{◌≡◌, ℕ, zero, suc, ◌≤◌, Bool, true, false, not, ◌&&◌, List, [], ◌∷◌, Some, refl, sym, ap, ◌∙◌, arith, eqb-true, eq-eqb}
 use Rattle.std.specs.Prelude.{slice_get, ◌==◌, nat_lt}
+use Rattle.std.specs.Str.{bytes_eq}
 use Rattle.std.proofs.lemmas.Bool.{ltb-true}
-use Rattle.migration_types.specs.declared.records.LogName.{LogName}
+use Rattle.std.proofs.lemmas.Slice.Eq.{bytes_eq-Decides}
 use Rattle.migration_types.specs.declared.records.LogName.TheVariants.{Guest, Source, Link, Pager}
 use Rattle.migration_types.specs.declared.records.GuestRec.{GuestRec}
 use Rattle.migration_types.specs.declared.records.GuestRec.TheVariants.{Read}
@@ -13,14 +14,15 @@ use Rattle.migration_types.specs.Memory.{page_of}
 use Rattle.migration_types.specs.Receipts.{Name}
 use Rattle.migration_types.specs.Sessions.{Recorded}
 use Rattle.audit_model.specs.declared.reasons.ShapeReason.TheVariants.{Phases, Named, Start, SecondSend}
-use Rattle.audit_model.specs.Names.{log_length, receipt}
-use Rattle.audit_model.specs.Mergings.{IsMerging, Cursors, at_start}
-use Rattle.audit_model.specs.Walks.{next, cursors_from, Walks}
-use Rattle.audit_model.specs.Flat.{flat, in_ledger, AtTarget, Home, home, at_halt}
-use Rattle.audit_model.specs.FoundOrder.{is_received}
+use Rattle.audit_model.specs.Mergings.{Cursors}
+use Rattle.audit_model.specs.Walks.{next, Walks}
+use Rattle.audit_model.specs.Flat.{flat, in_ledger, home, at_halt}
+use Rattle.audit_model.specs.MergingTests.{may}
+use Rattle.audit_model.specs.PageFaultTests.{is_target}
 use Rattle.audit_model.specs.Shape.{IsRightShape, in_phase, guest_named, source_named, link_named, pager_named, source_start, pager_start, is_first_send, keeps, is_placement_of}
 use Rattle.audit_model.specs.Certificates.{is_access_of, IsHonest, IsOnlyPlacement, IsLateAccess}
-use Rattle.audit_model.proofs.Walked.{walk_merges}
+use Rattle.audit_model.proofs.FirstNames.{may_Decides}
+use Rattle.audit_model.proofs.PageFaultTests.{not_true}
 
 -- a test at each record, with its place
 abbrev each : {A : Type 0} → (ℕ → A → Bool) → List A → Bool
@@ -69,44 +71,13 @@ module _ (s : Recorded)
   shape_by_tests SecondSend (Pager, n) = refl
 
 -- a walk by a test
-abbrev may : Recorded → Cursors → Name → Bool
-may s c n = (n.1 == c n.0) && (nat_lt n.1 (log_length s n.0) && is_received c (receipt s n))
-
 abbrev walk : Recorded → Cursors → List Name → Bool
 walk s c [] = true
 walk s c (n ∷ ns) = may s c n && walk s (next c n.0) ns
 
 pub walks_by_test : (s : Recorded) (c : Cursors) (names : List Name) → walk s c names ≡ true → Walks s c names
 walks_by_test s c [] e = tt
-walks_by_test s c (n ∷ names) e =
-    let m : may s c n ≡ true = and_left _ _ e in
-    let b : nat_lt n.1 (log_length s n.0) && is_received c (receipt s n) ≡ true = and_right _ _ m in (
-      record {
-        is_next = eqb-true _ _ (and_left _ _ m);
-        is_there = ltb-true _ _ (and_left _ _ b);
-        sent_before = λ sent is. ltb-true _ _ (sym (ap (λ o. is_received c o) is) ∙ and_right _ _ b);
-      },
-      walks_by_test s (next c n.0) names (and_right _ _ e),
-    )
-
-abbrev same_list : List ℕ → List ℕ → Bool
-same_list [] [] = true
-same_list [] (y ∷ ys) = false
-same_list (x ∷ xs) [] = false
-same_list (x ∷ xs) (y ∷ ys) = (x == y) && same_list xs ys
-
-same_list_is : (xs ys : List ℕ) → same_list xs ys ≡ true → xs ≡ ys
-same_list_is [] [] e = refl
-same_list_is [] (y ∷ ys) e = absurd (cc)
-same_list_is (x ∷ xs) [] e = absurd (cc)
-same_list_is (x ∷ xs) (y ∷ ys) e =
-    let h = eqb-true x y (and_left _ _ e) in
-    let t : xs ≡ ys = same_list_is xs ys (and_right (x == y) (same_list xs ys) e) in
-    cc
-
-abbrev is_target : Home → Bool
-is_target AtTarget = true
-is_target _ = false
+walks_by_test s c (n ∷ names) e = ((may_Decides s c n).0 (and_left _ _ e), walks_by_test s (next c n.0) names (and_right _ _ e))
 
 -- if the one holds, the other does
 abbrev then : Bool → Bool → Bool
@@ -122,16 +93,12 @@ read_test s page n (Read v p c x) = then (p == page) (x == flat s n page c)
 read_test s page n _ = true
 
 abbrev send_test : Recorded → ℕ → SourceRec → Bool
-send_test s page (Send p content) = then (p == page) (same_list content (page_of s.geometry.cells (flat s (at_halt s)) page))
+send_test s page (Send p content) = then (p == page) (bytes_eq content (page_of s.geometry.cells (flat s (at_halt s)) page))
 send_test s page _ = true
 
 abbrev ledger_test : Recorded → ℕ → SourceRec → Bool
 ledger_test s page (Send p content) = then (p == page) (not (in_ledger s (at_halt s) page))
 ledger_test s page _ = true
-
-not_true : (b : Bool) → not b ≡ true → b ≡ false
-not_true true e = absurd (cc)
-not_true false e = refl
 
 eq_refl : (p : ℕ) → (p == p) ≡ true
 eq_refl p = eq-eqb p p refl
@@ -140,15 +107,15 @@ module _ (s : Recorded) (page : ℕ) where
   pub honest_by_tests : each (read_test s page) s.guest ≡ true → each (λ n. send_test s page) s.source ≡ true → each (λ n. ledger_test s page) s.source ≡ true → IsHonest s page
   honest_by_tests reads sends owed = record {
     reads = λ n v c x is. eqb-true _ _ (follows (page == page) _ (each_at (read_test s page) s.guest reads n (Read v page c x) is) (eq_refl page));
-    sends = λ n content is. same_list_is _ _ (follows (page == page) _ (each_at (λ n. send_test s page) s.source sends n (Send page content) is) (eq_refl page));
-    owed = λ n content is. not_true _ (follows (page == page) _ (each_at (λ n. ledger_test s page) s.source owed n (Send page content) is) (eq_refl page));
+    sends = λ n content is. (bytes_eq-Decides content (page_of s.geometry.cells (flat s (at_halt s)) page)).0 (follows (page == page) _ (each_at (λ n. send_test s page) s.source sends n (Send page content) is) (eq_refl page));
+    owed = λ n content is. (not_true _).0 (follows (page == page) _ (each_at (λ n. ledger_test s page) s.source owed n (Send page content) is) (eq_refl page));
   }
 
   pub only_by_test : (place : ℕ) → each (λ n r. then (is_placement_of page r) (n == place)) s.pager ≡ true → IsOnlyPlacement s page place
   only_by_test place e n r is places = eqb-true _ _ (follows (is_placement_of page r) _ (each_at (λ n r. then (is_placement_of page r) (n == place)) s.pager e n r is) places)
 
   pub unplaced_by_test : each (λ n r. not (is_placement_of page r)) s.pager ≡ true → (n : ℕ) (r : PagerRec) → slice_get s.pager n ≡ Some r → is_placement_of page r ≡ false
-  unplaced_by_test e n r is = not_true _ (each_at (λ n r. not (is_placement_of page r)) s.pager e n r is)
+  unplaced_by_test e n r is = (not_true _).0 (each_at (λ n r. not (is_placement_of page r)) s.pager e n r is)
 
   -- the accesses after handover are at the place and later
   pub first_by_test : (access : ℕ) → each (λ n r. then (is_access_of page r) (then (is_target (home s n)) (nat_lt access (suc n)))) s.guest ≡ true → (n : ℕ) → IsLateAccess s page n → access ≤ n

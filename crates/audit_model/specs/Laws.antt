@@ -1,5 +1,5 @@
 -- The laws: what a right certificate means in every merging, and what a fault of a page means.
-use Rattle.std.specs.Prelude.{◌≡◌, ◌≢◌, ◌↔◌, ℕ, true, false, List, ◌++◌, Option, Some, slice_get}
+use Rattle.std.specs.Prelude.{◌≡◌, ◌≢◌, ◌↔◌, ℕ, true, false, List, Some, slice_get}
 use Rattle.migration_types.specs.declared.records.LogName.TheVariants.{Guest, Pager}
 use Rattle.migration_types.specs.declared.records.GuestRec.{GuestRec}
 use Rattle.migration_types.specs.declared.records.GuestRec.TheVariants.{Read}
@@ -104,6 +104,11 @@ DelayedBreaks s =
     (order : List Name) → IsMerging s order → (n page place : ℕ) (r : GuestRec) → slice_get s.guest n ≡ Some r →
     IsEarly s n r page → IsFirstPlacement s page place → (delayed : List Name) →
     IsDelayedOrder s order (Pager, place) delayed → IsMerging s delayed × BreaksAt s delayed (Guest, n)
+
+-- each merging has a delayed order for each record of the pager
+abbrev pub HasDelayedOrders : Recorded → Type 0
+HasDelayedOrders s =
+    (order : List Name) → IsMerging s order → (place : ℕ) → (delayed : List Name) × IsDelayedOrder s order (Pager, place) delayed
 
 -- an access after handover to a page with no placement breaks the demand in every merging
 abbrev pub UnplacedBreaks : Recorded → Type 0

@@ -7,7 +7,11 @@ pub mod Worlds
 pub mod Shape
 pub mod Certificates
 pub mod Faults
+pub mod PageFaultTests
 pub mod FirstFault
 pub mod FoundOrder
 pub mod Delayed
 pub mod Laws
+pub mod MergingTests
+pub mod Spots
+pub mod DemandTests

@@ -163,3 +163,10 @@ IsSafeOrder s order = (earlier : List Name) (name : Name) → StandsAfter order 
 -- a session is safe when each of its mergings is
 abbrev pub IsSafe : Recorded → Type 0
 IsSafe s = (order : List Name) → IsMerging s order → IsSafeOrder s order
+
+-- the first record of the order whose demand fails
+pub record IsFirstBroken (s : Recorded) (order : List Name) (name : Name) : Type 0 where
+  pub earlier : List Name
+  pub stands : StandsAfter order earlier name
+  pub is_safe_before : IsSafeOrder s earlier
+  pub breaks : Demand s name (world_after s earlier) → ⊥

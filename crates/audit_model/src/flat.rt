@@ -48,7 +48,7 @@ fn value_after(page: PageNo, cell: u16, logged: &GuestRec, old: u64) -> u64
 }
 
 /// The value of a cell in the memory that begins with these pages.
-fn initial_value(init: &[InitPage], page: PageNo, cell: u16) -> u64
+pub(crate) fn initial_value(init: &[InitPage], page: PageNo, cell: u16) -> u64
     ensures { result ≡ initial init.now page cell }
 {
     for given in init {

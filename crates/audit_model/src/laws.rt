@@ -12,7 +12,7 @@ ghost use Rattle.audit_model.specs.FoundOrder.{IsKnot};
 ghost use Rattle.audit_model.specs.World.{IsSafe};
 ghost use Rattle.audit_model.specs.Worlds.{FollowsCursors};
 ghost use Rattle.audit_model.specs.Shape.{IsRightShape};
-ghost use Rattle.audit_model.specs.Laws.{IsCertified, FindsResident, ReadsFlat, PlacedOnce, PlacedUntouched, ReleasedAsZeros, IsMigrated, IsFaultless, FaultsBreak, DelayedBreaks, UnplacedBreaks, SafeExactlyIfClean, HasCertificate, CertifiedFromSource, CertifiedBalloon};
+ghost use Rattle.audit_model.specs.Laws.{IsCertified, FindsResident, ReadsFlat, PlacedOnce, PlacedUntouched, ReleasedAsZeros, IsMigrated, IsFaultless, FaultsBreak, DelayedBreaks, HasDelayedOrders, UnplacedBreaks, SafeExactlyIfClean, HasCertificate, CertifiedFromSource, CertifiedBalloon};
 
 /// A list of names is a merging exactly where it is a walk of one cursor for each log, to the end of each. Where
 /// records are left and none of the next ones may follow, there is no merging; nor is there one where the found order
@@ -52,6 +52,7 @@ pub fn faults_are_unsafe()
     ensures clean { (s : Recorded) → IsFaultless s → IsSafe s }
     ensures faults { (s : Recorded) → IsRightShape s → FaultsBreak s }
     ensures delayed { (s : Recorded) → IsRightShape s → DelayedBreaks s }
+    ensures has_delayed { (s : Recorded) → HasDelayedOrders s }
     ensures unplaced { (s : Recorded) → IsRightShape s → UnplacedBreaks s }
     ensures exactly { (s : Recorded) → SafeExactlyIfClean s }
 {}

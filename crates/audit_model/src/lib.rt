@@ -5,15 +5,23 @@
 //! at hand.
 #![tactic(auto)]
 
+mod faults;
 mod flat;
 mod laws;
+mod merging;
 mod reasons;
+mod shape;
 #[cfg(test)]
 mod tests;
+mod world;
 
+pub use faults::is_page_fault;
 pub use flat::{Home, flat_value, halt_place, home_before, is_released};
 pub use laws::{
-    certified_is_safe, clean_is_certified, faults_are_unsafe, mergings_are_walks, premises_can_be_met,
-    worlds_follow_cursors,
+    certified_is_safe, clean_is_certified, faults_are_unsafe, mergings_are_walks,
+    premises_can_be_met, worlds_follow_cursors,
 };
+pub use merging::is_merging;
 pub use reasons::{PageReason, ShapeReason};
+pub use shape::is_right;
+pub use world::{Spot, demand_holds, first_broken, spot_after};
