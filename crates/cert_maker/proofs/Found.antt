@@ -1,5 +1,5 @@
 -- The found order, run by run.
-use Rattle.std.proofs.Common.{◌≡◌, ◌≢◌, ℕ, zero, suc, ◌+◌, ◌-◌, ◌<◌, ◌≤◌, ◌⊎◌, inl, inr, Bool, true, false, cond, ◌&&◌, List, [], ◌∷◌, ◌++◌, length, Some, None, refl, sym, ap, ◌∙◌, subst, arith, get_or, append-nil}
+use Rattle.std.proofs.Common.{◌≡◌, ℕ, zero, suc, ◌+◌, ◌-◌, ◌<◌, ◌≤◌, ◌⊎◌, inl, inr, Bool, true, false, cond, ◌&&◌, List, [], ◌∷◌, ◌++◌, length, Some, None, refl, sym, ap, ◌∙◌, subst, arith, get_or, append-nil}
 use Rattle.std.specs.Prelude.{nat_lt}
 use Rattle.std.specs.List.{AllByRecursion}
 use Rattle.std.proofs.lemmas.Bool.{ltb-true, lt-ltb, le-ltb, cases_lt, and_parts, and_from, and_left, and_right}
@@ -10,7 +10,7 @@ use Rattle.migration_types.specs.Certs.{RunFits, Alternate, AreRuns}
 use Rattle.migration_types.specs.Receipts.{Name}
 use Rattle.migration_types.specs.Sessions.{Recorded, IsSession, line_of}
 use Rattle.audit_model.specs.Names.{log_length, receipt, same_log}
-use Rattle.audit_model.specs.Mergings.{Cursors, moved, at_start, run_names, spelled, spelled_from}
+use Rattle.audit_model.specs.Mergings.{Cursors, moved, at_start, run_names, spelled}
 use Rattle.audit_model.specs.Walks.{next, cursors_from, MayFollow, Walks, IsWholeWalk}
 use Rattle.audit_model.specs.FoundOrder.{is_received, is_ready, first_ready, chosen, Finds, IsFoundOrder, IsLeastLeft}
 use Rattle.merge_runs.specs.Taken.{AreReceived, AreAllTaken, cursors_of}

@@ -11,7 +11,7 @@ use Rattle.audit_model.specs.Flat.{changed}
 use Rattle.audit_model.specs.Shape.{passes, is_placement_of, earlier}
 use Rattle.audit_model.specs.Faults.{looks_at}
 use Rattle.audit_model.proofs.Lists.{each_at}
-use Rattle.page_facts.specs.Tables.{some_before, or_here, first_before, IsTable}
+use Rattle.page_facts.specs.Tables.{some_before, or_here, IsTable}
 use Rattle.page_facts.specs.Moved.{PagerPage, placed_by}
 use Rattle.page_facts.proofs.Judging.{table_same}
 use Rattle.page_facts.proofs.Before.{some_true, some_false}

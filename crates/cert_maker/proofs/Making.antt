@@ -1,11 +1,10 @@
 -- The made entry is right where any entry is.
-use Rattle.std.proofs.Common.{◌≡◌, ℕ, suc, ◌<◌, ◌≤◌, ◌⊎◌, inl, inr, Bool, true, false, not, ◌&&◌, List, length, Option, Some, None, refl, sym, ap, ◌∙◌, subst, arith, eq-eqb, eqb-true}
+use Rattle.std.proofs.Common.{◌≡◌, ℕ, suc, ◌<◌, ◌≤◌, ◌⊎◌, inl, inr, Bool, true, false, not, ◌&&◌, List, length, Option, Some, None, refl, sym, ap, ◌∙◌, subst, arith, eq-eqb}
 use Rattle.std.specs.Prelude.{slice_get, ◌==◌, nat_lt}
-use Rattle.std.proofs.lemmas.Bool.{cases_lt, and_parts, and_from, ltb-true, leb-true, lt-ltb, le-leb}
+use Rattle.std.proofs.lemmas.Bool.{cases_lt, and_parts, and_from, ltb-true, lt-ltb, le-leb}
 use Rattle.std.proofs.lemmas.Option.{slice_get_within}
 use Rattle.migration_types.specs.declared.records.GuestRec.{GuestRec}
 use Rattle.migration_types.specs.declared.records.GuestRec.TheVariants.{Read, Write, Release, Miss, Halt, Resume, See}
-use Rattle.migration_types.specs.declared.records.SourceRec.{SourceRec}
 use Rattle.migration_types.specs.declared.records.SourceRec.TheVariants.{Send, Again}
 use Rattle.migration_types.specs.declared.records.PagerRec.{PagerRec}
 use Rattle.migration_types.specs.declared.records.PagerRec.TheVariants.{Got, Ready, Fault, Join, Want, Place, Zero, Skip, All}
@@ -14,26 +13,26 @@ use Rattle.migration_types.specs.declared.cert.Entry.{Entry}
 use Rattle.migration_types.specs.declared.cert.Entry.TheVariants.{Nothing, Source, Balloon}
 use Rattle.migration_types.specs.Sessions.{Recorded}
 use Rattle.audit_model.specs.Names.{if_there}
-use Rattle.audit_model.specs.Shape.{passes, is_placement_of, is_send_of, delivery, earlier}
+use Rattle.audit_model.specs.Shape.{passes, is_placement_of, is_send_of, earlier}
 use Rattle.audit_model.specs.Faults.{looks_at}
 use Rattle.audit_model.specs.Certificates.{IsRightEntry}
 use Rattle.page_facts.specs.declared.facts.PageFacts.{PageFacts}
 use Rattle.page_facts.specs.Tables.{first_before}
 use Rattle.page_facts.specs.Facts.{IsFacts}
-use Rattle.page_facts.specs.EntryTests.{is_place, is_absent, sees_from, places_from, zeroes, covers, is_once, is_right_of, is_right_entry}
+use Rattle.page_facts.specs.EntryTests.{is_place, is_absent, sees_from, places_from, zeroes, covers, is_once, is_right_of}
 use Rattle.page_facts.proofs.Before.{some_true, some_false, first_none, first_some, IsFirstAt}
 use Rattle.page_facts.proofs.RightEntry.{place_some, absent_none, place_at, zero_at, send_at, sees_at, IsPlaceAt, right_from, right_test}
 use Rattle.cert_maker.specs.Looks.{first_look}
 use Rattle.cert_maker.specs.Made.{IsEarliest, NamesEarliest}
-use Rattle.cert_maker.specs.Entries.{repeated, send_of, access_and_look, first_of, entry_at, placed_entry, entry_of, IsMadeEntry, HasNoEntry}
-use Rattle.cert_maker.proofs.Looking.{earlier_some, some_up}
+use Rattle.cert_maker.specs.Entries.{repeated, send_of, access_and_look, first_of, entry_at, placed_entry, entry_of}
+use Rattle.cert_maker.proofs.Looking.{earlier_some}
 
--- a look at the page's placement or at a later record is one from its first placement on
+-- looks and the page's first placement
 module _ (s : Recorded) (page place : ℕ) (first : first_before (λ m. is_placement_of page) s.pager (length s.pager) ≡ Some place) where
   at : IsFirstAt (λ m. is_placement_of page) s.pager (length s.pager) place
   at = first_some (λ m. is_placement_of page) s.pager (length s.pager) place first
 
-  -- such a look reaches the placement
+  -- a look at a placement of the page or at a later record is one at its first placement or at a later record
   pub looks_reach : (k : ℕ) → looks_at s page (See k) ≡ true → place ≤ k
   looks_reach k e = let w = some_true (λ m. is_placement_of page) s.pager (suc k) (sym (earlier_some (is_placement_of page) s.pager (suc k)) ∙ e) in go w.0 w.1 w.2 w.3 w.4 (cases_lt k place)
     where
@@ -51,7 +50,6 @@ module _ (s : Recorded) (page place : ℕ) (first : first_before (λ m. is_place
           let t = at.passes_test in
           absurd (cc)
 
-  -- what passes is a look
   look_sees : (r : GuestRec) → looks_at s page r ≡ true → sees_from place r ≡ true
   look_sees (See k) e = le-leb place k (looks_reach k e)
   look_sees (Read v q d x) e = absurd (cc)

@@ -1,4 +1,4 @@
-use Rattle.std.proofs.Common.{◌≡◌, ℕ, ◌∙◌, List, length, sym, ap, subst, arith}
+use Rattle.std.proofs.Common.{ℕ, ◌∙◌, List, sym, subst, arith}
 use Rattle.migration_types.specs.declared.cert.Entry.{Entry}
 use Rattle.cert_maker.specs.Entries.{IsMadeEntry, AreMade}
 use Rattle.cert_maker.proofs.Certifying.{each_more, pushed_length}

@@ -14,4 +14,4 @@ pub returns : goal.returns
 returns c =
     let s = c.args.session.now in
     let t = c.args.taken.now in
-    pager_least s t c.line_of-2.result (pager_left s t c.requires.within c.requires.left (omega arith) (omega arith) (omega arith)) (omega arith) (omega arith) (omega arith) c.line_of-2.ensures
+    pager_least s t c.line_of-2.result (pager_left s t c.requires.within c.requires.left (omega arith) (omega arith) (omega arith)) (omega arith) (omega arith) (omega arith) c.line_of-2.ensures.line
