@@ -1,13 +1,15 @@
-//! The first fault of small sessions of two pages of one cell, page 0 beginning as 5.
+//! Small sessions of two pages of one cell, page 0 beginning as 5: the facts of their pages, right and wrong entries, and
+//! their first fault.
 
-ghost use Rattle.std.specs.Prelude.{◌<◌, ◌≤◌, length};
+ghost use Rattle.std.specs.Prelude.{◌≡◌, ◌<◌, ◌≤◌, IfOk, length};
 ghost use Rattle.std.specs.List.{AllByRecursion};
-ghost use Rattle.migration_types.specs.Sessions.{GuestRecFits, SourceRecFits, PagerRecFits};
+ghost use Rattle.migration_types.specs.Sessions.{GuestRecFits, SourceRecFits, LinkRecFits, PagerRecFits};
 
 use super::*;
 use audit_model::PageReason;
 use migration_types::{
-    Contents, Geometry, GuestRec, InitPage, LogName, PageNo, PagerRec, Seq, Session, SourceRec,
+    Contents, Entry, First, Geometry, GuestRec, InitPage, LinkRec, LogName, PageNo, PagerRec, Seq,
+    Session, SourceRec,
 };
 use std::alloc::Global;
 use std::test::Fail;
@@ -58,16 +60,25 @@ fn send(value: u64) -> SourceRec
     }
 }
 
+/// A placement of a page, which came with this record.
+fn place_from(got: u32, page: u16, value: u64) -> PagerRec
+    requires got { got < 1048576 }
+    requires page { page < 2 }
+    ensures { PagerRecFits (record { pages = 2; cells = 1 }) result }
+{
+    PagerRec::Place {
+        page: PageNo::new(page),
+        got,
+        contents: Contents::one(value),
+    }
+}
+
 /// A placement of a page.
 fn place(page: u16, value: u64) -> PagerRec
     requires { page < 2 }
     ensures { PagerRecFits (record { pages = 2; cells = 1 }) result }
 {
-    PagerRec::Place {
-        page: PageNo::new(page),
-        got: 0,
-        contents: Contents::one(value),
-    }
+    place_from(0, page, value)
 }
 
 /// A placement of page 0 as zeros.
@@ -77,6 +88,41 @@ fn zero() -> PagerRec
     PagerRec::Zero {
         page: PageNo::new(0),
     }
+}
+
+/// The session with these logs.
+fn session_of(
+    alloc: Global,
+    guest: Vec<GuestRec>,
+    source: Vec<SourceRec>,
+    link: Vec<LinkRec>,
+    pager: Vec<PagerRec>,
+) -> Result<Session, Fail>
+    requires few_guest { length guest.items ≤ 1048576 }
+    requires guest { AllByRecursion (GuestRecFits (record { pages = 2; cells = 1 })) guest.items }
+    requires few_source { length source.items ≤ 1048576 }
+    requires source { AllByRecursion (SourceRecFits (record { pages = 2; cells = 1 })) source.items }
+    requires few_link { length link.items ≤ 1048576 }
+    requires link { AllByRecursion LinkRecFits link.items }
+    requires few_pager { length pager.items ≤ 1048576 }
+    requires pager { AllByRecursion (PagerRecFits (record { pages = 2; cells = 1 })) pager.items }
+    ensures { IfOk result (λ s. s.geometry ≡ record { pages = 2; cells = 1 }) }
+{
+    let geometry = Geometry::new(2, 1)?;
+    let init = vec![in alloc;
+        InitPage {
+            page: PageNo::new(0),
+            cells: Contents::one(5),
+        },
+    ]?;
+    Ok(Session::new(
+        geometry,
+        Seq::from_vec(init),
+        Seq::from_vec(guest),
+        Seq::from_vec(source),
+        Seq::from_vec(link),
+        Seq::from_vec(pager),
+    ))
 }
 
 /// The first fault of the session with these logs.
@@ -93,27 +139,133 @@ fn first_of(
     requires few_pager { length pager.items ≤ 1048576 }
     requires pager { AllByRecursion (PagerRecFits (record { pages = 2; cells = 1 })) pager.items }
 {
-    let geometry = Geometry::new(2, 1)?;
-    let init = vec![in alloc;
-        InitPage {
-            page: PageNo::new(0),
-            cells: Contents::one(5),
-        },
-    ]?;
-    let session = Session::new(
-        geometry,
-        Seq::from_vec(init),
-        Seq::from_vec(guest),
-        Seq::from_vec(source),
-        Seq::from_vec(Vec::new(alloc)),
-        Seq::from_vec(pager),
-    );
+    let session = session_of(alloc, guest, source, Vec::new(alloc), pager)?;
     Ok(first_page_fault(alloc, &session)?)
 }
 
 /// A fault that is there.
 fn fault(log: LogName, place: u32, reason: PageReason) -> Option<PageFault> {
     Some(PageFault { log, place, reason })
+}
+
+/// A session in which page 0 is sent, placed, looked at and read.
+fn right_session(alloc: Global) -> Result<Session, Fail>
+    ensures { IfOk result (λ s. s.geometry ≡ record { pages = 2; cells = 1 }) }
+{
+    let guest = vec![in alloc;
+        GuestRec::Halt,
+        GuestRec::Resume { ready: 1 },
+        GuestRec::See { placement: 3 },
+        read(0, 5),
+        GuestRec::See { placement: 3 },
+    ]?;
+    let source = vec![in alloc; SourceRec::State, send(5)]?;
+    let link = vec![in alloc; LinkRec::Down { sending: 0 }, LinkRec::Down { sending: 1 }]?;
+    let pager = vec![in alloc;
+        PagerRec::Got { down: 0 },
+        PagerRec::Ready,
+        PagerRec::Got { down: 1 },
+        place_from(2, 0, 5),
+    ]?;
+    session_of(alloc, guest, source, link, pager)
+}
+
+/// An entry of page 0 in that session.
+fn entry(send: u32, place: u32, access: u32, see: u32) -> Entry {
+    Entry::Source {
+        send,
+        place,
+        first: Some(First { access, see }),
+    }
+}
+
+#[test]
+fn finds_the_facts_of_pages(rt: HostRuntime) -> Result<(), Fail> {
+    let session = right_session(rt.alloc())?;
+    let tables = tables_of(rt.alloc(), &session)?;
+    let used = PageFacts {
+        wrong_read: false,
+        wrong_send: false,
+        placement: Some(3),
+        again: false,
+        altered: false,
+        access: Some(3),
+    };
+    assert_eq!(rt; facts_of(&session, &tables, PageNo::new(0)), used);
+    let unused = PageFacts {
+        wrong_read: false,
+        wrong_send: false,
+        placement: None,
+        again: false,
+        altered: false,
+        access: None,
+    };
+    assert_eq!(rt; facts_of(&session, &tables, PageNo::new(1)), unused);
+    Ok(())
+}
+
+#[test]
+fn finds_what_is_wrong_with_a_page(rt: HostRuntime) -> Result<(), Fail> {
+    let guest = vec![in rt.alloc();
+        write(0, 6),
+        GuestRec::Halt,
+        GuestRec::Resume { ready: 1 },
+        write(0, 9),
+        read(0, 6),
+    ]?;
+    let source = vec![in rt.alloc(); send(9)]?;
+    let pager = vec![in rt.alloc(); place(0, 6), place(0, 5)]?;
+    let session = session_of(rt.alloc(), guest, source, Vec::new(rt.alloc()), pager)?;
+    let tables = tables_of(rt.alloc(), &session)?;
+    let wrong = PageFacts {
+        wrong_read: true,
+        wrong_send: true,
+        placement: Some(0),
+        again: true,
+        altered: true,
+        access: Some(3),
+    };
+    assert_eq!(rt; facts_of(&session, &tables, PageNo::new(0)), wrong);
+    Ok(())
+}
+
+#[test]
+fn passes_right_entries_alone(rt: HostRuntime) -> Result<(), Fail> {
+    let session = right_session(rt.alloc())?;
+    let tables = tables_of(rt.alloc(), &session)?;
+    let page = PageNo::new(0);
+    let facts = facts_of(&session, &tables, page);
+    let entries = [
+        (entry(1, 3, 3, 2), true),
+        (entry(0, 3, 3, 2), false),
+        (entry(1, 2, 3, 2), false),
+        (entry(1, 3, 2, 2), false),
+        (entry(1, 3, 3, 4), false),
+        (entry(1, 3, 3, 1), false),
+        (
+            Entry::Source {
+                send: 1,
+                place: 3,
+                first: None,
+            },
+            false,
+        ),
+        (
+            Entry::Balloon {
+                place: 3,
+                first: None,
+            },
+            false,
+        ),
+        (Entry::Nothing, false),
+    ];
+    for (entry, right) in &entries {
+        assert_eq!(rt; is_right_entry(&session, page, &facts, entry), *right);
+    }
+    let other = PageNo::new(1);
+    let facts = facts_of(&session, &tables, other);
+    assert!(rt; is_right_entry(&session, other, &facts, &Entry::Nothing));
+    Ok(())
 }
 
 #[test]
