@@ -16,12 +16,11 @@ use Rattle.audit_model.specs.Flat.{changed, flat, cell_after}
 use Rattle.audit_model.specs.Names.{same_log}
 use Rattle.audit_model.specs.Mergings.{Cursors, at_start, run_names, StandsAfter}
 use Rattle.audit_model.specs.Walks.{next, cursors_from}
-use Rattle.audit_model.specs.World.{World, start, step, run_from, world_after, guest_step, pager_step, Demand, IsSafeOrder, guest_demand, source_demand, pager_demand, if_record}
+use Rattle.audit_model.specs.World.{World, start, step, run_from, world_after, guest_step, pager_step, Demand, IsSafeOrder, guest_demand, source_demand, pager_demand, if_record, IsFirstBroken}
 use Rattle.page_store.specs.Frames.{memory_of}
 use Rattle.merge_runs.specs.declared.replaying.Replaying.{Replaying}
 use Rattle.merge_runs.specs.Moving.{world_of, stepped}
 use Rattle.merge_runs.specs.Demands.{guest_met, source_met, pager_met}
-use Rattle.merge_runs.specs.Replays.{IsFirstBroken}
 use Rattle.merge_runs.specs.Replaying.{AllMet, Breaks, noted, AreSized, IsReplaying, HasRun, IsGuestStep, IsPagerStep}
 use Rattle.merge_runs.proofs.Walking.{cursors_append, cursors_run, own_moved}
 use Rattle.merge_runs.proofs.Demanding.{guest_yes, guest_from, source_yes, source_from, pager_yes, pager_from}
@@ -55,8 +54,8 @@ told s order None all = all_safe s order all
 told s order (Some name) b = record {
   earlier = b.earlier;
   stands = (b.later, b.stands);
-  is_broken = b.fails;
-  is_first = all_safe s b.earlier b.met;
+  is_safe_before = all_safe s b.earlier b.met;
+  breaks = b.fails;
 }
 
 -- one record more

@@ -6,19 +6,12 @@ use Rattle.migration_types.specs.Receipts.{Name}
 use Rattle.migration_types.specs.Sessions.{Recorded}
 use Rattle.audit_model.specs.declared.flat.Home.{Home}
 use Rattle.audit_model.specs.declared.flat.Home.TheVariants.{AtSource, Nowhere, AtTarget}
-use Rattle.audit_model.specs.Mergings.{IsMerging, StandsAfter}
-use Rattle.audit_model.specs.World.{World, world_after, Demand, IsSafeOrder}
+use Rattle.audit_model.specs.Mergings.{IsMerging}
+use Rattle.audit_model.specs.World.{World, world_after, IsSafeOrder, IsFirstBroken}
 use Rattle.page_store.specs.Frames.{memory_of}
 use Rattle.merge_runs.specs.declared.outcome.Replay.{Replay}
 use Rattle.merge_runs.specs.declared.outcome.MergeFault.{MergeFault}
 use Rattle.merge_runs.specs.declared.outcome.MergeFault.TheVariants.{NoMerging, Memory as NoMemory}
-
--- the demand of the record of this name fails, and the demand of each record that stands before it holds
-pub record IsFirstBroken (s : Recorded) (order : List Name) (name : Name) : Type 0 where
-  pub earlier : List Name
-  pub stands : StandsAfter order earlier name
-  pub is_broken : Demand s name (world_after s earlier) → ⊥
-  pub is_first : IsSafeOrder s earlier
 
 -- the target's memory when the guest was resumed there, and the source's before
 abbrev pub final_memory_at : Home → World → Memory
