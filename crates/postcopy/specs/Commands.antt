@@ -4,7 +4,7 @@ use Rattle.std.specs.Str.{bytes_eq}
 use Rattle.std.specs.Borrow.{Bor}
 use Rattle.clap.specs.Simple.{on_top}
 use Rattle.postcopy.specs.declared.command.Job.{Job}
-use Rattle.postcopy.specs.declared.command.Job.TheVariants.{Check, Replay}
+use Rattle.postcopy.specs.declared.command.Job.TheVariants.{Check, Replay, Certify, Audit}
 use Rattle.clap.specs.Words.{App, Row, Rule, Text, first_of, new_app, new_rule, subcommand_of, with_rule, with_subcommand}
 
 -- a word that has to be there
@@ -15,6 +15,14 @@ needed id = record (new_rule id) { required = true }
 abbrev pub check_words : App
 check_words = with_rule (with_rule (new_app (codes "check")) (needed (codes "SESSION"))) (needed (codes "CERT"))
 
+-- `certify SESSION`
+abbrev pub certify_words : App
+certify_words = with_rule (new_app (codes "certify")) (needed (codes "SESSION"))
+
+-- `audit SESSION`
+abbrev pub audit_words : App
+audit_words = with_rule (new_app (codes "audit")) (needed (codes "SESSION"))
+
 -- `replay SESSION RUNS`
 abbrev pub replay_words : App
 replay_words = with_rule (with_rule (new_app (codes "replay")) (needed (codes "SESSION"))) (needed (codes "RUNS"))
@@ -23,9 +31,11 @@ replay_words = with_rule (with_rule (new_app (codes "replay")) (needed (codes "S
 abbrev pub program_words : App
 program_words = on_top (λ s. record s { subcommand_required = true }) (new_app (codes "postcopy"))
 
--- `postcopy check SESSION CERT` and `postcopy replay SESSION RUNS`
+-- `postcopy` with one of its four commands
 abbrev pub postcopy_words : App
-postcopy_words = with_subcommand (with_subcommand program_words check_words.top) replay_words.top
+postcopy_words =
+    with_subcommand (with_subcommand (with_subcommand (with_subcommand program_words
+    check_words.top) certify_words.top) audit_words.top) replay_words.top
 
 -- the words behind references
 abbrev pub word_texts : List (Bor Text) → List Text
@@ -54,6 +64,8 @@ abbrev pub checked_by : Option Job → Option (Text × Text)
 checked_by None = None
 checked_by (Some (Check session cert)) = Some (session.now, cert.now)
 checked_by (Some (Replay session runs)) = None
+checked_by (Some (Certify session)) = None
+checked_by (Some (Audit session)) = None
 
 -- a name that is no option: it is `-`, or does not begin with `-`
 abbrev pub IsPlainName : Text → Type 0

@@ -1,7 +1,7 @@
 //! The words of the command line.
 
 ghost use Rattle.std.specs.Prelude.{◌≡◌, IfOk, IfErr, None, option_and_then, true, false};
-ghost use Rattle.postcopy.specs.Commands.{check_words, replay_words, postcopy_words, checked_by, names_among, names_given, names_of, word_texts};
+ghost use Rattle.postcopy.specs.Commands.{audit_words, certify_words, check_words, replay_words, postcopy_words, checked_by, names_among, names_given, names_of, word_texts};
 ghost use Rattle.clap.specs.Words.{app_of, found_of, kind_of, rows_of, takes, subcommand_rows_of};
 ghost use Rattle.clap.specs.declared.builder.command.Command.TheViews.{out-Command as fields_of};
 
@@ -21,6 +21,14 @@ pub enum Job<'a> {
     Replay {
         session: &'a str,
         runs: &'a str,
+    },
+    /// The certificate of a session.
+    Certify {
+        session: &'a str,
+    },
+    /// The report on a session.
+    Audit {
+        session: &'a str,
     },
 }
 
@@ -58,16 +66,46 @@ fn replay_command<'a>(alloc: Global) -> Result<Command<'a>, AllocError>
         .arg(runs)
 }
 
+// `certify SESSION`.
+fn certify_command<'a>(alloc: Global) -> Result<Command<'a>, AllocError>
+    ensures app { IfOk result (λ c. app_of c ≡ certify_words) }
+    ensures local { IfOk result (λ c. (fields_of c).has_globals ≡ false) }
+{
+    let session = Arg::new(alloc, "SESSION")
+        .required(true)
+        .help("The session's file; - is standard input");
+    Command::new(alloc, "certify")
+        .about("Writes the certificate of a session, or the first line of its report")
+        .arg(session)
+}
+
+// `audit SESSION`.
+fn audit_command<'a>(alloc: Global) -> Result<Command<'a>, AllocError>
+    ensures app { IfOk result (λ c. app_of c ≡ audit_words) }
+    ensures local { IfOk result (λ c. (fields_of c).has_globals ≡ false) }
+{
+    let session = Arg::new(alloc, "SESSION")
+        .required(true)
+        .help("The session's file; - is standard input");
+    Command::new(alloc, "audit")
+        .about("Writes the report on a session")
+        .arg(session)
+}
+
 // The command line of the program.
 fn command<'a>(alloc: Global) -> Result<Command<'a>, AllocError>
     ensures { IfOk result (λ c. app_of c ≡ postcopy_words) }
 {
     let check = check_command(alloc)?;
+    let certify = certify_command(alloc)?;
+    let audit = audit_command(alloc)?;
     let replay = replay_command(alloc)?;
     Command::new(alloc, "postcopy")
         .about("Audits recorded migration sessions; with no command it does check - -")
         .subcommand_required(true)
         .subcommand(check)?
+        .subcommand(certify)?
+        .subcommand(audit)?
         .subcommand(replay)
 }
 
@@ -78,6 +116,39 @@ fn replay_in<'a>(matches: &ArgMatches<'a>) -> Option<Job<'a>>
     match matches.get_str("SESSION").zip(matches.get_str("RUNS")) {
         Some((session, runs)) => Some(Job::Replay { session, runs }),
         None => None,
+    }
+}
+
+// What the matches of a certify ask for.
+fn certify_in<'a>(matches: &ArgMatches<'a>) -> Option<Job<'a>>
+    ensures { checked_by result ≡ None }
+{
+    match matches.get_str("SESSION") {
+        Some(session) => Some(Job::Certify { session }),
+        None => None,
+    }
+}
+
+// What the matches of an audit ask for.
+fn audit_in<'a>(matches: &ArgMatches<'a>) -> Option<Job<'a>>
+    ensures { checked_by result ≡ None }
+{
+    match matches.get_str("SESSION") {
+        Some(session) => Some(Job::Audit { session }),
+        None => None,
+    }
+}
+
+// What the matches of a subcommand other than a check ask for.
+fn other_in<'a>(name: &str, matches: &ArgMatches<'a>) -> Option<Job<'a>>
+    ensures { checked_by result ≡ None }
+{
+    if name == "certify" {
+        certify_in(matches)
+    } else if name == "audit" {
+        audit_in(matches)
+    } else {
+        replay_in(matches)
     }
 }
 
@@ -100,7 +171,7 @@ fn job_in<'a>(matches: &ArgMatches<'a>) -> Option<Job<'a>>
             if name == "check" {
                 check_in(inner)
             } else {
-                replay_in(inner)
+                other_in(name, inner)
             }
         }
         None => None,

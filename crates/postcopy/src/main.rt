@@ -1,12 +1,14 @@
-//! Checks the certificate of a migration session.
+//! Audits recorded migration sessions.
 //!
-//! `postcopy check SESSION CERT` reads the two texts and writes one line, the verdict. A file named `-` is standard
-//! input; where both are, the first text ends with the first line `end`. With no word it does `check - -`. The status
-//! is 0 for `yes`, 1 for another verdict, 2 for words that are refused, 3 for a file or an output that failed, and 4
-//! for want of memory.
+//! `postcopy check SESSION CERT` reads the two texts and writes one line, the verdict. `certify SESSION` writes the
+//! certificate of a session, `audit SESSION` the report on it, and `replay SESSION RUNS` what becomes of a merging. A file
+//! named `-` is standard input; where two are, the first text ends with the first line `end`. With no word it does
+//! `check - -`. The status is 0 where all is well, 1 for another answer, 2 for words that are refused, 3 for a file or an
+//! output that failed, and 4 for want of memory.
 #![tactic(auto)]
 
 mod answer;
+mod auditing;
 mod command;
 mod cutting;
 mod naming;

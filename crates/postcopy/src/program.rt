@@ -6,8 +6,9 @@ ghost use Rattle.postcopy.specs.Commands.{IsPlainCheck, postcopy_words, checked_
 ghost use Rattle.postcopy.specs.Answers.{Answers, AreNamed, AreOfInput, fault_status};
 
 use crate::answer::{Fault, MEMORY, USAGE, judge, tell};
+use crate::auditing::{Wanted, audit_text};
 use crate::command::{Job, read_words};
-use crate::naming::read_pair;
+use crate::naming::{read_named, read_pair};
 use crate::reading::TextSource;
 use crate::replaying::replay_texts;
 use clap::error::ErrorKind;
@@ -60,6 +61,21 @@ fn replay<'a, S: TextSource, I: Read, O: Write>(
     replay_texts(alloc, session, runs, output)
 }
 
+// Audits a session, the text under a name, and writes what is wanted of it.
+fn audit<'a, S: TextSource, I: Read, O: Write>(
+    alloc: Global,
+    session: &'a str,
+    wanted: Wanted,
+    texts: &S,
+    input: &mut I,
+    output: &mut O,
+) -> Result<u8, Fault<'a>>
+    ensures few { IfOk result (λ status. status < 2) }
+{
+    let session = read_named(alloc, session, texts, input)?;
+    audit_text(alloc, session.as_slice(), wanted, output)
+}
+
 // Does what the words ask for.
 fn perform<'a, S: TextSource, I: Read, O: Write>(
     alloc: Global,
@@ -74,6 +90,10 @@ fn perform<'a, S: TextSource, I: Read, O: Write>(
     match job {
         Job::Check { session, cert } => check(alloc, session, cert, texts, input, output),
         Job::Replay { session, runs } => replay(alloc, session, runs, texts, input, output),
+        Job::Certify { session } => {
+            audit(alloc, session, Wanted::Certificate, texts, input, output)
+        }
+        Job::Audit { session } => audit(alloc, session, Wanted::Report, texts, input, output),
     }
 }
 
