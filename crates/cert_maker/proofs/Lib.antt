@@ -1,3 +1,4 @@
 pub mod Found
 pub mod Looking
 pub mod Making
+pub mod Certifying

@@ -1,0 +1,25 @@
+use Rattle.std.proofs.Common.{◌≡◌, ℕ, ◌∙◌, List, length, sym, ap, subst, arith}
+use Rattle.migration_types.specs.declared.cert.Entry.{Entry}
+use Rattle.cert_maker.specs.Entries.{IsMadeEntry, AreMade}
+use Rattle.cert_maker.proofs.Certifying.{each_more, pushed_length}
+use Rattle.cert_maker.proofs.entries.entries_in.Goals as goal
+
+pub loop-page-preserved : goal.loop-page-preserved
+loop-page-preserved c =
+    let s = c.args.session.now in
+    let old = c.loop-page.entries.items in
+    let count = c.loop-page.invariant.count in
+    let items = c.in_ok-push.ensures.items in
+    record {
+      count = pushed_length old _ c.in-Some.entry items ∙ omega (arith, count);
+      each = each_more s old _ c.in-Some.entry items c.loop-page.invariant.each (subst (λ (p : ℕ). IsMadeEntry s p c.in-Some.entry) (c.new-number.ensures ∙ sym count) c.in-Some.ensures);
+    }
+
+pub returns : goal.returns
+returns c =
+    let s = c.args.session.now in
+    let made : AreMade s c.loop-page.entries.items = record {
+      pages = omega (arith, c.loop-page.invariant.count, c.loop-page-test.false, c.requires.looks.0, c.loop-page.auto.page-end);
+      each = c.loop-page.invariant.each;
+    } in
+    subst (λ (xs : List Entry). AreMade s xs) (sym c.from_vec.ensures) made

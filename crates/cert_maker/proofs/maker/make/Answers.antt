@@ -1,0 +1,24 @@
+use Rattle.std.proofs.Common.{List, refl, subst}
+use Rattle.std.proofs.lemmas.Option.{MatchOption-at_some, MatchOption-at_none}
+use Rattle.migration_types.specs.declared.cert.Run.{Run}
+use Rattle.audit_model.specs.Mergings.{IsMerging, spelled}
+use Rattle.cert_maker.specs.Entries.{HasBarePage, AreMade}
+use Rattle.cert_maker.proofs.Certifying.{made_cert, is_made, bare_refused}
+use Rattle.cert_maker.proofs.maker.make.Goals as goal
+
+pub returns-in_default-made : goal.returns-in_default-made
+returns-in_default-made c =
+    let s = c.args.session.now in
+    bare_refused s c.args.runs (MatchOption-at_none (HasBarePage s) (AreMade s) c.in_default-made.is c.in-Ok.ensures)
+
+pub new-requires : goal.new-requires
+new-requires c =
+    let s = c.args.session.now in
+    made_cert s c.in-Some.entries c.args.runs c.keeps_limits.ensures (MatchOption-at_some (HasBarePage s) (AreMade s) c.in-Some.entries c.in-Some.is c.in-Ok.ensures) c.requires
+
+pub returns : goal.returns
+returns c =
+    let s = c.args.session.now in
+    let made = MatchOption-at_some (HasBarePage s) (AreMade s) c.in-Some.entries c.in-Some.is c.in-Ok.ensures in
+    let merging = c.if-not-is_merging.ensures.0 refl in
+    is_made s c.in-Some.entries c.args.runs c.new.result made (subst (λ (runs : List Run). IsMerging s (spelled runs)) c.as_slice.ensures merging) c.new.ensures
