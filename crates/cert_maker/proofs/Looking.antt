@@ -92,8 +92,8 @@ noted_more s n m r old new limits is noted e =
     let one : m + 1 ≡ suc m = omega arith in
     subst (λ k. AreNoted s n k new) (sym one)
     (subst (λ (t : List (Option ℕ)). AreNoted s n (suc m) t) (sym e)
-      (table_same s.geometry.pages None (placed_by old n r) (λ p. or_here (or_here (first_look s n p) (is_placed s m p) n) (is_placement_of p r) n) (λ p. or_here (first_look s n p) (is_placed s (suc m) p) n) more
-        (λ p. ap (λ o. or_here (first_look s n p) (passes (is_placement_of p) o || is_placed s m p) n) is ∙ noted_twice (first_look s n p) (is_placement_of p r) (is_placed s m p) n)))
+    (table_same s.geometry.pages None (placed_by old n r) (λ p. or_here (or_here (first_look s n p) (is_placed s m p) n) (is_placement_of p r) n) (λ p. or_here (first_look s n p) (is_placed s (suc m) p) n) more
+    (λ p. ap (λ o. or_here (first_look s n p) (passes (is_placement_of p) o || is_placed s m p) n) is ∙ noted_twice (first_look s n p) (is_placement_of p r) (is_placed s m p) n)))
 
 -- ---- a look
 

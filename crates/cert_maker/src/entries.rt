@@ -61,7 +61,12 @@ fn entry_of(session: &Session, facts: &PageFacts, look: Option<u32>) -> Option<E
 }
 
 /// The right entry of a page, where it has one.
-fn made_entry(session: &Session, page: PageNo, facts: &PageFacts, look: Option<u32>) -> Option<Entry>
+fn made_entry(
+    session: &Session,
+    page: PageNo,
+    facts: &PageFacts,
+    look: Option<u32>,
+) -> Option<Entry>
     requires facts { IsFacts session.now page facts.now }
     requires look { look ≡ first_look session.now (length session.now.guest) page }
     ensures { MatchOption result (HasNoEntry session.now page) (IsMadeEntry session.now page) }
@@ -69,11 +74,8 @@ fn made_entry(session: &Session, page: PageNo, facts: &PageFacts, look: Option<u
     let Some(entry) = entry_of(session, facts, look) else {
         return None;
     };
-    if is_right_entry(session, page, facts, &entry) {
-        Some(entry)
-    } else {
-        None
-    }
+    let is_right = is_right_entry(session, page, facts, &entry);
+    if is_right { Some(entry) } else { None }
 }
 
 /// A right entry for each page, by the tables of the session. None: a page has no right entry.

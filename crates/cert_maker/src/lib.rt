@@ -7,6 +7,8 @@ mod looks;
 mod maker;
 mod order;
 mod ready;
+#[cfg(test)]
+mod tests;
 
 pub use maker::{MakeFault, make};
 pub use order::{Order, find_order};

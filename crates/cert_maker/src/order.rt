@@ -21,8 +21,7 @@ use std::alloc::{AllocError, Global};
 pub enum Order {
     /// The runs of a merging.
     Found(Seq<Run>),
-    /// There is no merging: records name one another in a circle, or name what is not there. Of the records that can
-    /// never be taken this is the line, in the session's text, of the first that is next in its log.
+    /// There is no merging: the found order leaves records. The line, in the session's text, of the first one left.
     Knot(u32),
 }
 
@@ -71,11 +70,10 @@ fn first_runs(alloc: Global, run: Run) -> Result<Vec<Run>, AllocError>
     Ok(runs)
 }
 
-/// The found order of a session: from the guest's log on it stays with a log as long as the log's next record is ready,
+/// The found order of a session. From the guest's log on it stays with a log as long as the log's next record is ready,
 /// and goes on with the first of guest, source, link and pager whose next record is. Its runs are as long as they can
-/// be, so that they can stand in a certificate. Where it leaves records, there is no merging, and the answer is the
-/// line of the first record left. Takes each record once, a few looks for each run, and memory for the runs. An error:
-/// there is no memory for them.
+/// be, so that they can stand in a certificate. Where it leaves records there is no merging. Takes each record once, a
+/// few looks for each run, and memory for the runs. An error: there is no memory for them.
 pub fn find_order(alloc: Global, session: &Session) -> Result<Order, AllocError>
     ensures { IfOk result (λ order. IsOrderOf session.now order) }
 {

@@ -81,7 +81,8 @@ fn judge_altered(judge: &Judge, altered: &mut Vec<bool>, rec: &PagerRec)
     }
 }
 
-/// Notes this record at the page that it places, if none is noted there. Of a record that places no page nothing is noted.
+/// Notes this number at the page that the record places, if none is noted there. Where it places no page nothing is
+/// noted.
 pub fn note_placement(first: &mut Vec<Option<u32>>, rec: &PagerRec, n: u32)
     requires { PagerPage (length first.old.items) rec.now }
     ensures { first.new.items ≡ placed_by first.old.items n rec.now }

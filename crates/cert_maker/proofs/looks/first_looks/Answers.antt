@@ -13,6 +13,6 @@ loop-n-preserved c =
     let rec = c.index-guest-n.result in
     let is = read_at c.guest-guest.result.now s.guest n rec c.guest-guest.ensures c.loop-n-test.true c.index-guest-n.is in
     elim c.match-look_of.branch [
-    in-Some w ↦ subst (λ (x : Looks). AreLooks s (n + 1) x) (sym w.looks-is) (looks_more s n w.in-Some.placement rec _ is (sym c.look_of.ensures ∙ w.in-Some.is) w.take_look.ensures)
-    | in_default w ↦ subst (λ (x : Looks). AreLooks s (n + 1) x) (sym w.looks-is) (looks_kept s n rec _ is (sym c.look_of.ensures ∙ w.in_default.is) c.loop-n.invariant)
+      | in-Some w ↦ subst (λ (x : Looks). AreLooks s (n + 1) x) (sym w.looks-is) (looks_more s n w.in-Some.placement rec _ is (sym c.look_of.ensures ∙ w.in-Some.is) w.take_look.ensures)
+      | in_default w ↦ subst (λ (x : Looks). AreLooks s (n + 1) x) (sym w.looks-is) (looks_kept s n rec _ is (sym c.look_of.ensures ∙ w.in_default.is) c.loop-n.invariant)
     ]
