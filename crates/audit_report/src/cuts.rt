@@ -102,7 +102,7 @@ fn lowered(session: &Session, cut: &Taken, log: LogName, from: usize, to: usize)
 {
     let below = cut.of(log).min(to);
     let at = stays_to(session, cut, log, from, below);
-    if from <= at && at < below {
+    if at < below {
         with_cursor(cut, log, at)
     } else {
         *cut

@@ -29,7 +29,8 @@ fn add_part(runs: &mut Vec<Run>, log: LogName, count: u32) -> Result<(), AllocEr
         runs[len - 1].count += count;
         return Ok(());
     }
-    runs.push(Run { log, count })
+    runs.push(Run { log, count })?;
+    Ok(())
 }
 
 /// How many of a run's records lie below the cut.
