@@ -1,6 +1,8 @@
 -- Runs as long as they can be, made part by part.
-use Rattle.std.proofs.Common.{◌≡◌, ◌≢◌, ℕ, zero, suc, ◌+◌, ◌-◌, ◌<◌, ◌≤◌, ◌⊎◌, inl, inr, Bool, true, false, cond, List, [], ◌∷◌, ◌++◌, length, get_or, set, refl, sym, ap, ◌∙◌, subst, arith}
+use Rattle.std.proofs.Common.{◌≡◌, ◌≢◌, ℕ, zero, suc, ◌+◌, ◌-◌, ◌<◌, ◌≤◌, ◌⊎◌, inl, inr, Bool, true, false, cond, List, [], ◌∷◌, ◌++◌, length, get_or, set, rules, refl, sym, ap, ◌∙◌, subst, arith}
+use denote.Enum.Bare.{sameb, same_true}
 use Rattle.std.specs.List.{AllByRecursion}
+use Rattle.migration_types.specs.contracts.records.LogName.{the_type}
 use Rattle.std.proofs.lemmas.Bool.{cases_lt}
 use Rattle.std.proofs.lemmas.List.{append_assoc, append-nil}
 use Rattle.migration_types.specs.declared.records.LogName.{LogName}
@@ -14,6 +16,22 @@ use Rattle.audit_model.specs.Walks.{cursors_from}
 use Rattle.audit_model.proofs.Cuts.{same_from_test}
 use Rattle.merge_runs.proofs.Walking.{cursors_run, cursors_append, spelled_push, own_moved}
 use Rattle.audit_report.specs.Parts.{ends, total, AreBlocks}
+
+-- ---- logs
+
+same_itself : (log : LogName) → sameb the_type log log ≡ true
+same_itself Guest = refl
+same_itself Source = refl
+same_itself Link = refl
+same_itself Pager = refl
+
+pub same_logs_by : (a b : LogName) (t : Bool) → t ≡ sameb the_type a b → t ≡ true → a ≡ b
+same_logs_by a b t e is = same_true the_type (search rules) a b (sym e ∙ is)
+
+pub other_logs_by : (a b : LogName) (t : Bool) → t ≡ sameb the_type a b → t ≡ false → a ≢ b
+other_logs_by a b t e is same =
+    let f : sameb the_type a b ≡ true = ap (λ (l : LogName). sameb the_type a l) (sym same) ∙ same_itself a in
+    cc
 
 -- ---- lists of runs
 
@@ -35,6 +53,11 @@ get_last [] run d zero e = refl
 get_last [] run d (suc k) e = absurd (omega arith)
 get_last (r ∷ runs) run d zero e = absurd (omega arith)
 get_last (r ∷ runs) run d (suc k) e = get_last runs run d k (omega arith)
+
+pub get_within : (runs : List Run) (k : ℕ) (a b : Run) → k < length runs → get_or runs k a ≡ get_or runs k b
+get_within [] k a b lt = absurd (omega arith)
+get_within (r ∷ runs) zero a b lt = refl
+get_within (r ∷ runs) (suc k) a b lt = get_within runs k a b (omega arith)
 
 length_push : (runs : List Run) (run : Run) → length (runs ++ run ∷ []) ≡ length runs + 1
 length_push [] run = refl
@@ -188,32 +211,42 @@ grown front run n blocks room = record { blocks = here; spelled = names }
         }
 
 -- as the code has it
-pub added_last : (runs more : List Run) (d : Run) (log : LogName) (n : ℕ) → AreBlocks runs → ends runs log + n ≤ 1048576 → 0 < length runs → (get_or runs (length runs - 1) d).log ≡ log → more ≡ set runs (length runs - 1) (record { log = (get_or runs (length runs - 1) d).log; count = (get_or runs (length runs - 1) d).count + n }) → IsAdded runs log n more
-added_last runs more d log n blocks room some same is =
-    let parts = snoc runs some in
+pub added_last : (runs : List Run) (last d : Run) (log : LogName) (len n : ℕ) → AreBlocks runs → ends runs log + n ≤ 1048576 → len ≡ length runs → 0 < len → last ≡ get_or runs (len - 1) d → last.log ≡ log → IsAdded runs log n (set runs (len - 1) (record { log = last.log; count = last.count + n }))
+added_last runs last d log len n blocks room long some is same =
+    let parts = snoc runs (omega arith) in
     at parts.0 parts.1 parts.2
   where
-    at : (front : List Run) (run : Run) → runs ≡ front ++ run ∷ [] → IsAdded runs log n more
+    at : (front : List Run) (run : Run) → runs ≡ front ++ run ∷ [] → IsAdded runs log n (set runs (len - 1) (record { log = last.log; count = last.count + n }))
     at front run split =
-        let long : length runs - 1 ≡ length front = let h = ap (λ (rs : List Run). length rs) split ∙ length_push front run in omega arith in
-        let last : get_or runs (length runs - 1) d ≡ run = ap (λ (rs : List Run). get_or rs (length runs - 1) d) split ∙ get_last front run d (length runs - 1) long in
-        let logs : run.log ≡ log = ap (λ (r : Run). r.log) (sym last) ∙ same in
-        let whole : more ≡ front ++ record { log = run.log; count = run.count + n } ∷ [] =
-        is ∙ (ap (λ (r : Run). set runs (length runs - 1) (record { log = r.log; count = r.count + n })) last
-        ∙ (ap (λ (rs : List Run). set rs (length runs - 1) (record { log = run.log; count = run.count + n })) split
-        ∙ set_last front run (record { log = run.log; count = run.count + n }) (length runs - 1) long)) in
+        let k : len - 1 ≡ length front = let h = ap (λ (rs : List Run). length rs) split ∙ length_push front run in omega arith in
+        let it : last ≡ run = is ∙ (ap (λ (rs : List Run). get_or rs (len - 1) d) split ∙ get_last front run d (len - 1) k) in
+        let logs : run.log ≡ log = ap (λ (r : Run). r.log) (sym it) ∙ same in
+        let whole : set runs (len - 1) (record { log = last.log; count = last.count + n }) ≡ front ++ record { log = run.log; count = run.count + n } ∷ [] =
+        ap (λ (r : Run). set runs (len - 1) (record { log = r.log; count = r.count + n })) it
+        ∙ (ap (λ (rs : List Run). set rs (len - 1) (record { log = run.log; count = run.count + n })) split
+        ∙ set_last front run (record { log = run.log; count = run.count + n }) (len - 1) k) in
         let blocks' : AreBlocks (front ++ run ∷ []) = subst (λ (rs : List Run). AreBlocks rs) split blocks in
         let room' : ends (front ++ run ∷ []) run.log + n ≤ 1048576 = subst (λ (rs : List Run). ends rs run.log + n ≤ 1048576) split (subst (λ (l : LogName). ends runs l + n ≤ 1048576) (sym logs) room) in
         let done = grown front run n blocks' room' in
-        let first : IsAdded (front ++ run ∷ []) run.log n more = subst (λ (rs : List Run). IsAdded (front ++ run ∷ []) run.log n rs) (sym whole) done in
-        subst (λ (l : LogName). IsAdded runs l n more) logs (subst (λ (rs : List Run). IsAdded rs run.log n more) (sym split) first)
+        let first : IsAdded (front ++ run ∷ []) run.log n (set runs (len - 1) (record { log = last.log; count = last.count + n })) = subst (λ (rs : List Run). IsAdded (front ++ run ∷ []) run.log n rs) (sym whole) done in
+        subst (λ (l : LogName). IsAdded runs l n (set runs (len - 1) (record { log = last.log; count = last.count + n }))) logs (subst (λ (rs : List Run). IsAdded rs run.log n (set runs (len - 1) (record { log = last.log; count = last.count + n }))) (sym split) first)
 
--- the count of the last run has room for more
-pub last_room : (runs : List Run) (d : Run) (log : LogName) (n : ℕ) → AreBlocks runs → ends runs log + n ≤ 1048576 → 0 < length runs → (get_or runs (length runs - 1) d).log ≡ log → (get_or runs (length runs - 1) d).count + n ≤ 1048576
-last_room runs d log n blocks room some same =
-    let h = blocks.last (length runs - 1) d (omega arith) in
-    let e = ap (λ (l : LogName). ends runs l) same in
-    omega arith
+-- what two looks at the last run find
+pub same_last : (runs : List Run) (a b d x : Run) (log : LogName) (len : ℕ) → len ≡ length runs → 0 < len → a ≡ get_or runs (len - 1) d → b ≡ get_or runs (len - 1) x → b.log ≡ log → a.log ≡ log
+same_last runs a b d x log len long some p q same = ap (λ (r : Run). r.log) (p ∙ get_within runs (len - 1) d x (omega arith) ∙ sym q) ∙ same
+
+-- a run behind no run, or behind a last one of another log
+pub added_first : (runs more : List Run) (log : LogName) (len n : ℕ) → AreBlocks runs → ends runs log + n ≤ 1048576 → len ≡ length runs → len ≤ 0 → 0 < n → more ≡ runs ++ record { log = log; count = n } ∷ [] → IsAdded runs log n more
+added_first runs more log len n blocks room long none some is = added_run runs more log n blocks room some (λ k d e. absurd (omega arith)) is
+
+pub added_next : (runs more : List Run) (last d : Run) (log : LogName) (len n : ℕ) → AreBlocks runs → ends runs log + n ≤ 1048576 → len ≡ length runs → 0 < len → last ≡ get_or runs (len - 1) d → last.log ≢ log → 0 < n → more ≡ runs ++ record { log = log; count = n } ∷ [] → IsAdded runs log n more
+added_next runs more last d log len n blocks room long behind is other some more_is = added_run runs more log n blocks room some apart more_is
+  where
+    apart : (k : ℕ) (x : Run) → k + 1 ≡ length runs → (get_or runs k x).log ≢ log
+    apart k x at same =
+        let here : len - 1 ≡ k = omega arith in
+        let one : last ≡ get_or runs k x = is ∙ (ap (λ j. get_or runs j d) here ∙ get_within runs k d x (omega arith)) in
+        other (ap (λ (r : Run). r.log) one ∙ same)
 
 -- so the runs are within their limits
 pub block_runs : (runs : List Run) → AreBlocks runs → AreRuns runs
