@@ -14,9 +14,11 @@ use Rattle.audit_model.specs.Shape.{passes}
 use Rattle.audit_model.proofs.Lists.{each_at}
 use Rattle.audit_model.specs.Certificates.{is_access_of}
 use Rattle.page_store.specs.Frames.{memory_of}
+use Rattle.page_facts.specs.declared.machine.Machine.{Machine}
 use Rattle.page_facts.specs.declared.guest.Judge.{Judge}
 use Rattle.page_facts.specs.Tables.{some_before, or_here, first_before, noted, IsTable}
-use Rattle.page_facts.specs.Judged.{GuestPage, is_target, is_wrong_read, is_late_access, stepped, wrong_by, released_by, accessed_by, late_after, IsJudged, IsStepped}
+use Rattle.page_facts.specs.Machines.{GuestPage, is_target, stepped, released_by, late_after, IsMachine, IsStepped}
+use Rattle.page_facts.specs.Judged.{is_wrong_read, is_late_access, wrong_by, accessed_by, IsJudged, IsJudgedOn}
 
 pub guest_page : (e : Extent) (r : GuestRec) → GuestRecFits e r → GuestPage e.pages r
 guest_page e (Read v q d x) f = f.1
@@ -49,7 +51,7 @@ ledger_more pages table f (Resume i) fits is = is
 ledger_more pages table f (See k) fits is = is
 
 wrong_more : (s : Recorded) (n : ℕ) (table : List Bool) (m : Memory) (f : ℕ → Bool) (r : GuestRec) → m ≡ flat s n → GuestPage s.geometry.pages r → IsTable s.geometry.pages false table f → IsTable s.geometry.pages false (wrong_by m table r) (λ p. is_wrong_read s p n r || f p)
-wrong_more s n table m f (Read v q c x  ) e fits is = go (eqb x (m q c)) refl
+wrong_more s n table m f (Read v q c x) e fits is = go (eqb x (m q c)) refl
   where
     at_flat : eqb x (m q c) ≡ eqb x (flat s n q c)
     at_flat = ap (λ k. eqb x (k q c)) e
@@ -63,12 +65,12 @@ wrong_more s n table m f (Read v q c x  ) e fits is = go (eqb x (m q c)) refl
     go false t = table_set s.geometry.pages false table f (λ p. ((q == p) && not (x == flat s n q c)) || f p) q true fits is
         (ap (λ b. ((q == q) && not b) || f q) (sym at_flat ∙ t) ∙ ap (λ a. (a && true) || f q) (eq-eqb q q refl))
         (λ p other. ap (λ a. (a && not (x == flat s n q c)) || f p) (ne_eqb q p (λ h. other (sym h))))
-wrong_more s n table m f (Write v q c x  ) e fits is = is
-wrong_more s n table m f (Release v q  ) e fits is = is
-wrong_more s n table m f (Miss v q  ) e fits is = is
+wrong_more s n table m f (Write v q c x) e fits is = is
+wrong_more s n table m f (Release v q) e fits is = is
+wrong_more s n table m f (Miss v q) e fits is = is
 wrong_more s n table m f Halt e fits is = is
-wrong_more s n table m f (Resume i  ) e fits is = is
-wrong_more s n table m f (See k  ) e fits is = is
+wrong_more s n table m f (Resume i) e fits is = is
+wrong_more s n table m f (See k) e fits is = is
 
 pub note_more : (pages n q : ℕ) (table : List (Option ℕ)) (f : ℕ → Option ℕ) → q < pages → IsTable pages None table f → IsTable pages None (noted table q n) (λ p. or_here (f p) (q == p) n)
 note_more pages n q table f lt is = table_set pages None table f (λ p. or_here (f p) (q == p) n) q (or_here (get_or table q None) true n) lt is
@@ -119,25 +121,39 @@ late_more h Halt = refl
 late_more h (Resume i) = refl
 late_more h _ = refl
 
--- the invariant at the next record
-pub judged_more : (s : Recorded) (n : ℕ) (r : GuestRec) (old new : Judge) → IsSession s → slice_get s.guest n ≡ Some r → IsJudged s n old → IsStepped r n old new → IsJudged s (n + 1) new
-judged_more s n r old new limits is judged stepped_is = subst (λ k. IsJudged s k new) (sym one) (record {
-  geometry = stepped_is.store.geometry ∙ judged.geometry;
-  memory = stepped_is.store.memory_is ∙ ap (λ m. stepped r m) judged.memory ∙ (λ i p c. next_cell p c i);
-  ledger = onto (λ t. IsTable s.geometry.pages false t (in_ledger s (suc n))) stepped_is.ledger (table_same s.geometry.pages false _ _ (in_ledger s (suc n)) (ledger_more s.geometry.pages old.released.items (in_ledger s n) r fits judged.ledger) (λ p. ap (λ o. changed (released_after p) o (in_ledger s n p)) is));
-  wrong = onto (λ t. IsTable s.geometry.pages false t (λ p. some_before (is_wrong_read s p) s.guest (suc n))) stepped_is.wrong (table_same s.geometry.pages false _ _ (λ p. some_before (is_wrong_read s p) s.guest (suc n)) (wrong_more s n old.wrong.items (memory_of old.store) (λ p. some_before (is_wrong_read s p) s.guest n) r judged.memory fits judged.wrong) (λ p. ap (λ o. passes (is_wrong_read s p n) o || some_before (is_wrong_read s p) s.guest n) is));
-  first = onto (λ t. IsTable s.geometry.pages None t (λ p. first_before (is_late_access s p) s.guest (suc n))) stepped_is.first (table_same s.geometry.pages None _ _ (λ p. first_before (is_late_access s p) s.guest (suc n)) (access_more s.geometry.pages n old.late old.first.items (λ p. first_before (is_late_access s p) s.guest n) r fits judged.first) (λ p. ap (λ o. or_here (first_before (is_late_access s p) s.guest n) (passes (is_late_access s p n) o) n) is ∙ ap (λ b. or_here (first_before (is_late_access s p) s.guest n) (is_access_of p r && b) n) (sym judged.late)));
-  late = stepped_is.late ∙ ap (λ b. late_after r b) judged.late ∙ late_more (home s n) r ∙ ap (λ o. is_target (changed home_after o (home s n))) (sym is);
+onto : {A : Type 0} (P : A → Type 0) {x y : A} → x ≡ y → P y → P x
+onto P e h = subst P (sym e) h
+
+fits_at : (s : Recorded) (n : ℕ) (r : GuestRec) → IsSession s → slice_get s.guest n ≡ Some r → GuestPage s.geometry.pages r
+fits_at s n r limits is = guest_page s.geometry r (each_at (GuestRecFits s.geometry) s.guest n r limits.guest is)
+
+-- the machine at the next record
+machine_next : (s : Recorded) (n : ℕ) (r : GuestRec) (old new : Machine) → IsSession s → slice_get s.guest n ≡ Some r → IsMachine s n old → IsStepped r old new → IsMachine s (suc n) new
+machine_next s n r old new limits is machine on = record {
+  geometry = on.store.geometry ∙ machine.geometry;
+  memory = on.store.memory_is ∙ ap (λ m. stepped r m) machine.memory ∙ (λ i p c. next_cell p c i);
+  ledger = onto (λ t. IsTable s.geometry.pages false t (in_ledger s (suc n))) on.ledger (table_same s.geometry.pages false _ _ (in_ledger s (suc n)) (ledger_more s.geometry.pages old.released.items (in_ledger s n) r (fits_at s n r limits is) machine.ledger) (λ p. ap (λ o. changed (released_after p) o (in_ledger s n p)) is));
+  late = on.late ∙ ap (λ b. late_after r b) machine.late ∙ late_more (home s n) r ∙ ap (λ o. is_target (changed home_after o (home s n))) (sym is);
+}
+  where
+    next_cell : (p c : ℕ) → stepped r (flat s n) p c ≡ flat s (suc n) p c
+    next_cell p c = ap (λ o. changed (cell_after p c) o (flat s n p c)) (sym is)
+
+pub machine_more : (s : Recorded) (n : ℕ) (r : GuestRec) (old new : Machine) → IsSession s → slice_get s.guest n ≡ Some r → IsMachine s n old → IsStepped r old new → IsMachine s (n + 1) new
+machine_more s n r old new limits is machine on =
+    let one : n + 1 ≡ suc n = omega arith in
+    subst (λ k. IsMachine s k new) (sym one) (machine_next s n r old new limits is machine on)
+
+-- what the pass has at the next record
+pub judged_more : (s : Recorded) (n : ℕ) (r : GuestRec) (old new : Judge) → IsSession s → slice_get s.guest n ≡ Some r → IsJudged s n old → IsJudgedOn r n old new → IsJudged s (n + 1) new
+judged_more s n r old new limits is judged on = subst (λ k. IsJudged s k new) (sym one) (record {
+  machine = machine_next s n r old.machine new.machine limits is judged.machine on.machine;
+  wrong = onto (λ t. IsTable s.geometry.pages false t (λ p. some_before (is_wrong_read s p) s.guest (suc n))) on.wrong (table_same s.geometry.pages false _ _ (λ p. some_before (is_wrong_read s p) s.guest (suc n)) (wrong_more s n old.wrong.items (memory_of old.machine.store) (λ p. some_before (is_wrong_read s p) s.guest n) r judged.machine.memory fits judged.wrong) (λ p. ap (λ o. passes (is_wrong_read s p n) o || some_before (is_wrong_read s p) s.guest n) is));
+  first = onto (λ t. IsTable s.geometry.pages None t (λ p. first_before (is_late_access s p) s.guest (suc n))) on.first (table_same s.geometry.pages None _ _ (λ p. first_before (is_late_access s p) s.guest (suc n)) (access_more s.geometry.pages n old.machine.late old.first.items (λ p. first_before (is_late_access s p) s.guest n) r fits judged.first) (λ p. ap (λ o. or_here (first_before (is_late_access s p) s.guest n) (passes (is_late_access s p n) o) n) is ∙ ap (λ b. or_here (first_before (is_late_access s p) s.guest n) (is_access_of p r && b) n) (sym judged.machine.late)));
 })
   where
     one : n + 1 ≡ suc n
     one = omega arith
 
     fits : GuestPage s.geometry.pages r
-    fits = guest_page s.geometry r (each_at (GuestRecFits s.geometry) s.guest n r limits.guest is)
-
-    next_cell : (p c : ℕ) → stepped r (flat s n) p c ≡ flat s (suc n) p c
-    next_cell p c = ap (λ o. changed (cell_after p c) o (flat s n p c)) (sym is)
-
-    onto : {A : Type 0} (P : A → Type 0) {x y : A} → x ≡ y → P y → P x
-    onto P e h = subst P (sym e) h
+    fits = fits_at s n r limits is

@@ -4,3 +4,7 @@ pub mod Judging
 pub mod Moving
 pub mod Starting
 pub mod RightEntry
+pub mod Looked
+pub mod LeastReason
+pub mod FirstOfAll
+pub mod Faulting

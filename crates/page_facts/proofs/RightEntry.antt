@@ -25,7 +25,8 @@ use Rattle.audit_model.specs.Certificates.{is_access_of, IsLateAccess, IsHonest,
 use Rattle.page_facts.specs.declared.facts.PageFacts.{PageFacts}
 use Rattle.page_facts.specs.Tables.{some_before, first_before}
 use Rattle.page_facts.specs.Facts.{IsFacts}
-use Rattle.page_facts.specs.Judged.{is_target, is_wrong_read, is_wrong_send, is_altered, is_late_access}
+use Rattle.page_facts.specs.Machines.{is_target}
+use Rattle.page_facts.specs.Judged.{is_wrong_read, is_wrong_send, is_altered, is_late_access}
 use Rattle.page_facts.specs.Moved.{is_again}
 use Rattle.page_facts.specs.EntryTests.{is_place, is_absent, sees_from, repeats, delivers_from, places_from, zeroes, covers, is_once, is_right_of, is_right_entry}
 use Rattle.page_facts.proofs.Before.{some_false, some_true, first_none, first_some, IsFirstAt}

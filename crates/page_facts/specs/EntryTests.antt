@@ -1,5 +1,5 @@
 -- Tests of a page's entry by the facts of the page. This serves proofs alone.
-use Rattle.std.specs.Prelude.{◌≡◌, ℕ, ◌<◌, Bool, true, false, not, ◌==◌, ◌&&◌, ◌||◌, nat_lt, nat_le, List, length, Option, Some, None, slice_get}
+use Rattle.std.specs.Prelude.{ℕ, Bool, true, false, not, ◌==◌, ◌&&◌, ◌||◌, nat_lt, nat_le, Option, Some, None, slice_get}
 use Rattle.migration_types.specs.declared.records.GuestRec.{GuestRec}
 use Rattle.migration_types.specs.declared.records.GuestRec.TheVariants.{See}
 use Rattle.migration_types.specs.declared.records.SourceRec.{SourceRec}
@@ -59,4 +59,3 @@ is_right_of s page f (Balloon place first) =
 
 abbrev pub is_right_entry : Recorded → ℕ → PageFacts → Entry → Bool
 is_right_entry s page f entry = not f.wrong_read && not f.wrong_send && is_right_of s page f entry
-

@@ -61,7 +61,10 @@ fn places_from_at(session: &Session, page: PageNo, send: u32, n: u32) -> bool
                 got,
                 ..
             },
-        ) => { placed.number() == page.number() && delivers_from(session, send, delivery(session, *got)) }
+        ) => {
+            placed.number() == page.number()
+                && delivers_from(session, send, delivery(session, *got))
+        }
         _ => false,
     }
 }

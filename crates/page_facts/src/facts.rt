@@ -3,7 +3,8 @@
 ghost use Rattle.std.specs.Prelude.{◌≡◌, ◌<◌, IfOk};
 ghost use Rattle.page_facts.specs.Facts.{AreTables, IsFacts};
 
-use crate::guest::{halt_place, run_guest, start};
+use crate::guest::{run_guest, start};
+use crate::machine::halt_place;
 use crate::moved::{judge_placements, judge_sends, nothing_placed, nothing_sent};
 use migration_types::{PageNo, Session};
 use std::alloc::{AllocError, Global};
@@ -46,9 +47,9 @@ pub fn tables_of(alloc: Global, session: &Session) -> Result<PageTables, AllocEr
     let halt = halt_place(session.guest());
     run_guest(session, &mut judge, 0, halt);
     let mut wrong_sends = nothing_sent(alloc, session)?;
-    judge_sends(session, &judge, &mut wrong_sends);
+    judge_sends(session, &judge.machine, &mut wrong_sends);
     let mut placed = nothing_placed(alloc, session)?;
-    judge_placements(session, &judge, &mut placed);
+    judge_placements(session, &judge.machine, &mut placed);
     run_guest(session, &mut judge, halt, session.guest().len());
     Ok(PageTables {
         wrong_reads: judge.wrong,

@@ -2,19 +2,24 @@
 //!
 //! A checker, a maker of certificates and an audit all judge a page by the same few facts: whether a read of it gave
 //! another value than one machine would, what was sent of it, where it was placed, and when it was first used after
-//! handover. [`tables_of`] finds them for all pages at once.
+//! handover. [`tables_of`] finds them for all pages at once, and [`first_page_fault`] finds the first record that is a
+//! fault of its page.
 #![tactic(auto)]
 
 mod entries;
 mod facts;
+mod frontier;
 mod guest;
 mod kinds;
+mod machine;
 mod marks;
 mod moved;
-
+mod page_fault;
 #[cfg(test)]
 mod tests;
 
+pub use entries::is_right_entry;
+pub use facts::{PageFacts, PageTables, facts_of, tables_of};
 pub use kinds::{
     delivers_send, delivers_state, delivery, goes_down_at, goes_up_at, is_down_at, is_got_at,
     is_halt, is_halt_at, is_miss_at, is_placement_at, is_ready_at, is_resume, is_send_of,
@@ -22,5 +27,4 @@ pub use kinds::{
 };
 pub use marks::{no_marks, no_places};
 pub use moved::note_placement;
-pub use entries::is_right_entry;
-pub use facts::{PageFacts, PageTables, facts_of, tables_of};
+pub use page_fault::{PageFault, first_page_fault};

@@ -3,10 +3,10 @@
 ghost use Rattle.std.specs.Prelude.{◌≡◌, ◌<◌, ◌≤◌, ℕ, length, IfOk};
 ghost use Rattle.migration_types.specs.Sessions.{IsSession};
 ghost use Rattle.audit_model.specs.Flat.{at_halt};
-ghost use Rattle.page_facts.specs.Judged.{IsJudged};
+ghost use Rattle.page_facts.specs.Machines.{IsMachine};
 ghost use Rattle.page_facts.specs.Moved.{differs, SourcePage, PagerPage, sent_by, again_by, altered_by, placed_by, IsPlaced, IsPlacedOn, AreSent};
 
-use crate::guest::Judge;
+use crate::machine::Machine;
 use crate::marks::{mark_if, no_marks, no_places, note};
 use migration_types::{Contents, PageNo, PagerRec, Session, SourceRec};
 use page_store::Store;
@@ -24,7 +24,7 @@ pub(crate) struct Placed {
 }
 
 /// Whether contents are not those of a page.
-fn differs(store: &Store, page: PageNo, contents: &Contents) -> bool
+pub(crate) fn differs(store: &Store, page: PageNo, contents: &Contents) -> bool
     requires { page < store.now.geometry.pages }
     ensures { result ≡ differs store.now page contents.now }
 {
@@ -32,14 +32,14 @@ fn differs(store: &Store, page: PageNo, contents: &Contents) -> bool
 }
 
 /// Marks the page of a `send` that is not right.
-fn judge_send(judge: &Judge, marks: &mut Vec<bool>, rec: &SourceRec)
-    requires fits { SourcePage judge.now.store.geometry.pages rec.now }
-    requires released { length judge.now.released.items ≡ judge.now.store.geometry.pages }
-    requires sized { length marks.old.items ≡ judge.now.store.geometry.pages }
-    ensures { marks.new.items ≡ sent_by judge.now.store judge.now.released.items marks.old.items rec.now }
+fn judge_send(machine: &Machine, marks: &mut Vec<bool>, rec: &SourceRec)
+    requires fits { SourcePage machine.now.store.geometry.pages rec.now }
+    requires released { length machine.now.released.items ≡ machine.now.store.geometry.pages }
+    requires sized { length marks.old.items ≡ machine.now.store.geometry.pages }
+    ensures { marks.new.items ≡ sent_by machine.now.store machine.now.released.items marks.old.items rec.now }
 {
     if let SourceRec::Send { page, contents } = rec {
-        let wrong = differs(&judge.store, *page, contents) || judge.released[page.index()];
+        let wrong = differs(&machine.store, *page, contents) || machine.released[page.index()];
         mark_if(marks, page.index(), wrong);
     }
 }
@@ -64,18 +64,22 @@ fn judge_again(first: &Vec<Option<u32>>, again: &mut Vec<bool>, rec: &PagerRec)
 }
 
 /// Marks the page of a placement that is not what the page is at the halt.
-fn judge_altered(judge: &Judge, altered: &mut Vec<bool>, rec: &PagerRec)
-    requires fits { PagerPage judge.now.store.geometry.pages rec.now }
-    requires released { length judge.now.released.items ≡ judge.now.store.geometry.pages }
-    requires sized { length altered.old.items ≡ judge.now.store.geometry.pages }
-    ensures { altered.new.items ≡ altered_by judge.now.store judge.now.released.items altered.old.items rec.now }
+fn judge_altered(machine: &Machine, altered: &mut Vec<bool>, rec: &PagerRec)
+    requires fits { PagerPage machine.now.store.geometry.pages rec.now }
+    requires released { length machine.now.released.items ≡ machine.now.store.geometry.pages }
+    requires sized { length altered.old.items ≡ machine.now.store.geometry.pages }
+    ensures { altered.new.items ≡ altered_by machine.now.store machine.now.released.items altered.old.items rec.now }
 {
     match rec {
         PagerRec::Place { page, contents, .. } => {
-            mark_if(altered, page.index(), differs(&judge.store, *page, contents));
+            mark_if(
+                altered,
+                page.index(),
+                differs(&machine.store, *page, contents),
+            );
         }
         PagerRec::Zero { page } => {
-            mark_if(altered, page.index(), !judge.released[page.index()]);
+            mark_if(altered, page.index(), !machine.released[page.index()]);
         }
         _ => {}
     }
@@ -95,42 +99,42 @@ pub fn note_placement(first: &mut Vec<Option<u32>>, rec: &PagerRec, n: u32)
 }
 
 /// Looks at one record of the pager.
-fn judge_placement(judge: &Judge, placed: &mut Placed, rec: &PagerRec, n: u32)
-    requires fits { PagerPage judge.now.store.geometry.pages rec.now }
-    requires released { length judge.now.released.items ≡ judge.now.store.geometry.pages }
+fn judge_placement(machine: &Machine, placed: &mut Placed, rec: &PagerRec, n: u32)
+    requires fits { PagerPage machine.now.store.geometry.pages rec.now }
+    requires released { length machine.now.released.items ≡ machine.now.store.geometry.pages }
     requires first { PagerPage (length placed.old.first.items) rec.now }
     requires again { PagerPage (length placed.old.again.items) rec.now }
-    requires altered { length placed.old.altered.items ≡ judge.now.store.geometry.pages }
-    ensures { IsPlacedOn judge.now.store judge.now.released.items rec.now n placed.old placed.new }
+    requires altered { length placed.old.altered.items ≡ machine.now.store.geometry.pages }
+    ensures { IsPlacedOn machine.now.store machine.now.released.items rec.now n placed.old placed.new }
 {
     judge_again(&placed.first, &mut placed.again, rec);
     note_placement(&mut placed.first, rec, n);
-    judge_altered(judge, &mut placed.altered, rec);
+    judge_altered(machine, &mut placed.altered, rec);
 }
 
 /// Looks at all sends, by the memory and the released pages at the halt.
-pub(crate) fn judge_sends(session: &Session, judge: &Judge, marks: &mut Vec<bool>)
+pub(crate) fn judge_sends(session: &Session, machine: &Machine, marks: &mut Vec<bool>)
     requires limits { IsSession session.now }
-    requires judged { IsJudged session.now (at_halt session.now) judge.now }
+    requires machine { IsMachine session.now (at_halt session.now) machine.now }
     requires start { AreSent session.now 0 marks.old.items }
     ensures { AreSent session.now (length session.now.source) marks.new.items }
 {
     let source = session.source();
     for n in 0..source.len() {
-        judge_send(judge, marks, &source[n]);
+        judge_send(machine, marks, &source[n]);
     }
 }
 
 /// Looks at all placements, by the memory and the released pages at the halt.
-pub(crate) fn judge_placements(session: &Session, judge: &Judge, placed: &mut Placed)
+pub(crate) fn judge_placements(session: &Session, machine: &Machine, placed: &mut Placed)
     requires limits { IsSession session.now }
-    requires judged { IsJudged session.now (at_halt session.now) judge.now }
+    requires machine { IsMachine session.now (at_halt session.now) machine.now }
     requires start { IsPlaced session.now 0 placed.old }
     ensures { IsPlaced session.now (length session.now.pager) placed.new }
 {
     let pager = session.pager();
     for n in 0..pager.len() {
-        judge_placement(judge, placed, &pager[n], n as u32);
+        judge_placement(machine, placed, &pager[n], n as u32);
     }
 }
 

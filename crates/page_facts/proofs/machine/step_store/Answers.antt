@@ -1,8 +1,8 @@
 use Rattle.std.proofs.Common.{sym, subst}
 use Rattle.migration_types.specs.declared.records.GuestRec.{GuestRec}
 use Rattle.page_store.specs.Frames.{memory_of, IsWith}
-use Rattle.page_facts.specs.Judged.{stepped}
-use Rattle.page_facts.proofs.guest.step_store.Goals as goal
+use Rattle.page_facts.specs.Machines.{stepped}
+use Rattle.page_facts.proofs.machine.step_store.Goals as goal
 
 pub returns-in-Write : goal.returns-in-Write
 returns-in-Write c =

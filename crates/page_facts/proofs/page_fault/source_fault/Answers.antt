@@ -1,0 +1,33 @@
+use Rattle.std.proofs.Common.{List, length, refl, sym, ap, ◌∙◌, arith}
+use Rattle.migration_types.specs.declared.records.SourceRec.{SourceRec}
+use Rattle.migration_types.specs.declared.records.LogName.TheVariants.{Source}
+use Rattle.page_facts.proofs.Reading.{read_at}
+use Rattle.page_facts.proofs.FirstOfAll.{below_more, clean_log}
+use Rattle.page_facts.proofs.Faulting.{source_turn}
+use Rattle.page_facts.proofs.page_fault.source_fault.Goals as goal
+
+pub returns-in-Some : goal.returns-in-Some
+returns-in-Some c =
+    let s = c.args.session.now in
+    let n = c.loop-n.n in
+    let rec = c.index-source-n.result in
+    let is = read_at c.source-source.result.now s.source n rec c.source-source.ensures c.loop-n-test.true c.index-source-n.is in
+    record {
+      is_log = refl;
+      is_reason = source_turn s n rec c.args.machine.now c.requires.limits is c.requires.machine ∙ (sym c.source_reason.ensures ∙ c.in-Some.is);
+      is_clean_below = c.loop-n.invariant;
+    }
+
+pub loop-n-preserved : goal.loop-n-preserved
+loop-n-preserved c =
+    let s = c.args.session.now in
+    let n = c.loop-n.n in
+    let rec = c.index-source-n.result in
+    let is = read_at c.source-source.result.now s.source n rec c.source-source.ensures c.loop-n-test.true c.index-source-n.is in
+    below_more s Source n c.loop-n.invariant (source_turn s n rec c.args.machine.now c.requires.limits is c.requires.machine ∙ (sym c.source_reason.ensures ∙ c.in_default.is))
+
+pub returns : goal.returns
+returns c =
+    let s = c.args.session.now in
+    let all = ap (λ (xs : List SourceRec). length xs) c.source-source.ensures in
+    clean_log s Source c.loop-n.n (omega (arith, all, c.loop-n-test.false)) c.loop-n.invariant
