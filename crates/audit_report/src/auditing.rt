@@ -11,13 +11,13 @@ ghost use Rattle.audit_model.specs.FirstFault.{IsFirstPageFault};
 ghost use Rattle.cert_maker.specs.Orders.{AreFoundRuns};
 ghost use Rattle.audit_report.specs.Reports.{IsReport, IsClean, ReportFits};
 
-use crate::fault_stub::{PageFault, first_page_fault};
 use crate::orders::order_for;
 use crate::report::Report;
 use audit_model::{clean_is_certified, faults_are_unsafe};
 use cert_check::shape;
 use cert_maker::{MakeFault, Order, find_order, make};
 use migration_types::{Run, Seq, Session};
+use page_facts::{PageFault, first_page_fault};
 use session_log::line_of;
 use std::alloc::{AllocError, Global};
 

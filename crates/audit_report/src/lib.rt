@@ -4,7 +4,6 @@
 
 mod auditing;
 mod cuts;
-mod fault_stub;
 mod orders;
 mod parts;
 mod placements;

@@ -9,11 +9,11 @@ ghost use Rattle.cert_maker.specs.Orders.{AreFoundRuns};
 ghost use Rattle.audit_report.specs.Reports.{ShowsFault};
 
 use crate::cuts::cut_for;
-use crate::fault_stub::PageFault;
 use crate::parts::rearranged;
 use crate::placements::placement_for;
 use audit_model::faults_are_unsafe;
 use migration_types::{Run, Seq, Session};
+use page_facts::PageFault;
 use std::alloc::{AllocError, Global};
 
 /// The runs of an order in which the demand at the faulty record fails: the found order, or, for an early access to a

@@ -6,9 +6,9 @@ ghost use Rattle.audit_model.specs.Shape.{is_placement_of};
 ghost use Rattle.audit_model.specs.Delayed.{IsFirstPlacement};
 ghost use Rattle.audit_report.specs.Reports.{page_used, HasNoPlacement, IsEarlyFor, IsUndelayed};
 
-use crate::fault_stub::PageFault;
 use audit_model::PageReason;
 use migration_types::{GuestRec, LogName, PageNo, PagerRec, Session};
+use page_facts::PageFault;
 
 /// The page that the record of this log and place reads or writes, if it is an access of the guest.
 fn page_used(session: &Session, log: LogName, place: u32) -> Option<PageNo>
