@@ -32,7 +32,7 @@ use Rattle.cert_maker.specs.Orders.{AreFoundRuns}
 use Rattle.audit_report.specs.declared.report.Report.{Report}
 use Rattle.audit_report.specs.declared.report.Report.TheVariants.{Clean, Shape, Knot, Faulty}
 use Rattle.audit_report.specs.Cuts.{IsCutFor}
-use Rattle.audit_report.specs.Reports.{used_by, page_used, HasNoPlacement, IsEarlyFor, IsUndelayed, IsOrderFor, ShowsFault, IsReport, IsClean, ReportFits}
+use Rattle.audit_report.specs.Reports.{used_by, page_used, HasNoPlacement, IsEarlyFor, IsUndelayed, IsOrderFor, ShowsFault, IsReport, IsClean}
 
 -- ---- placements
 
@@ -167,7 +167,7 @@ fault_there s reason Pager n f = go (slice_get s.pager n) refl f
 -- ---- reports
 
 module _ (s : Recorded) where
-  pub safe_if_clean : ((t : Recorded) → IsFaultless t → IsSafe t) → IsSession s → (report : Report) → IsReport s report → IsClean report → IsSafe s
+  safe_if_clean : ((t : Recorded) → IsFaultless t → IsSafe t) → IsSession s → (report : Report) → IsReport s report → IsClean report → IsSafe s
   safe_if_clean law fits (Clean cert) is clean = law s (record { is_session = fits; shape = is.0; clean = is.1.has_no_fault })
   safe_if_clean law fits (Shape fault) is clean = absurd clean
   safe_if_clean law fits (Knot line) is clean = absurd clean
@@ -179,11 +179,14 @@ module _ (s : Recorded) where
   clean_if_safe law fits (Knot line) is shape has safe = absurd (is.1.has_no_merging has)
   clean_if_safe law fits (Faulty line reason order) is shape has safe = absurd ((law fits shape has).0 safe reason is.1.name is.1.is_first.is_fault)
 
-  pub safe_exactly : ((t : Recorded) → IsFaultless t → IsSafe t) → SafeExactlyIfClean s → IsSession s → (report : Report) → IsReport s report → IsRightShape s → HasMerging s → IsSafe s ↔ IsClean report
+  safe_exactly : ((t : Recorded) → IsFaultless t → IsSafe t) → SafeExactlyIfClean s → IsSession s → (report : Report) → IsReport s report → IsRightShape s → HasMerging s → IsSafe s ↔ IsClean report
   safe_exactly clean law fits report is shape has = (clean_if_safe law fits report is shape has, safe_if_clean clean fits report is)
 
-  pub report_fits : (report : Report) → IsReport s report → ReportFits report
-  report_fits (Clean cert) is = tt
-  report_fits (Shape fault) is = tt
-  report_fits (Knot line) is = tt
-  report_fits (Faulty line reason order) is = is.1.shows.are_runs
+  -- as the audit has them
+  pub safe_of : ((t : Recorded) → IsFaultless t → IsSafe t) → IsSession s → (r : Result Report AllocError) → IfOk r (IsReport s) → IfOk r (λ report. IsClean report → IsSafe s)
+  safe_of law fits (Ok report) is = safe_if_clean law fits report is
+  safe_of law fits (Err e) is = tt
+
+  pub exactly_of : ((t : Recorded) → IsFaultless t → IsSafe t) → SafeExactlyIfClean s → IsSession s → (r : Result Report AllocError) → IfOk r (IsReport s) → IfOk r (λ report. IsRightShape s → HasMerging s → IsSafe s ↔ IsClean report)
+  exactly_of clean law fits (Ok report) is = safe_exactly clean law fits report is
+  exactly_of clean law fits (Err e) is = tt
