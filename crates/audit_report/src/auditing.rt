@@ -38,7 +38,12 @@ fn clean(alloc: Global, session: &Session, found: Seq<Run>) -> Result<Report, Al
 }
 
 /// The report on a session with this first fault, whose found order has these runs.
-fn faulty(alloc: Global, session: &Session, found: Seq<Run>, fault: &PageFault) -> Result<Report, AllocError>
+fn faulty(
+    alloc: Global,
+    session: &Session,
+    found: Seq<Run>,
+    fault: &PageFault,
+) -> Result<Report, AllocError>
     requires limits { IsSession session.now }
     requires shape { IsRightShape session.now }
     requires found { AreFoundRuns session.now found }

@@ -18,7 +18,12 @@ use std::alloc::{AllocError, Global};
 
 /// The runs of an order in which the demand at the faulty record fails: the found order, or, for an early access to a
 /// page that is placed, this order with the page's first placement delayed.
-pub(crate) fn order_for(alloc: Global, session: &Session, found: Seq<Run>, fault: &PageFault) -> Result<Seq<Run>, AllocError>
+pub(crate) fn order_for(
+    alloc: Global,
+    session: &Session,
+    found: Seq<Run>,
+    fault: &PageFault,
+) -> Result<Seq<Run>, AllocError>
     requires limits { IsSession session.now }
     requires shape { IsRightShape session.now }
     requires found { AreFoundRuns session.now found }

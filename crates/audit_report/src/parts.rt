@@ -42,7 +42,12 @@ fn below_of(taken: &Taken, cut: &Taken, run: &Run) -> u32
 }
 
 /// The part of the order below the cut.
-fn below_parts(alloc: Global, session: &Session, runs: &[Run], cut: &Taken) -> Result<Vec<Run>, AllocError>
+fn below_parts(
+    alloc: Global,
+    session: &Session,
+    runs: &[Run],
+    cut: &Taken,
+) -> Result<Vec<Run>, AllocError>
     requires limits { IsSession session.now }
     requires merging { IsMerging session.now (spelled runs.now) }
     requires within { IsWithin session.now (cursors_of cut.now) }
@@ -60,7 +65,12 @@ fn below_parts(alloc: Global, session: &Session, runs: &[Run], cut: &Taken) -> R
 }
 
 /// Adds the part of the order above the cut behind the part below it.
-fn add_above(session: &Session, runs: &[Run], cut: &Taken, parts: &mut Vec<Run>) -> Result<(), AllocError>
+fn add_above(
+    session: &Session,
+    runs: &[Run],
+    cut: &Taken,
+    parts: &mut Vec<Run>,
+) -> Result<(), AllocError>
     requires limits { IsSession session.now }
     requires merging { IsMerging session.now (spelled runs.now) }
     requires within { IsWithin session.now (cursors_of cut.now) }
@@ -79,7 +89,12 @@ fn add_above(session: &Session, runs: &[Run], cut: &Taken, parts: &mut Vec<Run>)
 
 /// The order with what is above a cut moved behind what is below it, in runs as long as they can be. Takes two passes
 /// over the runs, and memory for at most twice as many. An error: there is no memory for them.
-pub(crate) fn rearranged(alloc: Global, session: &Session, runs: &[Run], cut: &Taken) -> Result<Seq<Run>, AllocError>
+pub(crate) fn rearranged(
+    alloc: Global,
+    session: &Session,
+    runs: &[Run],
+    cut: &Taken,
+) -> Result<Seq<Run>, AllocError>
     requires limits { IsSession session.now }
     requires merging { IsMerging session.now (spelled runs.now) }
     requires within { IsWithin session.now (cursors_of cut.now) }

@@ -16,8 +16,11 @@ use std::alloc::{AllocError, Global};
 use text_lines::push_line;
 
 const SHAPE: &[u8] = b"shape line ";
+
 const KNOT: &[u8] = b"knot line ";
+
 const CLEAN: &[u8] = b"clean";
+
 const FAULTY: &[u8] = b"faulty line ";
 
 /// The word for a reason of shape.
@@ -89,7 +92,12 @@ fn print_clean(alloc: Global, cert: &Cert) -> Result<Vec<u8>, AllocError>
 }
 
 /// The text of a fault of a page, with the runs of an order.
-fn print_faulty(alloc: Global, line: u32, reason: PageReason, order: &[Run]) -> Result<Vec<u8>, AllocError>
+fn print_faulty(
+    alloc: Global,
+    line: u32,
+    reason: PageReason,
+    order: &[Run],
+) -> Result<Vec<u8>, AllocError>
     requires { AreRuns order.now }
     ensures { IfOk result (λ out. out.items ≡ ended (faulty_lines line reason order.now)) }
 {

@@ -25,8 +25,8 @@ adds c =
     let long : c.len-len.result ≡ length runs = omega (arith, c.len-len.ensures, c.args.runs.now.ok.0) in
     let some : 0 < c.args.count = omega (arith, c.if-count-eq0.false) in
     elim c.else-len-gt0.branch [
-      else-len-gt0-via-then-len-gt0+else-eq w ↦ added_next runs more w.index.result.now _ c.args.log c.len-len.result c.args.count c.requires.blocks c.requires.room long w.if-len-gt0.true w.index.ensures (other_logs_by w.index.result.now.log c.args.log w.eq.result w.eq.ensures w.if-eq.false) some c.in_ok-push.ensures.items
-    | else-len-gt0-via-else-len-gt0 w ↦ added_first runs more c.args.log c.len-len.result c.args.count c.requires.blocks c.requires.room long w.if-len-gt0.false some c.in_ok-push.ensures.items
+      | else-len-gt0-via-then-len-gt0+else-eq w ↦ added_next runs more w.index.result.now _ c.args.log c.len-len.result c.args.count c.requires.blocks c.requires.room long w.if-len-gt0.true w.index.ensures (other_logs_by w.index.result.now.log c.args.log w.eq.result w.eq.ensures w.if-eq.false) some c.in_ok-push.ensures.items
+      | else-len-gt0-via-else-len-gt0 w ↦ added_first runs more c.args.log c.len-len.result c.args.count c.requires.blocks c.requires.room long w.if-len-gt0.false some c.in_ok-push.ensures.items
     ]
 
 pub returns-clause-blocks : goal.returns-clause-blocks
