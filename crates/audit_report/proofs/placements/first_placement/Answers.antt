@@ -1,0 +1,6 @@
+use Rattle.std.proofs.Common.{◌≡◌, ℕ, ◌<◌, ◌≤◌, ◌⊎◌, inl, inr, Bool, true, false, length, Some, ap, sym, ◌∙◌, arith}
+use Rattle.audit_report.proofs.Showing.{none_placed}
+use Rattle.audit_report.proofs.placements.first_placement.Goals as goal
+
+pub returns : goal.returns
+returns c = none_placed c.args.session.now c.args.page c.loop-n.n (omega (arith, c.loop-n-test.false, ap length c.pager-pager.ensures)) c.loop-n.invariant

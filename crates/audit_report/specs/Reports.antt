@@ -1,0 +1,97 @@
+-- Reports: what the audit of a session answers.
+use Rattle.std.specs.Prelude.{◌≡◌, ℕ, false, List, Option, Some, None, slice_get}
+use Rattle.migration_types.specs.declared.records.LogName.TheVariants.{Guest, Source, Link, Pager}
+use Rattle.migration_types.specs.declared.records.GuestRec.{GuestRec}
+use Rattle.migration_types.specs.declared.records.GuestRec.TheVariants.{Read, Write}
+use Rattle.migration_types.specs.declared.records.PagerRec.{PagerRec}
+use Rattle.migration_types.specs.declared.cert.Run.{Run}
+use Rattle.migration_types.specs.Certs.{Certified, AreRuns}
+use Rattle.migration_types.specs.Receipts.{Name}
+use Rattle.migration_types.specs.Sessions.{Recorded, line_of}
+use Rattle.audit_model.specs.declared.reasons.PageReason.{PageReason}
+use Rattle.audit_model.specs.declared.reasons.PageReason.TheVariants.{Early}
+use Rattle.audit_model.specs.Names.{if_there}
+use Rattle.audit_model.specs.Mergings.{IsMerging, spelled}
+use Rattle.audit_model.specs.Shape.{IsRightShape, is_placement_of}
+use Rattle.audit_model.specs.Faults.{HasNoPageFault}
+use Rattle.audit_model.specs.FirstFault.{IsFirstPageFault}
+use Rattle.audit_model.specs.FoundOrder.{IsFound}
+use Rattle.audit_model.specs.Delayed.{IsFirstPlacement, IsDelayedOrder}
+use Rattle.audit_model.specs.Laws.{BreaksAt}
+use Rattle.cert_check.specs.Verdicts.{IsShapeFault}
+use Rattle.cert_maker.specs.Orders.{IsTied}
+use Rattle.cert_maker.specs.Made.{IsMade}
+use Rattle.audit_report.specs.declared.report.Report.{Report}
+use Rattle.audit_report.specs.declared.report.Report.TheVariants.{Clean, Shape, Knot, Faulty}
+
+-- the page that a record of the guest reads or writes
+abbrev pub used_by : GuestRec → Option ℕ
+used_by (Read vcpu page cell value) = Some page
+used_by (Write vcpu page cell value) = Some page
+used_by _ = None
+
+-- the page that the record of this name reads or writes
+abbrev pub page_used : Recorded → Name → Option ℕ
+page_used s (Guest, n) = if_there used_by (slice_get s.guest n)
+page_used s _ = None
+
+-- the pager places the page nowhere
+abbrev pub HasNoPlacement : Recorded → ℕ → Type 0
+HasNoPlacement s page = (n : ℕ) (r : PagerRec) → slice_get s.pager n ≡ Some r → is_placement_of page r ≡ false
+
+-- the fault is an early access, and pager record `place` is the first placement of its page
+pub record IsEarlyFor (s : Recorded) (reason : PageReason) (name : Name) (place : ℕ) : Type 0 where
+  pub is_early : reason ≡ Early
+  pub page : ℕ
+  pub uses : page_used s name ≡ Some page
+  pub is_first : IsFirstPlacement s page place
+
+-- the fault is no early access to a page that is placed
+abbrev pub IsUndelayed : Recorded → PageReason → Name → Type 0
+IsUndelayed s reason name = (page : ℕ) → reason ≡ Early → page_used s name ≡ Some page → HasNoPlacement s page
+
+-- The order that is given with a fault: the found order, or, for an early access to a page that is placed, this order with
+-- the page's first placement delayed.
+pub record IsOrderFor (s : Recorded) (reason : PageReason) (name : Name) (order : List Name) : Type 0 where
+  pub found : List Name
+  pub is_found : IsFound s found
+  pub delayed : (place : ℕ) → IsEarlyFor s reason name place → IsDelayedOrder s found (Pager, place) order
+  pub undelayed : IsUndelayed s reason name → order ≡ found
+
+-- these runs spell the order given with a fault, which is a merging in which the demand at the faulty record fails
+pub record ShowsFault (s : Recorded) (reason : PageReason) (name : Name) (runs : List Run) : Type 0 where
+  pub are_runs : AreRuns runs
+  pub is_merging : IsMerging s (spelled runs)
+  pub breaks : BreaksAt s (spelled runs) name
+  pub is_order : IsOrderFor s reason name (spelled runs)
+
+-- the session's first fault of a page, at this line, and runs that show it
+pub record IsFaulty (s : Recorded) (line : ℕ) (reason : PageReason) (runs : List Run) : Type 0 where
+  pub name : Name
+  pub is_line : line ≡ line_of s name
+  pub is_first : IsFirstPageFault s reason name
+  pub shows : ShowsFault s reason name runs
+
+-- no page has a fault, and the certificate is right, with the earliest looks, and over the found order
+pub record IsCleanWith (s : Recorded) (cert : Certified) : Type 0 where
+  pub has_no_fault : HasNoPageFault s
+  pub is_made : IsMade s cert.runs cert
+  pub is_found : IsFound s (spelled cert.runs)
+
+-- The first of these that applies: the session has not the right shape, its logs have no merging, a page has a fault,
+-- the session is clean.
+abbrev pub IsReport : Recorded → Report → Type 0
+IsReport s (Shape fault) = IsShapeFault s fault
+IsReport s (Knot line) = IsRightShape s × IsTied s line
+IsReport s (Faulty line reason order) = IsRightShape s × IsFaulty s line reason order
+IsReport s (Clean cert) = IsRightShape s × IsCleanWith s cert
+
+-- the report says that the session is clean
+abbrev pub IsClean : Report → Type 0
+IsClean (Clean cert) = Unit {0}
+IsClean _ = ⊥
+
+-- the runs of a fault's order are within the limits of their text
+abbrev pub ReportFits : Report → Type 0
+ReportFits (Faulty line reason order) = AreRuns order
+ReportFits _ = Unit {0}

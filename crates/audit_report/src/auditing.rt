@@ -1,0 +1,99 @@
+//! The audit of a session.
+
+ghost use Rattle.std.specs.Prelude.{◌≡◌, ◌↔◌, IfOk};
+ghost use Rattle.migration_types.specs.Certs.{AreRuns};
+ghost use Rattle.migration_types.specs.Sessions.{IsSession, line_of};
+ghost use Rattle.audit_model.specs.Mergings.{HasMerging};
+ghost use Rattle.audit_model.specs.World.{IsSafe};
+ghost use Rattle.audit_model.specs.Shape.{IsRightShape};
+ghost use Rattle.audit_model.specs.Faults.{HasNoPageFault};
+ghost use Rattle.audit_model.specs.FirstFault.{IsFirstPageFault};
+ghost use Rattle.cert_maker.specs.Orders.{AreFoundRuns};
+ghost use Rattle.audit_report.specs.Reports.{IsReport, IsClean, ReportFits};
+
+use crate::orders::order_for;
+use crate::report::Report;
+use audit_model::{clean_is_certified, faults_are_unsafe};
+use cert_check::shape;
+use cert_maker::{MakeFault, Order, find_order, make};
+use migration_types::{Run, Seq, Session};
+use page_facts::{PageFault, first_page_fault};
+use session_log::line_of;
+use std::alloc::{AllocError, Global};
+
+/// The report on a session with no fault, over the runs of its found order.
+fn clean(alloc: Global, session: &Session, found: Seq<Run>) -> Result<Report, AllocError>
+    requires limits { IsSession session.now }
+    requires shape { IsRightShape session.now }
+    requires found { AreFoundRuns session.now found }
+    requires no_fault { HasNoPageFault session.now }
+    ensures { IfOk result (IsReport session.now) }
+{
+    clean_is_certified();
+    match make(alloc, session, found) {
+        Ok(cert) => Ok(Report::Clean(cert)),
+        Err(MakeFault::Memory) => Err(AllocError),
+        Err(MakeFault::NoCertificate) => unreachable!(),
+    }
+}
+
+/// The report on a session with this first fault, whose found order has these runs.
+fn faulty(
+    alloc: Global,
+    session: &Session,
+    found: Seq<Run>,
+    fault: &PageFault,
+) -> Result<Report, AllocError>
+    requires limits { IsSession session.now }
+    requires shape { IsRightShape session.now }
+    requires found { AreFoundRuns session.now found }
+    requires fault { IsFirstPageFault session.now fault.now.reason (fault.now.log, fault.now.place) }
+    ensures { IfOk result (IsReport session.now) }
+{
+    let line = line_of(session, fault.log, fault.place);
+    let order = order_for(alloc, session, found, fault)?;
+    Ok(Report::Faulty {
+        line,
+        reason: fault.reason,
+        order,
+    })
+}
+
+/// The report on a session.
+fn report(alloc: Global, session: &Session) -> Result<Report, AllocError>
+    requires { IsSession session.now }
+    ensures { IfOk result (IsReport session.now) }
+{
+    let fault = shape(alloc, session)?;
+    if let Some(fault) = fault {
+        return Ok(Report::Shape(fault));
+    }
+    let found = match find_order(alloc, session)? {
+        Order::Found(found) => found,
+        Order::Knot(line) => return Ok(Report::Knot(line)),
+    };
+    match first_page_fault(alloc, session)? {
+        Some(fault) => faulty(alloc, session, found, &fault),
+        None => clean(alloc, session, found),
+    }
+}
+
+/// The report on a session: `Shape`, `Knot`, `Faulty` or `Clean`, the first that applies.
+///
+/// A session of the right shape that has a merging is safe exactly where the report is `Clean`, which has a right
+/// certificate over the found order. `Faulty` has the fault of least line, and then of least reason, and the runs of a
+/// merging in which the demand of that record fails: of the found order, or, for an early access to a page that is
+/// placed, of the order in which the page's first placement comes as late as it can, with all that depends on it.
+///
+/// Takes a few passes over the records and the runs. The only error is want of memory, for the frames of one machine, a
+/// few numbers for each page, and the runs.
+pub fn audit(alloc: Global, session: &Session) -> Result<Report, AllocError>
+    ensures report { IfOk result (IsReport session.now) }
+    ensures safe { IfOk result (λ report. IsClean report → IsSafe session.now) }
+    ensures exactly { IfOk result (λ report. IsRightShape session.now → HasMerging session.now → (IsSafe session.now ↔ IsClean report)) }
+    ensures fits { IfOk result ReportFits }
+{
+    session.keeps_limits();
+    faults_are_unsafe();
+    report(alloc, session)
+}

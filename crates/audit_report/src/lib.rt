@@ -1,0 +1,17 @@
+//! The audit of a recorded session: it is clean, with a right certificate; or it has a fault, and an order of its records
+//! in which the demand at the faulty line fails.
+#![tactic(auto)]
+
+mod auditing;
+mod cuts;
+mod orders;
+mod parts;
+mod placements;
+mod printing;
+mod report;
+#[cfg(test)]
+mod tests;
+
+pub use auditing::audit;
+pub use printing::print_report;
+pub use report::Report;

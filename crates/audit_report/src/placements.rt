@@ -1,0 +1,65 @@
+//! The placement that an early access has to be shown with.
+
+ghost use Rattle.std.specs.Prelude.{◌≡◌, MatchOption};
+ghost use Rattle.migration_types.specs.Sessions.{IsSession};
+ghost use Rattle.audit_model.specs.Shape.{is_placement_of};
+ghost use Rattle.audit_model.specs.Delayed.{IsFirstPlacement};
+ghost use Rattle.audit_report.specs.Reports.{page_used, HasNoPlacement, IsEarlyFor, IsUndelayed};
+
+use audit_model::PageReason;
+use migration_types::{GuestRec, LogName, PageNo, PagerRec, Session};
+use page_facts::PageFault;
+
+/// The page that the record of this log and place reads or writes, if it is an access of the guest.
+fn page_used(session: &Session, log: LogName, place: u32) -> Option<PageNo>
+    ensures { result ≡ page_used session.now (log, place) }
+{
+    match log {
+        LogName::Guest => match session.guest().get(place as usize) {
+            Some(GuestRec::Read { page, .. }) => Some(*page),
+            Some(GuestRec::Write { page, .. }) => Some(*page),
+            _ => None,
+        },
+        _ => None,
+    }
+}
+
+/// Whether the record places the page.
+fn places(rec: &PagerRec, page: PageNo) -> bool
+    ensures { result ≡ is_placement_of page rec.now }
+{
+    match rec {
+        PagerRec::Place { page: placed, .. } => placed.number() == page.number(),
+        PagerRec::Zero { page: placed } => placed.number() == page.number(),
+        _ => false,
+    }
+}
+
+/// The pager's first placement of a page. Takes one pass over the pager's log.
+fn first_placement(session: &Session, page: PageNo) -> Option<u32>
+    requires { IsSession session.now }
+    ensures { MatchOption result (HasNoPlacement session.now page) (IsFirstPlacement session.now page) }
+{
+    let pager = session.pager();
+    for n in 0..pager.len() {
+        if places(&pager[n], page) {
+            return Some(n as u32);
+        }
+    }
+    None
+}
+
+/// The first placement of the page that an early access uses; none where the fault is another one, or the page is not
+/// placed.
+pub(crate) fn placement_for(session: &Session, fault: &PageFault) -> Option<u32>
+    requires { IsSession session.now }
+    ensures { MatchOption result (IsUndelayed session.now fault.now.reason (fault.now.log, fault.now.place)) (IsEarlyFor session.now fault.now.reason (fault.now.log, fault.now.place)) }
+{
+    if !matches!(fault.reason, PageReason::Early) {
+        return None;
+    }
+    match page_used(session, fault.log, fault.place) {
+        Some(page) => first_placement(session, page),
+        None => None,
+    }
+}
