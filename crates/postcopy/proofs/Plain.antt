@@ -1,5 +1,5 @@
 -- What the command takes of plain names.
-use Rattle.std.proofs.Common.{◌≡◌, ◌==◌, ℕ, true, false, List, [], ◌∷◌, inl, inr, Some, refl, ap, codes}
+use Rattle.std.proofs.Common.{◌≡◌, ◌==◌, ◌≤◌, ℕ, true, false, List, [], ◌∷◌, length, inl, inr, Some, refl, ap, arith, codes}
 use Rattle.std.proofs.lemmas.Bool.{ne_eqb}
 use Rattle.clap.specs.Words.{Text, takes}
 use Rattle.clap.proofs.OnLiterals.{clap_on_literals}
@@ -35,3 +35,10 @@ taken_forms program _ _ (Other a front d) (Other b rest e) = record { taken = si
 
 pub taken_plain : (words : List Text) (session cert : Text) → IsPlainCheck words session cert → IsTaken words session cert
 taken_plain words session cert h = rw h.words_are (taken_forms h.program session cert (form_of session h.session_plain) (form_of cert h.cert_plain))
+
+-- a word or none is not taken, as a command has to be there
+pub bare_not_taken : (words : List Text) → length words ≤ 1 → takes postcopy_words words ≡ false
+unfolding clap_on_literals
+bare_not_taken [] le = refl
+bare_not_taken (word ∷ []) le = refl
+bare_not_taken (word ∷ other ∷ rest) le = absurd (omega arith)

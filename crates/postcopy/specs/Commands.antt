@@ -31,11 +31,13 @@ replay_words = with_rule (with_rule (new_app (codes "replay")) (needed (codes "S
 abbrev pub program_words : App
 program_words = on_top (λ s. record s { subcommand_required = true }) (new_app (codes "postcopy"))
 
+-- `postcopy` with the commands that judge a certificate or make one
+abbrev pub certificate_words : App
+certificate_words = with_subcommand (with_subcommand program_words check_words.top) certify_words.top
+
 -- `postcopy` with one of its four commands
 abbrev pub postcopy_words : App
-postcopy_words =
-    with_subcommand (with_subcommand (with_subcommand (with_subcommand program_words
-    check_words.top) certify_words.top) audit_words.top) replay_words.top
+postcopy_words = with_subcommand (with_subcommand certificate_words audit_words.top) replay_words.top
 
 -- the words behind references
 abbrev pub word_texts : List (Bor Text) → List Text

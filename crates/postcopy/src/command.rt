@@ -1,7 +1,7 @@
 //! The words of the command line.
 
 ghost use Rattle.std.specs.Prelude.{◌≡◌, IfOk, IfErr, None, option_and_then, true, false};
-ghost use Rattle.postcopy.specs.Commands.{audit_words, certify_words, check_words, replay_words, postcopy_words, checked_by, names_among, names_given, names_of, word_texts};
+ghost use Rattle.postcopy.specs.Commands.{audit_words, certificate_words, certify_words, check_words, replay_words, postcopy_words, checked_by, names_among, names_given, names_of, word_texts};
 ghost use Rattle.clap.specs.Words.{app_of, found_of, kind_of, rows_of, takes, subcommand_rows_of};
 ghost use Rattle.clap.specs.declared.builder.command.Command.TheViews.{out-Command as fields_of};
 
@@ -92,21 +92,28 @@ fn audit_command<'a>(alloc: Global) -> Result<Command<'a>, AllocError>
         .arg(session)
 }
 
-// The command line of the program.
-fn command<'a>(alloc: Global) -> Result<Command<'a>, AllocError>
-    ensures { IfOk result (λ c. app_of c ≡ postcopy_words) }
+// The program, with the commands that judge a certificate or make one.
+fn certificate_commands<'a>(alloc: Global) -> Result<Command<'a>, AllocError>
+    ensures app { IfOk result (λ c. app_of c ≡ certificate_words) }
+    ensures local { IfOk result (λ c. (fields_of c).has_globals ≡ false) }
 {
     let check = check_command(alloc)?;
     let certify = certify_command(alloc)?;
-    let audit = audit_command(alloc)?;
-    let replay = replay_command(alloc)?;
     Command::new(alloc, "postcopy")
         .about("Audits recorded migration sessions; with no command it does check - -")
         .subcommand_required(true)
         .subcommand(check)?
-        .subcommand(certify)?
-        .subcommand(audit)?
-        .subcommand(replay)
+        .subcommand(certify)
+}
+
+// The command line of the program.
+fn command<'a>(alloc: Global) -> Result<Command<'a>, AllocError>
+    ensures { IfOk result (λ c. app_of c ≡ postcopy_words) }
+{
+    let commands = certificate_commands(alloc)?;
+    let audit = audit_command(alloc)?;
+    let replay = replay_command(alloc)?;
+    commands.subcommand(audit)?.subcommand(replay)
 }
 
 // What the matches of a replay ask for.

@@ -1,11 +1,18 @@
-use Rattle.std.proofs.Common.{◌≡◌, ℕ, ◌∙◌, sym, ap, arith}
+use Rattle.std.proofs.Common.{◌≡◌, ℕ, Bor, ◌∙◌, sym, ap, arith}
+use Rattle.std.proofs.lemmas.List.{length-map}
 use Rattle.clap.specs.Words.{Text}
 use Rattle.postcopy.specs.Answers.{Answers, AreNamed}
-use Rattle.postcopy.specs.Commands.{checked_by}
+use Rattle.postcopy.specs.Commands.{checked_by, word_texts}
 use Rattle.postcopy.proofs.Names.{nothing_checked}
-use Rattle.postcopy.proofs.Plain.{taken_plain}
+use Rattle.postcopy.proofs.Plain.{taken_plain, bare_not_taken}
 use Rattle.postcopy.proofs.Verdicts.{settled_named}
 use Rattle.postcopy.proofs.program.run.Goals as goal
+
+pub returns-then-words-le1-clause-check : goal.returns-then-words-le1-clause-check
+returns-then-words-le1-clause-check g c = λ taken lt.
+    let words = c.args.words.now in
+    let none = bare_not_taken (word_texts words) (omega (arith, length-map words (λ (w : Bor Text). w.now), c.if-words-le1.true)) in
+    absurd cc
 
 pub returns-in-Ok-Some-clause-plain : goal.returns-in-Ok-Some-clause-plain
 returns-in-Ok-Some-clause-plain g c = λ session cert plain.
