@@ -20,6 +20,7 @@ use Rattle.migration_types.specs.Receipts.{Name}
 use Rattle.migration_types.specs.Sessions.{Recorded, IsSession}
 use Rattle.session_log.specs.Records.{guest_line, source_line, link_line, pager_line}
 
+-- the fixed lines, and the words that other lines begin with
 abbrev pub header : List ℕ
 header = codes "postcopy-session 1"
 
@@ -58,6 +59,7 @@ page_line p = page_key ++ (decimal p.page ++ 32 ∷ contents_text p.cells)
 abbrev pub counted : {X : Type 0} → List ℕ → (X → List ℕ) → List X → List (List ℕ) → List (List ℕ)
 counted key line_of items more = (key ++ decimal (length items)) ∷ (map line_of items ++ more)
 
+-- the lines of a session's text
 abbrev pub session_lines : Recorded → List (List ℕ)
 session_lines s =
     header ∷ (pages_key ++ decimal s.geometry.pages) ∷ (cells_key ++ decimal s.geometry.cells) ∷

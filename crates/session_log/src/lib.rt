@@ -1,4 +1,4 @@
-//! The text of a recorded session, its reader and its writer.
+//! The text of a recorded session: its reader, its writer, and the line of each record.
 #![tactic(auto)]
 
 ghost use Rattle.text_lines.specs.Text.{IsUnambiguous};

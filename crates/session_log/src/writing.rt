@@ -91,10 +91,11 @@ fn push_pager(out: &mut Vec<u8>, log: &[PagerRec]) -> Result<(), AllocError>
 }
 
 /// Adds the line of a record of the guest.
-fn push_guest_record(out: &mut Vec<u8>, record: &GuestRec) -> Result<(), AllocError>
-    ensures { OnOk result (out.new.items ≡ out.old.items ++ (guest_line record.now ++ 10 ∷ [])) }
+#[inline(always)]
+fn push_guest_record(out: &mut Vec<u8>, rec: &GuestRec) -> Result<(), AllocError>
+    ensures { OnOk result (out.new.items ≡ out.old.items ++ (guest_line rec.now ++ 10 ∷ [])) }
 {
-    match *record {
+    match *rec {
         GuestRec::Read {
             vcpu,
             page,
@@ -116,10 +117,11 @@ fn push_guest_record(out: &mut Vec<u8>, record: &GuestRec) -> Result<(), AllocEr
 }
 
 /// Adds the line of a record of the source.
-fn push_source_record(out: &mut Vec<u8>, record: &SourceRec) -> Result<(), AllocError>
-    ensures { OnOk result (out.new.items ≡ out.old.items ++ (source_line record.now ++ 10 ∷ [])) }
+#[inline(always)]
+fn push_source_record(out: &mut Vec<u8>, rec: &SourceRec) -> Result<(), AllocError>
+    ensures { OnOk result (out.new.items ≡ out.old.items ++ (source_line rec.now ++ 10 ∷ [])) }
 {
-    match record {
+    match rec {
         SourceRec::Halted { halt } => push_keyed(out, b"halted ", u64::from(*halt)),
         SourceRec::State => push_line(out, b"state"),
         SourceRec::Send { page, contents } => push_page(out, b"send ", *page, contents.as_slice()),
@@ -130,20 +132,22 @@ fn push_source_record(out: &mut Vec<u8>, record: &SourceRec) -> Result<(), Alloc
 }
 
 /// Adds the line of a record of the link.
-fn push_link_record(out: &mut Vec<u8>, record: &LinkRec) -> Result<(), AllocError>
-    ensures { OnOk result (out.new.items ≡ out.old.items ++ (link_line record.now ++ 10 ∷ [])) }
+#[inline(always)]
+fn push_link_record(out: &mut Vec<u8>, rec: &LinkRec) -> Result<(), AllocError>
+    ensures { OnOk result (out.new.items ≡ out.old.items ++ (link_line rec.now ++ 10 ∷ [])) }
 {
-    match *record {
+    match *rec {
         LinkRec::Down { sending } => push_keyed(out, b"down ", u64::from(sending)),
         LinkRec::Up { asking } => push_keyed(out, b"up ", u64::from(asking)),
     }
 }
 
 /// Adds the line of a record of the pager.
-fn push_pager_record(out: &mut Vec<u8>, record: &PagerRec) -> Result<(), AllocError>
-    ensures { OnOk result (out.new.items ≡ out.old.items ++ (pager_line record.now ++ 10 ∷ [])) }
+#[inline(always)]
+fn push_pager_record(out: &mut Vec<u8>, rec: &PagerRec) -> Result<(), AllocError>
+    ensures { OnOk result (out.new.items ≡ out.old.items ++ (pager_line rec.now ++ 10 ∷ [])) }
 {
-    match record {
+    match rec {
         PagerRec::Got { down } => push_keyed(out, b"got ", u64::from(*down)),
         PagerRec::Ready => push_line(out, b"ready"),
         PagerRec::Fault { miss } => push_keyed(out, b"fault ", u64::from(*miss)),
@@ -168,6 +172,7 @@ fn push_pager_record(out: &mut Vec<u8>, record: &PagerRec) -> Result<(), AllocEr
 }
 
 /// Adds a line that is a key, a processor, a page, a cell and a value.
+#[inline(always)]
 fn push_access(
     out: &mut Vec<u8>,
     key: &[u8],
@@ -188,6 +193,7 @@ fn push_access(
 }
 
 /// Adds a line that is a key, a processor and a page.
+#[inline(always)]
 fn push_vcpu_page(out: &mut Vec<u8>, key: &[u8], vcpu: u8, page: PageNo) -> Result<(), AllocError>
     ensures { OnOk result (out.new.items ≡ out.old.items ++ (key.now ++ vcpu_page_text vcpu page ++ 10 ∷ [])) }
 {
@@ -215,6 +221,7 @@ fn push_page(
 }
 
 /// Adds a line that is a key and a number.
+#[inline(always)]
 fn push_keyed(out: &mut Vec<u8>, key: &[u8], number: u64) -> Result<(), AllocError>
     ensures { OnOk result (out.new.items ≡ out.old.items ++ (key.now ++ decimal number ++ 10 ∷ [])) }
 {
@@ -225,6 +232,7 @@ fn push_keyed(out: &mut Vec<u8>, key: &[u8], number: u64) -> Result<(), AllocErr
 }
 
 /// Adds a number and a space.
+#[inline(always)]
 fn push_then(out: &mut Vec<u8>, number: u64) -> Result<(), AllocError>
     ensures { OnOk result (out.new.items ≡ out.old.items ++ (decimal number ++ 32 ∷ [])) }
 {
@@ -234,6 +242,7 @@ fn push_then(out: &mut Vec<u8>, number: u64) -> Result<(), AllocError>
 }
 
 /// Adds a number in decimal form.
+#[inline(always)]
 fn push_number(out: &mut Vec<u8>, number: u64) -> Result<(), AllocError>
     ensures { OnOk result (out.new.items ≡ out.old.items ++ decimal number) }
 {
@@ -254,6 +263,7 @@ fn push_contents(out: &mut Vec<u8>, cells: &[u64]) -> Result<(), AllocError>
 }
 
 /// The sixteen digits of a cell's value.
+#[inline(always)]
 fn cell_digits(value: u64) -> [u8; 16]
     ensures { result ≡ cell_text value }
 {
