@@ -8,7 +8,7 @@ use Rattle.std.proofs.lemmas.List.{append_assoc, append-nil}
 use Rattle.migration_types.specs.declared.records.LogName.{LogName}
 use Rattle.migration_types.specs.declared.records.LogName.TheVariants.{Guest, Source, Link, Pager}
 use Rattle.migration_types.specs.declared.cert.Run.{Run}
-use Rattle.migration_types.specs.Certs.{RunFits, Alternate, AreRuns}
+use Rattle.migration_types.specs.Certs.{RunFits, AreRuns}
 use Rattle.migration_types.specs.Receipts.{Name}
 use Rattle.audit_model.specs.Names.{same_log}
 use Rattle.audit_model.specs.Mergings.{Cursors, moved, at_start, run_names, spelled}

@@ -1,5 +1,5 @@
 -- One pass over a merging finds the cut below a placement and all that depends on it.
-use Rattle.std.proofs.Common.{◌≡◌, ℕ, ◌+◌, ◌<◌, ◌≤◌, ◌⊎◌, inl, inr, Bool, true, false, cond, List, length, Option, Some, None, refl, sym, ap, ◌∙◌, subst, arith}
+use Rattle.std.proofs.Common.{◌≡◌, ℕ, ◌+◌, ◌<◌, ◌≤◌, ◌⊎◌, inl, inr, Bool, true, false, cond, length, Option, Some, None, refl, sym, ap, ◌∙◌, subst, arith}
 use Rattle.std.proofs.lemmas.Bool.{cases_lt, ltb-false, le-ltb}
 use Rattle.migration_types.specs.declared.records.LogName.{LogName}
 use Rattle.migration_types.specs.declared.records.LogName.TheVariants.{Guest, Source, Link, Pager}
@@ -12,7 +12,7 @@ use Rattle.audit_model.specs.Delayed.{IsDelayed, itself, later, receives}
 use Rattle.audit_model.specs.Worlds.{IsConsistentCut}
 use Rattle.audit_model.proofs.Cuts.{same_from_test, same_log_itself}
 use Rattle.audit_model.proofs.Late.{receipt_there}
-use Rattle.merge_runs.specs.Taken.{cursors_of, AreReceived}
+use Rattle.merge_runs.specs.Taken.{cursors_of}
 use Rattle.merge_runs.specs.declared.taken.Taken.{Taken}
 use Rattle.merge_runs.proofs.Walking.{receipt_other}
 use Rattle.audit_report.specs.Cuts.{with_cursor, StaysTo, IsLowered, IsCutFor}

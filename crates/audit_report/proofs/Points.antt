@@ -1,5 +1,5 @@
 -- The points between the runs of a merging.
-use Rattle.std.proofs.Common.{◌≡◌, ℕ, ◌+◌, ◌<◌, ◌≤◌, List, [], ◌∷◌, ◌++◌, take, drop, length, get_or, refl, sym, ap, ◌∙◌, subst, arith}
+use Rattle.std.proofs.Common.{◌≡◌, ℕ, ◌+◌, ◌<◌, ◌≤◌, List, [], ◌∷◌, take, drop, length, get_or, refl, sym, ap, ◌∙◌, subst}
 use Rattle.std.proofs.lemmas.List.{take-append-drop}
 use Rattle.migration_types.specs.declared.records.LogName.{LogName}
 use Rattle.migration_types.specs.declared.records.LogName.TheVariants.{Guest, Source, Link, Pager}
@@ -7,7 +7,7 @@ use Rattle.migration_types.specs.declared.cert.Run.{Run}
 use Rattle.migration_types.specs.Receipts.{Name}
 use Rattle.migration_types.specs.Sessions.{Recorded, IsSession}
 use Rattle.audit_model.specs.Names.{log_length}
-use Rattle.audit_model.specs.Mergings.{Cursors, at_start, moved, run_names, spelled, spelled_from}
+use Rattle.audit_model.specs.Mergings.{Cursors, at_start, moved, spelled}
 use Rattle.audit_model.specs.Walks.{next, cursors_from, Walks, IsWholeWalk}
 use Rattle.audit_model.specs.Worlds.{IsConsistentCut}
 use Rattle.audit_model.proofs.Consistent.{start_is_cut, next_is_cut}

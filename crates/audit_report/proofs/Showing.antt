@@ -1,6 +1,6 @@
 -- The order that is given with a fault shows it.
-use Rattle.std.proofs.Common.{◌≡◌, ◌≢◌, ℕ, ◌<◌, ◌≤◌, ◌⊎◌, inl, inr, Bool, true, false, List, length, Option, Some, None, Result, Ok, Err, refl, sym, ap, ◌∙◌, subst, arith, eqb-true}
-use Rattle.std.specs.Prelude.{◌↔◌, slice_get, MatchOption, IfOk}
+use Rattle.std.proofs.Common.{◌≡◌, ℕ, ◌<◌, ◌≤◌, ◌⊎◌, inl, inr, true, false, List, length, Option, Some, None, Result, Ok, Err, refl, sym, ap, ◌∙◌, subst, arith, eqb-true}
+use Rattle.std.specs.Prelude.{◌↔◌, slice_get, IfOk}
 use Rattle.std.specs.declared.alloc.AllocError.{AllocError}
 use Rattle.std.proofs.lemmas.Bool.{cases_lt}
 use Rattle.std.proofs.lemmas.Option.{slice_get_within}
@@ -21,9 +21,7 @@ use Rattle.audit_model.specs.Mergings.{IsMerging, HasMerging, Cursors, spelled}
 use Rattle.audit_model.specs.World.{IsSafe}
 use Rattle.audit_model.specs.Shape.{IsRightShape, is_placement_of, earlier}
 use Rattle.audit_model.specs.Certificates.{is_access_of}
-use Rattle.audit_model.specs.Faults.{IsEarly, GuestFault, SourceFault, PagerFault, if_fault, IsPageFault, HasNoPageFault}
-use Rattle.audit_model.specs.FirstFault.{IsFirstPageFault}
-use Rattle.audit_model.specs.FoundOrder.{IsFound}
+use Rattle.audit_model.specs.Faults.{IsEarly, GuestFault, SourceFault, PagerFault, if_fault, IsPageFault}
 use Rattle.audit_model.specs.Delayed.{rearranged, IsFirstPlacement, IsDelayedOrder}
 use Rattle.audit_model.specs.Laws.{IsFaultless, FaultsBreak, DelayedBreaks, UnplacedBreaks, BreaksAt, SafeExactlyIfClean}
 use Rattle.audit_model.proofs.History.{earlier_true}
@@ -32,7 +30,7 @@ use Rattle.cert_maker.specs.Orders.{AreFoundRuns}
 use Rattle.audit_report.specs.declared.report.Report.{Report}
 use Rattle.audit_report.specs.declared.report.Report.TheVariants.{Clean, Shape, Knot, Faulty}
 use Rattle.audit_report.specs.Cuts.{IsCutFor}
-use Rattle.audit_report.specs.Reports.{used_by, page_used, HasNoPlacement, IsEarlyFor, IsUndelayed, IsOrderFor, ShowsFault, IsReport, IsClean}
+use Rattle.audit_report.specs.Reports.{used_by, HasNoPlacement, IsEarlyFor, IsUndelayed, ShowsFault, IsReport, IsClean}
 
 -- ---- placements
 

@@ -9,8 +9,8 @@ use Rattle.migration_types.specs.declared.cert.Run.{Run}
 use Rattle.migration_types.specs.Receipts.{Name}
 use Rattle.migration_types.specs.Sessions.{Recorded}
 use Rattle.audit_model.specs.Names.{log_length, same_log}
-use Rattle.audit_model.specs.Mergings.{Cursors, moved, at_start, run_names, spelled}
-use Rattle.audit_model.specs.Delayed.{is_below, rearranged}
+use Rattle.audit_model.specs.Mergings.{Cursors, run_names, spelled}
+use Rattle.audit_model.specs.Delayed.{is_below}
 use Rattle.audit_model.proofs.Cuts.{same_from_test}
 use Rattle.merge_runs.proofs.Walking.{with_it, cursors_on}
 use Rattle.audit_report.specs.Parts.{ends, AreBlocks, IsWithin, AreBelow, AreRearranged}

@@ -1,8 +1,7 @@
 //! The audit of a session.
 
-ghost use Rattle.std.specs.Prelude.{◌≡◌, ◌↔◌, IfOk};
-ghost use Rattle.migration_types.specs.Certs.{AreRuns};
-ghost use Rattle.migration_types.specs.Sessions.{IsSession, line_of};
+ghost use Rattle.std.specs.Prelude.{◌↔◌, IfOk};
+ghost use Rattle.migration_types.specs.Sessions.{IsSession};
 ghost use Rattle.audit_model.specs.Mergings.{HasMerging};
 ghost use Rattle.audit_model.specs.World.{IsSafe};
 ghost use Rattle.audit_model.specs.Shape.{IsRightShape};

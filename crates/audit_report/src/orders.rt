@@ -2,7 +2,6 @@
 
 ghost use Rattle.std.specs.Prelude.{IfOk};
 ghost use Rattle.migration_types.specs.Sessions.{IsSession};
-ghost use Rattle.audit_model.specs.Mergings.{spelled};
 ghost use Rattle.audit_model.specs.Shape.{IsRightShape};
 ghost use Rattle.audit_model.specs.FirstFault.{IsFirstPageFault};
 ghost use Rattle.cert_maker.specs.Orders.{AreFoundRuns};

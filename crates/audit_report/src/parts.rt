@@ -1,9 +1,8 @@
 //! The parts of an order below a cut and above it.
 
-ghost use Rattle.std.specs.Prelude.{◌≡◌, ◌+◌, ◌-◌, ◌<◌, ◌≤◌, ◌++◌, IfOk, OnOk, min};
+ghost use Rattle.std.specs.Prelude.{◌≡◌, ◌+◌, ◌-◌, ◌≤◌, ◌++◌, IfOk, OnOk, min};
 ghost use Rattle.migration_types.specs.Certs.{AreRuns};
 ghost use Rattle.migration_types.specs.Sessions.{IsSession};
-ghost use Rattle.audit_model.specs.Names.{log_length};
 ghost use Rattle.audit_model.specs.Mergings.{IsMerging, run_names, spelled};
 ghost use Rattle.audit_model.specs.Delayed.{rearranged};
 ghost use Rattle.merge_runs.specs.Taken.{cursors_of};

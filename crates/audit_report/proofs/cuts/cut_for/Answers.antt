@@ -1,4 +1,4 @@
-use Rattle.std.proofs.Common.{◌≡◌, ◌+◌, ◌≤◌, length, get_or, refl, sym, ap, ◌∙◌, subst, arith}
+use Rattle.std.proofs.Common.{◌+◌, ◌≤◌, length, get_or, refl, sym, ap, subst, arith}
 use Rattle.migration_types.specs.declared.records.LogName.TheVariants.{Guest}
 use Rattle.migration_types.specs.declared.cert.Run.{Run}
 use Rattle.audit_model.specs.Names.{log_length}

@@ -1,4 +1,4 @@
-use Rattle.std.proofs.Common.{◌≡◌, ◌+◌, ◌≤◌, get_or, min, ◌-◌, refl, sym, ap, ◌∙◌, subst, arith, take, List}
+use Rattle.std.proofs.Common.{◌+◌, ◌≤◌, get_or, min, ◌-◌, ap, ◌∙◌, arith}
 use Rattle.std.specs.List.{filter}
 use Rattle.migration_types.specs.declared.records.LogName.TheVariants.{Guest}
 use Rattle.migration_types.specs.declared.cert.Run.{Run}
@@ -7,10 +7,9 @@ use Rattle.audit_model.specs.Mergings.{Cursors, spelled}
 use Rattle.audit_model.specs.Walks.{IsWholeWalk}
 use Rattle.audit_model.specs.Delayed.{is_below}
 use Rattle.merge_runs.specs.Taken.{cursors_of}
-use Rattle.audit_report.specs.Parts.{ends}
 use Rattle.audit_report.proofs.Points.{log_small, room_at, moved_on}
 use Rattle.audit_report.proofs.Blocks.{IsAdded}
-use Rattle.audit_report.proofs.Splitting.{AreGoing, above_none, above_on, above_all}
+use Rattle.audit_report.proofs.Splitting.{above_none, above_on, above_all}
 use Rattle.audit_report.proofs.parts.add_above.Goals.{In-loop-run}
 use Rattle.audit_report.proofs.parts.add_above.Goals as goal
 

@@ -1,5 +1,4 @@
-use Rattle.std.proofs.Common.{◌≡◌, ℕ, ◌+◌, ◌-◌, ◌<◌, length, set, arith}
-use Rattle.migration_types.specs.declared.cert.Run.{Run}
+use Rattle.std.proofs.Common.{◌≡◌, ◌+◌, ◌-◌, ◌<◌, length, set, arith}
 use Rattle.audit_report.proofs.Blocks.{IsAdded, same_logs_by, other_logs_by, same_last, added_last, added_first, added_next}
 use Rattle.audit_report.proofs.parts.add_part.Goals.{After-index_mut, In_ok-push, else-len-gt0-via-then-len-gt0+else-eq, else-len-gt0-via-else-len-gt0}
 use Rattle.audit_report.proofs.parts.add_part.Goals as goal

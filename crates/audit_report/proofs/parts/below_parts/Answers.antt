@@ -1,11 +1,10 @@
-use Rattle.std.proofs.Common.{◌≡◌, ◌+◌, ◌≤◌, get_or, min, ◌-◌, refl, sym, ap, ◌∙◌, subst, arith, take, List}
+use Rattle.std.proofs.Common.{◌+◌, ◌≤◌, get_or, min, ◌-◌, sym, ap, ◌∙◌, subst, arith, take, List}
 use Rattle.migration_types.specs.declared.records.LogName.TheVariants.{Guest}
 use Rattle.migration_types.specs.declared.cert.Run.{Run}
-use Rattle.audit_model.specs.Names.{log_length}
 use Rattle.audit_model.specs.Mergings.{Cursors, spelled}
 use Rattle.audit_model.specs.Walks.{IsWholeWalk}
 use Rattle.merge_runs.specs.Taken.{cursors_of}
-use Rattle.audit_report.specs.Parts.{ends, AreBelow}
+use Rattle.audit_report.specs.Parts.{AreBelow}
 use Rattle.audit_report.proofs.Points.{log_small, room_at, moved_on}
 use Rattle.audit_report.proofs.Blocks.{IsAdded}
 use Rattle.audit_report.proofs.Splitting.{below_none, below_on, below_all}
