@@ -219,9 +219,7 @@ fn pager_named(session: &Session, n: usize, rec: &PagerRec) -> bool
     match rec {
         PagerRec::Got { down } => is_down_at(session.link(), *down),
         PagerRec::Fault { miss } => is_miss_at(session.guest(), *miss),
-        PagerRec::Join { want } => {
-            (*want as usize) < n && is_want_at(session.pager(), *want)
-        }
+        PagerRec::Join { want } => { (*want as usize) < n && is_want_at(session.pager(), *want) }
         PagerRec::Skip { got } => (*got as usize) < n && is_got_at(session.pager(), *got),
         PagerRec::Place { page, got, .. } => {
             (*got as usize) < n && delivers_send(session, *page, *got)

@@ -2,14 +2,14 @@
 #![tactic(auto)]
 
 mod entries;
-mod judge;
 mod faults;
+mod judge;
 #[cfg(test)]
 mod tests;
 mod texts;
 mod verdict;
 
-pub use judge::check;
 pub use faults::shape;
+pub use judge::check;
 pub use texts::check_texts;
 pub use verdict::{ShapeFault, Verdict};

@@ -66,24 +66,15 @@ pub enum GuestRec {
 #[derive(Drop)]
 pub enum SourceRec {
     /// Learned of the guest's record of this number, its halt.
-    Halted {
-        halt: u32,
-    },
+    Halted { halt: u32 },
     /// Sent the processor state and the list of released pages.
     State,
     /// Sent a page for the first time.
-    Send {
-        page: PageNo,
-        contents: Contents,
-    },
+    Send { page: PageNo, contents: Contents },
     /// Sent once more what its own record of this number sent.
-    Again {
-        sending: u32,
-    },
+    Again { sending: u32 },
     /// Took what the link's record of this number delivered up.
-    Ask {
-        up: u32,
-    },
+    Ask { up: u32 },
     /// Learned that every owed page was placed.
     Done,
 }
@@ -92,13 +83,9 @@ pub enum SourceRec {
 #[derive(Clone, Copy, Debug, PartialEq, Eq)]
 pub enum LinkRec {
     /// Delivered to the pager what the source's record of this number sent.
-    Down {
-        sending: u32,
-    },
+    Down { sending: u32 },
     /// Delivered to the source what the pager's record of this number sent.
-    Up {
-        asking: u32,
-    },
+    Up { asking: u32 },
 }
 
 /// A record of the pager, which asks for pages and places them at the target.
@@ -142,8 +129,11 @@ pub enum PagerRec {
 
 // A million records of the guest take sixteen megabytes, and of the link eight.
 const _: () = prove!(size_of::<GuestRec>() == 16);
+
 const _: () = prove!(size_of::<LinkRec>() == 8);
+
 const _: () = prove!(size_of::<SourceRec>() == 40);
+
 const _: () = prove!(size_of::<PagerRec>() == 40);
 
 impl GuestRec {

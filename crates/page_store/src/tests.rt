@@ -1,13 +1,13 @@
 //! A machine of two pages of two cells, through each call.
 
 use super::*;
-use migration_types::Seq;
+use migration_types::Contents;
 use std::test::Fail;
 
 #[test]
 fn keeps_values(rt: HostRuntime) -> Result<(), Fail> {
     let geometry = Geometry::new(2, 2)?;
-    let cells = Seq::from_vec(vec![in rt.alloc(); 5, 0]?);
+    let cells = Contents::from_vec(vec![in rt.alloc(); 5, 0]?);
     let page = PageNo::new(0);
     let init = vec![in rt.alloc(); InitPage { page, cells }]?;
     let mut store = Store::from_init(rt.alloc(), geometry, init.as_slice())?;

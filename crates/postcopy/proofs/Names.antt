@@ -1,5 +1,5 @@
 -- Laws on the names that a command line gives.
-use Rattle.std.proofs.Common.{◌≡◌, ◌∙◌, Bool, true, false, Bor, List, Option, Some, None, refl, sym, ap, ap₂, codes, cond, option_map, option_and_then}
+use Rattle.std.proofs.Common.{◌≡◌, ◌∙◌, true, false, Bor, List, Option, Some, None, sym, ap, ap₂, codes, cond, option_map, option_and_then}
 use Rattle.std.specs.Option.{option_zip}
 use Rattle.std.specs.Str.{bytes_eq}
 use Rattle.clap.specs.Words.{Row, Text, first_of}

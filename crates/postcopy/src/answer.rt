@@ -78,11 +78,7 @@ fn reason_word(reason: ShapeReason) -> &'static [u8]
 }
 
 /// Adds the line of a fault of shape.
-pub fn push_shape(
-    alloc: Global,
-    out: &mut Vec<u8>,
-    fault: ShapeFault,
-) -> Result<(), AllocError>
+pub fn push_shape(alloc: Global, out: &mut Vec<u8>, fault: ShapeFault) -> Result<(), AllocError>
     ensures { OnOk result (out.new.items ≡ out.old.items ++ shape_line fault) }
 {
     out.extend_from_slice(b"shape line ")?;

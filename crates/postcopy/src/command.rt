@@ -13,23 +13,13 @@ use std::alloc::{AllocError, Global};
 #[derive(Clone, Copy, Debug)]
 pub enum Job<'a> {
     /// The verdict on a session and its certificate.
-    Check {
-        session: &'a str,
-        cert: &'a str,
-    },
+    Check { session: &'a str, cert: &'a str },
     /// Replaying a merging of a session along its runs.
-    Replay {
-        session: &'a str,
-        runs: &'a str,
-    },
+    Replay { session: &'a str, runs: &'a str },
     /// The certificate of a session.
-    Certify {
-        session: &'a str,
-    },
+    Certify { session: &'a str },
     /// The report on a session.
-    Audit {
-        session: &'a str,
-    },
+    Audit { session: &'a str },
 }
 
 // `check SESSION CERT`.

@@ -170,13 +170,43 @@ fn verdicts(rt: HostRuntime) {
 fn replays(rt: HostRuntime) {
     let alloc = rt.alloc();
     for (session, runs, input, status, line) in [
-        ("handover", "broken-runs", b"".as_slice(), 1, b"broken line 13\n".as_slice()),
-        ("handover", "safe-runs", b"".as_slice(), 0, b"safe\n".as_slice()),
-        ("handover", "few-runs", b"".as_slice(), 1, b"no-merging\n".as_slice()),
+        (
+            "handover",
+            "broken-runs",
+            b"".as_slice(),
+            1,
+            b"broken line 13\n".as_slice(),
+        ),
+        (
+            "handover",
+            "safe-runs",
+            b"".as_slice(),
+            0,
+            b"safe\n".as_slice(),
+        ),
+        (
+            "handover",
+            "few-runs",
+            b"".as_slice(),
+            1,
+            b"no-merging\n".as_slice(),
+        ),
         ("handover", "-", SAFE_RUNS, 0, b"safe\n".as_slice()),
         ("-", "-", HANDOVER, 1, b"runs-text line 1\n".as_slice()),
-        ("cert", "safe-runs", b"".as_slice(), 1, b"session-text line 1\n".as_slice()),
-        ("handover", "cert", b"".as_slice(), 1, b"runs-text line 1\n".as_slice()),
+        (
+            "cert",
+            "safe-runs",
+            b"".as_slice(),
+            1,
+            b"session-text line 1\n".as_slice(),
+        ),
+        (
+            "handover",
+            "cert",
+            b"".as_slice(),
+            1,
+            b"runs-text line 1\n".as_slice(),
+        ),
     ] {
         let words = ["postcopy", "replay", session, runs];
         let found = ran(alloc, words.as_slice(), input);

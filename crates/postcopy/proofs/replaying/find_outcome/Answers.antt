@@ -1,1 +1,0 @@
-use Rattle.postcopy.proofs.replaying.find_outcome.Goals as goal
