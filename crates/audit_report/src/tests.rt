@@ -204,6 +204,107 @@ run pager 1
 end
 ";
 
+/// As before, and the placement is the last but one record of the pager, and is seen after the access.
+const SEEN_LATE: &str = "postcopy-session 1
+pages 2
+cells 1
+init 1
+page 0 0000000000000005
+guest 9
+w 0 1 0 7
+halt
+resume 1
+miss 0 0
+see 5
+r 0 0 0 5
+w 0 1 0 9
+r 0 1 0 9
+see 7
+source 6
+halted 1
+state
+ask 1
+send 0 0000000000000005
+send 1 0000000000000007
+ask 4
+link 5
+down 1
+up 3
+down 3
+down 4
+up 8
+pager 9
+got 0
+ready
+fault 3
+want 0
+got 2
+place 0 4 0000000000000005
+got 3
+place 1 6 0000000000000007
+all
+end
+";
+
+const SEEN_LATE_REPORT: &str = "faulty line 13 early
+postcopy-runs 1
+runs 15
+run guest 2
+run source 2
+run link 1
+run pager 2
+run guest 2
+run pager 2
+run link 1
+run source 3
+run link 2
+run pager 3
+run guest 4
+run pager 2
+run guest 1
+run link 1
+run source 1
+end
+";
+
+/// A released page is read with no look at its placement, which the found order has last.
+const LAST: &str = "postcopy-session 1
+pages 2
+cells 1
+init 2
+page 0 0000000000000005
+page 1 0000000000000006
+guest 5
+z 0 1
+halt
+resume 1
+miss 0 1
+r 0 1 0 0
+source 2
+halted 1
+state
+link 1
+down 1
+pager 4
+got 0
+ready
+fault 3
+zero 1
+end
+";
+
+const LAST_REPORT: &str = "faulty line 12 early
+postcopy-runs 1
+runs 6
+run guest 2
+run source 2
+run link 1
+run pager 2
+run guest 3
+run pager 2
+end
+";
+
 /// A page that is never placed is read at the target.
 const UNPLACED: &str = "postcopy-session 1
 pages 2
@@ -572,6 +673,20 @@ fn a_knot_is_told(rt: HostRuntime) -> Result<(), Fail> {
 fn an_early_access_delays_its_placement(rt: HostRuntime) -> Result<(), Fail> {
     let text = report_of(rt.alloc(), UNSEEN)?;
     assert_eq!(rt; text.as_slice(), UNSEEN_REPORT.as_bytes());
+    Ok(())
+}
+
+#[test]
+fn what_depends_on_the_placement_is_delayed_too(rt: HostRuntime) -> Result<(), Fail> {
+    let text = report_of(rt.alloc(), SEEN_LATE)?;
+    assert_eq!(rt; text.as_slice(), SEEN_LATE_REPORT.as_bytes());
+    Ok(())
+}
+
+#[test]
+fn a_run_that_is_cut_and_goes_on_stays_one(rt: HostRuntime) -> Result<(), Fail> {
+    let text = report_of(rt.alloc(), LAST)?;
+    assert_eq!(rt; text.as_slice(), LAST_REPORT.as_bytes());
     Ok(())
 }
 
