@@ -2,4 +2,3 @@ pub mod Cuts
 pub mod Names
 pub mod Verdicts
 pub mod Plain
-pub mod Broken
