@@ -5,6 +5,8 @@ use Rattle.migration_types.specs.Certs.{Certified}
 use Rattle.migration_types.specs.Sessions.{Recorded}
 use Rattle.session_log.specs.Grammar.{SpellsSession}
 use Rattle.cert_text.specs.Grammar.{SpellsCert}
+use Rattle.audit_model.specs.Mergings.{spelled}
+use Rattle.audit_model.specs.World.{IsSafeOrder}
 use Rattle.cert_check.specs.declared.verdict.Verdict.{Verdict}
 use Rattle.cert_check.specs.declared.verdict.Verdict.TheVariants.{SessionText, CertText, Shape, Pages, Runs, Page, Yes}
 use Rattle.cert_check.specs.Verdicts.{IsVerdict}
@@ -42,3 +44,7 @@ pub record SpellsOneSession (session : List ℕ) : Type 0 where
 -- the session that the bytes spell has this property
 abbrev pub OfSpelled : List ℕ → (Recorded → Type 0) → Type 0
 OfSpelled session Has = (recorded : Recorded) → IsSpelling SpellsSession recorded session → Has recorded
+
+-- the merging that is spelled by the runs of the certificate's text has no record whose demand fails
+abbrev pub ReplaysClean : List ℕ → Recorded → Type 0
+ReplaysClean cert recorded = (certified : Certified) → IsSpelling SpellsCert certified cert → IsSafeOrder recorded (spelled certified.runs)

@@ -1,8 +1,8 @@
 //! The verdict on a session and a certificate.
 
 ghost use Rattle.std.specs.Prelude.{◌≡◌, IfOk};
-ghost use Rattle.audit_model.specs.Mergings.{HasMerging};
-ghost use Rattle.audit_model.specs.World.{IsSafe};
+ghost use Rattle.audit_model.specs.Mergings.{HasMerging, spelled};
+ghost use Rattle.audit_model.specs.World.{IsSafe, IsSafeOrder};
 ghost use Rattle.audit_model.specs.Laws.{FindsResident, ReadsFlat, PlacedOnce, PlacedUntouched, ReleasedAsZeros};
 ghost use Rattle.cert_check.specs.Verdicts.{IsVerdict};
 
@@ -24,14 +24,15 @@ const BEFORE_RUNS: u32 = 4;
 ///
 /// On `Yes` the session's logs have a merging, and every merging is safe: a read or a write after handover finds its page
 /// resident, a read gives what one machine that never moved gives, a page is placed at most once, and over no later read,
-/// write or release, and a released page is never sent and comes back as zeros. Nothing is assumed of who made the
-/// certificate.
+/// write or release, and a released page is never sent and comes back as zeros. So the merging that the certificate's
+/// runs spell has no record whose demand fails. Nothing is assumed of who made the certificate.
 ///
 /// Takes one pass over the runs and a few over the records. The only error is want of memory, for the frames of one
 /// machine and a few numbers for each page.
 pub fn check(alloc: Global, session: &Session, cert: &Cert) -> Result<Verdict, AllocError>
     ensures verdict { IfOk result (IsVerdict session.now cert.now) }
     ensures safe { result ≡ Ok Verdict.Yes → IsSafe session.now }
+    ensures replays_clean { result ≡ Ok Verdict.Yes → IsSafeOrder session.now (spelled cert.now.runs) }
     ensures has_merging { result ≡ Ok Verdict.Yes → HasMerging session.now }
     ensures finds_resident { result ≡ Ok Verdict.Yes → FindsResident session.now }
     ensures reads_flat { result ≡ Ok Verdict.Yes → ReadsFlat session.now }

@@ -4,11 +4,11 @@ ghost use Rattle.std.specs.Prelude.{◌≡◌, ◌≢◌, IfOk, MatchResult};
 ghost use Rattle.audit_model.specs.Mergings.{HasMerging};
 ghost use Rattle.audit_model.specs.World.{IsSafe};
 ghost use Rattle.audit_model.specs.Laws.{FindsResident, ReadsFlat, PlacedOnce, PlacedUntouched, ReleasedAsZeros};
-ghost use Rattle.cert_check.specs.Texts.{IsTextVerdict, SpellsOneSession, OfSpelled};
+ghost use Rattle.cert_check.specs.Texts.{IsTextVerdict, SpellsOneSession, OfSpelled, ReplaysClean};
 
 use crate::judge::check;
 use crate::verdict::Verdict;
-use cert_text::read_cert;
+use cert_text::{cert_texts_are_unambiguous, read_cert};
 use migration_types::{FaultKind, TextFault};
 use session_log::{read_session, session_texts_are_unambiguous};
 use std::alloc::{AllocError, Global};
@@ -35,6 +35,7 @@ pub fn check_texts(alloc: Global, session: &[u8], cert: &[u8]) -> Result<Verdict
     ensures verdict { IfOk result (IsTextVerdict session.now cert.now) }
     ensures one_session { result ≡ Ok Verdict.Yes → SpellsOneSession session.now }
     ensures safe { result ≡ Ok Verdict.Yes → OfSpelled session.now IsSafe }
+    ensures replays_clean { result ≡ Ok Verdict.Yes → OfSpelled session.now (ReplaysClean cert.now) }
     ensures has_merging { result ≡ Ok Verdict.Yes → OfSpelled session.now HasMerging }
     ensures finds_resident { result ≡ Ok Verdict.Yes → OfSpelled session.now FindsResident }
     ensures reads_flat { result ≡ Ok Verdict.Yes → OfSpelled session.now ReadsFlat }
@@ -43,6 +44,7 @@ pub fn check_texts(alloc: Global, session: &[u8], cert: &[u8]) -> Result<Verdict
     ensures released_as_zeros { result ≡ Ok Verdict.Yes → OfSpelled session.now ReleasedAsZeros }
 {
     session_texts_are_unambiguous();
+    cert_texts_are_unambiguous();
     let recorded = match read_session(alloc, session) {
         Ok(recorded) => recorded,
         Err(fault) => return refused(fault, Verdict::SessionText(fault.line)),

@@ -32,6 +32,11 @@ returns-in-None-clause-verdict c = let is = certified c in (is.shape, is.certifi
 pub returns-in-None-clause-safe : goal.returns-in-None-clause-safe
 returns-in-None-clause-safe c = λ _. c.certified_is_safe.ensures.safe c.args.session.now c.args.cert.now (certified c)
 
+pub returns-in-None-clause-replays_clean : goal.returns-in-None-clause-replays_clean
+returns-in-None-clause-replays_clean c = λ _.
+    let is = certified c in
+    c.certified_is_safe.ensures.safe c.args.session.now c.args.cert.now is (spelled c.args.cert.now.runs) is.certificate.merging
+
 pub returns-in-None-clause-has_merging : goal.returns-in-None-clause-has_merging
 returns-in-None-clause-has_merging c = λ _. c.certified_is_safe.ensures.has_merging c.args.session.now c.args.cert.now (certified c)
 

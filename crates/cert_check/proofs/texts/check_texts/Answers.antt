@@ -1,7 +1,8 @@
 use Rattle.audit_model.specs.Mergings.{HasMerging}
 use Rattle.audit_model.specs.World.{IsSafe}
 use Rattle.audit_model.specs.Laws.{FindsResident, ReadsFlat, PlacedOnce, PlacedUntouched, ReleasedAsZeros}
-use Rattle.cert_check.proofs.Spelled.{of_spelled}
+use Rattle.cert_check.specs.Texts.{ReplaysClean}
+use Rattle.cert_check.proofs.Spelled.{of_spelled, replays}
 use Rattle.cert_check.proofs.texts.check_texts.Goals as goal
 
 pub returns-clause-one_session : goal.returns-clause-one_session
@@ -13,6 +14,12 @@ returns-clause-one_session c = λ yes. record {
 
 pub returns-clause-safe : goal.returns-clause-safe
 returns-clause-safe c = λ yes. of_spelled c.args.session.now c.in-Ok.recorded IsSafe c.session_texts_are_unambiguous.ensures c.in-Ok.ensures (c.check.ensures.safe yes)
+
+pub returns-clause-replays_clean : goal.returns-clause-replays_clean
+returns-clause-replays_clean c = λ yes.
+    let s = c.in-Ok.recorded in
+    of_spelled c.args.session.now s (ReplaysClean c.args.cert.now) c.session_texts_are_unambiguous.ensures c.in-Ok.ensures
+    (replays c.args.cert.now s c.in-Ok-read_cert.certified c.cert_texts_are_unambiguous.ensures c.in-Ok-read_cert.ensures (c.check.ensures.replays_clean yes))
 
 pub returns-clause-has_merging : goal.returns-clause-has_merging
 returns-clause-has_merging c = λ yes. of_spelled c.args.session.now c.in-Ok.recorded HasMerging c.session_texts_are_unambiguous.ensures c.in-Ok.ensures (c.check.ensures.has_merging yes)
