@@ -16,11 +16,12 @@ use Rattle.audit_model.specs.World.{World, world_after, guest_demand, pager_dema
 use Rattle.audit_model.specs.Shape.{is_placement_of}
 use Rattle.audit_model.specs.Certificates.{is_access_of}
 use Rattle.audit_model.specs.Laws.{IsCertified, GuestAt, PagerAt, FindsResident, ReadsFlat, PlacedOnce, PlacedUntouched, ReleasedAsZeros, IsMigrated}
+use Rattle.audit_model.specs.Worlds.{TargetIsFlat}
 use Rattle.audit_model.proofs.Consistent.{there}
 use Rattle.audit_model.proofs.Fits.{source_fits, pager_fits}
 use Rattle.audit_model.proofs.Entries.{IsKept, kept_from, placed_owed}
 use Rattle.audit_model.proofs.Orders.{is_at}
-use Rattle.audit_model.proofs.Safe.{safe_if_kept}
+use Rattle.audit_model.proofs.Safe.{safe_if_kept, target_if_kept}
 
 module _ (s : Recorded) (c : Certified) (given : IsCertified s c) where
   kept : (page : ℕ) → page < s.geometry.pages → IsKept s page
@@ -30,6 +31,9 @@ module _ (s : Recorded) (c : Certified) (given : IsCertified s c) where
 
   pub certified_safe : IsSafe s
   certified_safe = safe_if_kept s given.shape given.is_session kept
+
+  pub certified_target_is_flat : TargetIsFlat s
+  certified_target_is_flat = target_if_kept s given.shape given.is_session kept
 
   placed_page_small : (n : ℕ) (r : PagerRec) → slice_get s.pager n ≡ Some r → (page : ℕ) → is_placement_of page r ≡ true → page < s.geometry.pages
   placed_page_small n (Place q got content) is page e = let same : q ≡ page = eqb-true q page e in let lt = (pager_fits s given.is_session n (Place q got content) is).0 in subst (λ k. k < s.geometry.pages) same lt

@@ -18,13 +18,13 @@ use Rattle.audit_model.specs.Shape.{IsRightShape, is_placement_of, earlier}
 use Rattle.audit_model.specs.Certificates.{IsLateAccess}
 use Rattle.audit_model.specs.Walks.{next, MayFollow}
 use Rattle.audit_model.proofs.History.{earlier_true, home_at_read, home_at_write}
-use Rattle.audit_model.specs.Worlds.{come_to, touched, placed_before, IsConsistentCut, IsAt}
+use Rattle.audit_model.specs.Worlds.{come_to, touched, placed_before, IsConsistentCut, IsAt, TargetIsFlat}
 use Rattle.audit_model.proofs.Touched.{touched_access}
 use Rattle.audit_model.proofs.Consistent.{seen, there}
 use Rattle.audit_model.proofs.Fits.{guest_fits, source_fits, pager_fits}
 use Rattle.audit_model.proofs.Entries.{IsKept, itself}
 use Rattle.audit_model.proofs.Worlds.{IsFlatAtTarget, start_is_flat, guest_keeps_flat, pager_keeps_flat}
-use Rattle.audit_model.proofs.Orders.{kept_at, start_is_at, left_if_placed, page_at_halt, ledger_at_halt, source_left, pager_left, guest_stepped, pager_stepped, step_kept}
+use Rattle.audit_model.proofs.Orders.{kept_at, start_is_at, left_if_placed, page_at_halt, ledger_at_halt, source_left, pager_left, guest_stepped, pager_stepped, step_kept, kept_after}
 
 -- besides, the target is flat on the placed pages
 pub record IsFlatAt (s : Recorded) (c : Cursors) (w : World) : Type 0 where
@@ -201,3 +201,8 @@ module _ (s : Recorded) (shape : IsRightShape s) (fits : IsSession s) (kept : (p
   safe_if_kept order merging earlier name stands =
       let r = kept_at s (λ c w. IsFlatAt s c w) (record { at = start_is_at s; flat_target = start_is_flat s }) step_flat order merging earlier name stands in
       demand_holds _ _ name r.0 r.1
+
+  pub target_if_kept : TargetIsFlat s
+  target_if_kept order merging past rest split page cell lt resident =
+      let i = kept_after s (λ c w. IsFlatAt s c w) (record { at = start_is_at s; flat_target = start_is_flat s }) step_flat order merging past rest split in
+      i.flat_target page cell lt (sym (i.at.world.resident_is page) ∙ resident)

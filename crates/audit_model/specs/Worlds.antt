@@ -65,3 +65,10 @@ abbrev pub FollowsCursors : Recorded → Type 0
 FollowsCursors s =
     (order : List Name) → IsMerging s order → (past rest : List Name) → order ≡ past ++ rest →
     IsAt s (cursors_from at_start past) (world_after s past)
+
+-- at each point of each merging the target's memory, on the pages that are resident, is the flat machine's
+abbrev pub TargetIsFlat : Recorded → Type 0
+TargetIsFlat s =
+    (order : List Name) → IsMerging s order → (past rest : List Name) → order ≡ past ++ rest →
+    (page cell : ℕ) → cell < s.geometry.cells → (world_after s past).resident page ≡ true →
+    (world_after s past).target page cell ≡ flat s (cursors_from at_start past Guest) page cell

@@ -10,7 +10,7 @@ ghost use Rattle.audit_model.specs.Mergings.{IsMerging, HasMerging, Cursors};
 ghost use Rattle.audit_model.specs.Walks.{IsWholeWalk, IsStuck, IsGrown};
 ghost use Rattle.audit_model.specs.FoundOrder.{IsKnot};
 ghost use Rattle.audit_model.specs.World.{IsSafe};
-ghost use Rattle.audit_model.specs.Worlds.{FollowsCursors};
+ghost use Rattle.audit_model.specs.Worlds.{FollowsCursors, TargetIsFlat};
 ghost use Rattle.audit_model.specs.Shape.{IsRightShape};
 ghost use Rattle.audit_model.specs.Laws.{IsCertified, FindsResident, ReadsFlat, PlacedOnce, PlacedUntouched, ReleasedAsZeros, IsMigrated, IsFaultless, FaultsBreak, DelayedBreaks, HasDelayedOrders, UnplacedBreaks, SafeExactlyIfClean, HasCertificate, CertifiedFromSource, CertifiedBalloon};
 
@@ -26,8 +26,11 @@ pub fn mergings_are_walks()
 
 /// In a session of the right shape the world at each point of each merging is decided by how many records of each log
 /// were taken: where the guest is, the source's memory and ledger, and which pages are touched, placed and resident.
+/// Where it has a right certificate too, so is the target's memory on the pages that are resident: it is the flat
+/// machine's.
 pub fn worlds_follow_cursors()
-    ensures { (s : Recorded) → IsRightShape s → FollowsCursors s }
+    ensures worlds { (s : Recorded) → IsRightShape s → FollowsCursors s }
+    ensures target { (s : Recorded) (c : Certified) → IsCertified s c → TargetIsFlat s }
 {}
 
 /// A session of the right shape with a right certificate is safe: in each of its mergings, of which there is one, the
