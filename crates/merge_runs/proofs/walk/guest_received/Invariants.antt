@@ -1,6 +1,0 @@
-use Rattle.migration_types.specs.declared.records.LogName.TheVariants.{Guest}
-use Rattle.merge_runs.specs.Taken.{cursors_of, AreReceived}
-use Rattle.merge_runs.proofs.walk.guest_received.Given as goal
-
-abbrev pub invariant-loop-n : goal.invariant-loop-n
-invariant-loop-n l = AreReceived l.session (cursors_of l.taken) Guest l.from l.n

@@ -1,9 +1,0 @@
-use Rattle.std.proofs.Common.{◌++◌, length}
-use Rattle.std.specs.Fmt.{decimal}
-use Rattle.session_log.specs.Grammar.{pager_key}
-use Rattle.session_log.specs.Records.{pager_line}
-use Rattle.session_log.proofs.Written.{written_item}
-use Rattle.session_log.proofs.writing.push_pager.Goals as goal
-
-pub loop-record-preserved : goal.loop-record-preserved
-loop-record-preserved c = written_item pager_line c.args.out.now.items (pager_key ++ decimal (length c.args.log.now)) c.args.log.now c.loop-record.record-index c.loop-record.out.items c.push_pager_record.new.out.items c.record-item.result c.loop-record-test.true c.loop-record.invariant c.record-item.is c.in_ok-push_pager_record.ensures
