@@ -94,22 +94,12 @@ pub fn line(alloc: Global, verdict: Verdict) -> Result<Vec<u8>, AllocError>
 {
     let mut line = Vec::new(alloc);
     match verdict {
-        Verdict::SessionText(n) => push_keyed(
-            alloc,
-            &mut line,
-            b"session-text line ",
-            u64::from(n),
-        )?,
-        Verdict::CertText(n) => push_keyed(
-            alloc,
-            &mut line,
-            b"certificate-text line ",
-            u64::from(n),
-        )?,
+        Verdict::SessionText(n) => push_keyed(&mut line, b"session-text line ", n)?,
+        Verdict::CertText(n) => push_keyed(&mut line, b"certificate-text line ", n)?,
         Verdict::Shape(fault) => push_shape(alloc, &mut line, fault)?,
         Verdict::Pages => push_line(&mut line, b"pages")?,
-        Verdict::Runs(n) => push_keyed(alloc, &mut line, b"runs line ", u64::from(n))?,
-        Verdict::Page(n) => push_keyed(alloc, &mut line, b"page line ", u64::from(n))?,
+        Verdict::Runs(n) => push_keyed(&mut line, b"runs line ", n)?,
+        Verdict::Page(n) => push_keyed(&mut line, b"page line ", n)?,
         Verdict::Yes => push_line(&mut line, b"yes")?,
     }
     Ok(line)

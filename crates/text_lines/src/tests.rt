@@ -145,7 +145,13 @@ fn reads_fields(rt: HostRuntime) -> Result<(), Fail> {
 fn writes_lines(rt: HostRuntime) -> Result<(), Fail> {
     let mut out = Vec::new(rt.alloc());
     push_line(&mut out, b"header")?;
-    push_keyed(rt.alloc(), &mut out, b"pages ", 65_536)?;
-    assert_eq!(rt; out.as_slice(), b"header\npages 65536\n".as_slice());
+    push_keyed(&mut out, b"pages ", 65_536u32)?;
+    push_keyed_word(&mut out, b"line ", 0u8, b"named")?;
+    push_then(&mut out, u64::MAX)?;
+    push_number(&mut out, 7u16)?;
+    assert_eq!(rt;
+        out.as_slice(),
+        b"header\npages 65536\nline 0 named\n18446744073709551615 7".as_slice()
+    );
     Ok(())
 }
