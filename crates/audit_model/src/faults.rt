@@ -8,20 +8,10 @@ ghost use Rattle.audit_model.specs.Faults.{looks_at, has_looked, IsPageFault};
 ghost use Rattle.audit_model.specs.Flat.{at_halt};
 ghost use Rattle.audit_model.specs.PageFaultTests.{is_uncovered, is_wrong_read, is_early, is_flat_page, is_given, is_stale, is_second, is_altered, is_unfit, fault_test};
 
+use crate::asked::is_placement_of;
 use crate::flat::{Home, flat_value, halt_place, home_before, is_released};
 use crate::reasons::PageReason;
 use migration_types::{GuestRec, LogName, PageNo, PagerRec, Session, SourceRec};
-
-/// Whether it is a placement of the page.
-fn is_placement_of(logged: &PagerRec, page: PageNo) -> bool
-    ensures { result ≡ is_placement_of page logged.now }
-{
-    match logged {
-        PagerRec::Place { page: placed, .. } => placed.number() == page.number(),
-        PagerRec::Zero { page: placed } => placed.number() == page.number(),
-        _ => false,
-    }
-}
 
 /// Whether a record of the pager before this place places the page.
 fn placed_before(session: &Session, place: usize, page: PageNo) -> bool

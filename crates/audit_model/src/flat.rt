@@ -6,6 +6,7 @@ ghost use Rattle.migration_types.specs.Memory.{initial};
 ghost use Rattle.migration_types.specs.Pages.{AreInitPages};
 ghost use Rattle.audit_model.specs.Flat.{cell_after, flat, released_after, in_ledger, home_after, home, halt_place, at_halt};
 
+use crate::asked::is_halt;
 use migration_types::{GuestRec, InitPage, PageNo, Session};
 
 /// Where the guest is.
@@ -127,7 +128,7 @@ pub fn halt_place(session: &Session) -> usize
 {
     let guest = session.guest();
     for place in 0..guest.len() {
-        if matches!(guest[place], GuestRec::Halt) {
+        if is_halt(&guest[place]) {
             return place;
         }
     }

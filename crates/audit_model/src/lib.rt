@@ -5,16 +5,23 @@
 //! at hand.
 #![tactic(auto)]
 
+mod asked;
 mod faults;
 mod flat;
 mod laws;
 mod merging;
+mod naming;
 mod reasons;
 mod shape;
 #[cfg(test)]
 mod tests;
 mod world;
 
+pub use asked::{
+    delivers_send, delivers_state, delivery, goes_down, goes_up, is_down, is_got, is_halt, is_miss,
+    is_placement, is_placement_of, is_ready, is_resume, is_send_of, is_sending, is_state, is_up,
+    is_want,
+};
 pub use faults::is_page_fault;
 pub use flat::{Home, flat_value, halt_place, home_before, is_released};
 pub use laws::{
@@ -22,6 +29,9 @@ pub use laws::{
     premises_can_be_met, worlds_follow_cursors,
 };
 pub use merging::is_merging;
+pub use naming::{
+    guest_named, in_phase, link_named, pager_named, pager_start, source_named, source_start,
+};
 pub use reasons::{PageReason, ShapeReason};
 pub use shape::is_right;
 pub use world::{Spot, demand_holds, first_broken, spot_after};

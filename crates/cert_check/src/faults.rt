@@ -9,13 +9,12 @@ ghost use Rattle.cert_check.specs.FirstOfLog.{first_reason, is_unmarked, marked_
 ghost use Rattle.cert_check.specs.Verdicts.{IsShapeFault};
 
 use crate::verdict::ShapeFault;
-use audit_model::ShapeReason;
-use migration_types::{GuestRec, LinkRec, LogName, PagerRec, Session, SourceRec};
-use page_facts::{
-    delivers_send, delivers_state, goes_down_at, goes_up_at, is_down_at, is_got_at, is_halt,
-    is_halt_at, is_miss_at, is_placement_at, is_ready_at, is_resume, is_sending_at, is_up_at,
-    is_want_at, no_marks,
+use audit_model::{
+    ShapeReason, guest_named, in_phase, is_halt, is_resume, link_named, pager_named, pager_start,
+    source_named, source_start,
 };
+use migration_types::{GuestRec, LinkRec, LogName, PagerRec, Session, SourceRec};
+use page_facts::no_marks;
 use session_log::line_of;
 use std::alloc::{AllocError, Global};
 
@@ -24,30 +23,6 @@ use std::alloc::{AllocError, Global};
 struct LogFault {
     place: usize,
     reason: ShapeReason,
-}
-
-/// Whether a guest record is in its phase.
-fn in_phase(rec: &GuestRec, halted: bool, resumed: bool) -> bool
-    ensures { result ≡ in_phase_by halted resumed rec.now }
-{
-    match rec {
-        GuestRec::Halt => !halted,
-        GuestRec::Resume { .. } => !resumed && halted,
-        GuestRec::Read { .. } | GuestRec::Write { .. } => !halted || resumed,
-        GuestRec::Release { .. } => !halted && !resumed,
-        GuestRec::Miss { .. } | GuestRec::See { .. } => resumed,
-    }
-}
-
-/// Whether a guest record names a record of the right kind.
-fn guest_named(session: &Session, rec: &GuestRec) -> bool
-    ensures { result ≡ guest_named session.now rec.now }
-{
-    match rec {
-        GuestRec::Resume { ready } => is_ready_at(session.pager(), *ready),
-        GuestRec::See { placement } => is_placement_at(session.pager(), *placement),
-        _ => true,
-    }
 }
 
 /// Why a guest record is not of the right shape.
@@ -99,31 +74,6 @@ fn guest_fault(session: &Session) -> Option<LogFault>
     None
 }
 
-/// Whether source record n names a record of the right kind.
-fn source_named(session: &Session, n: usize, rec: &SourceRec) -> bool
-    ensures { result ≡ source_named session.now n rec.now }
-{
-    match rec {
-        SourceRec::Halted { halt } => is_halt_at(session.guest(), *halt),
-        SourceRec::Ask { up } => is_up_at(session.link(), *up),
-        SourceRec::Again { sending } => {
-            (*sending as usize) < n && is_sending_at(session.source(), *sending)
-        }
-        _ => true,
-    }
-}
-
-/// Whether source record n stands where its kind may.
-fn source_start(source: &[SourceRec], n: usize, rec: &SourceRec) -> bool
-    ensures { (s : Recorded) → s.source ≡ source.now → result ≡ source_start s n rec.now }
-{
-    match n {
-        0 => matches!(rec, SourceRec::Halted { .. }) && 1 < source.len(),
-        1 => matches!(rec, SourceRec::State),
-        _ => !matches!(rec, SourceRec::Halted { .. } | SourceRec::State),
-    }
-}
-
 /// Whether the page of a `send` is not marked.
 fn is_unmarked(marks: &Vec<bool>, rec: &SourceRec) -> bool
     ensures { result ≡ is_unmarked marks.now.items rec.now }
@@ -161,7 +111,7 @@ fn source_reason(
     if !source_named(session, n, rec) {
         return Some(ShapeReason::Named);
     }
-    if !source_start(session.source(), n, rec) {
+    if !source_start(session, n, rec) {
         return Some(ShapeReason::Start);
     }
     if !is_unmarked(marks, rec) {
@@ -186,16 +136,6 @@ fn source_fault(alloc: Global, session: &Session) -> Result<Option<LogFault>, Al
     Ok(None)
 }
 
-/// Whether a link record names a record of the right kind.
-fn link_named(session: &Session, rec: &LinkRec) -> bool
-    ensures { result ≡ link_named session.now rec.now }
-{
-    match rec {
-        LinkRec::Down { sending } => goes_down_at(session.source(), *sending),
-        LinkRec::Up { asking } => goes_up_at(session.pager(), *asking),
-    }
-}
-
 /// The first fault of the link's log.
 fn link_fault(session: &Session) -> Option<LogFault>
     ensures { MatchOption result (IsRightLog session.now Link) (λ f. IsFirstOfLog session.now Link f.place f.reason) }
@@ -210,33 +150,6 @@ fn link_fault(session: &Session) -> Option<LogFault>
         }
     }
     None
-}
-
-/// Whether pager record n names a record of the right kind.
-fn pager_named(session: &Session, n: usize, rec: &PagerRec) -> bool
-    ensures { result ≡ pager_named session.now n rec.now }
-{
-    match rec {
-        PagerRec::Got { down } => is_down_at(session.link(), *down),
-        PagerRec::Fault { miss } => is_miss_at(session.guest(), *miss),
-        PagerRec::Join { want } => { (*want as usize) < n && is_want_at(session.pager(), *want) }
-        PagerRec::Skip { got } => (*got as usize) < n && is_got_at(session.pager(), *got),
-        PagerRec::Place { page, got, .. } => {
-            (*got as usize) < n && delivers_send(session, *page, *got)
-        }
-        _ => true,
-    }
-}
-
-/// Whether pager record n stands where its kind may.
-fn pager_start(session: &Session, n: usize, rec: &PagerRec) -> bool
-    ensures { result ≡ pager_start session.now n rec.now }
-{
-    match n {
-        0 => matches!(rec, PagerRec::Got { .. }) && delivers_state(session, 0),
-        1 => matches!(rec, PagerRec::Ready),
-        _ => !matches!(rec, PagerRec::Ready),
-    }
 }
 
 /// Why pager record n is not of the right shape.

@@ -9,8 +9,9 @@ ghost use Rattle.cert_maker.specs.Looks.{first_look};
 ghost use Rattle.cert_maker.specs.Entries.{send_of, first_of, entry_at, entry_of, IsMadeEntry, HasNoEntry, AreMade, HasBarePage};
 
 use crate::looks::first_looks;
+use audit_model::delivery;
 use migration_types::{Entry, First, PageNo, PagerRec, Seq, Session, SourceRec};
-use page_facts::{PageFacts, PageTables, delivery, facts_of, is_right_entry, tables_of};
+use page_facts::{PageFacts, PageTables, facts_of, is_right_entry, tables_of};
 use std::alloc::{AllocError, Global};
 
 /// The `send` whose contents came with a `got` of the pager, itself or by an `again`.

@@ -7,7 +7,7 @@ ghost use Rattle.page_facts.specs.Facts.{IsFacts};
 ghost use Rattle.page_facts.specs.EntryTests.{sees_from, repeats, delivers_from, places_from, zeroes, covers, is_once, is_right_of, is_right_entry};
 
 use crate::facts::PageFacts;
-use crate::kinds::{delivery, is_send_of};
+use audit_model::{delivery, is_send_of};
 use migration_types::{Entry, First, GuestRec, PageNo, PagerRec, Session, SourceRec};
 
 /// Whether guest record n is a look at this placement, or at a later one.
@@ -24,10 +24,10 @@ fn sees_from_at(session: &Session, n: u32, place: u32) -> bool
 fn is_send_at(session: &Session, n: u32, page: PageNo) -> bool
     ensures { result ≡ passes (is_send_of page) (slice_get session.now.source n) }
 {
-    match session.source().get(n as usize) {
-        Some(rec) => is_send_of(rec, page),
-        None => false,
-    }
+    session
+        .source()
+        .get(n as usize)
+        .is_some_and(|rec| is_send_of(rec, page))
 }
 
 /// Whether source record n is an `again` of this `send`.

@@ -6,8 +6,8 @@ ghost use Rattle.audit_model.specs.Flat.{halt_place};
 ghost use Rattle.page_store.specs.Frames.{memory_of, IsWith};
 ghost use Rattle.page_facts.specs.Machines.{GuestPage, stepped, released_by, late_after, IsMachine, IsStepped};
 
-use crate::kinds::is_halt;
 use crate::marks::no_marks;
+use audit_model::is_halt;
 use migration_types::{GuestRec, Session};
 use page_store::Store;
 use std::alloc::{AllocError, Global};
