@@ -1,5 +1,6 @@
 -- What the lines that a reader holds say of each text that begins with them.
-use Rattle.std.proofs.Common.{◌≡◌, ◌≢◌, ℕ, ◌+◌, ◌-◌, ◌<◌, ◌≤◌, ◌^◌, List, [], ◌∷◌, ◌++◌, length, map, refl, sym, ap, subst, ◌∙◌, length-append, arith, inl, inr}
+use Rattle.std.specs.Prelude.{Some, slice_get}
+use Rattle.std.proofs.Common.{◌≡◌, ◌≢◌, ℕ, zero, suc, ◌+◌, ◌-◌, ◌<◌, ◌≤◌, ◌^◌, List, [], ◌∷◌, ◌++◌, length, map, refl, sym, ap, subst, ◌∙◌, length-append, arith, inl, inr}
 use Rattle.std.specs.List.{AllByRecursion}
 use Rattle.std.specs.Fmt.{decimal}
 use Rattle.std.proofs.lemmas.List.{append_cancel_left, length-map}
@@ -21,7 +22,7 @@ use Rattle.migration_types.specs.Sessions.{Recorded, IsSession, GuestRecFits, So
 use Rattle.session_log.specs.declared.parts.Stage.{Stage}
 use Rattle.session_log.specs.declared.parts.Stage.TheVariants.{Header, Pages, Cells, InitCount, Init, Guest, Source, Link, Pager, Done}
 use Rattle.session_log.specs.Records.{guest_line, source_line, link_line, pager_line}
-use Rattle.session_log.specs.InitPages.{IsInitContent, Rise, rise_long, rise_of, few_init}
+use Rattle.session_log.specs.InitPages.{IsInitContent, Rise, next_from, rise_long, rise_of, few_init}
 use Rattle.session_log.specs.Grammar.{pages_key, cells_key, init_key, guest_key, source_key, link_key, pager_key, page_key, page_line, closing, counted, session_lines, SpellsSession}
 use Rattle.session_log.specs.Held.{Draft, Part, part_onto, geometry_onto, init_onto, guest_onto, source_onto, link_onto, pager_onto, held_onto, IsWhole, InitFits, GuestFits, SourceFits, LinkFits, PagerFits, Live}
 use Rattle.session_log.proofs.Lists.{all_at, all_append}
@@ -97,8 +98,8 @@ extent_same a b p q = ap (λ (n : ℕ). extent n a.cells) p ∙ ap (extent b.pag
 
 -- what has a geometry misses no limit of it
 pub no_fault : (pages cells : ℕ) (fault : GeometryFault) → IsGeometryFault pages cells fault → IsExtent (extent pages cells) → ⊥
-no_fault pages cells NoPages fault h = let some = h.some_pages in let few = h.few_pages in elim fault [ inl zero ↦ absurd (omega arith) | inr many ↦ absurd (omega arith) ]
-no_fault pages cells NoCells fault h = let some = h.some_cells in let few = h.few_cells in elim fault.2 [ inl zero ↦ absurd (omega arith) | inr many ↦ absurd (omega arith) ]
+no_fault pages cells NoPages fault h = let some = h.some_pages in let few = h.few_pages in elim fault [ inl none ↦ absurd (omega arith) | inr many ↦ absurd (omega arith) ]
+no_fault pages cells NoCells fault h = let some = h.some_cells in let few = h.few_cells in elim fault.2 [ inl none ↦ absurd (omega arith) | inr many ↦ absurd (omega arith) ]
 no_fault pages cells TooMany fault h = let few = h.few_in_all in absurd (omega (arith, fault.4))
 
 pub no_pages : (d : Draft) (line : List ℕ) → line ≡ pages_key ++ decimal 0 → Begins SpellsSession (held_onto Pages d (line ∷ [])) → ⊥
@@ -201,6 +202,22 @@ pub behind_pager : (d : Draft) (more : List (List ℕ)) (v : Recorded) → Pager
 behind_pager d more v f whole fits e = counted_end pager_line d.pager.count v.pager d.pager.items (closing ∷ []) more (pager_agrees d more v f fits e) whole
 
 -- ---- the pages
+
+next_at : (low : ℕ) (ps : List InitPage) (i : ℕ) (q : InitPage) → slice_get ps i ≡ Some q → i + 1 ≡ length ps → next_from low ps ≡ q.page + 1
+next_at low [] i q e last = absurd (omega arith)
+next_at low (p ∷ []) zero q e last = let same : p ≡ q = cc in ap (λ (x : InitPage). x.page + 1) same
+next_at low (p ∷ []) (suc i) q e last = absurd (omega arith)
+next_at low (p ∷ r ∷ ps) zero q e last = absurd (omega arith)
+next_at low (p ∷ r ∷ ps) (suc i) q e last = next_at (p.page + 1) (r ∷ ps) i q e (omega arith)
+
+-- behind the last page
+pub next_last : (ps : List InitPage) (q : InitPage) → slice_get ps (length ps - 1) ≡ Some q → next_from 0 ps ≡ q.page + 1
+next_last [] q e = absurd cc
+next_last (p ∷ ps) q e = next_at 0 (p ∷ ps) (length (p ∷ ps) - 1) q e (omega arith)
+
+pub next_push : (low : ℕ) (ps : List InitPage) (p : InitPage) → next_from low (ps ++ p ∷ []) ≡ p.page + 1
+next_push low [] p = refl
+next_push low (q ∷ ps) p = next_push (q.page + 1) ps p
 
 pub page_same : (x y : InitPage) → x.page < 2 ^ 64 → y.page < 2 ^ 64 → page_line x ≡ page_line y → (x.page ≡ y.page) × (contents_text x.cells ≡ contents_text y.cells)
 page_same x y p q e =

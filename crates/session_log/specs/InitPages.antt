@@ -22,6 +22,11 @@ abbrev pub Rise : ℕ → List InitPage → ℕ → Type 0
 Rise low [] high = low ≡ high
 Rise low (p ∷ ps) high = (low ≤ p.page) × Rise (p.page + 1) ps high
 
+-- the least number that a page behind these may have, where the first of them may have `low`
+abbrev pub next_from : ℕ → List InitPage → ℕ
+next_from low [] = low
+next_from low (p ∷ ps) = next_from (p.page + 1) ps
+
 -- rising pages are few
 pub rise_long : (low high : ℕ) (ps : List InitPage) → Rise low ps high → low + length ps ≤ high
 rise_long low high [] r = omega arith

@@ -5,14 +5,15 @@ ghost use Rattle.text_lines.specs.Contents.{contents_text};
 ghost use Rattle.migration_types.specs.Pages.{AreZeros};
 ghost use Rattle.migration_types.specs.declared.pages.InitPage.{InitPage as Page};
 ghost use Rattle.session_log.specs.Grammar.{page_line};
-ghost use Rattle.session_log.specs.InitPages.{IsInitContent};
+ghost use Rattle.session_log.specs.InitPages.{IsInitContent, next_from};
 
 use crate::fields::read_page_contents;
+use crate::forms::Machine;
+use crate::keys::PAGE_KEY;
+use crate::writing::push_page;
 use migration_types::{Contents, InitPage, PageNo};
-use std::alloc::Global;
-use text_lines::{FaultKind, after_key, number_then};
-
-const PAGE_KEY: &[u8] = b"page ";
+use std::alloc::{AllocError, Global};
+use text_lines::{FaultKind, LineForm, after_key, number_then};
 
 /// The page that a line spells, for a page from `low` to `high` with so many cells, not all of them zero.
 pub(crate) fn read_page(
@@ -62,4 +63,47 @@ fn are_zeros(cells: &[u64]) -> bool
     ensures { IsTrue result ↔ AreZeros cells.now }
 {
     cells.iter().all(|&value| value == 0)
+}
+
+/// The least number that a page behind these may have.
+fn next_page(before: &[InitPage]) -> u32
+    ensures { result ≡ next_from 0 before.now }
+{
+    match before.last() {
+        Some(page) => u32::from(page.page.number()) + 1,
+        None => 0,
+    }
+}
+
+/// The lines of the initial pages, of which the next is at most the page `high`.
+#[derive(Clone, Copy)]
+pub(crate) struct InitLines {
+    pub machine: Machine,
+    pub high: u32,
+}
+
+impl LineForm for InitLines {
+    type Item = InitPage;
+
+    ghost spell = { page_line };
+
+    ghost IsForm = { λ f. f.high < 65536 };
+
+    ghost Fits = { λ f p. (p.page ≤ f.high) × IsInitContent f.machine.cells p.cells };
+
+    ghost MayFollow = { λ before p. next_from 0 before ≤ p.page };
+
+    fn read(&self, before: &[InitPage], line: &[u8]) -> Result<InitPage, FaultKind> {
+        read_page(
+            self.machine.alloc,
+            line,
+            next_page(before),
+            self.high,
+            self.machine.cells,
+        )
+    }
+
+    fn push(item: &InitPage, out: &mut Vec<u8>) -> Result<(), AllocError> {
+        push_page(out, PAGE_KEY, item.page, item.cells.as_slice())
+    }
 }

@@ -4,5 +4,5 @@ use Rattle.session_log.specs.Steps.{draft_of}
 use Rattle.session_log.proofs.Laws.{init_count_refused}
 use Rattle.session_log.proofs.parts.Parts.at_init_count.Goals as goal
 
-pub returns-in_err-count : goal.returns-in_err-count
-returns-in_err-count c = let p = err_from_is_err_and c.from_residual.result c.from_residual.ensures.1 in rw (p.1, p.2) (refl, λ _ b. init_count_refused (draft_of c.args.self.now) c.args.line.now c.requires.1 c.in_err-count.ensures.refused b)
+pub returns-in_err-init : goal.returns-in_err-init
+returns-in_err-init c = let p = err_from_is_err_and c.from_residual.result c.from_residual.ensures.1 in rw (p.1, p.2) (refl, λ _ b. init_count_refused (draft_of c.args.self.now) c.args.line.now c.requires.1 c.in_err-init.ensures.refused b)
