@@ -1,6 +1,6 @@
 -- What the lines of some entries say of each text that begins with them.
 use Rattle.std.proofs.Common.{◌≡◌, ℕ, ◌+◌, ◌<◌, ◌^◌, List, [], ◌∷◌, ◌++◌, length, get_or, refl, sym, ap, subst, ◌∙◌, arith}
-use Rattle.std.specs.Prelude.{Option, Some, None}
+use Rattle.std.specs.Prelude.{◌≢◌, ◌≤◌, Option, Some, None}
 use Rattle.std.specs.List.{AllByRecursion}
 use Rattle.std.specs.Fmt.{decimal}
 use Rattle.std.proofs.lemmas.List.{append_cancel_left}
@@ -16,25 +16,35 @@ use Rattle.cert_text.specs.Grammar.{page_key, source_key, balloon_key, first_tex
 
 -- ---- one spelling for each entry
 
-number_tells : (n m : ℕ) (r s : List ℕ) → n < 2 ^ 64 → m < 2 ^ 64 → decimal n ++ 32 ∷ r ≡ decimal m ++ 32 ∷ s → (n ≡ m) × (r ≡ s)
+pub number_tells : (n m : ℕ) (r s : List ℕ) → n < 2 ^ 64 → m < 2 ^ 64 → decimal n ++ 32 ∷ r ≡ decimal m ++ 32 ∷ s → (n ≡ m) × (r ≡ s)
 number_tells n m r s p q e =
     let same = numbers_same n m (32 ∷ r) (32 ∷ s) p q (no_digit-space r) (no_digit-space s) e in
     let rest = same.1 in
     (same.0, cc)
 
 -- a dash is no number
-no_dash : (n : ℕ) (rest : List ℕ) → n < 2 ^ 64 → first_text None ≡ decimal n ++ 32 ∷ rest → ⊥
-no_dash n rest lt e =
-    let same = digits_same [] (decimal n) (first_text None) (32 ∷ rest) tt (digits_decimal own n lt) (λ low high. absurd (omega arith)) (no_digit-space rest) e in
+no_dash : (n : ℕ) (rest more : List ℕ) → n < 2 ^ 64 → first_text None ++ more ≡ decimal n ++ 32 ∷ rest → ⊥
+no_dash n rest more lt e =
+    let same = digits_same [] (decimal n) (first_text None ++ more) (32 ∷ rest) tt (digits_decimal own n lt) (λ low high. absurd (omega arith)) (no_digit-space rest) e in
     absurd (omega (arith, ap (λ (t : List ℕ). length t) same.0, decimal_nonempty n lt))
+
+-- behind the dashes that stand alone is nothing
+pub dashes_alone : (text rest : List ℕ) (first : Option First) → FirstFits first → text ≡ first_text None ++ rest → text ≡ first_text first → rest ≡ []
+dashes_alone text rest None fits e is = append_cancel_left (first_text None) rest [] (sym e ∙ is)
+dashes_alone text rest (Some first) fits e is = absurd (no_dash first.access (decimal first.see) rest (omega (arith, fits.0)) (sym e ∙ is))
+
+-- where no dashes stand, the number of the look stands behind that of the access
+pub look_at : (text rest : List ℕ) (found : ℕ) (first : Option First) → FirstFits first → text ≡ first_text first → ((more : List ℕ) → text ≢ first_text None ++ more) → ((n : ℕ) (r : List ℕ) → n ≤ 1048575 → text ≡ decimal n ++ 32 ∷ r → (found ≡ n) × (rest ≡ r)) → (see : ℕ) × (see < 1048576) × (rest ≡ decimal see)
+look_at text rest found None fits e none whole = absurd (none [] e)
+look_at text rest found (Some first) fits e none whole = (first.see, fits.1, (whole first.access (decimal first.see) (omega (arith, fits.0)) e).1)
 
 abbrev used : ℕ → ℕ → First
 used access see = record { access = access; see = see }
 
 first_same : (x y : Option First) → FirstFits x → FirstFits y → first_text x ≡ first_text y → x ≡ y
 first_same None None p q e = refl
-first_same None (Some y) p q e = absurd (no_dash y.access (decimal y.see) (omega (arith, q.0)) e)
-first_same (Some x) None p q e = absurd (no_dash x.access (decimal x.see) (omega (arith, p.0)) (sym e))
+first_same None (Some y) p q e = absurd (no_dash y.access (decimal y.see) [] (omega (arith, q.0)) e)
+first_same (Some x) None p q e = absurd (no_dash x.access (decimal x.see) [] (omega (arith, p.0)) (sym e))
 first_same (Some x) (Some y) p q e =
     let one = number_tells x.access y.access (decimal x.see) (decimal y.see) (omega (arith, p.0)) (omega (arith, q.0)) e in
     let two = decimal_injective x.see y.see (omega (arith, p.1)) (omega (arith, q.1)) one.1 in

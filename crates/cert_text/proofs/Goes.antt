@@ -12,7 +12,7 @@ use Rattle.cert_text.specs.declared.cert_lines.Stage.{Stage}
 use Rattle.cert_text.specs.declared.cert_lines.Stage.TheVariants.{Header, Pages, Entries}
 use Rattle.cert_text.specs.Runs.{runs_lines, SpellsRunLines}
 use Rattle.cert_text.specs.Grammar.{header, pages_key, entry_line, entry_lines, cert_lines, SpellsCert}
-use Rattle.cert_text.specs.Held.{Draft, entries_onto, held_by, EntriesFit, Live}
+use Rattle.cert_text.specs.inner.Held.{Draft, entries_onto, held_by, EntriesFit, Live}
 use Rattle.cert_text.proofs.EntryLaws.{entries_length}
 use Rattle.cert_text.proofs.RunGoes.{one_list_of_runs}
 use Rattle.cert_text.proofs.Laws.{entries_onto_append, runs_at, entries_agree, entry_held, entry_push}

@@ -1,6 +1,6 @@
 -- What the lines that a reader of certificates holds say of each text that begins with them.
 use Rattle.std.proofs.Common.{◌≡◌, ℕ, ◌+◌, ◌<◌, ◌≤◌, ◌^◌, List, [], ◌∷◌, ◌++◌, length, sym, ap, subst, ◌∙◌, append_assoc, length-append, arith}
-use Rattle.std.specs.Prelude.{◌≢◌, Result, Ok, Err, IfErr}
+use Rattle.std.specs.Prelude.{◌≢◌, Result, Ok, Err, IfErr, OnOk}
 use Rattle.std.specs.List.{AllByRecursion}
 use Rattle.std.specs.Fmt.{decimal}
 use Rattle.std.proofs.lemmas.List.{append_cancel_left, append-nil}
@@ -14,8 +14,8 @@ use Rattle.cert_text.specs.declared.cert_lines.Stage.{Stage}
 use Rattle.cert_text.specs.declared.cert_lines.Stage.TheVariants.{Header, Pages, Entries}
 use Rattle.cert_text.specs.Runs.{runs_lines, SpellsRunLines}
 use Rattle.cert_text.specs.Grammar.{header, pages_key, entry_line, entry_lines, cert_lines, SpellsCert}
-use Rattle.cert_text.specs.Held.{Draft, entries_onto, held_by, EntriesFit, Live}
-use Rattle.cert_text.specs.Taken.{TakesEntries}
+use Rattle.cert_text.specs.inner.Held.{Draft, entries_onto, held_by, EntriesFit, Live}
+use Rattle.cert_text.specs.inner.Taken.{TakesEntries, TakesEntry}
 use Rattle.cert_text.proofs.EntryLaws.{entries_length, entries_append, next_entry, entries_end, entries_push}
 use Rattle.cert_text.proofs.RunLaws.{all_push}
 
@@ -41,18 +41,8 @@ goes_from stage at d held line e is b = subst (λ (s : Stage). Goes s d line) is
   whole = ap (λ (t : List (List ℕ)). t ++ (line ∷ b.1)) e ∙ (sym (append_assoc held (line ∷ []) b.1) ∙ b.2.1);
 })
 
-keyed : (key : List ℕ) (m n : ℕ) → m < 2 ^ 64 → n < 2 ^ 64 → key ++ decimal m ≡ key ++ decimal n → m ≡ n
+pub keyed : (key : List ℕ) (m n : ℕ) → m < 2 ^ 64 → n < 2 ^ 64 → key ++ decimal m ≡ key ++ decimal n → m ≡ n
 keyed key m n p q e = decimal_injective m n p q (append_cancel_left key (decimal m) (decimal n) e)
-
--- there is a page
-pub no_pages : (d : Draft) (line : List ℕ) → Goes Pages d line → line ≡ pages_key ++ decimal 0 → ⊥
-no_pages d line g e =
-    let whole = g.whole in
-    let l : line ≡ pages_key ++ decimal (length g.c.entries) = cc in
-    let few = g.fits.few_pages in
-    let some = g.fits.some_pages in
-    let z = keyed pages_key 0 (length g.c.entries) (omega arith) (omega arith) (sym e ∙ l) in
-    absurd (omega arith)
 
 -- ---- the entries
 
@@ -130,6 +120,19 @@ entry_taken Entries d held line entry is e live less spelled =
     ∙ (ap (λ (t : List ℕ). entries_onto d.pages d.entries [] ++ t ∷ []) (sym spelled)
     ∙ (ap (λ (t : List (List ℕ)). entries_onto d.pages d.entries t ++ line ∷ []) (sym none)
     ∙ ap (λ (t : List (List ℕ)). t ++ line ∷ []) e)))
+
+-- an entry came
+pub entry_line_taken : (stage : Stage) (d : Draft) (held : List (List ℕ)) (line : List ℕ) (new : List Entry) (r : Result (Unit {0}) FaultKind) → stage ≡ Entries → held_by stage d ≡ held → Live stage d → length d.entries < d.pages → OnOk r (TakesEntry d.entries new line) → OnOk r (held_by stage (record d { entries = new }) ≡ held ++ line ∷ [])
+entry_line_taken stage d held line new (Ok done) is e live less t =
+    ap (λ (entries : List Entry). held_by stage (record d { entries = entries })) t.grown ∙ entry_taken stage d held line t.entry is e live less t.spelled
+entry_line_taken stage d held line new (Err kind) is e live less t = tt
+
+-- a line that is not the next page's entry is refused
+pub entry_line_refused : (stage : Stage) (d : Draft) (held : List (List ℕ)) (line : List ℕ) (r : Result (Unit {0}) FaultKind) → held_by stage d ≡ held → stage ≡ Entries → Live stage d → length d.entries < d.pages → IfErr r (λ kind. kind ≢ Memory → (entry : Entry) → EntryFits entry → line ≢ entry_line (length d.entries) entry) → IfErr r (λ kind. kind ≢ Memory → Begins SpellsCert (held ++ line ∷ []) → ⊥)
+entry_line_refused stage d held line (Ok done) e is live less h = tt
+entry_line_refused stage d held line (Err kind) e is live less h = λ other b.
+    let n = entry_at d line (live_at stage Entries d is live) less (goes_from stage Entries d held line e is b) in
+    h other n.0 n.1 n.2
 
 -- many entries more
 entries_held : (d : Draft) (taken : List Entry) → entries_onto d.pages (d.entries ++ taken) [] ≡ entries_onto d.pages d.entries [] ++ entry_lines (length d.entries) taken

@@ -1,19 +1,22 @@
 -- What the lines of some runs say of each text that begins with them, and one run more.
-use Rattle.std.proofs.Common.{◌≡◌, ◌≢◌, ℕ, ◌+◌, ◌-◌, ◌<◌, ◌≤◌, List, [], ◌∷◌, ◌++◌, length, map, get_or, refl, sym, ap, subst, ◌∙◌, length-append, arith, inl, inr}
-use Rattle.std.specs.Prelude.{◌⊎◌}
+use Rattle.std.proofs.Common.{◌≡◌, ◌≢◌, ℕ, ◌+◌, ◌-◌, ◌<◌, ◌≤◌, ◌^◌, List, [], ◌∷◌, ◌++◌, length, map, get_or, refl, sym, ap, subst, ◌∙◌, append_assoc, length-append, arith, inl, inr}
+use Rattle.std.specs.Prelude.{◌⊎◌, Option, Some, slice_get, slice_index}
 use Rattle.std.specs.List.{AllByRecursion}
 use Rattle.std.specs.Fmt.{decimal}
-use Rattle.std.proofs.lemmas.List.{append_cancel_left}
+use Rattle.std.proofs.lemmas.List.{append_cancel_left, append-nil}
 use Rattle.std.proofs.lemmas.List.{get_or_append_left, get_or-append-add, get_or_default}
 use Rattle.std.proofs.lemmas.Bool.{cases_lt}
 use Rattle.std.proofs.lemmas.Fmt.{decimal_injective}
+use Rattle.text_lines.specs.Words.{NoDigit}
+use Rattle.text_lines.specs.Counted.{AllFollow}
+use Rattle.text_lines.proofs.Fronts.{numbers_same}
 use Rattle.text_lines.proofs.Sections.{CountedAgree, counted_agree, counted_end, counted_next}
 use Rattle.migration_types.specs.declared.records.LogName.{LogName}
 use Rattle.migration_types.specs.declared.records.LogName.TheVariants.{Guest, Source, Link, Pager}
 use Rattle.migration_types.specs.declared.cert.Run.{Run}
 use Rattle.migration_types.specs.Certs.{RunFits, Alternate, AreRuns}
 use Rattle.cert_text.specs.Runs.{runs_key, run_key, closing, log_word, run_text, run_line, runs_lines}
-use Rattle.cert_text.specs.Held.{MayFollow}
+use Rattle.cert_text.specs.inner.Held.{MayFollow}
 
 -- ---- one spelling for each run
 
@@ -41,6 +44,29 @@ word_same Pager Guest s t e = absurd (unlike 103 112 (omega arith) (ap initial (
 word_same Pager Source s t e = absurd (unlike 112 115 (omega arith) (ap initial e))
 word_same Pager Link s t e = absurd (unlike 108 112 (omega arith) (ap initial (sym e)))
 word_same Pager Pager s t e = (refl, cc)
+
+-- a text that begins with a log's name begins with its letter
+pub letter_of : (text : List ℕ) (letter : ℕ) (log : LogName) (rest : List ℕ) → Some letter ≡ slice_get text 0 → text ≡ log_word log ++ 32 ∷ rest → letter ≡ slice_index (log_word log) 0
+letter_of text letter log rest is e = named log (ap (λ (t : List ℕ). slice_get t 0) e)
+  where
+    named : (log : LogName) → slice_get text 0 ≡ slice_get (log_word log ++ 32 ∷ rest) 0 → letter ≡ slice_index (log_word log) 0
+    named Guest h = let same : Some letter ≡ Some 103 = is ∙ h in cc
+    named Source h = let same : Some letter ≡ Some 115 = is ∙ h in cc
+    named Link h = let same : Some letter ≡ Some 108 = is ∙ h in cc
+    named Pager h = let same : Some letter ≡ Some 112 = is ∙ h in cc
+
+-- a log's name before a rest, by its key
+pub keyed_by : (log told : LogName) (key rest : List ℕ) → told ≡ log → key ≡ log_word told ++ 32 ∷ [] → log_word log ++ 32 ∷ rest ≡ key ++ rest
+keyed_by log told key rest same is =
+    sym (append_assoc (log_word log) (32 ∷ []) rest) ∙ (ap (λ (l : LogName). (log_word l ++ 32 ∷ []) ++ rest) (sym same) ∙ ap (λ (t : List ℕ). t ++ rest) (sym is))
+
+-- behind a run's key and log stands its count
+pub count_at : (text behind count : List ℕ) (run : Run) → text ≡ run_key ++ behind → text ≡ run_line run → (behind ≡ log_word run.log ++ 32 ∷ decimal run.count → count ≡ decimal run.count) → count ≡ decimal run.count
+count_at text behind count run e is whole = whole (append_cancel_left run_key behind (run_text run) (sym e ∙ is))
+
+-- the number that stands alone
+pub alone : (text rest : List ℕ) (n m : ℕ) → n < 2 ^ 64 → m < 2 ^ 64 → text ≡ decimal n ++ rest → NoDigit rest → text ≡ decimal m → (n ≡ m) × (rest ≡ [])
+alone text rest n m p q e stops is = numbers_same n m rest [] p q stops tt (sym e ∙ (is ∙ sym (append-nil (decimal m))))
 
 run_from : (x y : Run) → x.log ≡ y.log → x.count ≡ y.count → x ≡ y
 run_from x y e f = ap (λ (log : LogName). record { log = log; count = x.count }) e ∙ ap (λ (n : ℕ). record { log = y.log; count = n }) f
@@ -134,6 +160,15 @@ alternate_by xs x h f k d lt (inr q) = alternate_last xs x f k d (omega arith)
 
 pub alternate_push : (xs : List Run) (x : Run) → Alternate xs → MayFollow xs x.log → Alternate (xs ++ x ∷ [])
 alternate_push xs x h f = λ k d lt. alternate_by xs x h f k d (omega (arith, length-append xs (x ∷ []))) (cases_lt (k + 1) (length xs))
+
+-- and so with many
+pub alternate_all : (xs ys : List Run) → Alternate xs → AllFollow (λ runs run. MayFollow runs run.log) xs ys → Alternate (xs ++ ys)
+alternate_all xs [] h f = subst Alternate (sym (append-nil xs)) h
+alternate_all xs (y ∷ ys) h f = subst Alternate (append_assoc xs (y ∷ []) ys) (alternate_all (xs ++ y ∷ []) ys (alternate_push xs y h f.0) f.1)
+
+pub all_append : {X : Type 0} (P : X → Type 0) (xs ys : List X) → AllByRecursion P xs → AllByRecursion P ys → AllByRecursion P (xs ++ ys)
+all_append P [] ys h k = k
+all_append P (x ∷ xs) ys h k = (h.0, all_append P xs ys h.1 k)
 
 -- some run may stand after these
 other : LogName → LogName

@@ -4,7 +4,7 @@ use Rattle.std.specs.Prelude.{Bool, true, false}
 use Rattle.text_lines.specs.Text.{Begins}
 use Rattle.migration_types.specs.declared.cert.Run.{Run}
 use Rattle.cert_text.specs.Runs.{runs_text_header, runs_lines, SpellsRunLines, SpellsRuns}
-use Rattle.cert_text.specs.Held.{headed_by, HeadedLive}
+use Rattle.cert_text.specs.inner.Held.{headed_by, HeadedLive}
 use Rattle.cert_text.proofs.RunGoes.{one_list_of_runs}
 
 under_header : (lines : List (List ℕ)) → Begins SpellsRunLines lines → Begins SpellsRuns (runs_text_header ∷ lines)

@@ -6,7 +6,6 @@ use Rattle.std.specs.Fmt.{decimal}
 use Rattle.std.specs.declared.alloc.AllocError.{AllocError}
 use Rattle.text_lines.specs.Text.{ended}
 use Rattle.text_lines.proofs.Cut.{ended-push, ended-append}
-use Rattle.text_lines.proofs.Sections.{ended_next, ended_end}
 use Rattle.migration_types.specs.declared.cert.Run.{Run}
 use Rattle.migration_types.specs.declared.cert.Entry.{Entry}
 use Rattle.migration_types.specs.Certs.{Certified}
@@ -38,18 +37,13 @@ cert_written c entries runs n none front pages listed out p q e o1 o2 o3 o4 o5 =
     ∙ (append_assoc (header ++ 10 ∷ []) (line ++ 10 ∷ []) (ended (entry_lines 0 c.entries ++ runs_lines c.runs))
     ∙ ap (λ (t : List ℕ). (header ++ 10 ∷ []) ++ t) (append_assoc line (10 ∷ []) (ended (entry_lines 0 c.entries ++ runs_lines c.runs))))))
 
--- the next run's line behind those before it
-pub run_written : (out : List ℕ) (first : List ℕ) (xs : List Run) (i : ℕ) (d : Run) → i < length xs → out ++ ended (first ∷ map run_line (take (i + 1) xs)) ≡ (out ++ ended (first ∷ map run_line (take i xs))) ++ (run_line (get_or xs i d) ++ 10 ∷ [])
-run_written out first xs i d lt =
-    ap (λ (t : List ℕ). out ++ t) (ended_next run_line (first ∷ []) xs i d lt)
-    ∙ sym (append_assoc out (ended (first ∷ map run_line (take i xs))) (run_line (get_or xs i d) ++ 10 ∷ []))
-
 -- the closing line behind all the runs
-runs_written : (out first last : List ℕ) (xs : List Run) (i : ℕ) → i ≡ length xs → (out ++ ended (first ∷ map run_line (take i xs))) ++ (last ++ 10 ∷ []) ≡ out ++ ended (first ∷ (map run_line xs ++ last ∷ []))
-runs_written out first last xs i e =
-    append_assoc out (ended (first ∷ map run_line (take i xs))) (last ++ 10 ∷ [])
-    ∙ ap (λ (t : List ℕ). out ++ t) (sym (ended_end run_line (first ∷ []) xs i last e))
+runs_written : (out first last : List ℕ) (xs : List Run) → (out ++ ended (first ∷ (map run_line xs ++ []))) ++ (last ++ 10 ∷ []) ≡ out ++ ended (first ∷ (map run_line xs ++ last ∷ []))
+runs_written out first last xs =
+    append_assoc out (ended (first ∷ (map run_line xs ++ []))) (last ++ 10 ∷ [])
+    ∙ ap (λ (t : List ℕ). out ++ t) (ap (λ (lines : List (List ℕ)). ended (first ∷ lines) ++ (last ++ 10 ∷ [])) (append-nil (map run_line xs))
+    ∙ (sym (ended-push (first ∷ map run_line xs) last []) ∙ append-nil (ended (first ∷ (map run_line xs ++ last ∷ [])))))
 
-pub closing_written : (out first last : List ℕ) (xs : List Run) (i : ℕ) (before after : List ℕ) (r : Result (Unit {0}) AllocError) → i ≡ length xs → before ≡ out ++ ended (first ∷ map run_line (take i xs)) → OnOk r (after ≡ before ++ (last ++ 10 ∷ [])) → OnOk r (after ≡ out ++ ended (first ∷ (map run_line xs ++ last ∷ [])))
-closing_written out first last xs i before after (Ok done) e b h = h ∙ (ap (λ (t : List ℕ). t ++ (last ++ 10 ∷ [])) b ∙ runs_written out first last xs i e)
-closing_written out first last xs i before after (Err kind) e b h = tt
+pub closing_written : (out first last : List ℕ) (xs : List Run) (before after : List ℕ) (r : Result (Unit {0}) AllocError) → before ≡ out ++ ended (first ∷ (map run_line xs ++ [])) → OnOk r (after ≡ before ++ (last ++ 10 ∷ [])) → OnOk r (after ≡ out ++ ended (first ∷ (map run_line xs ++ last ∷ [])))
+closing_written out first last xs before after (Ok done) b h = h ∙ (ap (λ (t : List ℕ). t ++ (last ++ 10 ∷ [])) b ∙ runs_written out first last xs)
+closing_written out first last xs before after (Err kind) b h = tt

@@ -1,6 +1,7 @@
 -- The text of a merging's runs. Numbers are in decimal, with no sign and no leading zero.
-use Rattle.std.specs.Prelude.{◌≡◌, ℕ, List, [], ◌∷◌, ◌++◌, length, map, codes}
+use Rattle.std.specs.Prelude.{◌≡◌, ℕ, List, [], ◌∷◌, ◌++◌, codes}
 use Rattle.std.specs.Fmt.{decimal}
+use Rattle.text_lines.specs.Counted.{counted}
 use Rattle.migration_types.specs.declared.records.LogName.{LogName}
 use Rattle.migration_types.specs.declared.records.LogName.TheVariants.{Guest, Source, Link, Pager}
 use Rattle.migration_types.specs.declared.cert.Run.{Run}
@@ -34,7 +35,7 @@ run_line run = run_key ++ run_text run
 
 -- the number of runs, a line for each, and a closing line
 abbrev pub runs_lines : List Run → List (List ℕ)
-runs_lines runs = (runs_key ++ decimal (length runs)) ∷ (map run_line runs ++ closing ∷ [])
+runs_lines runs = counted runs_key run_line runs (closing ∷ [])
 
 -- these lines tell these runs, which are within all limits
 abbrev pub SpellsRunLines : List Run → List (List ℕ) → Type 0

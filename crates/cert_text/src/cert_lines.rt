@@ -1,19 +1,16 @@
 //! Reading a certificate line by line.
 
-ghost use Rattle.std.specs.Prelude.{◌≡◌, []};
-ghost use Rattle.cert_text.specs.Grammar.{SpellsCert};
+ghost use Rattle.std.specs.Prelude.{◌≡◌, ◌≢◌, ◌≤◌, ℕ, [], ◌++◌, IfOk, OnErr};
+ghost use Rattle.std.specs.Fmt.{decimal};
+ghost use Rattle.cert_text.specs.Grammar.{pages_key, SpellsCert};
 
-use crate::entries::read_entry;
-use crate::entry_front::take_entries;
+use crate::entry_lines::{take_entries, take_entry};
+use crate::keys::{CERT_HEADER, PAGES_KEY};
 use crate::run_lines::RunLines;
 use migration_types::{Cert, Entry, MOST_PAGES, Seq};
 use std::alloc::Global;
 use std::marker::Model;
 use text_lines::{FaultKind, LineReader, is_line, read_keyed};
-
-pub const HEADER: &[u8] = b"postcopy-certificate 1";
-
-pub const PAGES_KEY: &[u8] = b"pages ";
 
 /// Which line is due.
 #[derive(Clone, Copy, Debug, PartialEq, Eq)]
@@ -40,7 +37,7 @@ impl Model for CertLines {
 
     ghost Value = { List (List ℕ) };
 
-    ghost use Rattle.cert_text.specs.CertDraft.{held_of, LiveAt};
+    ghost use Rattle.cert_text.specs.inner.CertDraft.{held_of, LiveAt};
 
     ghost view = { held_of };
 
@@ -71,33 +68,23 @@ impl LineReader for CertLines {
     fn line(&mut self, line: &[u8]) -> Result<(), FaultKind> {
         match self.stage {
             Stage::Header => {
-                if !is_line(line, HEADER) {
+                if !is_line(line, CERT_HEADER) {
                     return Err(FaultKind::Form);
                 }
                 self.stage = Stage::Pages;
                 Ok(())
             }
             Stage::Pages => {
-                let pages = read_keyed(line, PAGES_KEY, MOST_PAGES)?;
-                if pages == 0 {
-                    return Err(FaultKind::Range);
-                }
+                let pages = read_pages(line)?;
                 self.pages = pages;
                 self.stage = Stage::Entries;
                 Ok(())
             }
             Stage::Entries => {
-                let page = self.entries.len() as u32;
-                if page == self.pages {
+                if self.entries.len() == self.pages as usize {
                     return self.runs.line(line);
                 }
-                let Some(entry) = read_entry(line, page) else {
-                    return Err(FaultKind::Form);
-                };
-                let Ok(()) = self.entries.push(entry) else {
-                    return Err(FaultKind::Memory);
-                };
-                Ok(())
+                take_entry(&mut self.entries, line)
             }
         }
     }
@@ -129,7 +116,19 @@ impl LineReader for CertLines {
         }
     }
 
-    ghost use Rattle.cert_text.specs.Plain.{plain_cert};
+    ghost use Rattle.cert_text.specs.inner.Plain.{plain_cert};
 
     ghost plain = { plain_cert };
+}
+
+/// The number of pages that a line announces, 1 to 65,536.
+fn read_pages(line: &[u8]) -> Result<u32, FaultKind>
+    ensures found { IfOk result (λ n. (1 ≤ n) × (n ≤ 65536) × (line.now ≡ pages_key ++ decimal n)) }
+    ensures refused { OnErr result ((n : ℕ) → 1 ≤ n → n ≤ 65536 → line.now ≢ pages_key ++ decimal n) }
+{
+    let pages = read_keyed(line, PAGES_KEY, MOST_PAGES)?;
+    if pages == 0 {
+        return Err(FaultKind::Range);
+    }
+    Ok(pages)
 }

@@ -14,9 +14,8 @@ use text_lines::{TextFault, push_line, read};
 
 mod cert_lines;
 mod decimal;
-mod entries;
-mod entry_front;
-mod run_front;
+mod entry_lines;
+mod keys;
 mod run_lines;
 mod runs;
 mod runs_text;
@@ -24,8 +23,9 @@ mod runs_text;
 mod tests;
 mod writing;
 
-use cert_lines::{CertLines, HEADER, PAGES_KEY};
+use cert_lines::CertLines;
 use decimal::push_count;
+use keys::{CERT_HEADER, PAGES_KEY, RUNS_HEADER};
 use runs_text::RunsText;
 use writing::{push_entries, push_runs};
 
@@ -47,7 +47,7 @@ pub fn write_cert(alloc: Global, cert: &Cert) -> Result<Vec<u8>, AllocError>
     cert.keeps_limits();
     let entries = cert.entries();
     let mut out = Vec::new(alloc);
-    push_line(&mut out, HEADER)?;
+    push_line(&mut out, CERT_HEADER)?;
     push_count(&mut out, PAGES_KEY, entries.len() as u32)?;
     push_entries(&mut out, entries)?;
     push_runs(&mut out, cert.runs())?;
@@ -71,7 +71,7 @@ pub fn write_runs(alloc: Global, runs: &[Run]) -> Result<Vec<u8>, AllocError>
     ensures { IfOk result (λ out. IsSpelling SpellsRuns runs.now out.items) }
 {
     let mut out = Vec::new(alloc);
-    push_line(&mut out, runs_text::HEADER)?;
+    push_line(&mut out, RUNS_HEADER)?;
     push_runs(&mut out, runs)?;
     Ok(out)
 }

@@ -2,15 +2,15 @@
 
 ghost use Rattle.std.specs.Prelude.{◌≡◌, ◌≢◌, [], ◌∷◌, ◌++◌, ◌<◌, ◌^◌, List, length, IfSome, IfNone, OnOk, OnErr, IfErr};
 ghost use Rattle.text_lines.specs.Text.{Begins, TakesLines};
-ghost use Rattle.migration_types.specs.declared.cert.Run.{Run as Counted};
+ghost use Rattle.migration_types.specs.declared.cert.Run.{Run as Told};
 ghost use Rattle.cert_text.specs.Runs.{SpellsRunLines};
 
-use crate::run_front::take_runs;
-use crate::runs::{CLOSING, RUNS_KEY, may_follow, read_run};
+use crate::keys::{CLOSING, RUNS_KEY};
+use crate::runs::RunForm;
 use migration_types::{MOST_RUNS, Run, Seq};
 use std::alloc::Global;
 use std::marker::Model;
-use text_lines::{FaultKind, is_line, read_keyed};
+use text_lines::{Counted, FaultKind, is_line};
 
 /// Which line is due.
 #[derive(Clone, Copy, Debug, PartialEq, Eq)]
@@ -27,8 +27,8 @@ pub enum RunStage {
 #[derive(Drop)]
 pub struct RunLines {
     stage: RunStage,
-    count: u32,
-    runs: Vec<Run>,
+    alloc: Global,
+    runs: Counted<Run>,
 }
 
 impl Model for RunLines {
@@ -36,11 +36,11 @@ impl Model for RunLines {
 
     ghost Value = { List (List ℕ) };
 
-    ghost use Rattle.cert_text.specs.RunDraft.{held_of, LiveAt};
+    ghost use Rattle.cert_text.specs.inner.Held.{runs_held, RunsLive};
 
-    ghost view = { λ a. held_of a [] };
+    ghost view = { λ a. runs_held a.stage a.runs [] };
 
-    ghost invariant = { LiveAt };
+    ghost invariant = { λ a. RunsLive a.stage a.runs };
 }
 
 impl RunLines {
@@ -50,8 +50,8 @@ impl RunLines {
     {
         RunLines {
             stage: RunStage::Count,
-            count: 0,
-            runs: Vec::new(alloc),
+            alloc,
+            runs: Counted::nothing(alloc),
         }
     }
 
@@ -63,32 +63,20 @@ impl RunLines {
     {
         match self.stage {
             RunStage::Count => {
-                let count = match read_keyed(line, RUNS_KEY, MOST_RUNS) {
-                    Ok(count) => count,
-                    Err(kind) => return Err(kind),
-                };
-                self.count = count;
+                let runs = Counted::announced(self.alloc, line, RUNS_KEY, MOST_RUNS)?;
+                self.runs = runs;
                 self.stage = RunStage::Runs;
                 Ok(())
             }
             RunStage::Runs => {
-                if self.runs.len() == self.count as usize {
+                if self.runs.is_whole() {
                     if !is_line(line, CLOSING) {
                         return Err(FaultKind::Form);
                     }
                     self.stage = RunStage::Done;
                     return Ok(());
                 }
-                let Some(run) = read_run(line) else {
-                    return Err(FaultKind::Form);
-                };
-                if !may_follow(&self.runs, run.log) {
-                    return Err(FaultKind::Form);
-                }
-                let Ok(()) = self.runs.push(run) else {
-                    return Err(FaultKind::Memory);
-                };
-                Ok(())
+                self.runs.line(&RunForm, line)
             }
             RunStage::Done => Err(FaultKind::Ended),
         }
@@ -99,10 +87,7 @@ impl RunLines {
         ensures { TakesLines self.old self.new bytes.now result.0.now result.1 }
     {
         match self.stage {
-            RunStage::Runs => {
-                let left = self.count - self.runs.len() as u32;
-                take_runs(&mut self.runs, left, bytes)
-            }
+            RunStage::Runs => self.runs.lines(&RunForm, bytes),
             _ => (bytes, 0),
         }
     }
@@ -124,10 +109,10 @@ impl RunLines {
     /// The runs, where the lines so far are theirs.
     pub fn text(self) -> Option<Seq<Run>>
         ensures found { IfSome result (λ runs. SpellsRunLines runs self) }
-        ensures none { IfNone result ((runs : List Counted) → SpellsRunLines runs self → ⊥) }
+        ensures none { IfNone result ((runs : List Told) → SpellsRunLines runs self → ⊥) }
     {
         match self.stage {
-            RunStage::Done => Some(Seq::from_vec(self.runs)),
+            RunStage::Done => Some(Seq::from_vec(self.runs.into_vec())),
             _ => None,
         }
     }

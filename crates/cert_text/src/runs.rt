@@ -1,94 +1,106 @@
-//! Lines of runs. A text of runs is a line with their number, a line for each, and a closing line.
+//! Lines of runs.
 
-ghost use Rattle.std.specs.Prelude.{◌≡◌, ◌≢◌, ◌∷◌, ◌++◌, ◌↔◌, ℕ, List, IsTrue, MatchOption, IfSome, IfNone};
+ghost use Rattle.std.specs.Prelude.{◌≡◌, ◌≢◌, ℕ, List, [], ◌∷◌, ◌++◌, ◌↔◌, IsTrue, IfSome, IsSomeAnd, slice_index};
 ghost use Rattle.migration_types.specs.Certs.{RunFits};
-ghost use Rattle.migration_types.specs.declared.cert.Run.{Run as Counted};
+ghost use Rattle.migration_types.specs.declared.cert.Run.{Run as Told};
 ghost use Rattle.migration_types.specs.declared.records.LogName.{LogName as Log};
-ghost use Rattle.cert_text.specs.Runs.{log_word, run_line, run_text};
-ghost use Rattle.cert_text.specs.Held.{MayFollow};
+ghost use Rattle.cert_text.specs.Runs.{log_word, run_line};
+ghost use Rattle.cert_text.specs.inner.Held.{MayFollow};
 
+use crate::decimal::push_count;
+use crate::keys::{RUN_KEY, after_end, log_key};
 use migration_types::{LogName, MOST_RECORDS, Run};
-use text_lines::{after_key, read_decimal};
+use std::alloc::AllocError;
+use text_lines::{FaultKind, LineForm, after_key, front_number};
 
-/// How the line with the number of runs begins.
-pub const RUNS_KEY: &[u8] = b"runs ";
-
-/// The line after the last run.
-pub const CLOSING: &[u8] = b"end";
-
-/// A run has at least so many records.
-const LEAST_RECORDS: u64 = 1;
-
-pub const RUN_KEY: &[u8] = b"run ";
-
-pub const GUEST_KEY: &[u8] = b"guest ";
-
-pub const SOURCE_KEY: &[u8] = b"source ";
-
-pub const LINK_KEY: &[u8] = b"link ";
-
-pub const PAGER_KEY: &[u8] = b"pager ";
+/// The log whose name begins with this letter.
+#[inline(always)]
+fn log_with_initial(letter: u8) -> LogName
+    ensures { (log : Log) → letter ≡ slice_index (log_word log) 0 → result ≡ log }
+{
+    match letter {
+        b'g' => LogName::Guest,
+        b's' => LogName::Source,
+        b'l' => LogName::Link,
+        _ => LogName::Pager,
+    }
+}
 
 /// The log that is named at the front, and what follows the space after it.
+#[inline(always)]
 fn log_then(text: &[u8]) -> Option<(LogName, &[u8])>
     ensures found { IfSome result (λ found. text.now ≡ log_word found.0 ++ 32 ∷ found.1.now) }
-    ensures only { IfSome result (λ found. (log : Log) (rest : List ℕ) → text.now ≡ log_word log ++ 32 ∷ rest → (log ≡ found.0) × (rest ≡ found.1.now)) }
-    ensures none { IfNone result ((log : Log) (rest : List ℕ) → text.now ≢ log_word log ++ 32 ∷ rest) }
+    ensures whole { (log : Log) (rest : List ℕ) → text.now ≡ log_word log ++ 32 ∷ rest → IsSomeAnd result (λ found. found.1.now ≡ rest) }
 {
-    if let Some(rest) = after_key(text, GUEST_KEY) {
-        return Some((LogName::Guest, rest));
-    }
-    if let Some(rest) = after_key(text, SOURCE_KEY) {
-        return Some((LogName::Source, rest));
-    }
-    if let Some(rest) = after_key(text, LINK_KEY) {
-        return Some((LogName::Link, rest));
-    }
-    if let Some(rest) = after_key(text, PAGER_KEY) {
-        return Some((LogName::Pager, rest));
-    }
-    None
+    let letter = *text.first()?;
+    let log = log_with_initial(letter);
+    let rest = after_key(text, log_key(log))?;
+    Some((log, rest))
 }
 
-/// The run of a log's name, a space, and a number of records from 1 to 1,048,576.
-fn named_run(text: &[u8]) -> Option<Run>
-    ensures { MatchOption result ((run : Counted) → RunFits run → text.now ≢ run_text run) (λ run. RunFits run × (text.now ≡ run_text run)) }
+/// The run at the front, and what follows. Nothing follows where the text is its line alone.
+#[inline(always)]
+fn run_then(text: &[u8]) -> Option<(Run, &[u8])>
+    ensures found { IfSome result (λ found. RunFits found.0 × (text.now ≡ run_line found.0 ++ found.1.now)) }
+    ensures whole { (run : Told) → RunFits run → text.now ≡ run_line run → IsSomeAnd result (λ found. found.1.now ≡ []) }
 {
-    let Some((log, text)) = log_then(text) else {
-        return None;
-    };
-    let Some(count) = read_decimal(text) else {
-        return None;
-    };
-    if count < LEAST_RECORDS {
+    let (log, text) = log_then(after_key(text, RUN_KEY)?)?;
+    let (count, rest) = front_number(text)?;
+    if count == 0 || count > u64::from(MOST_RECORDS) {
         return None;
     }
-    let most = u64::from(MOST_RECORDS);
-    if count > most {
-        return None;
-    }
-    Some(Run {
-        log,
-        count: count as u32,
-    })
-}
-
-/// The run that the line spells: `run`, a log's name, and a number of records from 1 to 1,048,576.
-pub fn read_run(line: &[u8]) -> Option<Run>
-    ensures { MatchOption result ((run : Counted) → RunFits run → line.now ≢ run_line run) (λ run. RunFits run × (line.now ≡ run_line run)) }
-{
-    let Some(text) = after_key(line, RUN_KEY) else {
-        return None;
-    };
-    named_run(text)
+    let count = count as u32;
+    Some((Run { log, count }, rest))
 }
 
 /// Whether a run of this log may stand after these: the last of them is of another log.
-pub fn may_follow(runs: &[Run], log: LogName) -> bool
+#[inline(always)]
+fn may_follow(runs: &[Run], log: LogName) -> bool
     ensures { IsTrue result ↔ MayFollow runs.now log }
 {
     match runs.last() {
         Some(last) => last.log != log,
         None => true,
+    }
+}
+
+/// The lines of runs, of which no two neighbours are of one log.
+#[derive(Clone, Copy)]
+pub struct RunForm;
+
+impl LineForm for RunForm {
+    type Item = Run;
+
+    ghost spell = { run_line };
+
+    ghost IsForm = { λ _. Unit {0} };
+
+    ghost Fits = { λ _ run. RunFits run };
+
+    ghost MayFollow = { λ runs run. MayFollow runs run.log };
+
+    fn read(&self, before: &[Run], line: &[u8]) -> Result<Run, FaultKind> {
+        let Some((run, rest)) = run_then(line) else {
+            return Err(FaultKind::Form);
+        };
+        if !rest.is_empty() || !may_follow(before, run.log) {
+            return Err(FaultKind::Form);
+        }
+        Ok(run)
+    }
+
+    #[inline(always)]
+    fn front<'a>(&self, before: &[Run], text: &'a [u8]) -> Option<(Run, &'a [u8])> {
+        let (run, rest) = run_then(text)?;
+        if !may_follow(before, run.log) {
+            return None;
+        }
+        Some((run, after_end(rest)?))
+    }
+
+    #[inline(always)]
+    fn push(run: &Run, out: &mut Vec<u8>) -> Result<(), AllocError> {
+        out.extend_from_slice(RUN_KEY)?;
+        push_count(out, log_key(run.log), run.count)
     }
 }

@@ -3,13 +3,12 @@
 ghost use Rattle.std.specs.Prelude.{◌≡◌, []};
 ghost use Rattle.cert_text.specs.Runs.{SpellsRuns};
 
+use crate::keys::RUNS_HEADER;
 use crate::run_lines::RunLines;
 use migration_types::{Run, Seq};
 use std::alloc::Global;
 use std::marker::Model;
 use text_lines::{FaultKind, LineReader, is_line};
-
-pub const HEADER: &[u8] = b"postcopy-runs 1";
 
 /// Reads a text of runs line by line: what its lines said so far. Contracts see the lines.
 #[derive(Drop)]
@@ -23,7 +22,7 @@ impl Model for RunsText {
 
     ghost Value = { List (List ℕ) };
 
-    ghost use Rattle.cert_text.specs.Held.{headed_by, HeadedLive};
+    ghost use Rattle.cert_text.specs.inner.Held.{headed_by, HeadedLive};
 
     ghost view = { λ a. headed_by a.headed a.runs };
 
@@ -53,7 +52,7 @@ impl LineReader for RunsText {
         if self.headed {
             return self.runs.line(line);
         }
-        if !is_line(line, HEADER) {
+        if !is_line(line, RUNS_HEADER) {
             return Err(FaultKind::Form);
         }
         self.headed = true;
@@ -77,7 +76,7 @@ impl LineReader for RunsText {
         if self.headed { self.runs.text() } else { None }
     }
 
-    ghost use Rattle.cert_text.specs.Plain.{plain_runs_text};
+    ghost use Rattle.cert_text.specs.inner.Plain.{plain_runs_text};
 
     ghost plain = { plain_runs_text };
 }

@@ -2,15 +2,15 @@
 
 ghost use Rattle.std.specs.Prelude.{◌≡◌, ◌≤◌, [], ◌∷◌, ◌++◌, length, OnOk};
 ghost use Rattle.text_lines.specs.Text.{ended};
-ghost use Rattle.cert_text.specs.Runs.{run_key, log_word, run_line, runs_lines};
+ghost use Rattle.cert_text.specs.Runs.{runs_lines};
 ghost use Rattle.cert_text.specs.Grammar.{first_text, placed_text, entry_text, entry_line, entry_lines};
 
-use crate::decimal::{push_count, push_decimal};
-use crate::entries::{BALLOON_KEY, NO_FIRST, NONE, PAGE_KEY, SOURCE_KEY};
-use crate::runs::{CLOSING, RUNS_KEY};
-use migration_types::{Entry, First, LogName, Run};
+use crate::decimal::push_decimal;
+use crate::keys::{BALLOON_KEY, CLOSING, NO_FIRST, NONE, PAGE_KEY, RUNS_KEY, SOURCE_KEY};
+use crate::runs::RunForm;
+use migration_types::{Entry, First, Run};
 use std::alloc::AllocError;
-use text_lines::push_line;
+use text_lines::{push_counted, push_line};
 
 /// Adds a page's first read or write, and the look before it.
 fn push_first(out: &mut Vec<u8>, first: Option<First>) -> Result<(), AllocError>
@@ -77,36 +77,10 @@ pub fn push_entries(out: &mut Vec<u8>, entries: &[Entry]) -> Result<(), AllocErr
     Ok(())
 }
 
-/// How the line of a run of this log begins.
-fn front_of(log: LogName) -> &'static [u8]
-    ensures { result.now ≡ run_key ++ (log_word log ++ 32 ∷ []) }
-{
-    match log {
-        LogName::Guest => b"run guest ",
-        LogName::Source => b"run source ",
-        LogName::Link => b"run link ",
-        LogName::Pager => b"run pager ",
-    }
-}
-
-/// Adds the line of a run.
-fn push_run(out: &mut Vec<u8>, run: Run) -> Result<(), AllocError>
-    ensures { OnOk result (out.new.items ≡ out.old.items ++ (run_line run ++ 10 ∷ [])) }
-{
-    out.extend_from_slice(front_of(run.log))?;
-    push_decimal(out, run.count)?;
-    out.push(b'\n')?;
-    Ok(())
-}
-
 /// Adds the lines of runs: their number, a line for each, and the closing line.
 pub fn push_runs(out: &mut Vec<u8>, runs: &[Run]) -> Result<(), AllocError>
-    requires { length runs.now ≤ 4194304 }
     ensures { OnOk result (out.new.items ≡ out.old.items ++ ended (runs_lines runs.now)) }
 {
-    push_count(out, RUNS_KEY, runs.len() as u32)?;
-    for run in runs {
-        push_run(out, *run)?;
-    }
+    push_counted::<RunForm>(out, RUNS_KEY, runs)?;
     push_line(out, CLOSING)
 }

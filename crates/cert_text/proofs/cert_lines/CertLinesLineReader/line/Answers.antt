@@ -1,38 +1,24 @@
-use Rattle.std.proofs.Common.{◌≡◌, ℕ, length, ap, ◌∙◌, arith}
-use Rattle.cert_text.specs.declared.cert_lines.Stage.TheVariants.{Pages, Entries}
-use Rattle.cert_text.specs.Grammar.{entry_line}
-use Rattle.cert_text.specs.CertDraft.{draft_of}
-use Rattle.cert_text.proofs.Laws.{live_at, goes_from, no_pages, entry_at, run_line_refused, entry_taken}
+use Rattle.std.proofs.Common.{arith}
+use Rattle.cert_text.specs.declared.cert_lines.Stage.TheVariants.{Entries}
+use Rattle.cert_text.specs.inner.CertDraft.{draft_of}
+use Rattle.cert_text.proofs.Laws.{live_at, run_line_refused, entry_line_taken, entry_line_refused}
 use Rattle.cert_text.proofs.cert_lines.CertLinesLineReader.line.Goals as goal
 
-pub returns-then-pages-eq0-clause-refused : goal.returns-then-pages-eq0-clause-refused
-returns-then-pages-eq0-clause-refused c = λ _ b.
+pub returns-then-len-self-clause-refused : goal.returns-then-len-self-clause-refused
+returns-then-len-self-clause-refused c =
     let i = c.self.inside in
-    let g = goes_from i.stage Pages (draft_of i) c.args.self.now c.args.line.now c.self.view_is c.in-Pages.is b in
-    no_pages (draft_of i) c.args.line.now g (rw (← c.if-pages-eq0.true) c.in_ok-pages-in-Pages.ensures.found.1)
+    run_line_refused i.stage (draft_of i) c.args.self.now c.args.line.now c.line.result c.self.view_is c.in-Entries.is c.self.invariant (omega (arith, i.entries.ok.0)) c.line.ensures.refused
 
-pub returns-then-page-self-clause-refused : goal.returns-then-page-self-clause-refused
-returns-then-page-self-clause-refused c =
+pub returns-else-len-self-clause-ok : goal.returns-else-len-self-clause-ok
+returns-else-len-self-clause-ok c =
     let i = c.self.inside in
     let d = draft_of i in
-    run_line_refused i.stage d c.args.self.now c.args.line.now c.line.result c.self.view_is c.in-Entries.is c.self.invariant (omega (arith, i.entries.ok.0)) c.line.ensures.refused
+    let count = (live_at i.stage Entries d c.in-Entries.is c.self.invariant).count in
+    entry_line_taken i.stage d c.args.self.now c.args.line.now c.take_entry.new.entries.items c.take_entry.result c.in-Entries.is c.self.view_is c.self.invariant (omega (arith, i.entries.ok.0)) c.take_entry.ensures.ok
 
-pub returns-in_default-clause-refused : goal.returns-in_default-clause-refused
-returns-in_default-clause-refused c = λ _ b.
+pub returns-else-len-self-clause-refused : goal.returns-else-len-self-clause-refused
+returns-else-len-self-clause-refused c =
     let i = c.self.inside in
     let d = draft_of i in
-    let live = live_at i.stage Entries d c.in-Entries.is c.self.invariant in
-    let count = live.count in
-    let n = entry_at d c.args.line.now live (omega (arith, i.entries.ok.0)) (goes_from i.stage Entries d c.args.self.now c.args.line.now c.self.view_is c.in-Entries.is b) in
-    let k : length d.entries ≡ c.len-page.result = omega (arith, i.entries.ok.0) in
-    c.in_default.ensures n.0 n.1 (n.2 ∙ ap (λ (page : ℕ). entry_line page n.0) k)
-
-pub returns-in-Ok-clause-ok : goal.returns-in-Ok-clause-ok
-returns-in-Ok-clause-ok c =
-    let i = c.self.inside in
-    let d = draft_of i in
-    let live = live_at i.stage Entries d c.in-Entries.is c.self.invariant in
-    let count = live.count in
-    let k : c.len-page.result ≡ length d.entries = omega (arith, i.entries.ok.0) in
-    let spelled = c.in-Some.ensures.1 ∙ ap (λ (page : ℕ). entry_line page c.in-Some.entry) k in
-    rw c.in-Ok.ensures.items (entry_taken i.stage d c.args.self.now c.args.line.now c.in-Some.entry c.in-Entries.is c.self.view_is c.self.invariant (omega (arith, i.entries.ok.0)) spelled)
+    let count = (live_at i.stage Entries d c.in-Entries.is c.self.invariant).count in
+    entry_line_refused i.stage d c.args.self.now c.args.line.now c.take_entry.result c.self.view_is c.in-Entries.is c.self.invariant (omega (arith, i.entries.ok.0)) c.take_entry.ensures.refused

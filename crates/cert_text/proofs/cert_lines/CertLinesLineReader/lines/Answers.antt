@@ -1,5 +1,5 @@
 use Rattle.std.proofs.Common.{arith}
-use Rattle.cert_text.specs.CertDraft.{draft_of}
+use Rattle.cert_text.specs.inner.CertDraft.{draft_of}
 use Rattle.cert_text.proofs.Laws.{live_at, entries_taken}
 use Rattle.cert_text.specs.declared.cert_lines.Stage.TheVariants.{Entries}
 use Rattle.cert_text.proofs.cert_lines.CertLinesLineReader.lines.Goals as goal

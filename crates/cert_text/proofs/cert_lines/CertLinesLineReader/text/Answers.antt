@@ -1,4 +1,4 @@
-use Rattle.cert_text.specs.CertDraft.{draft_of}
+use Rattle.cert_text.specs.inner.CertDraft.{draft_of}
 use Rattle.cert_text.proofs.Goes.{not_whole}
 use Rattle.cert_text.proofs.cert_lines.CertLinesLineReader.text.Goals as goal
 

@@ -1,7 +1,7 @@
 use Rattle.std.proofs.Common.{◌≡◌, ◌∷◌, [], ◌++◌, arith, length-append}
 use Rattle.std.proofs.lemmas.Grind.{common_steps}
 use Rattle.cert_text.proofs.Taken.{took_entry}
-use Rattle.cert_text.proofs.entry_front.take_entries.Goals as goal
+use Rattle.cert_text.proofs.entry_lines.take_entries.Goals as goal
 
 pub loop-at-preserved : goal.loop-at-preserved
 loop-at-preserved c =

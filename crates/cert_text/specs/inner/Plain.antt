@@ -1,4 +1,4 @@
--- No line of a certificate's text or of a text of runs has an LF. This serves only proofs.
+-- No line of a certificate's text or of a text of runs has an LF.
 use Rattle.std.specs.Prelude.{ℕ, ◌+◌, ◌<◌, ◌^◌, List, [], ◌∷◌, ◌++◌, length, Option, Some, None, refl}
 use Rattle.std.proofs.Common.{arith, subst, sym}
 use Rattle.std.specs.List.{AllByRecursion}

@@ -1,6 +1,6 @@
 use Rattle.std.proofs.Common.{◌≡◌, ◌+◌, length}
-use Rattle.cert_text.specs.Taken.{TakesEntries}
-use Rattle.cert_text.proofs.entry_front.take_entries.Given as goal
+use Rattle.cert_text.specs.inner.Taken.{TakesEntries}
+use Rattle.cert_text.proofs.entry_lines.take_entries.Given as goal
 
 abbrev pub invariant-loop-at : goal.invariant-loop-at
 invariant-loop-at l = record {

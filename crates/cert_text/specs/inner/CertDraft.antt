@@ -1,7 +1,7 @@
--- The lines of a reader of certificates with its fields. This serves only proofs.
+-- The lines of a reader of certificates with its fields.
 use Rattle.std.specs.Prelude.{List, ℕ}
 use Rattle.cert_text.specs.declared.cert_lines.CertLines.TheInside.{Inside}
-use Rattle.cert_text.specs.Held.{Draft, held_by, Live}
+use Rattle.cert_text.specs.inner.Held.{Draft, held_by, Live}
 
 abbrev pub draft_of : Inside → Draft
 draft_of a = record { pages = a.pages; entries = a.entries.items; runs = a.runs }

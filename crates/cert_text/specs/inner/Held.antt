@@ -1,7 +1,8 @@
--- The lines that readers of certificates and of runs hold. This serves only proofs.
+-- The lines that readers of certificates and of runs hold.
 use Rattle.std.specs.Prelude.{◌≡◌, ◌≢◌, ℕ, ◌-◌, ◌<◌, ◌≤◌, Bool, true, false, List, [], ◌∷◌, ◌++◌, length, map, slice_index_or}
 use Rattle.std.specs.List.{AllByRecursion}
 use Rattle.std.specs.Fmt.{decimal}
+use Rattle.text_lines.specs.Counted.{Part, part_onto, IsWhole}
 use Rattle.migration_types.specs.declared.records.LogName.{LogName}
 use Rattle.migration_types.specs.declared.cert.Run.{Run}
 use Rattle.migration_types.specs.declared.cert.Entry.{Entry}
@@ -17,33 +18,33 @@ use Rattle.cert_text.specs.Grammar.{header, pages_key, entry_lines}
 abbrev pub MayFollow : List Run → LogName → Type 0
 MayFollow runs log = (d : Run) → 0 < length runs → (slice_index_or runs (length runs - 1) d).log ≢ log
 
+-- a run may stand after these runs
+abbrev pub Follows : List Run → Run → Type 0
+Follows runs run = MayFollow runs run.log
+
 -- ---- runs
 
--- what came of some runs
-pub record RunDraft : Type 0 where
-  pub count : ℕ
-  pub runs : List Run
-
-abbrev pub runs_onto : RunDraft → List (List ℕ) → List (List ℕ)
-runs_onto d more = (runs_key ++ decimal d.count) ∷ (map run_line d.runs ++ more)
+-- the number of the runs, the runs so far, and then more
+abbrev pub runs_onto : Part Run → List (List ℕ) → List (List ℕ)
+runs_onto d more = part_onto runs_key run_line d more
 
 -- the lines of the runs so far, and then more
-abbrev pub runs_held : RunStage → RunDraft → List (List ℕ) → List (List ℕ)
+abbrev pub runs_held : RunStage → Part Run → List (List ℕ) → List (List ℕ)
 runs_held Count d more = more
 runs_held Runs d more = runs_onto d more
 runs_held Done d more = runs_onto d (closing ∷ more)
 
 -- the runs so far
-pub record RunsFit (d : RunDraft) : Type 0 where
+pub record RunsFit (d : Part Run) : Type 0 where
   pub few : d.count ≤ 4194304
-  pub count : length d.runs ≤ d.count
-  pub each : AllByRecursion RunFits d.runs
-  pub alternate : Alternate d.runs
+  pub count : length d.items ≤ d.count
+  pub each : AllByRecursion RunFits d.items
+  pub alternate : Alternate d.items
 
-abbrev pub RunsLive : RunStage → RunDraft → Type 0
-RunsLive Count d = d.runs ≡ []
+abbrev pub RunsLive : RunStage → Part Run → Type 0
+RunsLive Count d = Unit {0}
 RunsLive Runs d = RunsFit d
-RunsLive Done d = RunsFit d × (length d.runs ≡ d.count)
+RunsLive Done d = RunsFit d × IsWhole d
 
 -- ---- a text of runs
 

@@ -1,0 +1,4 @@
+pub mod Held
+pub mod CertDraft
+pub mod Plain
+pub mod Taken

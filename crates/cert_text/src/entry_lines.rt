@@ -1,0 +1,152 @@
+//! Reading the lines of the pages' entries.
+
+ghost use Rattle.std.specs.Prelude.{◌≡◌, ◌≢◌, ◌≤◌, ◌<◌, ℕ, List, [], ◌∷◌, ◌++◌, Option, length, MatchOption, IfSome, IsSomeAnd, IfErr, OnOk, OnErr};
+ghost use Rattle.std.specs.Fmt.{decimal};
+ghost use Rattle.migration_types.specs.declared.cert.Entry.{Entry as Said};
+ghost use Rattle.migration_types.specs.declared.cert.First.{First as Used};
+ghost use Rattle.migration_types.specs.Sessions.{IsNumber};
+ghost use Rattle.migration_types.specs.Certs.{FirstFits, EntryFits};
+ghost use Rattle.cert_text.specs.Grammar.{first_text, placed_text, entry_text, entry_line};
+ghost use Rattle.cert_text.specs.inner.Taken.{TakesEntries, TakesEntry};
+
+use crate::keys::{BALLOON_KEY, NO_FIRST, NONE, PAGE_KEY, SOURCE_KEY, after_end};
+use migration_types::{Entry, First, LAST_RECORD};
+use text_lines::{FaultKind, after_key, front_number, number_then, short_then};
+
+/// A number up to a limit at the front, and what follows the space after it.
+#[inline(always)]
+fn limited_then(text: &[u8], limit: u32) -> Option<(u32, &[u8])>
+    ensures found { IfSome result (λ found. (found.0 ≤ limit) × (text.now ≡ decimal found.0 ++ 32 ∷ found.1.now)) }
+    ensures whole { (n : ℕ) (rest : List ℕ) → n ≤ limit → text.now ≡ decimal n ++ 32 ∷ rest → IsSomeAnd result (λ found. (found.0 ≡ n) × (found.1.now ≡ rest)) }
+{
+    if text.len() >= 8 {
+        if let Some((number, rest)) = short_then(text, limit) {
+            return Some((number, rest));
+        }
+    }
+    let (number, rest) = number_then(text, u64::from(limit))?;
+    Some((number as u32, rest))
+}
+
+/// A page's first read or write and the look before it at the front, and what follows. Nothing follows where the text
+/// is theirs alone.
+#[inline(always)]
+fn first_then(text: &[u8]) -> Option<(Option<First>, &[u8])>
+    ensures found { IfSome result (λ found. FirstFits found.0 × (text.now ≡ first_text found.0 ++ found.1.now)) }
+    ensures whole { (first : Option Used) → FirstFits first → text.now ≡ first_text first → IsSomeAnd result (λ found. found.1.now ≡ []) }
+{
+    if let Some(rest) = after_key(text, NO_FIRST) {
+        return Some((None, rest));
+    }
+    let (access, rest) = limited_then(text, LAST_RECORD)?;
+    let (see, rest) = front_number(rest)?;
+    if see > u64::from(LAST_RECORD) {
+        return None;
+    }
+    let see = see as u32;
+    Some((Some(First { access, see }), rest))
+}
+
+/// A page's placement, its first read or write and the look before it at the front, and what follows. Nothing follows
+/// where the text is theirs alone.
+#[inline(always)]
+fn placed_then(text: &[u8]) -> Option<(u32, Option<First>, &[u8])>
+    ensures found { IfSome result (λ found. IsNumber found.0 × FirstFits found.1 × (text.now ≡ placed_text found.0 found.1 ++ found.2.now)) }
+    ensures whole { (place : ℕ) (first : Option Used) → IsNumber place → FirstFits first → text.now ≡ placed_text place first → IsSomeAnd result (λ found. found.2.now ≡ []) }
+{
+    let (place, rest) = limited_then(text, LAST_RECORD)?;
+    let (first, rest) = first_then(rest)?;
+    Some((place, first, rest))
+}
+
+/// What an entry says at the front, and what follows. Nothing follows where the text is an entry's alone.
+#[inline(always)]
+fn said_then(text: &[u8]) -> Option<(Entry, &[u8])>
+    ensures found { IfSome result (λ found. EntryFits found.0 × (text.now ≡ entry_text found.0 ++ found.1.now)) }
+    ensures whole { (entry : Said) → EntryFits entry → text.now ≡ entry_text entry → IsSomeAnd result (λ found. found.1.now ≡ []) }
+{
+    if let Some(rest) = after_key(text, NONE) {
+        return Some((Entry::Nothing, rest));
+    }
+    if let Some(rest) = after_key(text, BALLOON_KEY) {
+        let (place, first, rest) = placed_then(rest)?;
+        return Some((Entry::Balloon { place, first }, rest));
+    }
+    let (send, rest) = limited_then(after_key(text, SOURCE_KEY)?, LAST_RECORD)?;
+    let (place, first, rest) = placed_then(rest)?;
+    Some((Entry::Source { send, place, first }, rest))
+}
+
+/// The entry of this page at the front, and what follows. Nothing follows where the text is its line alone.
+#[inline(always)]
+fn entry_then(text: &[u8], page: u32) -> Option<(Entry, &[u8])>
+    ensures found { IfSome result (λ found. EntryFits found.0 × (text.now ≡ entry_line page found.0 ++ found.1.now)) }
+    ensures whole { (entry : Said) → EntryFits entry → text.now ≡ entry_line page entry → IsSomeAnd result (λ found. found.1.now ≡ []) }
+{
+    let (number, rest) = limited_then(after_key(text, PAGE_KEY)?, page)?;
+    if number != page {
+        return None;
+    }
+    said_then(rest)
+}
+
+/// The entry that the line spells, where it is the line of this page.
+fn read_entry(line: &[u8], page: u32) -> Option<Entry>
+    ensures { MatchOption result
+        ((entry : Said) → EntryFits entry → line.now ≢ entry_line page entry)
+        (λ entry. EntryFits entry × (line.now ≡ entry_line page entry)) }
+{
+    let (entry, rest) = entry_then(line, page)?;
+    if !rest.is_empty() {
+        return None;
+    }
+    Some(entry)
+}
+
+/// Takes the line of the next page's entry, or says why it is none and leaves the entries as they were.
+pub fn take_entry(entries: &mut Vec<Entry>, line: &[u8]) -> Result<(), FaultKind>
+    requires { length entries.old.items < 65536 }
+    ensures ok { OnOk result (TakesEntry entries.old.items entries.new.items line.now) }
+    ensures refused { IfErr result (λ kind. kind ≢ FaultKind.Memory → (entry : Said) → EntryFits entry → line.now ≢ entry_line (length entries.old.items) entry) }
+    ensures err { OnErr result (entries.new.items ≡ entries.old.items) }
+{
+    let Some(entry) = read_entry(line, entries.len() as u32) else {
+        return Err(FaultKind::Form);
+    };
+    match entries.push(entry) {
+        Ok(()) => Ok(()),
+        Err(_) => Err(FaultKind::Memory),
+    }
+}
+
+/// The entry of this page at the front of a text of whole lines, and what follows its line. It may answer `None` at any
+/// text.
+#[inline(always)]
+fn front_entry(text: &[u8], page: u32) -> Option<(Entry, &[u8])>
+    ensures { IfSome result (λ found. EntryFits found.0 × (text.now ≡ entry_line page found.0 ++ 10 ∷ found.1.now)) }
+{
+    let (entry, rest) = entry_then(text, page)?;
+    Some((entry, after_end(rest)?))
+}
+
+/// Takes entries at the front of the bytes, those of the pages that follow, up to this number of them in all, and stops
+/// where it likes. Answers what follows, and how many they were.
+pub fn take_entries<'a>(entries: &mut Vec<Entry>, pages: u32, bytes: &'a [u8]) -> (&'a [u8], u32)
+    requires { length entries.old.items ≤ pages }
+    ensures taken { TakesEntries entries.old.items entries.new.items bytes.now result.0.now result.1 }
+    ensures most { length entries.new.items ≤ pages }
+{
+    let left = pages - entries.len() as u32;
+    let mut rest = bytes;
+    for at in 0..left {
+        let page = entries.len() as u32;
+        let Some((entry, after)) = front_entry(rest, page) else {
+            return (rest, at);
+        };
+        if entries.push(entry).is_err() {
+            return (rest, at);
+        }
+        rest = after;
+    }
+    (rest, left)
+}

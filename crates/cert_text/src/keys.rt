@@ -1,0 +1,63 @@
+//! How the lines of certificates and of runs begin, for their readers and their writers.
+
+ghost use Rattle.std.specs.Prelude.{◌≡◌, [], ◌∷◌, ◌++◌, IfSome};
+ghost use Rattle.cert_text.specs.Runs.{log_word};
+
+use migration_types::LogName;
+
+/// The first line of a certificate.
+pub const CERT_HEADER: &[u8] = b"postcopy-certificate 1";
+
+/// How the line with the number of pages begins.
+pub const PAGES_KEY: &[u8] = b"pages ";
+
+/// How the line of a page's entry begins.
+pub const PAGE_KEY: &[u8] = b"page ";
+
+/// The entry of a page that was not placed.
+pub const NONE: &[u8] = b"none";
+
+/// How the entry of a page that was sent begins.
+pub const SOURCE_KEY: &[u8] = b"source ";
+
+/// How the entry of a released page begins.
+pub const BALLOON_KEY: &[u8] = b"balloon ";
+
+/// Stands where a page was not read or written at the target.
+pub const NO_FIRST: &[u8] = b"- -";
+
+/// The first line of a text of runs.
+pub const RUNS_HEADER: &[u8] = b"postcopy-runs 1";
+
+/// How the line with the number of runs begins.
+pub const RUNS_KEY: &[u8] = b"runs ";
+
+/// How the line of a run begins.
+pub const RUN_KEY: &[u8] = b"run ";
+
+/// The line after the last run.
+pub const CLOSING: &[u8] = b"end";
+
+/// A log's name and a space.
+pub fn log_key(log: LogName) -> &'static [u8]
+    ensures { result.now ≡ log_word log ++ 32 ∷ [] }
+{
+    match log {
+        LogName::Guest => b"guest ",
+        LogName::Source => b"source ",
+        LogName::Link => b"link ",
+        LogName::Pager => b"pager ",
+    }
+}
+
+/// What follows the LF at the front.
+#[inline(always)]
+pub fn after_end(text: &[u8]) -> Option<&[u8]>
+    ensures { IfSome result (λ rest. text.now ≡ 10 ∷ rest.now) }
+{
+    let (end, rest) = text.split_first()?;
+    if *end != b'\n' {
+        return None;
+    }
+    Some(rest)
+}
