@@ -1,0 +1,113 @@
+-- What the command line takes of plain names.
+use Rattle.std.proofs.Common.{◌≡◌, ◌==◌, ◌≤◌, ℕ, Bool, true, false, List, [], ◌∷◌, length, inl, inr, Some, None, refl, ap, subst, arith, codes, cond, option_and_then}
+use Rattle.std.specs.List.{AllByRecursion}
+use Rattle.std.specs.Str.{bytes_eq}
+use Rattle.std.proofs.lemmas.Bool.{ne_eqb}
+use Rattle.std.proofs.lemmas.Slice.Eq.{bytes_eq-Decides}
+use Rattle.clap.specs.Words.{Text, takes}
+use Rattle.clap.proofs.OnLiterals.{clap_on_literals}
+use Rattle.command_words.specs.declared.asked.Asked.{Asked}
+use Rattle.command_words.specs.declared.asked.Asked.TheVariants.{One, Two}
+use Rattle.command_words.specs.declared.asked.OneText.{OneText}
+use Rattle.command_words.specs.declared.asked.OneText.TheVariants.{Certify, Audit}
+use Rattle.command_words.specs.declared.asked.TwoTexts.{TwoTexts}
+use Rattle.command_words.specs.declared.asked.TwoTexts.TheVariants.{Check, Replay}
+use Rattle.command_words.specs.Words.{IsPlain, IsPlainName, asked, asked_by, postcopy_words, with_names}
+
+-- a name of one of three forms
+data Form : Text → Type 0 where
+  Dash : Form (45 ∷ [])
+  Empty : Form []
+  Other : (b : ℕ) (rest : Text) → (b == 45) ≡ false → Form (b ∷ rest)
+
+form_of : (name : Text) → IsPlainName name → Form name
+form_of name (inl e) = rw e Dash
+form_of [] (inr h) = Empty
+form_of (b ∷ rest) (inr h) = Other b rest (ne_eqb b 45 (λ e. h rest (ap (λ (x : ℕ). x ∷ rest) e)))
+
+-- the words are taken, and ask for this
+pub record IsTaken (words : List Text) (job : Asked Text) : Type 0 where
+  pub taken : takes postcopy_words words ≡ true
+  pub given : asked words ≡ Some job
+
+one_name : OneText → Text
+one_name Certify = codes "certify"
+one_name Audit = codes "audit"
+
+two_name : TwoTexts → Text
+two_name Check = codes "check"
+two_name Replay = codes "replay"
+
+taken_one : (task : OneText) (program name : Text) → Form name → IsTaken (program ∷ one_name task ∷ name ∷ []) (One task name)
+unfolding clap_on_literals one_name
+taken_one Certify program _ Dash = record { taken = refl; given = refl }
+taken_one Certify program _ Empty = record { taken = refl; given = refl }
+taken_one Certify program _ (Other a front d) = record { taken = simp d; given = simp d }
+taken_one Audit program _ Dash = record { taken = refl; given = refl }
+taken_one Audit program _ Empty = record { taken = refl; given = refl }
+taken_one Audit program _ (Other a front d) = record { taken = simp d; given = simp d }
+
+taken_two : (task : TwoTexts) (program first second : Text) → Form first → Form second → IsTaken (program ∷ two_name task ∷ first ∷ second ∷ []) (Two task first second)
+unfolding clap_on_literals two_name
+taken_two Check program _ _ Dash Dash = record { taken = refl; given = refl }
+taken_two Check program _ _ Dash Empty = record { taken = refl; given = refl }
+taken_two Check program _ _ Dash (Other b rest e) = record { taken = simp e; given = simp e }
+taken_two Check program _ _ Empty Dash = record { taken = refl; given = refl }
+taken_two Check program _ _ Empty Empty = record { taken = refl; given = refl }
+taken_two Check program _ _ Empty (Other b rest e) = record { taken = simp e; given = simp e }
+taken_two Check program _ _ (Other a front d) Dash = record { taken = simp d; given = simp d }
+taken_two Check program _ _ (Other a front d) Empty = record { taken = simp d; given = simp d }
+taken_two Check program _ _ (Other a front d) (Other b rest e) = record { taken = simp (d, e); given = simp (d, e) }
+taken_two Replay program _ _ Dash Dash = record { taken = refl; given = refl }
+taken_two Replay program _ _ Dash Empty = record { taken = refl; given = refl }
+taken_two Replay program _ _ Dash (Other b rest e) = record { taken = simp e; given = simp e }
+taken_two Replay program _ _ Empty Dash = record { taken = refl; given = refl }
+taken_two Replay program _ _ Empty Empty = record { taken = refl; given = refl }
+taken_two Replay program _ _ Empty (Other b rest e) = record { taken = simp e; given = simp e }
+taken_two Replay program _ _ (Other a front d) Dash = record { taken = simp d; given = simp d }
+taken_two Replay program _ _ (Other a front d) Empty = record { taken = simp d; given = simp d }
+taken_two Replay program _ _ (Other a front d) (Other b rest e) = record { taken = simp (d, e); given = simp (d, e) }
+
+-- a command with so many names, which are plain, is taken
+one_taken : (task : OneText) (program word : Text) (names : List Text) (job : Asked Text) → AllByRecursion IsPlainName names → with_names names (One task word) ≡ Some job → IsTaken (program ∷ one_name task ∷ names) job
+one_taken task program word [] job plain e = let none : None ≡ Some job = e in absurd cc
+one_taken task program word (name ∷ []) job plain e =
+    let same : One task name ≡ job = cc in
+    subst (IsTaken (program ∷ one_name task ∷ name ∷ [])) same (taken_one task program name (form_of name plain.0))
+one_taken task program word (name ∷ other ∷ []) job plain e = let none : None ≡ Some job = e in absurd cc
+one_taken task program word (name ∷ other ∷ third ∷ rest) job plain e = let none : None ≡ Some job = e in absurd cc
+
+two_taken : (task : TwoTexts) (program word other : Text) (names : List Text) (job : Asked Text) → AllByRecursion IsPlainName names → with_names names (Two task word other) ≡ Some job → IsTaken (program ∷ two_name task ∷ names) job
+two_taken task program word other [] job plain e = let none : None ≡ Some job = e in absurd cc
+two_taken task program word other (name ∷ []) job plain e = let none : None ≡ Some job = e in absurd cc
+two_taken task program word other (first ∷ second ∷ []) job plain e =
+    let same : Two task first second ≡ job = cc in
+    subst (IsTaken (program ∷ two_name task ∷ first ∷ second ∷ [])) same (taken_two task program first second (form_of first plain.0) (form_of second plain.1.0))
+two_taken task program word other (first ∷ second ∷ third ∷ rest) job plain e = let none : None ≡ Some job = e in absurd cc
+
+-- the row of a name is the first that has it
+row_taken : (program name : Text) (names : List Text) (job : Asked Text) → AllByRecursion IsPlainName names
+    → (check certify audit replay : Bool)
+    → (check ≡ true → codes "check" ≡ name) → (certify ≡ true → codes "certify" ≡ name) → (audit ≡ true → codes "audit" ≡ name) → (replay ≡ true → codes "replay" ≡ name)
+    → option_and_then (λ (row : Text × Asked Text). with_names names row.1) (cond check (Some (codes "check", Two Check (codes "SESSION") (codes "CERT"))) (cond certify (Some (codes "certify", One Certify (codes "SESSION"))) (cond audit (Some (codes "audit", One Audit (codes "SESSION"))) (cond replay (Some (codes "replay", Two Replay (codes "SESSION") (codes "RUNS"))) None)))) ≡ Some job
+    → IsTaken (program ∷ name ∷ names) job
+unfolding one_name two_name
+row_taken program name names job plain true certify audit replay a b c d e = subst (λ (x : Text). IsTaken (program ∷ x ∷ names) job) (a refl) (two_taken Check program _ _ names job plain e)
+row_taken program name names job plain false true audit replay a b c d e = subst (λ (x : Text). IsTaken (program ∷ x ∷ names) job) (b refl) (one_taken Certify program _ names job plain e)
+row_taken program name names job plain false false true replay a b c d e = subst (λ (x : Text). IsTaken (program ∷ x ∷ names) job) (c refl) (one_taken Audit program _ names job plain e)
+row_taken program name names job plain false false false true a b c d e = subst (λ (x : Text). IsTaken (program ∷ x ∷ names) job) (d refl) (two_taken Replay program _ _ names job plain e)
+row_taken program name names job plain false false false false a b c d e = let none : None ≡ Some job = e in absurd cc
+
+same_text : (a b : Text) → bytes_eq a b ≡ true → a ≡ b
+same_text a b e = (bytes_eq-Decides a b).0 e
+
+-- plain words of a command are taken, and ask for it
+pub taken_plain : (words : List Text) (name : Text) (names : List Text) (job : Asked Text) → IsPlain words name names → asked_by name names ≡ Some job → IsTaken words job
+taken_plain words name names job h e = rw h.words_are (row_taken h.program name names job h.plain _ _ _ _ (same_text (codes "check") name) (same_text (codes "certify") name) (same_text (codes "audit") name) (same_text (codes "replay") name) e)
+
+-- a word or none is not taken, as a command has to be there
+pub bare_not_taken : (words : List Text) → length words ≤ 1 → takes postcopy_words words ≡ false
+unfolding clap_on_literals
+bare_not_taken [] le = refl
+bare_not_taken (word ∷ []) le = refl
+bare_not_taken (word ∷ other ∷ rest) le = absurd (omega arith)

@@ -1,0 +1,23 @@
+-- Laws on the rows of the table.
+use Rattle.std.proofs.Common.{◌≡◌, true, false, List, [], ◌∷◌, Option, Some, refl, sym, ap, ◌∙◌, find, fold, option_map, option_and_then, cond}
+use Rattle.std.specs.Str.{bytes_eq}
+use Rattle.clap.specs.Words.{App, Row as Given, Text}
+use Rattle.command_words.specs.declared.table.Row.{Row}
+use Rattle.command_words.specs.Table.{row_of, rows_of, table}
+use Rattle.command_words.specs.Words.{asked_in, given_in, with_command}
+
+-- the row of a name, in the program's table and in the definition
+pub find_rows : (rows : List Row) (name : Text) → find (λ row. bytes_eq row.0 name) (rows_of rows) ≡ option_map row_of (find (λ row. bytes_eq row.name.now name) rows)
+find_rows [] name = refl
+find_rows (row ∷ rows) name = elim (bytes_eq row.name.now name) as (λ b. cond b (Some (row_of row)) (find (λ row. bytes_eq row.0 name) (rows_of rows)) ≡ option_map row_of (cond b (Some row) (find (λ row. bytes_eq row.name.now name) rows))) [ true ↦ refl | false ↦ find_rows rows name ]
+
+-- what is asked for is told by the row that was found
+pub asked_by_row : (rows : List Row) (name : Text) (given : List Given) (found : Option Row) → rows_of rows ≡ table → found ≡ find (λ row. bytes_eq row.name.now name) rows → asked_in (name, given) ≡ option_and_then (λ row. given_in given row.1) (option_map row_of found)
+asked_by_row rows name given found is e =
+    ap (λ t. option_and_then (λ row. given_in given row.1) (find (λ row. bytes_eq row.0 name) t)) (sym is)
+    ∙ ap (option_and_then (λ row. given_in given row.1)) (find_rows rows name ∙ ap (option_map row_of) (sym e))
+
+-- the commands of the rows, added in turn
+pub fold_rows : (app : App) (rows : List Row) → fold (λ app row. with_command app (row_of row)) app rows ≡ fold with_command app (rows_of rows)
+fold_rows app [] = refl
+fold_rows app (row ∷ rows) = fold_rows (with_command app (row_of row)) rows

@@ -1,0 +1,38 @@
+-- The table of commands: the name of each, and the words that name its texts.
+use Rattle.std.specs.Prelude.{List, map, codes, [], ◌∷◌}
+use Rattle.std.specs.Borrow.{Bor}
+use Rattle.clap.specs.Words.{Text}
+use Rattle.command_words.specs.declared.asked.Asked.{Asked}
+use Rattle.command_words.specs.declared.asked.Asked.TheVariants.{One, Two}
+use Rattle.command_words.specs.declared.asked.OneText.TheVariants.{Certify, Audit}
+use Rattle.command_words.specs.declared.asked.TwoTexts.TheVariants.{Check, Replay}
+use Rattle.command_words.specs.declared.table.Word.{Word}
+use Rattle.command_words.specs.declared.table.Row.{Row}
+
+-- `check SESSION CERT`, `certify SESSION`, `audit SESSION`, `replay SESSION RUNS`
+abbrev pub table : List (Text × Asked Text)
+table =
+    (codes "check", Two Check (codes "SESSION") (codes "CERT")) ∷
+    (codes "certify", One Certify (codes "SESSION")) ∷
+    (codes "audit", One Audit (codes "SESSION")) ∷
+    (codes "replay", Two Replay (codes "SESSION") (codes "RUNS")) ∷ []
+
+-- a command, with another word for each of its texts
+abbrev pub asked_map : {V W : Type 0} → (V → W) → Asked V → Asked W
+asked_map f (One task word) = One task (f word)
+asked_map f (Two task first second) = Two task (f first) (f second)
+
+-- what is asked for, with the names of its texts
+abbrev pub asked_names : Asked (Bor Text) → Asked Text
+asked_names asked = asked_map (λ name. name.now) asked
+
+-- what a row of the program's table asks with
+abbrev pub word_names : Asked Word → Asked Text
+word_names asked = asked_map (λ word. word.name.now) asked
+
+-- a row of the program's table
+abbrev pub row_of : Row → Text × Asked Text
+row_of row = (row.name.now, word_names row.asked)
+
+abbrev pub rows_of : List Row → List (Text × Asked Text)
+rows_of rows = map row_of rows

@@ -1,0 +1,79 @@
+-- The words of the command line.
+use Rattle.std.specs.Prelude.{◌≡◌, ◌≢◌, [], ◌∷◌, ◌++◌, ◌⊎◌, List, Option, Some, None, true, codes, fold, find, map, option_and_then, option_map}
+use Rattle.std.specs.List.{AllByRecursion}
+use Rattle.std.specs.Str.{bytes_eq}
+use Rattle.std.specs.Borrow.{Bor}
+use Rattle.clap.specs.Simple.{on_top}
+use Rattle.clap.specs.Words.{App, Row, Rule, Text, first_of, new_app, new_rule, subcommand_of, with_rule, with_subcommand}
+use Rattle.command_words.specs.declared.asked.Asked.{Asked}
+use Rattle.command_words.specs.declared.asked.Asked.TheVariants.{One, Two}
+use Rattle.command_words.specs.declared.asked.TwoTexts.{TwoTexts}
+use Rattle.command_words.specs.Table.{table}
+
+-- a word that has to be there
+abbrev pub needed : Text → Rule
+needed id = record (new_rule id) { required = true }
+
+-- a command with a word for each of its texts
+abbrev pub with_words : App → Asked Text → App
+with_words app (One task word) = with_rule app (needed word)
+with_words app (Two task first second) = with_rule (with_rule app (needed first)) (needed second)
+
+-- the command of a row of the table
+abbrev pub command_words : Text × Asked Text → App
+command_words row = with_words (new_app row.0) row.1
+
+-- `postcopy`, which has a version and wants a command
+abbrev pub program_words : App
+program_words = on_top (λ s. record s { has_version = true; subcommand_required = true }) (new_app (codes "postcopy"))
+
+-- with the command of one more row
+abbrev pub with_command : App → Text × Asked Text → App
+with_command app row = with_subcommand app (command_words row).top
+
+-- `postcopy` with one of the commands of the table
+abbrev pub postcopy_words : App
+postcopy_words = fold with_command program_words table
+
+-- the words behind references
+abbrev pub word_texts : List (Bor Text) → List Text
+word_texts words = map (λ w. w.now) words
+
+-- two names, where both are there
+abbrev pub both_names : TwoTexts → Option Text → Option Text → Option (Asked Text)
+both_names task None second = None
+both_names task (Some first) None = None
+both_names task (Some first) (Some second) = Some (Two task first second)
+
+-- what a command asks for with the names among what it was given
+abbrev pub given_in : List Row → Asked Text → Option (Asked Text)
+given_in rows (One task word) = option_map (λ name. One task name) (first_of word rows)
+given_in rows (Two task first second) = both_names task (first_of first rows) (first_of second rows)
+
+-- what a command and what it was given ask for, by the table
+abbrev pub asked_in : Text × List Row → Option (Asked Text)
+asked_in given = option_and_then (λ row. given_in given.1 row.1) (find (λ row. bytes_eq row.0 given.0) table)
+
+-- what the words ask for
+abbrev pub asked : List Text → Option (Asked Text)
+asked words = option_and_then asked_in (subcommand_of postcopy_words words)
+
+-- a name that is no option: it is `-`, or does not begin with `-`
+abbrev pub IsPlainName : Text → Type 0
+IsPlainName name = (name ≡ codes "-") ⊎ ((rest : Text) → name ≢ codes "-" ++ rest)
+
+-- a command, where it has so many texts, with their names
+abbrev pub with_names : List Text → Asked Text → Option (Asked Text)
+with_names (name ∷ []) (One task word) = Some (One task name)
+with_names (first ∷ second ∷ []) (Two task word other) = Some (Two task first second)
+with_names names asked = None
+
+-- what the name of a command and the names of its texts ask for
+abbrev pub asked_by : Text → List Text → Option (Asked Text)
+asked_by name names = option_and_then (λ row. with_names names row.1) (find (λ row. bytes_eq row.0 name) table)
+
+-- the program's own name, the name of a command, and names that are no options
+pub record IsPlain (words : List Text) (name : Text) (names : List Text) : Type 0 where
+  pub program : Text
+  pub words_are : words ≡ program ∷ name ∷ names
+  pub plain : AllByRecursion IsPlainName names

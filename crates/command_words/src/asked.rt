@@ -1,0 +1,29 @@
+//! What a command is asked with.
+
+/// A command on one text.
+#[derive(Clone, Copy, Debug)]
+pub enum OneText {
+    /// The certificate of a session, or the first line of the report on it.
+    Certify,
+    /// The report on a session.
+    Audit,
+}
+
+/// A command on two texts.
+#[derive(Clone, Copy, Debug)]
+pub enum TwoTexts {
+    /// The verdict on a session and its certificate.
+    Check,
+    /// What becomes of a merging of a session along its runs.
+    Replay,
+}
+
+/// A command, with a word for each of its texts.
+#[derive(Clone, Copy, Debug)]
+pub enum Asked<W> {
+    One(OneText, W),
+    Two(TwoTexts, W, W),
+}
+
+/// What the words ask for, with the names of its texts.
+pub type Job<'a> = Asked<&'a str>;

@@ -1,0 +1,10 @@
+//! The words of the command line: one table of the commands, the command line that it makes, and what words ask for.
+#![tactic(auto)]
+
+mod asked;
+mod building;
+mod matching;
+mod table;
+
+pub use asked::{Asked, Job, OneText, TwoTexts};
+pub use matching::read_words;

@@ -1,0 +1,78 @@
+//! What words ask for.
+
+ghost use Rattle.std.specs.Prelude.{◌≡◌, IfOk, IfErr, option_and_then, option_map, true, find};
+ghost use Rattle.std.specs.Str.{bytes_eq};
+ghost use Rattle.command_words.specs.Table.{asked_names, word_names};
+ghost use Rattle.command_words.specs.Words.{asked, asked_in, given_in, postcopy_words, word_texts};
+ghost use Rattle.clap.specs.Words.{first_of, found_of, kind_of, rows_of, takes, subcommand_rows_of};
+
+use crate::asked::{Asked, Job};
+use crate::building::command_line;
+use crate::table::{Row, Word, commands};
+use clap::ArgMatches;
+use clap::error::ErrorKind;
+use std::alloc::Global;
+
+// The name that a word was given.
+fn name_given<'a>(word: &Word, matches: &ArgMatches<'a>) -> Option<&'a str>
+    ensures { option_map (λ name. name.now) result ≡ first_of word.now.name.now (rows_of (found_of matches.now)) }
+{
+    matches.get_str(word.name)
+}
+
+// What a command asks for, with the names that its words were given.
+fn given<'a>(asks: &Asked<Word>, matches: &ArgMatches<'a>) -> Option<Job<'a>>
+    ensures { option_map asked_names result ≡ given_in (rows_of (found_of matches.now)) (word_names asks.now) }
+{
+    match asks {
+        Asked::One(task, word) => {
+            let name = name_given(word, matches)?;
+            Some(Asked::One(*task, name))
+        }
+        Asked::Two(task, first, second) => {
+            let first = name_given(first, matches)?;
+            let second = name_given(second, matches)?;
+            Some(Asked::Two(*task, first, second))
+        }
+    }
+}
+
+// The row of this name.
+fn row_named<'a>(rows: &'a [Row], name: &str) -> Option<&'a Row>
+    ensures { option_map (λ row. row.now) result ≡ find (λ row. bytes_eq row.name.now name.now) rows.now }
+{
+    rows.iter().find(|row| row.name == name)
+}
+
+// What the matches of the command of this name ask for.
+fn job_of<'a>(name: &str, matches: &ArgMatches<'a>) -> Option<Job<'a>>
+    ensures { option_map asked_names result ≡ asked_in (name.now, rows_of (found_of matches.now)) }
+{
+    match row_named(commands(), name) {
+        Some(row) => given(&row.asked, matches),
+        None => None,
+    }
+}
+
+// What the matches ask for, if a command was found.
+fn job_in<'a>(matches: &ArgMatches<'a>) -> Option<Job<'a>>
+    ensures { option_map asked_names result ≡ option_and_then asked_in (subcommand_rows_of matches.now) }
+{
+    match matches.subcommand() {
+        Some((name, inner)) => job_of(name, inner),
+        None => None,
+    }
+}
+
+/// What the words ask for, of which the first is the program's own name. The error is clap's: it tells why the words are
+/// no command, or is the help or the version that was asked for, or want of memory.
+pub fn read_words<'a>(alloc: Global, words: &'a [&'a str]) -> Result<Option<Job<'a>>, clap::Error>
+    ensures ok { IfOk result (λ r. option_map asked_names r ≡ asked (word_texts words.entry.now)) }
+    ensures err { IfErr result (λ e. takes postcopy_words (word_texts words.entry.now) ≡ true → kind_of e ≡ ErrorKind.OutOfMemory) }
+{
+    let line = command_line(alloc)?;
+    match line.try_get_matches_from(words) {
+        Ok(matches) => Ok(job_in(&matches)),
+        Err(error) => Err(error),
+    }
+}

@@ -1,0 +1,69 @@
+//! The table of commands.
+
+ghost use Rattle.std.specs.Prelude.{◌≡◌};
+ghost use Rattle.command_words.specs.Table.{rows_of, table};
+
+use crate::asked::{Asked, OneText, TwoTexts};
+
+/// A word of the command line that names a text.
+#[derive(Clone, Copy)]
+pub struct Word {
+    /// What the word stands for.
+    pub name: &'static str,
+    /// What the text is.
+    pub help: &'static str,
+}
+
+/// A command.
+#[derive(Clone, Copy)]
+pub struct Row {
+    pub name: &'static str,
+    /// What the command is for, with an example.
+    pub about: &'static str,
+    pub asked: Asked<Word>,
+}
+
+const SESSION: Word = Word {
+    name: "SESSION",
+    help: "The session's file; - is standard input",
+};
+
+const CERT: Word = Word {
+    name: "CERT",
+    help: "The certificate's file; - is standard input",
+};
+
+const RUNS: Word = Word {
+    name: "RUNS",
+    help: "The file of a merging's runs; - is standard input",
+};
+
+static COMMANDS: [Row; 4] = [
+    Row {
+        name: "check",
+        about: "Judges the certificate of a session, as in: postcopy check session cert",
+        asked: Asked::Two(TwoTexts::Check, SESSION, CERT),
+    },
+    Row {
+        name: "certify",
+        about: "Writes the certificate of a session, or the first line of its report, as in: postcopy certify session",
+        asked: Asked::One(OneText::Certify, SESSION),
+    },
+    Row {
+        name: "audit",
+        about: "Writes the report on a session, as in: postcopy audit session",
+        asked: Asked::One(OneText::Audit, SESSION),
+    },
+    Row {
+        name: "replay",
+        about: "Replays a merging of a session along its runs, as in: postcopy replay session runs",
+        asked: Asked::Two(TwoTexts::Replay, SESSION, RUNS),
+    },
+];
+
+/// The commands.
+pub fn commands() -> &'static [Row]
+    ensures { rows_of result.now ≡ table }
+{
+    &COMMANDS
+}
