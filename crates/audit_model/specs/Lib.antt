@@ -8,6 +8,7 @@ pub mod Shape
 pub mod Certificates
 pub mod Faults
 pub mod PageFaultTests
+pub mod Reasons
 pub mod FirstFault
 pub mod FoundOrder
 pub mod Delayed

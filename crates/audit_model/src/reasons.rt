@@ -1,4 +1,9 @@
-//! Why a record is faulty.
+//! Why a record is faulty: the reasons, in their order, and the word of each.
+
+ghost use Rattle.std.specs.Prelude.{◌≡◌, Some, slice_get};
+ghost use Rattle.audit_model.specs.declared.reasons.ShapeReason.{ShapeReason};
+ghost use Rattle.audit_model.specs.declared.reasons.PageReason.{PageReason};
+ghost use Rattle.audit_model.specs.Reasons.{shape_reasons, rank, shape_word, page_reasons, page_rank, page_word};
 
 /// Why a record is not of a session's right shape. Of several reasons the first counts.
 #[derive(Clone, Copy, Debug, PartialEq, Eq)]
@@ -13,6 +18,36 @@ pub enum ShapeReason {
     Start,
     /// It sends a page that was sent before.
     SecondSend,
+}
+
+impl ShapeReason {
+    /// The reasons, in their order.
+    pub const ALL: [ShapeReason; 4] = [
+        ShapeReason::Phases,
+        ShapeReason::Named,
+        ShapeReason::Start,
+        ShapeReason::SecondSend,
+    ];
+
+    /// The reasons, in their order.
+    pub fn all() -> [ShapeReason; 4]
+        ensures list { result ≡ shape_reasons }
+        ensures order { (reason : ShapeReason) → slice_get shape_reasons (rank reason) ≡ Some reason }
+    {
+        ShapeReason::ALL
+    }
+
+    /// The word of a reason in what is printed.
+    pub fn word(self) -> &'static [u8]
+        ensures { result.now ≡ shape_word self }
+    {
+        match self {
+            ShapeReason::Phases => b"phases",
+            ShapeReason::Named => b"named",
+            ShapeReason::Start => b"start",
+            ShapeReason::SecondSend => b"second-send",
+        }
+    }
 }
 
 /// Why a record is a fault of its page. Of several reasons the first counts.
@@ -32,4 +67,40 @@ pub enum PageReason {
     Altered,
     /// It places zeros for a page that was not released at the halt.
     Unfit,
+}
+
+impl PageReason {
+    /// The reasons, in their order.
+    pub const ALL: [PageReason; 7] = [
+        PageReason::Read,
+        PageReason::Early,
+        PageReason::Given,
+        PageReason::Stale,
+        PageReason::Twice,
+        PageReason::Altered,
+        PageReason::Unfit,
+    ];
+
+    /// The reasons, in their order.
+    pub fn all() -> [PageReason; 7]
+        ensures list { result ≡ page_reasons }
+        ensures order { (reason : PageReason) → slice_get page_reasons (page_rank reason) ≡ Some reason }
+    {
+        PageReason::ALL
+    }
+
+    /// The word of a reason in what is printed.
+    pub fn word(self) -> &'static [u8]
+        ensures { result.now ≡ page_word self }
+    {
+        match self {
+            PageReason::Read => b"read",
+            PageReason::Early => b"early",
+            PageReason::Given => b"given",
+            PageReason::Stale => b"stale",
+            PageReason::Twice => b"twice",
+            PageReason::Altered => b"altered",
+            PageReason::Unfit => b"unfit",
+        }
+    }
 }

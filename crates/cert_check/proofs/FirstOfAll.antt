@@ -10,7 +10,8 @@ use Rattle.migration_types.specs.Receipts.{Name}
 use Rattle.audit_model.specs.Names.{log_length}
 use Rattle.audit_model.specs.Shape.{is_right, IsRightShape}
 use Rattle.cert_check.specs.FirstOfLog.{first_reason, reason_at, IsRightLog, IsFirstOfLog}
-use Rattle.audit_model.specs.FirstFault.{rank, IsFirstFault}
+use Rattle.audit_model.specs.Reasons.{rank}
+use Rattle.audit_model.specs.FirstFault.{IsFirstFault}
 use Rattle.cert_check.proofs.FirstOfLog.{past_end}
 
 -- which of four tests a reason asks for
@@ -51,25 +52,25 @@ some_reason r t a b c d e = go a b c d e
     at : (u : ShapeReason) (a b c d : Bool) → u ≡ t → test_of u a b c d ≡ false → (test_of r a b c d ≡ false → rank u ≤ rank r) → (test_of t a b c d ≡ false) × (test_of r a b c d ≡ false → rank t ≤ rank r)
     at u a b c d same f le = (subst (λ v. test_of v a b c d ≡ false) same f, λ h. subst (λ v. rank v ≤ rank r) same (le h))
 
-    least : (r : ShapeReason) → 1 ≤ rank r
+    least : (r : ShapeReason) → 0 ≤ rank r
     least Phases = omega arith
     least Named = omega arith
     least Start = omega arith
     least SecondSend = omega arith
 
-    second : (r : ShapeReason) (b c d : Bool) → test_of r true b c d ≡ false → 2 ≤ rank r
+    second : (r : ShapeReason) (b c d : Bool) → test_of r true b c d ≡ false → 1 ≤ rank r
     second Phases b c d h = absurd (cc)
     second Named b c d h = omega arith
     second Start b c d h = omega arith
     second SecondSend b c d h = omega arith
 
-    third : (r : ShapeReason) (c d : Bool) → test_of r true true c d ≡ false → 3 ≤ rank r
+    third : (r : ShapeReason) (c d : Bool) → test_of r true true c d ≡ false → 2 ≤ rank r
     third Phases c d h = absurd (cc)
     third Named c d h = absurd (cc)
     third Start c d h = omega arith
     third SecondSend c d h = omega arith
 
-    fourth : (r : ShapeReason) (d : Bool) → test_of r true true true d ≡ false → 4 ≤ rank r
+    fourth : (r : ShapeReason) (d : Bool) → test_of r true true true d ≡ false → 3 ≤ rank r
     fourth Phases d h = absurd (cc)
     fourth Named d h = absurd (cc)
     fourth Start d h = absurd (cc)

@@ -11,7 +11,8 @@ use Rattle.audit_model.specs.declared.reasons.PageReason.{PageReason}
 use Rattle.audit_model.specs.declared.reasons.PageReason.TheVariants.{Read, Early, Given, Stale, Twice, Altered, Unfit}
 use Rattle.audit_model.specs.Shape.{passes}
 use Rattle.audit_model.specs.Faults.{IsPageFault, HasNoPageFault}
-use Rattle.audit_model.specs.FirstFault.{page_rank, IsFirstPageFault}
+use Rattle.audit_model.specs.Reasons.{page_rank}
+use Rattle.audit_model.specs.FirstFault.{IsFirstPageFault}
 use Rattle.audit_model.specs.PageFaultTests.{is_wrong_read, is_early, is_given, is_stale, is_second, is_altered, is_unfit, fault_test}
 use Rattle.audit_model.proofs.PageFaultTests.{fault_Decides}
 use Rattle.page_facts.specs.declared.page_fault.PageFault.{PageFault}

@@ -3,19 +3,18 @@ use Rattle.std.proofs.Common.{◌≡◌, ℕ, zero, suc, ◌<◌, ◌≤◌, ◌
 use Rattle.std.proofs.lemmas.Bool.{cases_lt}
 use Rattle.audit_model.specs.declared.reasons.PageReason.{PageReason}
 use Rattle.audit_model.specs.declared.reasons.PageReason.TheVariants.{Read, Early, Given, Stale, Twice, Altered, Unfit}
-use Rattle.audit_model.specs.FirstFault.{page_rank}
+use Rattle.audit_model.specs.Reasons.{page_rank}
 use Rattle.page_facts.specs.FirstOfLog.{or_else, least_reason}
 
 -- reasons with the same number are the same
 abbrev of_rank : ℕ → PageReason
 of_rank zero = Read
-of_rank (suc zero) = Read
-of_rank (suc (suc zero)) = Early
-of_rank (suc (suc (suc zero))) = Given
-of_rank (suc (suc (suc (suc zero)))) = Stale
-of_rank (suc (suc (suc (suc (suc zero))))) = Twice
-of_rank (suc (suc (suc (suc (suc (suc zero)))))) = Altered
-of_rank (suc (suc (suc (suc (suc (suc (suc n))))))) = Unfit
+of_rank (suc zero) = Early
+of_rank (suc (suc zero)) = Given
+of_rank (suc (suc (suc zero))) = Stale
+of_rank (suc (suc (suc (suc zero)))) = Twice
+of_rank (suc (suc (suc (suc (suc zero))))) = Altered
+of_rank (suc (suc (suc (suc (suc (suc n)))))) = Unfit
 
 rank_back : (r : PageReason) → of_rank (page_rank r) ≡ r
 rank_back Read = refl
@@ -36,7 +35,7 @@ split_rank u r le = go (cases_lt (page_rank u) (page_rank r))
     go (inl lt) = inr (omega arith)
     go (inr ge) = inl (same_rank r u (omega arith))
 
-most_rank : (r : PageReason) → page_rank r ≤ 7
+most_rank : (r : PageReason) → page_rank r ≤ 6
 most_rank Read = omega arith
 most_rank Early = omega arith
 most_rank Given = omega arith
@@ -45,7 +44,7 @@ most_rank Twice = omega arith
 most_rank Altered = omega arith
 most_rank Unfit = omega arith
 
-pub least_rank : (r : PageReason) → 1 ≤ page_rank r
+pub least_rank : (r : PageReason) → 0 ≤ page_rank r
 least_rank Read = omega arith
 least_rank Early = omega arith
 least_rank Given = omega arith
@@ -83,12 +82,12 @@ one_more test u o rest = go (test u) refl
         least t e r h (inl same) = let f : test r ≡ false = ap test same ∙ is in absurd (cc)
         least t e r h (inr more) = rest.least t e r more h
 
-no_more : (test : PageReason → Bool) → IsLeastFrom test 8 None
+no_more : (test : PageReason → Bool) → IsLeastFrom test 7 None
 no_more test = record {
   none = λ e r le. let most = most_rank r in absurd (omega arith);
   holds = λ t e. absurd (cc);
   least = λ t e r le h. absurd (cc);
 }
 
-pub least_is : (test : PageReason → Bool) → IsLeastFrom test 1 (least_reason test)
+pub least_is : (test : PageReason → Bool) → IsLeastFrom test 0 (least_reason test)
 least_is test = one_more test Read _ (one_more test Early _ (one_more test Given _ (one_more test Stale _ (one_more test Twice _ (one_more test Altered _ (one_more test Unfit _ (no_more test)))))))

@@ -1,0 +1,48 @@
+-- The reasons of faults, in their order: the word of each in what is printed, and its place.
+use Rattle.std.specs.Prelude.{ℕ, List, [], ◌∷◌, codes}
+use Rattle.audit_model.specs.declared.reasons.ShapeReason.{ShapeReason}
+use Rattle.audit_model.specs.declared.reasons.ShapeReason.TheVariants.{Phases, Named, Start, SecondSend}
+use Rattle.audit_model.specs.declared.reasons.PageReason.{PageReason}
+use Rattle.audit_model.specs.declared.reasons.PageReason.TheVariants.{Read, Early, Given, Stale, Twice, Altered, Unfit}
+
+-- why a record is not of the right shape: of several reasons the first counts
+abbrev pub shape_reasons : List ShapeReason
+shape_reasons = Phases ∷ Named ∷ Start ∷ SecondSend ∷ []
+
+-- the place of a reason of shape among these
+abbrev pub rank : ShapeReason → ℕ
+rank Phases = 0
+rank Named = 1
+rank Start = 2
+rank SecondSend = 3
+
+-- its word
+abbrev pub shape_word : ShapeReason → List ℕ
+shape_word Phases = codes "phases"
+shape_word Named = codes "named"
+shape_word Start = codes "start"
+shape_word SecondSend = codes "second-send"
+
+-- why a record is a fault of its page: of several reasons the first counts
+abbrev pub page_reasons : List PageReason
+page_reasons = Read ∷ Early ∷ Given ∷ Stale ∷ Twice ∷ Altered ∷ Unfit ∷ []
+
+-- the place of a reason of pages among these
+abbrev pub page_rank : PageReason → ℕ
+page_rank Read = 0
+page_rank Early = 1
+page_rank Given = 2
+page_rank Stale = 3
+page_rank Twice = 4
+page_rank Altered = 5
+page_rank Unfit = 6
+
+-- its word
+abbrev pub page_word : PageReason → List ℕ
+page_word Read = codes "read"
+page_word Early = codes "early"
+page_word Given = codes "given"
+page_word Stale = codes "stale"
+page_word Twice = codes "twice"
+page_word Altered = codes "altered"
+page_word Unfit = codes "unfit"
