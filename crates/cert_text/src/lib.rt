@@ -10,10 +10,9 @@ ghost use Rattle.cert_text.specs.Runs.{SpellsRuns};
 
 use migration_types::{Cert, Run, Seq};
 use std::alloc::{AllocError, Global};
-use text_lines::{TextFault, push_line, read};
+use text_lines::{TextFault, push_keyed, push_line, read};
 
 mod cert_lines;
-mod decimal;
 mod entry_lines;
 mod keys;
 mod run_lines;
@@ -24,7 +23,6 @@ mod tests;
 mod writing;
 
 use cert_lines::CertLines;
-use decimal::push_count;
 use keys::{CERT_HEADER, PAGES_KEY, RUNS_HEADER};
 use runs_text::RunsText;
 use writing::{push_entries, push_runs};
@@ -48,7 +46,7 @@ pub fn write_cert(alloc: Global, cert: &Cert) -> Result<Vec<u8>, AllocError>
     let entries = cert.entries();
     let mut out = Vec::new(alloc);
     push_line(&mut out, CERT_HEADER)?;
-    push_count(&mut out, PAGES_KEY, entries.len() as u32)?;
+    push_keyed(&mut out, PAGES_KEY, entries.len())?;
     push_entries(&mut out, entries)?;
     push_runs(&mut out, cert.runs())?;
     Ok(out)

@@ -7,11 +7,10 @@ ghost use Rattle.migration_types.specs.declared.records.LogName.{LogName as Log}
 ghost use Rattle.cert_text.specs.Runs.{log_word, run_line};
 ghost use Rattle.cert_text.specs.inner.Held.{MayFollow};
 
-use crate::decimal::push_count;
 use crate::keys::{RUN_KEY, after_end, log_key};
 use migration_types::{LogName, MOST_RECORDS, Run};
 use std::alloc::AllocError;
-use text_lines::{FaultKind, LineForm, after_key, front_number};
+use text_lines::{FaultKind, LineForm, after_key, front_number, push_keyed};
 
 /// The log whose name begins with this letter.
 #[inline(always)]
@@ -101,6 +100,6 @@ impl LineForm for RunForm {
     #[inline(always)]
     fn push(run: &Run, out: &mut Vec<u8>) -> Result<(), AllocError> {
         out.extend_from_slice(RUN_KEY)?;
-        push_count(out, log_key(run.log), run.count)
+        push_keyed(out, log_key(run.log), run.count)
     }
 }

@@ -5,12 +5,11 @@ ghost use Rattle.text_lines.specs.Text.{ended};
 ghost use Rattle.cert_text.specs.Runs.{runs_lines};
 ghost use Rattle.cert_text.specs.Grammar.{first_text, placed_text, entry_text, entry_line, entry_lines};
 
-use crate::decimal::push_decimal;
 use crate::keys::{BALLOON_KEY, CLOSING, NO_FIRST, NONE, PAGE_KEY, RUNS_KEY, SOURCE_KEY};
 use crate::runs::RunForm;
 use migration_types::{Entry, First, Run};
 use std::alloc::AllocError;
-use text_lines::{push_counted, push_line};
+use text_lines::{end_line, push_counted, push_line, push_number, push_then};
 
 /// Adds a page's first read or write, and the look before it.
 fn push_first(out: &mut Vec<u8>, first: Option<First>) -> Result<(), AllocError>
@@ -19,9 +18,8 @@ fn push_first(out: &mut Vec<u8>, first: Option<First>) -> Result<(), AllocError>
     match first {
         None => out.extend_from_slice(NO_FIRST),
         Some(first) => {
-            push_decimal(out, first.access)?;
-            out.push(b' ')?;
-            push_decimal(out, first.see)
+            push_then(out, first.access)?;
+            push_number(out, first.see)
         }
     }
 }
@@ -30,8 +28,7 @@ fn push_first(out: &mut Vec<u8>, first: Option<First>) -> Result<(), AllocError>
 fn push_placed(out: &mut Vec<u8>, place: u32, first: Option<First>) -> Result<(), AllocError>
     ensures { OnOk result (out.new.items ≡ out.old.items ++ placed_text place first) }
 {
-    push_decimal(out, place)?;
-    out.push(b' ')?;
+    push_then(out, place)?;
     push_first(out, first)
 }
 
@@ -43,8 +40,7 @@ fn push_said(out: &mut Vec<u8>, entry: Entry) -> Result<(), AllocError>
         Entry::Nothing => out.extend_from_slice(NONE),
         Entry::Source { send, place, first } => {
             out.extend_from_slice(SOURCE_KEY)?;
-            push_decimal(out, send)?;
-            out.push(b' ')?;
+            push_then(out, send)?;
             push_placed(out, place, first)
         }
         Entry::Balloon { place, first } => {
@@ -59,11 +55,9 @@ fn push_entry(out: &mut Vec<u8>, page: u32, entry: Entry) -> Result<(), AllocErr
     ensures { OnOk result (out.new.items ≡ out.old.items ++ (entry_line page entry ++ 10 ∷ [])) }
 {
     out.extend_from_slice(PAGE_KEY)?;
-    push_decimal(out, page)?;
-    out.push(b' ')?;
+    push_then(out, page)?;
     push_said(out, entry)?;
-    out.push(b'\n')?;
-    Ok(())
+    end_line(out)
 }
 
 /// Adds the lines of the pages' entries, page 0 first.
