@@ -7,7 +7,7 @@ ghost use Rattle.migration_types.specs.Sessions.{GuestRecFits, SourceRecFits, Li
 
 use super::*;
 use migration_types::{
-    Contents, Geometry, GuestRec, InitPage, LinkRec, LogName, PageNo, PagerRec, Seq, Session,
+    Contents, Geometry, GuestRec, InitPage, LinkRec, LogName, Logs, PageNo, PagerRec, Seq, Session,
     SourceRec,
 };
 use std::alloc::{AllocError, Global};
@@ -235,10 +235,12 @@ fn worked_session(alloc: Global, change: Change) -> Result<Session, Fail> {
     Ok(Session::new(
         geometry,
         Seq::from_vec(init),
-        Seq::from_vec(guest),
-        Seq::from_vec(source),
-        Seq::from_vec(link),
-        Seq::from_vec(pager),
+        Logs {
+            guest: Seq::from_vec(guest),
+            source: Seq::from_vec(source),
+            link: Seq::from_vec(link),
+            pager: Seq::from_vec(pager),
+        },
     ))
 }
 
@@ -314,10 +316,12 @@ fn balloon_session(alloc: Global, change: Change) -> Result<Session, Fail> {
     Ok(Session::new(
         geometry,
         Seq::from_vec(init),
-        Seq::from_vec(guest),
-        Seq::from_vec(source),
-        Seq::from_vec(link),
-        Seq::from_vec(pager),
+        Logs {
+            guest: Seq::from_vec(guest),
+            source: Seq::from_vec(source),
+            link: Seq::from_vec(link),
+            pager: Seq::from_vec(pager),
+        },
     ))
 }
 

@@ -2,7 +2,7 @@
 
 use super::*;
 use migration_types::{
-    Contents, Entry, First, Geometry, GuestRec, LinkRec, LogName, PageNo, PagerRec, Run, Seq,
+    Contents, Entry, First, Geometry, GuestRec, LinkRec, LogName, Logs, PageNo, PagerRec, Run, Seq,
     Session, SourceRec,
 };
 use std::alloc::Global;
@@ -55,10 +55,12 @@ fn session_with_a_miss(alloc: Global) -> Result<Session, Fail> {
     Ok(Session::new(
         geometry,
         Seq::from_vec(Vec::new(alloc)),
-        Seq::from_vec(guest),
-        Seq::from_vec(source),
-        Seq::from_vec(link),
-        Seq::from_vec(pager),
+        Logs {
+            guest: Seq::from_vec(guest),
+            source: Seq::from_vec(source),
+            link: Seq::from_vec(link),
+            pager: Seq::from_vec(pager),
+        },
     ))
 }
 
@@ -73,10 +75,12 @@ fn tied_session(alloc: Global) -> Result<Session, Fail> {
     Ok(Session::new(
         geometry,
         Seq::from_vec(Vec::new(alloc)),
-        Seq::from_vec(guest),
-        Seq::from_vec(source),
-        Seq::from_vec(link),
-        Seq::from_vec(pager),
+        Logs {
+            guest: Seq::from_vec(guest),
+            source: Seq::from_vec(source),
+            link: Seq::from_vec(link),
+            pager: Seq::from_vec(pager),
+        },
     ))
 }
 

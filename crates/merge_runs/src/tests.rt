@@ -6,7 +6,8 @@ ghost use Rattle.migration_types.specs.Sessions.{GuestRecFits};
 
 use super::*;
 use migration_types::{
-    Contents, Geometry, GuestRec, InitPage, LinkRec, LogName, PageNo, PagerRec, Seq, SourceRec,
+    Contents, Geometry, GuestRec, InitPage, LinkRec, LogName, Logs, PageNo, PagerRec, Seq,
+    SourceRec,
 };
 use std::alloc::Global;
 use std::test::Fail;
@@ -66,10 +67,12 @@ fn session_of(alloc: Global, guest: Vec<GuestRec>) -> Result<Session, Fail>
     Ok(Session::new(
         geometry,
         Seq::from_vec(init),
-        Seq::from_vec(guest),
-        Seq::from_vec(source),
-        Seq::from_vec(link),
-        Seq::from_vec(pager),
+        Logs {
+            guest: Seq::from_vec(guest),
+            source: Seq::from_vec(source),
+            link: Seq::from_vec(link),
+            pager: Seq::from_vec(pager),
+        },
     ))
 }
 
@@ -256,7 +259,16 @@ fn keeps_the_memory_at_the_halt(rt: HostRuntime) -> Result<(), Fail> {
     let source = Seq::from_vec(Vec::new(rt.alloc()));
     let link = Seq::from_vec(Vec::new(rt.alloc()));
     let pager = Seq::from_vec(Vec::new(rt.alloc()));
-    let session = Session::new(geometry, init, Seq::from_vec(guest), source, link, pager);
+    let session = Session::new(
+        geometry,
+        init,
+        Logs {
+            guest: Seq::from_vec(guest),
+            source,
+            link,
+            pager,
+        },
+    );
     let replayed = replay(rt.alloc(), &session, &[run(LogName::Guest, 2)])?;
     assert_eq!(rt; replayed.first_broken, None);
     assert_eq!(rt; replayed.memory.page(page), [3].as_slice());

@@ -5,6 +5,7 @@ use Rattle.migration_types.specs.declared.cert.Run.{Run}
 use Rattle.migration_types.specs.declared.cert.First.{First}
 use Rattle.migration_types.specs.declared.cert.Entry.{Entry}
 use Rattle.migration_types.specs.declared.cert.Entry.TheVariants.{Nothing, Source, Balloon}
+use Rattle.migration_types.specs.Limits.{most_pages, most_records, most_runs}
 use Rattle.migration_types.specs.Sessions.{IsNumber}
 
 -- what a certificate says: an entry for each page, and the runs of a merging
@@ -22,10 +23,10 @@ EntryFits Nothing = Unit {0}
 EntryFits (Source send place first) = IsNumber send × IsNumber place × FirstFits first
 EntryFits (Balloon place first) = IsNumber place × FirstFits first
 
--- a run takes 1 to 1,048,576 records
+-- a run takes some records, and no more than a log has
 pub record RunFits (run : Run) : Type 0 where
   pub some : 1 ≤ run.count
-  pub few : run.count ≤ 1048576
+  pub few : run.count ≤ most_records
 
 -- runs that stand next to each other are of different logs
 abbrev pub Alternate : List Run → Type 0
@@ -33,13 +34,13 @@ Alternate runs = (k : ℕ) (d : Run) → k + 1 < length runs → (slice_index_or
 
 -- runs within all limits
 pub record AreRuns (runs : List Run) : Type 0 where
-  pub few : length runs ≤ 4194304
+  pub few : length runs ≤ most_runs
   pub each : AllByRecursion RunFits runs
   pub alternate : Alternate runs
 
 -- what a certificate says is within all limits
 pub record IsCert (c : Certified) : Type 0 where
   pub some_pages : 1 ≤ length c.entries
-  pub few_pages : length c.entries ≤ 65536
+  pub few_pages : length c.entries ≤ most_pages
   pub entries : AllByRecursion EntryFits c.entries
   pub runs : AreRuns c.runs

@@ -13,6 +13,8 @@ use Rattle.migration_types.specs.declared.records.LinkRec.{LinkRec}
 use Rattle.migration_types.specs.declared.records.LinkRec.TheVariants.{Down, Up}
 use Rattle.migration_types.specs.declared.records.PagerRec.{PagerRec}
 use Rattle.migration_types.specs.declared.records.PagerRec.TheVariants.{Got, Ready, Fault, Join, Want, Place, Zero, Skip, All}
+use Rattle.migration_types.specs.declared.session.Logs.{Logs}
+use Rattle.migration_types.specs.Limits.{vcpus, most_records}
 use Rattle.migration_types.specs.Extents.{Extent, IsExtent}
 use Rattle.migration_types.specs.Pages.{AreInitPages}
 use Rattle.migration_types.specs.Receipts.{Name}
@@ -26,16 +28,20 @@ pub record Recorded : Type 0 where
   pub link : List LinkRec
   pub pager : List PagerRec
 
--- a record's number is its place in its log, and no log has more than 1,048,576 records
-abbrev pub IsNumber : ℕ → Type 0
-IsNumber n = n < 1048576
+-- what was recorded, by its parts
+abbrev pub recorded : Extent → List InitPage → Logs → Recorded
+recorded geometry init logs = record { geometry = geometry; init = init; guest = logs.guest; source = logs.source; link = logs.link; pager = logs.pager }
 
--- a record's numbers are those of a machine of this extent, with 64 virtual processors
+-- a record's number is its place in its log
+abbrev pub IsNumber : ℕ → Type 0
+IsNumber n = n < most_records
+
+-- a record's numbers are those of a machine of this extent
 abbrev pub GuestRecFits : Extent → GuestRec → Type 0
-GuestRecFits e (Read vcpu page cell value) = (vcpu < 64) × (page < e.pages) × (cell < e.cells) × (value < 2 ^ 64)
-GuestRecFits e (Write vcpu page cell value) = (vcpu < 64) × (page < e.pages) × (cell < e.cells) × (value < 2 ^ 64)
-GuestRecFits e (Release vcpu page) = (vcpu < 64) × (page < e.pages)
-GuestRecFits e (Miss vcpu page) = (vcpu < 64) × (page < e.pages)
+GuestRecFits e (Read vcpu page cell value) = (vcpu < vcpus) × (page < e.pages) × (cell < e.cells) × (value < 2 ^ 64)
+GuestRecFits e (Write vcpu page cell value) = (vcpu < vcpus) × (page < e.pages) × (cell < e.cells) × (value < 2 ^ 64)
+GuestRecFits e (Release vcpu page) = (vcpu < vcpus) × (page < e.pages)
+GuestRecFits e (Miss vcpu page) = (vcpu < vcpus) × (page < e.pages)
 GuestRecFits e Halt = Unit {0}
 GuestRecFits e (Resume ready) = IsNumber ready
 GuestRecFits e (See placement) = IsNumber placement
@@ -67,10 +73,10 @@ PagerRecFits e All = Unit {0}
 pub record IsSession (s : Recorded) : Type 0 where
   pub geometry : IsExtent s.geometry
   pub init : AreInitPages s.geometry s.init
-  pub few_guest : length s.guest ≤ 1048576
-  pub few_source : length s.source ≤ 1048576
-  pub few_link : length s.link ≤ 1048576
-  pub few_pager : length s.pager ≤ 1048576
+  pub few_guest : length s.guest ≤ most_records
+  pub few_source : length s.source ≤ most_records
+  pub few_link : length s.link ≤ most_records
+  pub few_pager : length s.pager ≤ most_records
   pub guest : AllByRecursion (GuestRecFits s.geometry) s.guest
   pub source : AllByRecursion (SourceRecFits s.geometry) s.source
   pub link : AllByRecursion LinkRecFits s.link

@@ -21,7 +21,7 @@ enum Stored {
 
 impl Model for Contents {
     ghost use Rattle.std.specs.Prelude.{ℕ, List};
-    ghost use Rattle.migration_types.specs.Stored.{values};
+    ghost use Rattle.migration_types.specs.inner.Stored.{values};
 
     ghost Value = { List ℕ };
 

@@ -7,7 +7,7 @@ use std::marker::Model;
 use thiserror::Error;
 
 /// How many pages a machine has, and how many cells each page has, within the limits.
-#[derive(Clone, Copy, Debug, PartialEq, Eq, Hash)]
+#[derive(Clone, Copy, Debug, PartialEq, Eq)]
 pub struct Geometry {
     pages: u32,
     cells: u32,

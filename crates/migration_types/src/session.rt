@@ -1,7 +1,7 @@
 //! Recorded sessions.
 
 ghost use Rattle.std.specs.Prelude.{◌≡◌};
-ghost use Rattle.migration_types.specs.Sessions.{IsSession};
+ghost use Rattle.migration_types.specs.Sessions.{recorded, IsSession};
 
 use crate::geometry::Geometry;
 use crate::pages::InitPage;
@@ -9,48 +9,44 @@ use crate::records::{GuestRec, LinkRec, PagerRec, SourceRec};
 use crate::seq::Seq;
 use std::marker::Model;
 
+/// The logs of the four parties.
+#[derive(Drop)]
+pub struct Logs {
+    pub guest: Seq<GuestRec>,
+    pub source: Seq<SourceRec>,
+    pub link: Seq<LinkRec>,
+    pub pager: Seq<PagerRec>,
+}
+
 /// A recorded session, within all limits: a machine, the pages that do not begin as zeros, and the logs of the guest,
 /// the source, the link and the pager.
 #[derive(Drop)]
 pub struct Session {
     geometry: Geometry,
     init: Seq<InitPage>,
-    guest: Seq<GuestRec>,
-    source: Seq<SourceRec>,
-    link: Seq<LinkRec>,
-    pager: Seq<PagerRec>,
+    logs: Logs,
 }
 
 impl Model for Session {
-    ghost use Rattle.migration_types.specs.Sessions.{Recorded, IsSession};
+    ghost use Rattle.migration_types.specs.Sessions.{Recorded, recorded, IsSession};
 
     ghost Value = { Recorded };
 
-    ghost view = { λ a. record { geometry = a.geometry; init = a.init; guest = a.guest; source = a.source; link = a.link; pager = a.pager } };
+    ghost view = { λ a. recorded a.geometry a.init a.logs };
 
-    ghost invariant = { λ a. IsSession (record { geometry = a.geometry; init = a.init; guest = a.guest; source = a.source; link = a.link; pager = a.pager }) };
+    ghost invariant = { λ a. IsSession (recorded a.geometry a.init a.logs) };
 }
 
 impl Session {
     /// The session of these parts. Takes no memory.
-    pub fn new(
-        geometry: Geometry,
-        init: Seq<InitPage>,
-        guest: Seq<GuestRec>,
-        source: Seq<SourceRec>,
-        link: Seq<LinkRec>,
-        pager: Seq<PagerRec>,
-    ) -> Self
-        requires { IsSession (record { geometry = geometry; init = init; guest = guest; source = source; link = link; pager = pager }) }
-        ensures { result ≡ record { geometry = geometry; init = init; guest = guest; source = source; link = link; pager = pager } }
+    pub fn new(geometry: Geometry, init: Seq<InitPage>, logs: Logs) -> Self
+        requires { IsSession (recorded geometry init logs) }
+        ensures { result ≡ recorded geometry init logs }
     {
         Session {
             geometry,
             init,
-            guest,
-            source,
-            link,
-            pager,
+            logs,
         }
     }
 
@@ -72,28 +68,28 @@ impl Session {
     pub fn guest(&self) -> &[GuestRec]
         ensures { result.now ≡ self.now.guest }
     {
-        self.guest.as_slice()
+        self.logs.guest.as_slice()
     }
 
     /// The source's log.
     pub fn source(&self) -> &[SourceRec]
         ensures { result.now ≡ self.now.source }
     {
-        self.source.as_slice()
+        self.logs.source.as_slice()
     }
 
     /// The link's log.
     pub fn link(&self) -> &[LinkRec]
         ensures { result.now ≡ self.now.link }
     {
-        self.link.as_slice()
+        self.logs.link.as_slice()
     }
 
     /// The pager's log.
     pub fn pager(&self) -> &[PagerRec]
         ensures { result.now ≡ self.now.pager }
     {
-        self.pager.as_slice()
+        self.logs.pager.as_slice()
     }
 
     /// Tells callers that it is within all limits.

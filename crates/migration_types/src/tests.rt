@@ -29,7 +29,6 @@ fn tells_geometries(rt: HostRuntime) -> Result<(), Fail> {
 fn numbers_pages(rt: HostRuntime) {
     assert_eq!(rt; PageNo::new(65_535).number(), 65_535);
     assert_eq!(rt; PageNo::new(65_535).index(), 65_535);
-    assert!(rt; PageNo::new(3) < PageNo::new(4));
 }
 
 #[test]
@@ -92,10 +91,12 @@ fn keeps_a_session(rt: HostRuntime) -> Result<(), Fail> {
     let session = Session::new(
         geometry,
         Seq::from_vec(Vec::new(rt.alloc())),
-        Seq::from_vec(Vec::new(rt.alloc())),
-        Seq::from_vec(Vec::new(rt.alloc())),
-        Seq::from_vec(Vec::new(rt.alloc())),
-        Seq::from_vec(Vec::new(rt.alloc())),
+        Logs {
+            guest: Seq::from_vec(Vec::new(rt.alloc())),
+            source: Seq::from_vec(Vec::new(rt.alloc())),
+            link: Seq::from_vec(Vec::new(rt.alloc())),
+            pager: Seq::from_vec(Vec::new(rt.alloc())),
+        },
     );
     session.keeps_limits();
     assert_eq!(rt; session.geometry(), geometry);

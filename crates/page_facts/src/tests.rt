@@ -8,8 +8,8 @@ ghost use Rattle.migration_types.specs.Sessions.{GuestRecFits, SourceRecFits, Li
 use super::*;
 use audit_model::PageReason;
 use migration_types::{
-    Contents, Entry, First, Geometry, GuestRec, InitPage, LinkRec, LogName, PageNo, PagerRec, Seq,
-    Session, SourceRec,
+    Contents, Entry, First, Geometry, GuestRec, InitPage, LinkRec, LogName, Logs, PageNo, PagerRec,
+    Seq, Session, SourceRec,
 };
 use std::alloc::Global;
 use std::test::Fail;
@@ -118,10 +118,12 @@ fn session_of(
     Ok(Session::new(
         geometry,
         Seq::from_vec(init),
-        Seq::from_vec(guest),
-        Seq::from_vec(source),
-        Seq::from_vec(link),
-        Seq::from_vec(pager),
+        Logs {
+            guest: Seq::from_vec(guest),
+            source: Seq::from_vec(source),
+            link: Seq::from_vec(link),
+            pager: Seq::from_vec(pager),
+        },
     ))
 }
 

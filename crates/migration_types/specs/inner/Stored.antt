@@ -1,4 +1,4 @@
--- The values of stored contents. This serves proofs alone.
+-- The values of stored contents.
 use Rattle.std.specs.Prelude.{ℕ, List}
 use Rattle.migration_types.specs.declared.contents.Stored.{Stored}
 use Rattle.migration_types.specs.declared.contents.Stored.TheVariants.{One, Many}
