@@ -13,7 +13,7 @@ use Rattle.audit_model.specs.Names.{log_length, receipt, same_log}
 use Rattle.audit_model.specs.Mergings.{StandsAfter, IsMerging, Cursors, at_start}
 use Rattle.audit_model.specs.Walks.{next, cursors_from, MayFollow, Walks}
 use Rattle.audit_model.specs.FoundOrder.{is_received}
-use Rattle.audit_model.specs.MergingTests.{may, all_taken}
+use Rattle.audit_model.specs.inner.MergingTests.{may, all_taken}
 use Rattle.audit_model.proofs.Cuts.{cursors_push, may_follow}
 use Rattle.audit_model.proofs.Grown.{walks_push}
 use Rattle.audit_model.proofs.Walked.{merging_is_walk, walk_is_merging}

@@ -22,8 +22,5 @@ pub mod WrittenOut
 pub mod ExampleA
 pub mod ExampleB
 pub mod Certifying
-pub mod FlatPages
 pub mod PageFaultTests
 pub mod FirstNames
-pub mod SpotSteps
-pub mod DemandTests

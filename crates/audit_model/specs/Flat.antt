@@ -2,8 +2,8 @@
 use Rattle.std.specs.Prelude.{◌≡◌, ℕ, zero, suc, Bool, true, false, ◌==◌, ◌&&◌, List, [], ◌∷◌, Option, Some, None, slice_get, if◌then◌else◌}
 use Rattle.migration_types.specs.declared.records.GuestRec.{GuestRec}
 use Rattle.migration_types.specs.declared.records.GuestRec.TheVariants.{Read, Write, Release, Halt, Resume}
-pub use Rattle.audit_model.specs.declared.flat.Home.{Home}
-pub use Rattle.audit_model.specs.declared.flat.Home.TheVariants.{AtSource, Nowhere, AtTarget}
+pub use Rattle.audit_model.specs.declared.home.Home.{Home}
+pub use Rattle.audit_model.specs.declared.home.Home.TheVariants.{AtSource, Nowhere, AtTarget}
 use Rattle.migration_types.specs.Memory.{Memory, initial}
 use Rattle.migration_types.specs.Sessions.{Recorded}
 

@@ -7,12 +7,9 @@ pub mod Worlds
 pub mod Shape
 pub mod Certificates
 pub mod Faults
-pub mod PageFaultTests
 pub mod Reasons
 pub mod FirstFault
 pub mod FoundOrder
 pub mod Delayed
 pub mod Laws
-pub mod MergingTests
-pub mod Spots
-pub mod DemandTests
+pub mod inner

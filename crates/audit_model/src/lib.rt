@@ -1,37 +1,27 @@
 //! What a session's records mean: mergings of its logs, the flat machine, the world that moves, right shape, right
 //! certificates and faults; and the laws on these.
 //!
-//! The definitions are in `specs/`. A function here carries a law as its contract; a caller calls it to have the law
-//! at hand.
+//! The definitions are in `specs/`. A function of [`laws`] carries a law as its contract; a caller calls it to have the
+//! law at hand. The others answer what is asked of one record.
 #![tactic(auto)]
 
 mod asked;
-mod faults;
-mod flat;
+mod home;
 mod laws;
-mod merging;
 mod naming;
 mod reasons;
-mod shape;
-#[cfg(test)]
-mod tests;
-mod world;
 
 pub use asked::{
     delivers_send, delivers_state, delivery, goes_down, goes_up, is_down, is_got, is_halt, is_miss,
     is_placement, is_placement_of, is_ready, is_resume, is_send_of, is_sending, is_state, is_up,
     is_want,
 };
-pub use faults::is_page_fault;
-pub use flat::{Home, flat_value, halt_place, home_before, is_released};
+pub use home::Home;
 pub use laws::{
     certified_is_safe, clean_is_certified, faults_are_unsafe, mergings_are_walks,
     premises_can_be_met, worlds_follow_cursors,
 };
-pub use merging::is_merging;
 pub use naming::{
     guest_named, in_phase, link_named, pager_named, pager_start, source_named, source_start,
 };
 pub use reasons::{PageReason, ShapeReason};
-pub use shape::is_right;
-pub use world::{Spot, demand_holds, first_broken, spot_after};

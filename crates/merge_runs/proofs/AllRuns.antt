@@ -8,8 +8,8 @@ use Rattle.migration_types.specs.declared.cert.Run.{Run}
 use Rattle.migration_types.specs.Extents.{Extent}
 use Rattle.migration_types.specs.Receipts.{Name}
 use Rattle.migration_types.specs.Sessions.{Recorded, IsSession}
-use Rattle.audit_model.specs.declared.flat.Home.{Home}
-use Rattle.audit_model.specs.declared.flat.Home.TheVariants.{AtSource, Nowhere, AtTarget}
+use Rattle.audit_model.specs.declared.home.Home.{Home}
+use Rattle.audit_model.specs.declared.home.Home.TheVariants.{AtSource, Nowhere, AtTarget}
 use Rattle.audit_model.specs.Names.{log_length}
 use Rattle.audit_model.specs.Mergings.{Cursors, IsMerging, at_start, run_names, spelled}
 use Rattle.audit_model.specs.Walks.{cursors_from, Walks, IsWholeWalk}

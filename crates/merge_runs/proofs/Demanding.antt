@@ -12,8 +12,8 @@ use Rattle.migration_types.specs.declared.records.PagerRec.{PagerRec}
 use Rattle.migration_types.specs.declared.records.PagerRec.TheVariants.{Got, Ready, Fault, Join, Want, Place, Zero, Skip, All}
 use Rattle.migration_types.specs.Memory.{page_of}
 use Rattle.migration_types.specs.Sessions.{Recorded}
-use Rattle.audit_model.specs.declared.flat.Home.{Home}
-use Rattle.audit_model.specs.declared.flat.Home.TheVariants.{AtSource, Nowhere, AtTarget}
+use Rattle.audit_model.specs.declared.home.Home.{Home}
+use Rattle.audit_model.specs.declared.home.Home.TheVariants.{AtSource, Nowhere, AtTarget}
 use Rattle.audit_model.specs.Flat.{flat}
 use Rattle.audit_model.specs.World.{World, memory_at, guest_demand, source_demand, pager_demand}
 use Rattle.merge_runs.specs.Demands.{finds, has_left, is_open, guest_met, source_met, pager_met}

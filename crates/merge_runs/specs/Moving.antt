@@ -9,8 +9,8 @@ use Rattle.migration_types.specs.declared.records.PagerRec.TheVariants.{Place, Z
 use Rattle.migration_types.specs.Extents.{Extent}
 use Rattle.migration_types.specs.Memory.{Memory}
 use Rattle.migration_types.specs.PageSets.{Pages}
-use Rattle.audit_model.specs.declared.flat.Home.{Home}
-use Rattle.audit_model.specs.declared.flat.Home.TheVariants.{AtSource, Nowhere, AtTarget}
+use Rattle.audit_model.specs.declared.home.Home.{Home}
+use Rattle.audit_model.specs.declared.home.Home.TheVariants.{AtSource, Nowhere, AtTarget}
 use Rattle.audit_model.specs.Flat.{cell_after}
 use Rattle.audit_model.specs.World.{World}
 use Rattle.page_store.specs.Frames.{Frames, memory_of}

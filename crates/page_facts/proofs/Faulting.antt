@@ -14,7 +14,7 @@ use Rattle.audit_model.specs.declared.reasons.PageReason.TheVariants.{Read as Wr
 use Rattle.audit_model.specs.Flat.{changed, in_ledger, at_halt}
 use Rattle.audit_model.specs.Shape.{passes, is_placement_of, earlier}
 use Rattle.audit_model.specs.Faults.{has_looked}
-use Rattle.audit_model.specs.PageFaultTests.{is_uncovered, is_wrong_read, is_early, is_flat_page, is_given, is_stale, is_second, is_altered, is_unfit}
+use Rattle.audit_model.specs.inner.PageFaultTests.{is_uncovered, is_wrong_read, is_early, is_flat_page, is_given, is_stale, is_second, is_altered, is_unfit}
 use Rattle.audit_model.proofs.Lists.{each_at}
 use Rattle.page_store.specs.Frames.{memory_of}
 use Rattle.page_facts.specs.declared.machine.Machine.{Machine}

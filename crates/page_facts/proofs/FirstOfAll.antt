@@ -13,7 +13,7 @@ use Rattle.audit_model.specs.Shape.{passes}
 use Rattle.audit_model.specs.Faults.{IsPageFault, HasNoPageFault}
 use Rattle.audit_model.specs.Reasons.{page_rank}
 use Rattle.audit_model.specs.FirstFault.{IsFirstPageFault}
-use Rattle.audit_model.specs.PageFaultTests.{is_wrong_read, is_early, is_given, is_stale, is_second, is_altered, is_unfit, fault_test}
+use Rattle.audit_model.specs.inner.PageFaultTests.{is_wrong_read, is_early, is_given, is_stale, is_second, is_altered, is_unfit, fault_test}
 use Rattle.audit_model.proofs.PageFaultTests.{fault_Decides}
 use Rattle.page_facts.specs.declared.page_fault.PageFault.{PageFault}
 use Rattle.page_facts.specs.FirstOfLog.{or_else, reason_at, IsCleanBelow, IsCleanLog, IsFirstOfLog, AreMovedClean, IsFirstMoved}

@@ -8,7 +8,7 @@ use Rattle.migration_types.specs.declared.records.GuestRec.TheVariants.{Read, Wr
 use Rattle.migration_types.specs.Extents.{Extent}
 use Rattle.migration_types.specs.Memory.{Memory}
 use Rattle.migration_types.specs.Sessions.{Recorded, IsSession, GuestRecFits}
-use Rattle.audit_model.specs.declared.flat.Home.{Home}
+use Rattle.audit_model.specs.declared.home.Home.{Home}
 use Rattle.audit_model.specs.Flat.{changed, flat, in_ledger, cell_after, released_after, home_after, home}
 use Rattle.audit_model.specs.Shape.{passes}
 use Rattle.audit_model.proofs.Lists.{each_at}

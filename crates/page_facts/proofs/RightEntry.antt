@@ -17,8 +17,8 @@ use Rattle.migration_types.specs.Sessions.{Recorded}
 use Rattle.migration_types.specs.declared.cert.First.{First}
 use Rattle.migration_types.specs.declared.cert.Entry.{Entry}
 use Rattle.migration_types.specs.declared.cert.Entry.TheVariants.{Nothing, Source, Balloon}
-use Rattle.audit_model.specs.declared.flat.Home.{Home}
-use Rattle.audit_model.specs.declared.flat.Home.TheVariants.{AtSource, Nowhere, AtTarget}
+use Rattle.audit_model.specs.declared.home.Home.{Home}
+use Rattle.audit_model.specs.declared.home.Home.TheVariants.{AtSource, Nowhere, AtTarget}
 use Rattle.audit_model.specs.Flat.{flat, in_ledger, home, at_halt}
 use Rattle.audit_model.specs.Shape.{passes, is_send_of, is_placement_of, delivery}
 use Rattle.audit_model.specs.Certificates.{is_access_of, IsLateAccess, IsHonest, IsOnlyPlacement, IsCovered, IsNothing, IsFromSource, IsBalloon, IsOf, IsRightEntry}

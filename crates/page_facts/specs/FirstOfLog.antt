@@ -14,7 +14,7 @@ use Rattle.migration_types.specs.Sessions.{Recorded}
 use Rattle.audit_model.specs.declared.reasons.PageReason.{PageReason}
 use Rattle.audit_model.specs.declared.reasons.PageReason.TheVariants.{Read as WrongRead, Early, Given, Stale, Twice, Altered, Unfit}
 use Rattle.audit_model.specs.Shape.{is_placement_of}
-use Rattle.audit_model.specs.PageFaultTests.{fault_test}
+use Rattle.audit_model.specs.inner.PageFaultTests.{fault_test}
 use Rattle.page_store.specs.Frames.{Frames}
 use Rattle.page_facts.specs.Tables.{first_before, IsTable}
 use Rattle.page_facts.specs.Machines.{IsMachine, IsStepped}

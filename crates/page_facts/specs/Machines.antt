@@ -5,7 +5,7 @@ use Rattle.migration_types.specs.declared.records.GuestRec.TheVariants.{Read, Wr
 use Rattle.migration_types.specs.Memory.{Memory}
 use Rattle.migration_types.specs.Sessions.{Recorded}
 use Rattle.audit_model.specs.Flat.{cell_after, flat, in_ledger, home}
-pub use Rattle.audit_model.specs.PageFaultTests.{is_target}
+pub use Rattle.audit_model.specs.inner.PageFaultTests.{is_target}
 use Rattle.page_store.specs.Frames.{memory_of, IsWith}
 use Rattle.page_facts.specs.Tables.{IsTable}
 use Rattle.page_facts.specs.declared.machine.Machine.{Machine}

@@ -1,7 +1,0 @@
-use Rattle.std.proofs.Common.{◌≡◌, take}
-use Rattle.audit_model.specs.World.{world_after}
-use Rattle.audit_model.specs.Spots.{spot_at}
-use Rattle.audit_model.proofs.world.spot_after.Given as goal
-
-abbrev pub invariant-loop-at : goal.invariant-loop-at
-invariant-loop-at l = l.spot ≡ spot_at (world_after l.session (take l.at l.order)) l.page l.cell

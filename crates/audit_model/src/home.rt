@@ -1,0 +1,12 @@
+//! Where the guest is, as its log says.
+
+/// Where the guest is.
+#[derive(Clone, Copy, Debug, PartialEq, Eq)]
+pub enum Home {
+    /// At the source, before it is halted.
+    AtSource,
+    /// Between its halt and its resume.
+    Nowhere,
+    /// At the target, once it is resumed.
+    AtTarget,
+}

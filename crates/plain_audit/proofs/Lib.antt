@@ -1,0 +1,3 @@
+pub mod FlatPages
+pub mod SpotSteps
+pub mod DemandTests

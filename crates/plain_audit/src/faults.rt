@@ -1,0 +1,199 @@
+//! Faults of pages, plainly and slowly: whether one record has a fault, by looking at each earlier record.
+
+ghost use Rattle.std.specs.Prelude.{◌≡◌, ◌≤◌, ◌↔◌, IsTrue, length, slice_get};
+ghost use Rattle.migration_types.specs.declared.records.LogName.TheVariants.{Guest, Source, Link, Pager};
+ghost use Rattle.migration_types.specs.Sessions.{IsSession};
+ghost use Rattle.audit_model.specs.Shape.{is_placement_of, earlier, passes};
+ghost use Rattle.audit_model.specs.Faults.{looks_at, has_looked, IsPageFault};
+ghost use Rattle.audit_model.specs.Flat.{at_halt};
+ghost use Rattle.audit_model.specs.inner.PageFaultTests.{is_uncovered, is_wrong_read, is_early, is_flat_page, is_given, is_stale, is_second, is_altered, is_unfit, fault_test};
+
+use crate::flat::{flat_value, halt_place, home_before, is_released};
+use audit_model::{Home, PageReason, is_placement_of};
+use migration_types::{GuestRec, LogName, PageNo, PagerRec, Session, SourceRec};
+
+/// Whether a record of the pager before this place places the page.
+fn placed_before(session: &Session, place: usize, page: PageNo) -> bool
+    ensures { result ≡ earlier (is_placement_of page) session.now.pager place }
+{
+    let mut found = false;
+    for n in 0..place {
+        found = match session.pager().get(n) {
+            Some(logged) => is_placement_of(logged, page) || found,
+            None => found,
+        };
+    }
+    found
+}
+
+/// Whether it is a look at the page's placement, or at a later one.
+fn looks_at(session: &Session, logged: &GuestRec, page: PageNo) -> bool
+    ensures { result ≡ looks_at session.now page logged.now }
+{
+    match *logged {
+        GuestRec::See { placement } => placed_before(session, placement as usize + 1, page),
+        _ => false,
+    }
+}
+
+/// Whether a look before the guest's record of this place covers the page.
+fn has_looked(session: &Session, place: usize, page: PageNo) -> bool
+    requires { place ≤ length session.now.guest }
+    ensures { result ≡ has_looked session.now page place }
+{
+    let mut found = false;
+    for record in &session.guest()[..place] {
+        found = looks_at(session, record, page) || found;
+    }
+    found
+}
+
+/// Whether the guest is at the target before its record of this place, and no look before it covers the page.
+fn is_uncovered(session: &Session, place: usize, page: PageNo) -> bool
+    requires { place ≤ length session.now.guest }
+    ensures { result ≡ is_uncovered session.now page place }
+{
+    matches!(home_before(session, place), Home::AtTarget) && !has_looked(session, place, page)
+}
+
+/// Whether the guest's record of this place reads another value than the flat machine would.
+fn is_wrong_read(session: &Session, place: usize) -> bool
+    ensures { result ≡ passes (is_wrong_read session.now place) (slice_get session.now.guest place) }
+{
+    match session.guest().get(place) {
+        Some(
+            GuestRec::Read {
+                page,
+                cell,
+                value,
+                ..
+            },
+        ) => { *value != flat_value(session, place, *page, *cell) }
+        _ => false,
+    }
+}
+
+/// Whether the guest's record of this place, which is this one, uses a page at the target that no look before it
+/// covers.
+fn is_early_record(session: &Session, place: usize, logged: &GuestRec) -> bool
+    requires { place ≤ length session.now.guest }
+    ensures { result ≡ is_early session.now place logged.now }
+{
+    match logged {
+        GuestRec::Read { page, .. } => is_uncovered(session, place, *page),
+        GuestRec::Write { page, .. } => is_uncovered(session, place, *page),
+        _ => false,
+    }
+}
+
+/// Whether the guest's record of this place uses a page at the target that no look before it covers.
+fn is_early(session: &Session, place: usize) -> bool
+    ensures { result ≡ passes (is_early session.now place) (slice_get session.now.guest place) }
+{
+    match session.guest().get(place) {
+        Some(logged) => is_early_record(session, place, logged),
+        None => false,
+    }
+}
+
+/// Whether the contents are those that the flat machine's page has before the guest's record of this place.
+fn is_flat_page(session: &Session, place: usize, page: PageNo, contents: &[u64]) -> bool
+    requires limits { IsSession session.now }
+    requires within { place ≤ length session.now.guest }
+    ensures { result ≡ is_flat_page session.now place page contents.now }
+{
+    let cells = session.geometry().cells();
+    if contents.len() != cells as usize {
+        return false;
+    }
+    for cell in 0..cells {
+        if contents[cell as usize] != flat_value(session, place, page, cell as u16) {
+            return false;
+        }
+    }
+    true
+}
+
+/// Whether the source's record of this place sends a page that is released at the halt.
+fn is_given(session: &Session, place: usize) -> bool
+    ensures { result ≡ passes (is_given session.now) (slice_get session.now.source place) }
+{
+    match session.source().get(place) {
+        Some(SourceRec::Send { page, .. }) => is_released(session, halt_place(session), *page),
+        _ => false,
+    }
+}
+
+/// Whether the source's record of this place sends other contents than the page has at the halt.
+fn is_stale(session: &Session, place: usize) -> bool
+    requires { IsSession session.now }
+    ensures { result ≡ passes (is_stale session.now) (slice_get session.now.source place) }
+{
+    match session.source().get(place) {
+        Some(SourceRec::Send { page, contents }) => {
+            !is_flat_page(session, halt_place(session), *page, contents.as_slice())
+        }
+        _ => false,
+    }
+}
+
+/// Whether the pager's record of this place places a page that was placed before.
+fn is_second(session: &Session, place: usize) -> bool
+    ensures { result ≡ passes (is_second session.now place) (slice_get session.now.pager place) }
+{
+    match session.pager().get(place) {
+        Some(PagerRec::Place { page, .. } | PagerRec::Zero { page }) => {
+            placed_before(session, place, *page)
+        }
+        _ => false,
+    }
+}
+
+/// Whether the pager's record of this place places other contents than the page has at the halt.
+fn is_altered(session: &Session, place: usize) -> bool
+    requires { IsSession session.now }
+    ensures { result ≡ passes (is_altered session.now) (slice_get session.now.pager place) }
+{
+    match session.pager().get(place) {
+        Some(PagerRec::Place { page, contents, .. }) => {
+            !is_flat_page(session, halt_place(session), *page, contents.as_slice())
+        }
+        _ => false,
+    }
+}
+
+/// Whether the pager's record of this place places zeros for a page that is not released at the halt.
+fn is_unfit(session: &Session, place: usize) -> bool
+    ensures { result ≡ passes (is_unfit session.now) (slice_get session.now.pager place) }
+{
+    match session.pager().get(place) {
+        Some(PagerRec::Zero { page }) => !is_released(session, halt_place(session), *page),
+        _ => false,
+    }
+}
+
+/// Whether the record of this log and place has a fault for this reason, by a test.
+fn tests_fault(session: &Session, reason: PageReason, log: LogName, place: usize) -> bool
+    requires { IsSession session.now }
+    ensures { result ≡ fault_test session.now reason (log, place) }
+{
+    match (reason, log) {
+        (PageReason::Read, LogName::Guest) => is_wrong_read(session, place),
+        (PageReason::Early, LogName::Guest) => is_early(session, place),
+        (PageReason::Given, LogName::Source) => is_given(session, place),
+        (PageReason::Stale, LogName::Source) => is_stale(session, place),
+        (PageReason::Twice, LogName::Pager) => is_second(session, place),
+        (PageReason::Altered, LogName::Pager) => is_altered(session, place),
+        (PageReason::Unfit, LogName::Pager) => is_unfit(session, place),
+        _ => false,
+    }
+}
+
+/// Whether the record of this log and place has a fault of its page for this reason. A record that is not there has
+/// none.
+pub fn is_page_fault(session: &Session, reason: PageReason, log: LogName, place: usize) -> bool
+    ensures { IsTrue result ↔ IsPageFault session.now reason (log, place) }
+{
+    session.keeps_limits();
+    tests_fault(session, reason, log, place)
+}

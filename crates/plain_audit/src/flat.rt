@@ -1,0 +1,125 @@
+//! What the guest's log says before one of its records, plainly and slowly, by looking at each earlier record: the flat
+//! machine, the ledger, where the guest is.
+
+ghost use Rattle.std.specs.Prelude.{◌≡◌, ◌≤◌, length};
+ghost use Rattle.migration_types.specs.Memory.{initial};
+ghost use Rattle.migration_types.specs.Pages.{AreInitPages};
+ghost use Rattle.audit_model.specs.Flat.{cell_after, flat, released_after, in_ledger, home_after, home, halt_place, at_halt};
+
+use audit_model::{Home, is_halt};
+use migration_types::{GuestRec, InitPage, PageNo, Session};
+
+/// The value of a cell after a record, where it was `old` before.
+fn value_after(page: PageNo, cell: u16, logged: &GuestRec, old: u64) -> u64
+    ensures { result ≡ cell_after page cell logged.now old }
+{
+    match *logged {
+        GuestRec::Write {
+            page: its_page,
+            cell: its_cell,
+            value,
+            ..
+        } => {
+            if its_page.number() == page.number() && its_cell == cell {
+                value
+            } else {
+                old
+            }
+        }
+        GuestRec::Release { page: its_page, .. } => {
+            if its_page.number() == page.number() {
+                0
+            } else {
+                old
+            }
+        }
+        _ => old,
+    }
+}
+
+/// The value of a cell in the memory that begins with these pages.
+pub(crate) fn initial_value(init: &[InitPage], page: PageNo, cell: u16) -> u64
+    ensures { result ≡ initial init.now page cell }
+{
+    for given in init {
+        if given.page.number() == page.number() {
+            return match given.cells.as_slice().get(cell as usize) {
+                Some(value) => *value,
+                None => 0,
+            };
+        }
+    }
+    0
+}
+
+/// The value of a cell on the flat machine before the guest's record of this place. Looks at each record before it.
+pub fn flat_value(session: &Session, place: usize, page: PageNo, cell: u16) -> u64
+    requires { place ≤ length session.now.guest }
+    ensures { result ≡ flat session.now place page cell }
+{
+    let mut value = initial_value(session.init(), page, cell);
+    for record in &session.guest()[..place] {
+        value = value_after(page, cell, record, value);
+    }
+    value
+}
+
+/// Whether a page is released after a record, where it was `old` before.
+fn released_by(page: PageNo, logged: &GuestRec, old: bool) -> bool
+    ensures { result ≡ released_after page logged.now old }
+{
+    match *logged {
+        GuestRec::Write { page: its_page, .. } => its_page.number() != page.number() && old,
+        GuestRec::Release { page: its_page, .. } => its_page.number() == page.number() || old,
+        _ => old,
+    }
+}
+
+/// Whether a page is released before the guest's record of this place. Looks at each record before it.
+pub fn is_released(session: &Session, place: usize, page: PageNo) -> bool
+    requires { place ≤ length session.now.guest }
+    ensures { result ≡ in_ledger session.now place page }
+{
+    let mut released = false;
+    for record in &session.guest()[..place] {
+        released = released_by(page, record, released);
+    }
+    released
+}
+
+/// Where the guest is after a record.
+fn home_by(logged: &GuestRec, old: Home) -> Home
+    ensures { result ≡ home_after logged.now old }
+{
+    match *logged {
+        GuestRec::Halt => Home::Nowhere,
+        GuestRec::Resume { .. } => Home::AtTarget,
+        _ => old,
+    }
+}
+
+/// Where the guest is before its record of this place. Looks at each record before it.
+pub fn home_before(session: &Session, place: usize) -> Home
+    requires { place ≤ length session.now.guest }
+    ensures { result ≡ home session.now place }
+{
+    let mut home = Home::AtSource;
+    for record in &session.guest()[..place] {
+        home = home_by(record, home);
+    }
+    home
+}
+
+/// The place of the guest's halt, or the length of its log where there is none.
+pub fn halt_place(session: &Session) -> usize
+    ensures value { result ≡ at_halt session.now }
+    ensures within { result ≤ length session.now.guest }
+{
+    let guest = session.guest();
+    for place in 0..guest.len() {
+        if is_halt(&guest[place]) {
+            return place;
+        }
+    }
+    guest.len()
+}

@@ -1,0 +1,18 @@
+//! What a session's records mean, computed plainly and slowly: whether a record is of the right shape, whether it is a
+//! fault of its page, whether an order is a merging, what the world holds after the first records of an order and
+//! where it breaks. Each program goes by the definitions alone, and looks at all earlier records again for each one.
+//!
+//! The commands use none of this: it is what their programs are compared with.
+#![tactic(auto)]
+
+mod faults;
+mod flat;
+mod merging;
+mod shape;
+mod world;
+
+pub use faults::is_page_fault;
+pub use flat::{flat_value, halt_place, home_before, is_released};
+pub use merging::is_merging;
+pub use shape::is_right;
+pub use world::{Spot, demand_holds, first_broken, spot_after};

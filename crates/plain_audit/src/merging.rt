@@ -1,0 +1,108 @@
+//! Mergings, plainly and slowly: whether each record of an order may follow those before it, by counting these.
+
+ghost use Rattle.std.specs.Prelude.{◌≡◌, ◌<◌, ◌↔◌, IsTrue, length, take, slice_index_or};
+ghost use Rattle.migration_types.specs.Receipts.{Name};
+ghost use Rattle.audit_model.specs.Names.{receipt, log_length, same_log};
+ghost use Rattle.audit_model.specs.Mergings.{IsMerging, at_start};
+ghost use Rattle.audit_model.specs.Walks.{cursors_from};
+ghost use Rattle.audit_model.specs.FoundOrder.{is_received};
+ghost use Rattle.audit_model.specs.inner.MergingTests.{may, all_taken};
+
+use migration_types::{LogName, Record, Session};
+
+/// How many records a log has.
+fn log_length(session: &Session, log: LogName) -> usize
+    ensures { result ≡ log_length session.now log }
+{
+    match log {
+        LogName::Guest => session.guest().len(),
+        LogName::Source => session.source().len(),
+        LogName::Link => session.link().len(),
+        LogName::Pager => session.pager().len(),
+    }
+}
+
+/// The record of another log that the record of this log and place is a receipt for.
+fn receipt(session: &Session, log: LogName, place: u32) -> Option<(LogName, u32)>
+    ensures { result ≡ receipt session.now (log, place) }
+{
+    match log {
+        LogName::Guest => match session.guest().get(place as usize) {
+            Some(logged) => logged.named(),
+            None => None,
+        },
+        LogName::Source => match session.source().get(place as usize) {
+            Some(logged) => logged.named(),
+            None => None,
+        },
+        LogName::Link => match session.link().get(place as usize) {
+            Some(logged) => logged.named(),
+            None => None,
+        },
+        LogName::Pager => match session.pager().get(place as usize) {
+            Some(logged) => logged.named(),
+            None => None,
+        },
+    }
+}
+
+/// Whether the two are the same log.
+fn same_log(one: LogName, other: LogName) -> bool
+    ensures { result ≡ same_log one other }
+{
+    one == other
+}
+
+/// How many of these names are of the log.
+fn taken(order: &[(LogName, u32)], log: LogName) -> usize
+    ensures { result ≡ cursors_from at_start order.now log }
+{
+    let mut count = 0;
+    for at in 0..order.len() {
+        if same_log(order[at].0, log) {
+            count += 1;
+        }
+    }
+    count
+}
+
+/// Whether what a record is a receipt for stands among these names.
+fn is_received(order: &[(LogName, u32)], sent: Option<(LogName, u32)>) -> bool
+    ensures { result ≡ is_received (cursors_from at_start order.now) sent }
+{
+    match sent {
+        Some((log, place)) => (place as usize) < taken(order, log),
+        None => true,
+    }
+}
+
+/// Whether the record of this log and place may follow the records of these names.
+fn may_follow(session: &Session, order: &[(LogName, u32)], log: LogName, place: u32) -> bool
+    ensures { result ≡ may session.now (cursors_from at_start order.now) (log, place) }
+{
+    place as usize == taken(order, log)
+        && (place as usize) < log_length(session, log)
+        && is_received(order, receipt(session, log, place))
+}
+
+/// Whether these names are as many of each log as it has records.
+fn takes_all(session: &Session, order: &[(LogName, u32)]) -> bool
+    ensures { result ≡ all_taken session.now (cursors_from at_start order.now) }
+{
+    taken(order, LogName::Guest) == log_length(session, LogName::Guest)
+        && taken(order, LogName::Source) == log_length(session, LogName::Source)
+        && taken(order, LogName::Link) == log_length(session, LogName::Link)
+        && taken(order, LogName::Pager) == log_length(session, LogName::Pager)
+}
+
+/// Whether a list of names is a merging of the session's logs. Counts what is before each name.
+pub fn is_merging(session: &Session, order: &[(LogName, u32)]) -> bool
+    ensures { IsTrue result ↔ IsMerging session.now order.now }
+{
+    for at in 0..order.len() {
+        if !may_follow(session, &order[..at], order[at].0, order[at].1) {
+            return false;
+        }
+    }
+    takes_all(session, order)
+}
