@@ -1,9 +1,9 @@
 -- A write to a list of cells as a change of the memory.
-use Rattle.std.proofs.Common.{◌≡◌, ℕ, ◌+◌, ◌-◌, ◌*◌, ◌<◌, ◌≤◌, ◌⊎◌, inl, inr, true, false, cond, ◌&&◌, List, length, map, get_or, set, take, drop, ltb, leb, eq-eqb, refl, sym, ap, ◌∙◌, subst, arith}
+use Rattle.std.proofs.Common.{◌≡◌, ℕ, ◌+◌, ◌-◌, ◌*◌, ◌<◌, ◌≤◌, ◌⊎◌, inl, inr, true, false, cond, ◌&&◌, List, ◌++◌, zero, suc, replicate, length, map, get_or, set, take, drop, ltb, leb, eq-eqb, refl, sym, ap, ◌∙◌, subst, arith}
 use Rattle.std.specs.List.{range_with_len}
 use Rattle.std.specs.Prelude.{◌==◌}
 use Rattle.std.proofs.lemmas.Bool.{cases_lt, cases_eq, ne_eqb, lt-ltb, le-ltb, le-leb, lt-leb, and_left, and_right, and_from, and_parts, cases_Bool, eqb-true}
-use Rattle.std.proofs.lemmas.List.{get_or-set_same, get_or-set_other, get_or_past, get_or-take, get_or-drop, same_lists, length-take, length-drop, get_or_default}
+use Rattle.std.proofs.lemmas.List.{get_or-set_same, get_or-set_other, get_or_past, get_or-take, get_or-drop, same_lists, length-take, length-drop, length-replicate, get_or_default, get_or_append_left, get_or-append_right}
 use Rattle.std.proofs.lemmas.List.FromFn.{get_or-map-range_with_len, length-map-range_with_len}
 use Rattle.std.proofs.Math.Nat.{mul_comm}
 use Rattle.std.proofs.lemmas.Nat.{mul-add-lt, same_from_place, row_fits}
@@ -103,6 +103,42 @@ rows_memory pages cells items after p f lp e past =
         ∙ sym (inside pages cells items q d lq ld)
         ∙ sym (ap (λ b. cond b (f d) (memory_of (at pages cells items) q d)) (ne_eqb p q other_place))
 
+-- a list with some items in a row given anew, item by item
+pub get_or-put : (xs ys : List ℕ) (from n : ℕ) → length ys ≡ n → from + n ≤ length xs → (k : ℕ) → get_or (take from xs ++ (ys ++ drop (from + n) xs)) k 0 ≡ cond (leb from k && ltb k (from + n)) (get_or ys (k - from) 0) (get_or xs k 0)
+get_or-put xs ys from n sized le k = go (cases_lt k from) (cases_lt k (from + n))
+  where
+    front : length (take from xs) ≡ from
+    front = omega (arith, length-take from xs)
+
+    go : (k < from) ⊎ (from ≤ k) → (k < from + n) ⊎ (from + n ≤ k) → get_or (take from xs ++ (ys ++ drop (from + n) xs)) k 0 ≡ cond (leb from k && ltb k (from + n)) (get_or ys (k - from) 0) (get_or xs k 0)
+    go (inl before) _ =
+        get_or_append_left (take from xs) (ys ++ drop (from + n) xs) 0 k (omega (arith, front)) ∙ get_or-take from xs k 0 before
+        ∙ sym (ap (λ b. cond b (get_or ys (k - from) 0) (get_or xs k 0)) (and_left _ _ (lt-leb from k before)))
+    go (inr at_least) (inl within) =
+        get_or-append_right (take from xs) (ys ++ drop (from + n) xs) from k 0 front at_least
+        ∙ get_or_append_left ys (drop (from + n) xs) 0 (k - from) (omega arith)
+        ∙ sym (ap (λ b. cond b (get_or ys (k - from) 0) (get_or xs k 0)) (and_from _ _ (le-leb from k at_least) (lt-ltb k (from + n) within)))
+    go (inr at_least) (inr past) =
+        get_or-append_right (take from xs) (ys ++ drop (from + n) xs) from k 0 front at_least
+        ∙ get_or-append_right ys (drop (from + n) xs) n (k - from) 0 sized (omega arith)
+        ∙ get_or-drop (from + n) xs (k - from - n) 0
+        ∙ ap (λ i. get_or xs i 0) (omega arith)
+        ∙ sym (ap (λ b. cond b (get_or ys (k - from) 0) (get_or xs k 0)) (and_right _ _ (le-ltb k (from + n) past)))
+
+zeros_at : (n k : ℕ) → let none : ℕ = 0 in get_or (replicate n none) k none ≡ none
+zeros_at zero k = refl
+zeros_at (suc n) zero = refl
+zeros_at (suc n) (suc k) = zeros_at n k
+
+pub cells_put : (xs new ys : List ℕ) (from n : ℕ) → length ys ≡ n → from + n ≤ length xs → new ≡ take from xs ++ (ys ++ drop (from + n) xs) → (k : ℕ) → get_or new k 0 ≡ cond (leb from k && ltb k (from + n)) (get_or ys (k - from) 0) (get_or xs k 0)
+cells_put xs new ys from n sized le e k =
+    ap (λ (t : List ℕ). get_or t k 0) e ∙ get_or-put xs ys from n sized le k
+
+pub zeros_put : (xs new : List ℕ) (from n : ℕ) → from + n ≤ length xs → new ≡ take from xs ++ (replicate n 0 ++ drop (from + n) xs) → (k : ℕ) → get_or new k 0 ≡ cond (leb from k && ltb k (from + n)) 0 (get_or xs k 0)
+zeros_put xs new from n le e k =
+    cells_put xs new (replicate n 0) from n (length-replicate n 0) le e k
+    ∙ ap (λ (x : ℕ). cond (leb from k && ltb k (from + n)) x (get_or xs k 0)) (zeros_at n (k - from))
+
 -- a page read from the cells
 pub page_memory : (pages cells : ℕ) (items page : List ℕ) (p : ℕ) → length items ≡ pages * cells → p < pages → page ≡ take (p * cells + cells - p * cells) (drop (p * cells) items) → page ≡ page_of cells (memory_of (at pages cells items)) p
 page_memory pages cells items page p sized lp e = e ∙ same_lists _ _ (len ∙ sym (length-map-range_with_len (memory_of (at pages cells items) p) 0 cells)) each
@@ -129,15 +165,22 @@ write_frames f pages cells items after p c x is sized lp lc e =
     subst (λ (g : Frames). p < g.geometry.pages → c < g.geometry.cells → IsWith g (at pages cells after) (with_cell p c x (memory_of g))) is
     (λ lp lc. record { geometry = refl; memory_is = write_memory pages cells items after p c x sized lp lc e }) lp lc
 
-pub release_frames : (f : Frames) (pages cells : ℕ) (items after : List ℕ) (p : ℕ) → at pages cells items ≡ f → p < f.geometry.pages → ((k : ℕ) → get_or after k 0 ≡ cond (leb (p * cells) k && ltb k (p * cells + cells)) 0 (get_or items k 0)) → IsWith f (at pages cells after) (with_zeros p (memory_of f))
-release_frames f pages cells items after p is lp e =
+pub release_frames : (f : Frames) (pages cells : ℕ) (items after : List ℕ) (p : ℕ) → at pages cells items ≡ f → length items ≡ pages * cells → p < f.geometry.pages → after ≡ take (p * cells) items ++ (replicate cells 0 ++ drop (p * cells + cells) items) → IsWith f (at pages cells after) (with_zeros p (memory_of f))
+release_frames f pages cells items after p is sized lp e =
     subst (λ (g : Frames). p < g.geometry.pages → IsWith g (at pages cells after) (with_zeros p (memory_of g))) is
-    (λ lp. record { geometry = refl; memory_is = rows_memory pages cells items after p (λ d. 0) lp e (λ d le. refl) }) lp
+    (λ lp.
+        let fits = page_fits pages cells p lp in
+        let each = zeros_put items after (p * cells) cells (omega arith) e in
+        record { geometry = refl; memory_is = rows_memory pages cells items after p (λ d. 0) lp each (λ d le. refl) }) lp
 
-pub install_frames : (f : Frames) (pages cells : ℕ) (items after content : List ℕ) (p : ℕ) → at pages cells items ≡ f → p < f.geometry.pages → length content ≡ f.geometry.cells → ((k : ℕ) → get_or after k 0 ≡ cond (leb (p * cells) k && ltb k (p * cells + length content)) (get_or content (k - p * cells) 0) (get_or items k 0)) → IsWith f (at pages cells after) (with_content p content (memory_of f))
-install_frames f pages cells items after content p is lp sized e =
+pub install_frames : (f : Frames) (pages cells : ℕ) (items after content : List ℕ) (p : ℕ) → at pages cells items ≡ f → length items ≡ pages * cells → p < f.geometry.pages → length content ≡ f.geometry.cells → after ≡ take (p * cells) items ++ (content ++ drop (p * cells + length content) items) → IsWith f (at pages cells after) (with_content p content (memory_of f))
+install_frames f pages cells items after content p is sized lp whole e =
     subst (λ (g : Frames). p < g.geometry.pages → length content ≡ g.geometry.cells → IsWith g (at pages cells after) (with_content p content (memory_of g))) is
-    (λ lp sized. record { geometry = refl; memory_is = rows_memory pages cells items after p (λ d. get_or content d 0) lp (λ k. e k ∙ ap (λ n. cond (leb (p * cells) k && ltb k (p * cells + n)) (get_or content (k - p * cells) 0) (get_or items k 0)) sized) (λ d le. get_or_past content d 0 (omega (arith, sized))) }) lp sized
+    (λ lp whole.
+        let fits = page_fits pages cells p lp in
+        let same = e ∙ ap (λ (n : ℕ). take (p * cells) items ++ (content ++ drop (p * cells + n) items)) whole in
+        let each = cells_put items after content (p * cells) cells whole (omega arith) same in
+        record { geometry = refl; memory_is = rows_memory pages cells items after p (λ d. get_or content d 0) lp each (λ d le. get_or_past content d 0 (omega arith)) }) lp whole
 
 pub page_frames : (f : Frames) (pages cells : ℕ) (items page whole : List ℕ) (p : ℕ) → at pages cells items ≡ f → length items ≡ pages * cells → p < f.geometry.pages → whole ≡ items → page ≡ take (p * cells + cells - p * cells) (drop (p * cells) whole) → page ≡ page_of f.geometry.cells (memory_of f) p
 page_frames f pages cells items page whole p is sized lp same e =

@@ -1,7 +1,8 @@
 //! The frames of one machine: a value for each cell of each page.
 #![tactic(auto)]
 
-ghost use Rattle.std.specs.Prelude.{◌≡◌, ◌<◌, ◌≤◌, ◌*◌, ◌^◌, ◌+◌, ◌-◌, ◌&&◌, ℕ, IfOk, length, replicate, slice_index, nat_le, nat_lt, if◌then◌else◌};
+ghost use Rattle.std.specs.Prelude.{◌≡◌, ◌<◌, ◌≤◌, ◌*◌, ◌+◌, ◌++◌, IfOk, length, replicate, take, drop};
+ghost use Rattle.std.specs.List.{AllByRecursion};
 
 use migration_types::{Geometry, InitPage, PageNo};
 use std::alloc::{AllocError, Global};
@@ -30,8 +31,7 @@ impl Model for Store {
 
 impl Store {
     ghost use Rattle.migration_types.specs.Memory.{initial, zeros, page_of, with_cell, with_content, with_zeros};
-    ghost use Rattle.migration_types.specs.Pages.{AreInitPages};
-    ghost use Rattle.page_store.specs.Frames.{memory_of, IsWith};
+    ghost use Rattle.page_store.specs.Frames.{IsPageOf, memory_of, IsWith};
 
     /// The frames of a machine whose cells are all 0.
     pub fn zeroed(alloc: Global, geometry: Geometry) -> Result<Store, AllocError>
@@ -44,13 +44,14 @@ impl Store {
         Ok(Store { geometry, items })
     }
 
-    /// The frames of a machine that begins with these pages, and with zeros elsewhere.
+    /// The frames of a machine that begins with these pages, and with zeros elsewhere. Of a page that is given twice
+    /// the first counts.
     pub fn from_init(
         alloc: Global,
         geometry: Geometry,
         init: &[InitPage],
     ) -> Result<Store, AllocError>
-        requires { AreInitPages geometry init.now }
+        requires { AllByRecursion (IsPageOf geometry) init.now }
         ensures geometry { IfOk result (λ s. s.geometry ≡ geometry) }
         ensures memory { IfOk result (λ s. memory_of s ≡ initial init.now) }
     {
@@ -130,21 +131,15 @@ fn zeroed_cells(alloc: Global, count: usize) -> Result<Vec<u64>, AllocError>
 /// Writes so many zeros from one place on.
 fn clear(items: &mut Vec<u64>, from: usize, count: usize)
     requires { from + count ≤ length items.old.items }
-    ensures len { length items.new.items ≡ length items.old.items }
-    ensures each { (k : ℕ) → slice_index items.new.items k ≡ (if nat_le from k && nat_lt k (from + count) then 0 else slice_index items.old.items k) }
+    ensures { items.new.items ≡ take from items.old.items ++ (replicate count 0 ++ drop (from + count) items.old.items) }
 {
-    for k in from..from + count {
-        items[k] = 0;
-    }
+    items[from..from + count].fill(0);
 }
 
 /// Writes values from one place on.
 fn put(items: &mut Vec<u64>, from: usize, content: &[u64])
     requires { from + length content.now ≤ length items.old.items }
-    ensures len { length items.new.items ≡ length items.old.items }
-    ensures each { (k : ℕ) → slice_index items.new.items k ≡ (if nat_le from k && nat_lt k (from + length content.now) then slice_index content.now (k - from) else slice_index items.old.items k) }
+    ensures { items.new.items ≡ take from items.old.items ++ (content.now ++ drop (from + length content.now) items.old.items) }
 {
-    for k in 0..content.len() {
-        items[from + k] = content[k];
-    }
+    items[from..from + content.len()].copy_from_slice(content);
 }

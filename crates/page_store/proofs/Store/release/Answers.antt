@@ -4,5 +4,5 @@ use Rattle.page_store.proofs.Store.release.Goals as goal
 pub returns : goal.returns
 returns c =
     let i = c.self.inside in
-    let each = rw (c.index.ensures.value, c.cells-cells.ensures) at c.clear.ensures.each in
-    release_frames c.args.self.now i.geometry.pages i.geometry.cells i.items.items c.clear.new.items.items c.args.page c.self.view_is c.requires each
+    let written = rw (c.index.ensures.value, c.cells-cells.ensures) at c.clear.ensures in
+    release_frames c.args.self.now i.geometry.pages i.geometry.cells i.items.items c.clear.new.items.items c.args.page c.self.view_is c.self.invariant c.requires written
