@@ -1,0 +1,80 @@
+//! A table with a value for each page of a machine: marks, or numbers of records.
+#![tactic(auto)]
+
+ghost use Rattle.std.specs.Prelude.{◌≡◌, ◌<◌, IfOk};
+
+use migration_types::PageNo;
+use std::alloc::{AllocError, Global};
+use std::marker::Model;
+
+#[cfg(test)]
+mod tests;
+
+/// A value for each page of a machine. Only the constructors take memory, one block for all values.
+#[derive(Drop)]
+pub struct Table<T> {
+    /// What each page began with.
+    initial: T,
+    /// The value of each page, page 0 first.
+    items: Vec<T>,
+}
+
+impl<T> Model for Table<T> {
+    ghost use Rattle.page_tables.specs.Tables.{Values};
+
+    ghost Value = { Values T };
+
+    ghost view = { λ t. record { initial = t.initial; items = t.items.items } };
+}
+
+impl Table<bool> {
+    ghost use Rattle.std.specs.Prelude.{false};
+    ghost use Rattle.page_tables.specs.Tables.{all_at, pages_of, values};
+
+    /// A mark for each of so many pages, none of them set. An error: there is no memory for it.
+    pub fn no_marks(alloc: Global, pages: u32) -> Result<Table<bool>, AllocError>
+        ensures pages { IfOk result (λ t. pages_of t ≡ pages) }
+        ensures values { IfOk result (λ t. values t ≡ all_at false) }
+    {
+        let items = vec![in alloc; false; pages as usize]?;
+        Ok(Table {
+            initial: false,
+            items,
+        })
+    }
+}
+
+impl Table<Option<u32>> {
+    ghost use Rattle.std.specs.Prelude.{None};
+    ghost use Rattle.page_tables.specs.Tables.{all_at, pages_of, values};
+
+    /// The number of a record for each of so many pages, none of them there. An error: there is no memory for it.
+    pub fn no_numbers(alloc: Global, pages: u32) -> Result<Table<Option<u32>>, AllocError>
+        ensures pages { IfOk result (λ t. pages_of t ≡ pages) }
+        ensures values { IfOk result (λ t. values t ≡ all_at None) }
+    {
+        let initial: Option<u32> = None;
+        let items = vec![in alloc; initial; pages as usize]?;
+        Ok(Table { initial, items })
+    }
+}
+
+impl<T: Copy> Table<T> {
+    ghost use Rattle.page_tables.specs.Tables.{pages_of, values, with_value, IsWith};
+
+    /// The value of a page.
+    pub fn at(&self, page: PageNo) -> T
+        requires { page < pages_of self.now }
+        ensures { result ≡ values self.now page }
+    {
+        self.items[page.index()]
+    }
+
+    /// Gives a page another value. The other pages stay as they are.
+    pub fn set(&mut self, page: PageNo, value: T)
+        requires { page < pages_of self.old }
+        ensures { IsWith self.old self.new (with_value page value (values self.old)) }
+    {
+        self.items[page.index()] = value;
+    }
+}
