@@ -55,9 +55,9 @@ whole_replayed s runs place r le is = subst (λ (rs : List Run). IsReplaying s (
 -- ---- the answer
 
 frames_sized : (e : Extent) (m : Moving) (h : Home) → IsSized e m → (frames_at h m).geometry ≡ e
-frames_sized e m AtSource sized = sized.source
-frames_sized e m Nowhere sized = sized.source
-frames_sized e m AtTarget sized = sized.target
+frames_sized e m AtSource sized = sized.source.frames
+frames_sized e m Nowhere sized = sized.source.frames
+frames_sized e m AtTarget sized = sized.target.frames
 
 frames_final : (m : Moving) (h : Home) → memory_of (frames_at h m) ≡ final_memory_at h (world_of m)
 frames_final m AtSource = refl

@@ -1,7 +1,5 @@
 -- Machines and their worlds.
-use Rattle.std.proofs.Common.{◌≡◌, ℕ, ◌<◌, ◌≤◌, ◌⊎◌, inl, inr, Bool, false, List, get_or, replicate, sym, ap, ◌∙◌, arith}
-use Rattle.std.proofs.lemmas.Bool.{cases_lt}
-use Rattle.std.proofs.lemmas.List.{length-replicate, get_or-replicate, get_or_past}
+use Rattle.std.proofs.Common.{◌≡◌, ℕ, ◌<◌, sym, ap, ◌∙◌, arith}
 use Rattle.migration_types.specs.declared.records.GuestRec.{GuestRec}
 use Rattle.migration_types.specs.declared.records.GuestRec.TheVariants.{Read, Write, Release, Miss, Halt, Resume, See}
 use Rattle.migration_types.specs.declared.records.SourceRec.{SourceRec}
@@ -9,39 +7,32 @@ use Rattle.migration_types.specs.declared.records.SourceRec.TheVariants.{Halted,
 use Rattle.migration_types.specs.declared.records.PagerRec.{PagerRec}
 use Rattle.migration_types.specs.declared.records.PagerRec.TheVariants.{Got, Ready, Fault, Join, Want, Place, Zero, Skip, All}
 use Rattle.migration_types.specs.Extents.{Extent}
-use Rattle.migration_types.specs.PageSets.{no_page}
 use Rattle.migration_types.specs.Sessions.{GuestRecFits, SourceRecFits, PagerRecFits}
 use Rattle.audit_model.specs.World.{World}
 use Rattle.merge_runs.specs.declared.moving.Moving.{Moving}
-use Rattle.merge_runs.specs.Moving.{marked, IsSized, HasPage, HasCell, GuestHas, SourceHas, PagerHas, IsMoved}
+use Rattle.merge_runs.specs.Moving.{IsSized, HasPage, HasCell, GuestHas, SourceHas, PagerHas, IsMoved}
 
 -- worlds with the same parts are the same
 pub same_world : (a b : World) → a.home ≡ b.home → a.source ≡ b.source → a.target ≡ b.target → a.resident ≡ b.resident → a.placed ≡ b.placed → a.touched ≡ b.touched → a.ledger ≡ b.ledger → a ≡ b
 same_world a b home source target resident placed touched ledger =
     λ i. record { home = home i; source = source i; target = target i; resident = resident i; placed = placed i; touched = touched i; ledger = ledger i }
 
--- no page is marked
-pub none_marked : (n : ℕ) (marks : List Bool) → marks ≡ replicate n false → marked marks ≡ no_page
-none_marked n marks e = ap marked e ∙ (λ i p. each p (cases_lt p n) i)
-  where
-    each : (p : ℕ) → (p < n) ⊎ (n ≤ p) → get_or (replicate n false) p false ≡ false
-    each p (inl lt) = get_or-replicate n p false false lt
-    each p (inr le) = get_or_past (replicate n false) p false (omega (arith, length-replicate n false))
-
 -- machines of a geometry have its pages and cells
 pub has_page : (e : Extent) (m : Moving) (p : ℕ) → IsSized e m → p < e.pages → HasPage m p
 has_page e m p sized lt = record {
-  source = let same = ap (λ (x : Extent). x.pages) sized.source in omega arith;
-  target = let same = ap (λ (x : Extent). x.pages) sized.target in omega arith;
-  placed = omega (arith, sized.placed);
-  touched = omega (arith, sized.touched);
-  released = omega (arith, sized.released);
+  frames = let same = ap (λ (x : Extent). x.pages) sized.source.frames in omega arith;
+  ledger = let same = ap (λ (x : Extent). x.pages) sized.source.ledger in omega arith;
+  target = record {
+    frames = let same = ap (λ (x : Extent). x.pages) sized.target.frames in omega arith;
+    placed = omega (arith, sized.target.placed);
+    touched = omega (arith, sized.target.touched);
+  };
 }
 
 has_cell : (e : Extent) (m : Moving) (c : ℕ) → IsSized e m → c < e.cells → HasCell m c
 has_cell e m c sized lt = record {
-  source = let same = ap (λ (x : Extent). x.cells) sized.source in omega arith;
-  target = let same = ap (λ (x : Extent). x.cells) sized.target in omega arith;
+  source = let same = ap (λ (x : Extent). x.cells) sized.source.frames in omega arith;
+  target = let same = ap (λ (x : Extent). x.cells) sized.target.frames in omega arith;
 }
 
 -- and what a record is about
@@ -63,7 +54,7 @@ source_has e m (Ask i) sized fits = tt
 source_has e m Done sized fits = tt
 
 pub pager_has : (e : Extent) (m : Moving) (r : PagerRec) → IsSized e m → PagerRecFits e r → PagerHas m r
-pager_has e m (Place p got content) sized fits = (has_page e m p sized fits.0, fits.2.count ∙ sym (ap (λ (x : Extent). x.cells) sized.target))
+pager_has e m (Place p got content) sized fits = (has_page e m p sized fits.0, fits.2.count ∙ sym (ap (λ (x : Extent). x.cells) sized.target.frames))
 pager_has e m (Zero p) sized fits = has_page e m p sized fits
 pager_has e m (Got d) sized fits = tt
 pager_has e m Ready sized fits = tt
@@ -76,9 +67,6 @@ pager_has e m All sized fits = tt
 -- a record keeps the geometry
 pub sized_on : (e : Extent) (old new : Moving) (w : World) → IsSized e old → IsMoved old new w → IsSized e new
 sized_on e old new w sized on = record {
-  source = on.source ∙ sized.source;
-  target = on.target ∙ sized.target;
-  placed = on.placed ∙ sized.placed;
-  touched = on.touched ∙ sized.touched;
-  released = on.released ∙ sized.released;
+  source = record { frames = on.frames ∙ sized.source.frames; ledger = on.ledger ∙ sized.source.ledger };
+  target = record { frames = on.target ∙ sized.target.frames; placed = on.placed ∙ sized.target.placed; touched = on.touched ∙ sized.target.touched };
 }

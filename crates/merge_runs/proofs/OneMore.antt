@@ -12,14 +12,17 @@ use Rattle.migration_types.specs.Extents.{Extent}
 use Rattle.migration_types.specs.Memory.{Memory}
 use Rattle.migration_types.specs.Receipts.{Name}
 use Rattle.migration_types.specs.Sessions.{Recorded}
-use Rattle.audit_model.specs.Flat.{changed, flat, cell_after}
+use Rattle.audit_model.specs.Flat.{changed, flat}
 use Rattle.audit_model.specs.Names.{same_log}
 use Rattle.audit_model.specs.Mergings.{Cursors, at_start, run_names, StandsAfter}
 use Rattle.audit_model.specs.Walks.{next, cursors_from}
 use Rattle.audit_model.specs.World.{World, start, step, run_from, world_after, guest_step, pager_step, Demand, IsSafeOrder, guest_demand, source_demand, pager_demand, if_record, IsFirstBroken}
+use Rattle.flat_machine.specs.declared.machine.Machine.{Machine}
+use Rattle.flat_machine.specs.Machines.{memory_after}
+use Rattle.flat_machine.proofs.Stepping.{memory_next}
 use Rattle.page_store.specs.Frames.{memory_of}
 use Rattle.merge_runs.specs.declared.replaying.Replaying.{Replaying}
-use Rattle.merge_runs.specs.Moving.{world_of, stepped}
+use Rattle.merge_runs.specs.Moving.{world_of}
 use Rattle.merge_runs.specs.Demands.{guest_met, source_met, pager_met}
 use Rattle.merge_runs.specs.Replaying.{AllMet, Breaks, noted, AreSized, IsReplaying, HasRun, IsGuestStep, IsPagerStep}
 use Rattle.merge_runs.proofs.Walking.{cursors_append, cursors_run, own_moved}
@@ -96,46 +99,40 @@ module _ (s : Recorded) (order : List Name) where
   quiet_more : (name : Name) (old new : Replaying) (met : Bool) → IsReplaying s order old → ((w : World) → step s name w ≡ w) → same_log name.0 Guest ≡ false → new.moving ≡ old.moving → new.flat ≡ old.flat → new.first_broken ≡ noted met old.first_broken name → (met ≡ true → Demand s name (world_after s order)) → (Demand s name (world_after s order) → met ≡ true) → IsReplaying s (order ++ name ∷ []) new
   quiet_more name old new met is still other moving flat_is first holds back = record {
     world = ap world_of moving ∙ is.world ∙ sym (still (world_after s order)) ∙ sym (world_more name);
-    flat = ap memory_of flat_is ∙ is.flat ∙ sym (ap (λ (c : Cursors). flat s (c Guest)) (cursors_more name) ∙ ap (λ b. flat s (cond b (suc (cursors_from at_start order Guest)) (cursors_from at_start order Guest))) other);
+    flat = ap (λ (m : Machine). memory_of m.frames) flat_is ∙ is.flat ∙ sym (ap (λ (c : Cursors). flat s (c Guest)) (cursors_more name) ∙ ap (λ b. flat s (cond b (suc (cursors_from at_start order Guest)) (cursors_from at_start order Guest))) other);
     broken = subst (λ (o : Option Name). MatchOption o (AllMet s (start s) (order ++ name ∷ [])) (Breaks s (start s) (order ++ name ∷ []))) (sym first) (broken_more s (start s) order name old.first_broken met holds back is.broken);
   }
 
   pub link_more : (n : ℕ) (r : Replaying) → IsReplaying s order r → IsReplaying s (order ++ (Link, n) ∷ []) r
   link_more n r is = quiet_more (Link, n) r r true is (λ w. refl) refl refl refl refl (λ e. tt) (λ d. refl)
 
-  pub source_more : (n : ℕ) (r : SourceRec) (old new : Replaying) → slice_get s.source n ≡ Some r → AreSized s.geometry old → IsReplaying s order old → new.moving ≡ old.moving → new.flat ≡ old.flat → new.first_broken ≡ noted (source_met old.moving.source.geometry.cells r (world_of old.moving)) old.first_broken (Source, n) → IsReplaying s (order ++ (Source, n) ∷ []) new
+  pub source_more : (n : ℕ) (r : SourceRec) (old new : Replaying) → slice_get s.source n ≡ Some r → AreSized s.geometry old → IsReplaying s order old → new.moving ≡ old.moving → new.flat ≡ old.flat → new.first_broken ≡ noted (source_met old.moving.source.frames.geometry.cells r (world_of old.moving)) old.first_broken (Source, n) → IsReplaying s (order ++ (Source, n) ∷ []) new
   source_more n r old new at sized is moving flat_is first =
       quiet_more (Source, n) old new (source_met s.geometry.cells r (world_after s order)) is (λ w. refl) refl moving flat_is
-      (first ∙ ap (λ b. noted b old.first_broken (Source, n)) (ap (λ (e : Extent). source_met e.cells r (world_of old.moving)) sized.moving.source ∙ ap (λ (w : World). source_met s.geometry.cells r w) is.world))
+      (first ∙ ap (λ b. noted b old.first_broken (Source, n)) (ap (λ (e : Extent). source_met e.cells r (world_of old.moving)) sized.moving.source.frames ∙ ap (λ (w : World). source_met s.geometry.cells r w) is.world))
       (λ e. subst (λ (o : Option SourceRec). if_record (source_demand s) o (world_after s order)) (sym at) (source_yes s r (world_after s order) e))
       (λ d. source_from s r (world_after s order) (subst (λ (o : Option SourceRec). if_record (source_demand s) o (world_after s order)) at d))
 
   pub pager_more : (n : ℕ) (r : PagerRec) (old new : Replaying) → slice_get s.pager n ≡ Some r → AreSized s.geometry old → IsReplaying s order old → IsPagerStep r n old new → IsReplaying s (order ++ (Pager, n) ∷ []) new
   pager_more n r old new at sized is on =
       let met = pager_met s.geometry.cells r (world_after s order) in
-      let first : new.first_broken ≡ noted met old.first_broken (Pager, n) = on.broken ∙ ap (λ b. noted b old.first_broken (Pager, n)) (ap (λ (e : Extent). pager_met e.cells r (world_of old.moving)) sized.moving.source ∙ ap (λ (w : World). pager_met s.geometry.cells r w) is.world) in
+      let first : new.first_broken ≡ noted met old.first_broken (Pager, n) = on.broken ∙ ap (λ b. noted b old.first_broken (Pager, n)) (ap (λ (e : Extent). pager_met e.cells r (world_of old.moving)) sized.moving.source.frames ∙ ap (λ (w : World). pager_met s.geometry.cells r w) is.world) in
       record {
         world = on.moving.world ∙ ap (λ (w : World). pager_step r w) is.world ∙ sym (ap (λ (o : Option PagerRec). changed pager_step o (world_after s order)) at) ∙ sym (world_more (Pager, n));
-        flat = ap memory_of on.flat ∙ is.flat ∙ sym (ap (λ (c : Cursors). flat s (c Guest)) (cursors_more (Pager, n)));
+        flat = ap (λ (m : Machine). memory_of m.frames) on.flat ∙ is.flat ∙ sym (ap (λ (c : Cursors). flat s (c Guest)) (cursors_more (Pager, n)));
         broken = subst (λ (o : Option Name). MatchOption o (AllMet s (start s) (order ++ (Pager, n) ∷ [])) (Breaks s (start s) (order ++ (Pager, n) ∷ []))) (sym first) (broken_more s (start s) order (Pager, n) old.first_broken met
             (λ e. subst (λ (o : Option PagerRec). if_record (pager_demand s) o (world_after s order)) (sym at) (pager_yes s r (world_after s order) e))
             (λ d. pager_from s r (world_after s order) (subst (λ (o : Option PagerRec). if_record (pager_demand s) o (world_after s order)) at d)) is.broken);
       }
 
-  flat_more : (n : ℕ) (r : GuestRec) → slice_get s.guest n ≡ Some r → stepped r (flat s n) ≡ flat s (suc n)
-  flat_more n r at = λ i p c. cell p c i
-    where
-      cell : (p c : ℕ) → stepped r (flat s n) p c ≡ flat s (suc n) p c
-      cell p c = ap (λ (o : Option GuestRec). changed (cell_after p c) o (flat s n p c)) (sym at)
-
   pub guest_more : (n : ℕ) (r : GuestRec) (old new : Replaying) → slice_get s.guest n ≡ Some r → cursors_from at_start order Guest ≡ n → IsReplaying s order old → IsGuestStep r n old new → IsReplaying s (order ++ (Guest, n) ∷ []) new
   guest_more n r old new at here is on =
-      let flat_is : memory_of old.flat ≡ flat s n = is.flat ∙ ap (λ k. flat s k) here in
+      let flat_is : memory_of old.flat.frames ≡ flat s n = is.flat ∙ ap (λ k. flat s k) here in
       let met = guest_met (flat s n) r (world_after s order) in
       let first : new.first_broken ≡ noted met old.first_broken (Guest, n) = on.broken ∙ ap (λ b. noted b old.first_broken (Guest, n)) (ap (λ (f : Memory). guest_met f r (world_of old.moving)) flat_is ∙ ap (λ (w : World). guest_met (flat s n) r w) is.world) in
       record {
         world = on.moving.world ∙ ap (λ (w : World). guest_step r w) is.world ∙ sym (ap (λ (o : Option GuestRec). changed guest_step o (world_after s order)) at) ∙ sym (world_more (Guest, n));
-        flat = on.flat.memory_is ∙ ap (λ (m : Memory). stepped r m) flat_is ∙ flat_more n r at ∙ ap (λ k. flat s (suc k)) (sym here) ∙ sym (ap (λ (c : Cursors). flat s (c Guest)) (cursors_more (Guest, n)));
+        flat = on.flat.frames.memory_is ∙ ap (λ (m : Memory). memory_after r m) flat_is ∙ memory_next s n r at ∙ ap (λ k. flat s (suc k)) (sym here) ∙ sym (ap (λ (c : Cursors). flat s (c Guest)) (cursors_more (Guest, n)));
         broken = subst (λ (o : Option Name). MatchOption o (AllMet s (start s) (order ++ (Guest, n) ∷ [])) (Breaks s (start s) (order ++ (Guest, n) ∷ []))) (sym first) (broken_more s (start s) order (Guest, n) old.first_broken met
             (λ e. subst (λ (o : Option GuestRec). if_record (guest_demand s n) o (world_after s order)) (sym at) (guest_yes s n r (world_after s order) e))
             (λ d. guest_from s n r (world_after s order) (subst (λ (o : Option GuestRec). if_record (guest_demand s n) o (world_after s order)) at d)) is.broken);

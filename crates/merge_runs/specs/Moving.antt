@@ -1,5 +1,5 @@
 -- The machines that a replay keeps, as a world. This serves proofs alone.
-use Rattle.std.specs.Prelude.{◌≡◌, ℕ, ◌<◌, Bool, false, List, length, slice_index_or}
+use Rattle.std.specs.Prelude.{◌≡◌, ℕ, ◌<◌, length}
 use Rattle.migration_types.specs.declared.records.GuestRec.{GuestRec}
 use Rattle.migration_types.specs.declared.records.GuestRec.TheVariants.{Read, Write, Release}
 use Rattle.migration_types.specs.declared.records.SourceRec.{SourceRec}
@@ -7,57 +7,49 @@ use Rattle.migration_types.specs.declared.records.SourceRec.TheVariants.{Send}
 use Rattle.migration_types.specs.declared.records.PagerRec.{PagerRec}
 use Rattle.migration_types.specs.declared.records.PagerRec.TheVariants.{Place, Zero}
 use Rattle.migration_types.specs.Extents.{Extent}
-use Rattle.migration_types.specs.Memory.{Memory}
-use Rattle.migration_types.specs.PageSets.{Pages}
 use Rattle.audit_model.specs.declared.home.Home.{Home}
 use Rattle.audit_model.specs.declared.home.Home.TheVariants.{AtSource, Nowhere, AtTarget}
-use Rattle.audit_model.specs.Flat.{cell_after}
 use Rattle.audit_model.specs.World.{World}
+use Rattle.balloon_ledger.specs.Released.{released}
+use Rattle.flat_machine.specs.Machines.{IsSized as IsMachineSized}
 use Rattle.page_store.specs.Frames.{Frames, memory_of}
+use Rattle.page_tables.specs.Tables.{pages_of, values}
 use Rattle.merge_runs.specs.declared.moving.Moving.{Moving}
-
--- the pages that are marked
-abbrev pub marked : List Bool → Pages
-marked marks page = slice_index_or marks page false
+use Rattle.merge_runs.specs.Targets.{HasPage as TargetHasPage, IsSized as IsTargetSized}
 
 -- the world of these machines
 abbrev pub world_of : Moving → World
 world_of m = record {
   home = m.home;
-  source = memory_of m.source;
-  target = memory_of m.target;
-  resident = marked m.placed.items;
-  placed = marked m.placed.items;
-  touched = marked m.touched.items;
-  ledger = marked m.released.items;
+  source = memory_of m.source.frames;
+  target = memory_of m.target.frames;
+  resident = values m.target.placed;
+  placed = values m.target.placed;
+  touched = values m.target.touched;
+  ledger = released m.source.ledger;
 }
 
 -- the frames where the guest is, or the source's while it is nowhere
 abbrev pub frames_at : Home → Moving → Frames
-frames_at AtSource m = m.source
-frames_at Nowhere m = m.source
-frames_at AtTarget m = m.target
+frames_at AtSource m = m.source.frames
+frames_at Nowhere m = m.source.frames
+frames_at AtTarget m = m.target.frames
 
 -- machines of this geometry
 pub record IsSized (e : Extent) (m : Moving) : Type 0 where
-  pub source : m.source.geometry ≡ e
-  pub target : m.target.geometry ≡ e
-  pub placed : length m.placed.items ≡ e.pages
-  pub touched : length m.touched.items ≡ e.pages
-  pub released : length m.released.items ≡ e.pages
+  pub source : IsMachineSized e m.source
+  pub target : IsTargetSized e m.target
 
 -- both machines have the page, and the tables too
 pub record HasPage (m : Moving) (page : ℕ) : Type 0 where
-  pub source : page < m.source.geometry.pages
-  pub target : page < m.target.geometry.pages
-  pub placed : page < length m.placed.items
-  pub touched : page < length m.touched.items
-  pub released : page < length m.released.items
+  pub frames : page < m.source.frames.geometry.pages
+  pub ledger : page < m.source.ledger.geometry.pages
+  pub target : TargetHasPage m.target page
 
 -- both machines have the cell in each page
 pub record HasCell (m : Moving) (cell : ℕ) : Type 0 where
-  pub source : cell < m.source.geometry.cells
-  pub target : cell < m.target.geometry.cells
+  pub source : cell < m.source.frames.geometry.cells
+  pub target : cell < m.target.frames.geometry.cells
 
 -- they have what a record is about
 abbrev pub GuestHas : Moving → GuestRec → Type 0
@@ -71,19 +63,15 @@ SourceHas m (Send p content) = HasPage m p
 SourceHas m _ = Unit {0}
 
 abbrev pub PagerHas : Moving → PagerRec → Type 0
-PagerHas m (Place p got content) = HasPage m p × (length content ≡ m.target.geometry.cells)
+PagerHas m (Place p got content) = HasPage m p × (length content ≡ m.target.frames.geometry.cells)
 PagerHas m (Zero p) = HasPage m p
 PagerHas m _ = Unit {0}
 
--- machines of the same geometry, in this world
+-- machines of the same sizes, in this world
 pub record IsMoved (old new : Moving) (w : World) : Type 0 where
-  pub source : new.source.geometry ≡ old.source.geometry
-  pub target : new.target.geometry ≡ old.target.geometry
-  pub placed : length new.placed.items ≡ length old.placed.items
-  pub touched : length new.touched.items ≡ length old.touched.items
-  pub released : length new.released.items ≡ length old.released.items
+  pub frames : new.source.frames.geometry ≡ old.source.frames.geometry
+  pub ledger : new.source.ledger.geometry ≡ old.source.ledger.geometry
+  pub target : new.target.frames.geometry ≡ old.target.frames.geometry
+  pub placed : pages_of new.target.placed ≡ pages_of old.target.placed
+  pub touched : pages_of new.target.touched ≡ pages_of old.target.touched
   pub world : world_of new ≡ w
-
--- what a record of the guest leaves of the memory of a machine that never moved
-abbrev pub stepped : GuestRec → Memory → Memory
-stepped r m page cell = cell_after page cell r (m page cell)

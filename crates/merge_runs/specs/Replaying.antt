@@ -12,9 +12,10 @@ use Rattle.audit_model.specs.Flat.{flat}
 use Rattle.audit_model.specs.Mergings.{at_start, run_names}
 use Rattle.audit_model.specs.Walks.{cursors_from}
 use Rattle.audit_model.specs.World.{World, start, step, run_from, world_after, guest_step, pager_step, Demand}
-use Rattle.page_store.specs.Frames.{memory_of, IsWith}
+use Rattle.flat_machine.specs.Machines.{IsSized as IsMachineSized, IsAfter}
+use Rattle.page_store.specs.Frames.{memory_of}
 use Rattle.merge_runs.specs.declared.replaying.Replaying.{Replaying}
-use Rattle.merge_runs.specs.Moving.{world_of, IsSized, IsMoved, stepped}
+use Rattle.merge_runs.specs.Moving.{world_of, IsSized, IsMoved}
 use Rattle.merge_runs.specs.Demands.{guest_met, pager_met}
 
 -- from a world on, each of these records finds its demand met
@@ -42,12 +43,12 @@ noted met first name = if met then first else or_this first name
 -- what a replay keeps is of this geometry
 pub record AreSized (e : Extent) (r : Replaying) : Type 0 where
   pub moving : IsSized e r.moving
-  pub flat : r.flat.geometry ≡ e
+  pub flat : IsMachineSized e r.flat
 
 -- what a replay keeps after these records
 pub record IsReplaying (s : Recorded) (order : List Name) (r : Replaying) : Type 0 where
   pub world : world_of r.moving ≡ world_after s order
-  pub flat : memory_of r.flat ≡ flat s (cursors_from at_start order Guest)
+  pub flat : memory_of r.flat.frames ≡ flat s (cursors_from at_start order Guest)
   pub broken : MatchOption r.first_broken (AllMet s (start s) order) (Breaks s (start s) order)
 
 -- the next records of a log were replayed
@@ -59,11 +60,11 @@ HasRun s log from count old new =
 -- one record of the guest more
 pub record IsGuestStep (r : GuestRec) (n : ℕ) (old new : Replaying) : Type 0 where
   pub moving : IsMoved old.moving new.moving (guest_step r (world_of old.moving))
-  pub flat : IsWith old.flat new.flat (stepped r (memory_of old.flat))
-  pub broken : new.first_broken ≡ noted (guest_met (memory_of old.flat) r (world_of old.moving)) old.first_broken (Guest, n)
+  pub flat : IsAfter r old.flat new.flat
+  pub broken : new.first_broken ≡ noted (guest_met (memory_of old.flat.frames) r (world_of old.moving)) old.first_broken (Guest, n)
 
 -- one record of the pager more
 pub record IsPagerStep (r : PagerRec) (n : ℕ) (old new : Replaying) : Type 0 where
   pub moving : IsMoved old.moving new.moving (pager_step r (world_of old.moving))
   pub flat : new.flat ≡ old.flat
-  pub broken : new.first_broken ≡ noted (pager_met old.moving.source.geometry.cells r (world_of old.moving)) old.first_broken (Pager, n)
+  pub broken : new.first_broken ≡ noted (pager_met old.moving.source.frames.geometry.cells r (world_of old.moving)) old.first_broken (Pager, n)

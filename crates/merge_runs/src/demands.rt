@@ -4,7 +4,8 @@ ghost use Rattle.std.specs.Prelude.{◌≡◌, not};
 ghost use Rattle.migration_types.specs.Sessions.{GuestRecFits};
 ghost use Rattle.audit_model.specs.World.{memory_at};
 ghost use Rattle.page_store.specs.Frames.{memory_of};
-ghost use Rattle.merge_runs.specs.Moving.{marked, world_of, HasPage, HasCell, GuestHas, SourceHas, PagerHas};
+ghost use Rattle.page_tables.specs.Tables.{values};
+ghost use Rattle.merge_runs.specs.Moving.{world_of, HasPage, HasCell, GuestHas, SourceHas, PagerHas};
 ghost use Rattle.merge_runs.specs.Demands.{finds, has_left, is_open, guest_met, source_met, pager_met};
 
 use crate::moving::Moving;
@@ -15,12 +16,12 @@ use page_store::Store;
 /// Whether a read or a write finds its page.
 fn finds(moving: &Moving, page: PageNo) -> bool
     requires { HasPage moving.now page }
-    ensures { result ≡ finds moving.now.home (marked moving.now.placed.items page) }
+    ensures { result ≡ finds moving.now.home (values moving.now.target.placed page) }
 {
     match moving.home {
         Home::AtSource => true,
         Home::Nowhere => false,
-        Home::AtTarget => moving.placed[page.index()],
+        Home::AtTarget => moving.target.placed.at(page),
     }
 }
 
@@ -31,9 +32,9 @@ fn value_here(moving: &Moving, page: PageNo, cell: u16) -> u64
     ensures { result ≡ memory_at moving.now.home (world_of moving.now) page cell }
 {
     match moving.home {
-        Home::AtSource => moving.source.read(page, cell),
-        Home::Nowhere => moving.target.read(page, cell),
-        Home::AtTarget => moving.target.read(page, cell),
+        Home::AtSource => moving.source.frames.read(page, cell),
+        Home::Nowhere => moving.target.frames.read(page, cell),
+        Home::AtTarget => moving.target.frames.read(page, cell),
     }
 }
 
@@ -53,7 +54,7 @@ fn is_open(moving: &Moving, page: PageNo) -> bool
     requires { HasPage moving.now page }
     ensures { result ≡ is_open (world_of moving.now) page }
 {
-    !moving.placed[page.index()] && !moving.touched[page.index()]
+    !moving.target.placed.at(page) && !moving.target.touched.at(page)
 }
 
 /// Whether the demand of a record of the guest is met: a read finds its page, and its value both where the guest is and
@@ -83,13 +84,13 @@ pub(crate) fn guest_met(moving: &Moving, flat: &Store, rec: &GuestRec) -> bool
 /// once the guest has left.
 pub(crate) fn source_met(moving: &Moving, rec: &SourceRec) -> bool
     requires { SourceHas moving.now rec.now }
-    ensures { result ≡ source_met moving.now.source.geometry.cells rec.now (world_of moving.now) }
+    ensures { result ≡ source_met moving.now.source.frames.geometry.cells rec.now (world_of moving.now) }
 {
     match rec {
         SourceRec::Send { page, contents } => {
             has_left(moving.home)
-                && !moving.released[page.index()]
-                && contents.as_slice() == moving.source.page(*page)
+                && !moving.source.ledger.holds(*page)
+                && contents.as_slice() == moving.source.frames.page(*page)
         }
         _ => true,
     }
@@ -99,13 +100,13 @@ pub(crate) fn source_met(moving: &Moving, rec: &SourceRec) -> bool
 /// source, or as zeros where it is released there.
 pub(crate) fn pager_met(moving: &Moving, rec: &PagerRec) -> bool
     requires { PagerHas moving.now rec.now }
-    ensures { result ≡ pager_met moving.now.source.geometry.cells rec.now (world_of moving.now) }
+    ensures { result ≡ pager_met moving.now.source.frames.geometry.cells rec.now (world_of moving.now) }
 {
     match rec {
         PagerRec::Place { page, contents, .. } => {
-            is_open(moving, *page) && contents.as_slice() == moving.source.page(*page)
+            is_open(moving, *page) && contents.as_slice() == moving.source.frames.page(*page)
         }
-        PagerRec::Zero { page } => is_open(moving, *page) && moving.released[page.index()],
+        PagerRec::Zero { page } => is_open(moving, *page) && moving.source.ledger.holds(*page),
         _ => true,
     }
 }

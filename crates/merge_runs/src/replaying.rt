@@ -2,29 +2,30 @@
 
 ghost use Rattle.std.specs.Prelude.{◌≡◌, ◌+◌, ◌≤◌, [], length, IfOk, MatchResult};
 ghost use Rattle.migration_types.specs.declared.records.LogName.TheVariants.{Guest, Source, Link, Pager};
-ghost use Rattle.migration_types.specs.Sessions.{GuestRecFits, IsSession};
+ghost use Rattle.migration_types.specs.Sessions.{IsSession};
 ghost use Rattle.audit_model.specs.Names.{log_length};
 ghost use Rattle.audit_model.specs.Mergings.{IsMerging, spelled};
+ghost use Rattle.flat_machine.specs.Machines.{HasFor};
 ghost use Rattle.merge_runs.specs.Moving.{GuestHas, SourceHas, PagerHas};
 ghost use Rattle.merge_runs.specs.Replaying.{noted, AreSized, IsReplaying, HasRun, IsGuestStep, IsPagerStep};
 ghost use Rattle.merge_runs.specs.Replays.{IsReplay, IsMergeFault};
 
 use crate::demands::{guest_met, pager_met, source_met};
 use crate::is_merging;
-use crate::moving::{Moving, step_flat};
+use crate::moving::Moving;
 use crate::outcome::{MergeFault, Replay};
 use crate::taken::Taken;
 use audit_model::mergings_are_walks;
+use flat_machine::Machine;
 use migration_types::{GuestRec, LogName, PagerRec, Run, Session};
-use page_store::Store;
 use std::alloc::{AllocError, Global};
 
 /// What the replay keeps.
 #[derive(Drop)]
 pub(crate) struct Replaying {
     pub moving: Moving,
-    /// The frames of a machine that never moved.
-    pub flat: Store,
+    /// A machine that never moved.
+    pub flat: Machine,
     pub first_broken: Option<(LogName, u32)>,
 }
 
@@ -33,9 +34,8 @@ fn start(alloc: Global, session: &Session) -> Result<Replaying, AllocError>
     ensures sized { IfOk result (λ r. AreSized session.now.geometry r) }
     ensures start { IfOk result (λ r. IsReplaying session.now [] r) }
 {
-    session.keeps_limits();
     let moving = Moving::start(alloc, session)?;
-    let flat = Store::from_init(alloc, session.geometry(), session.init())?;
+    let flat = Machine::start(alloc, session)?;
     Ok(Replaying {
         moving,
         flat,
@@ -55,13 +55,13 @@ fn note(met: bool, first_broken: &mut Option<(LogName, u32)>, log: LogName, n: u
 /// Judges and does a record of the guest.
 fn step_guest(replaying: &mut Replaying, rec: &GuestRec, n: u32)
     requires moving { GuestHas replaying.old.moving rec.now }
-    requires flat { GuestRecFits replaying.old.flat.geometry rec.now }
+    requires flat { HasFor rec.now replaying.old.flat }
     ensures { IsGuestStep rec.now n replaying.old replaying.new }
 {
-    let met = guest_met(&replaying.moving, &replaying.flat, rec);
+    let met = guest_met(&replaying.moving, &replaying.flat.frames, rec);
     note(met, &mut replaying.first_broken, LogName::Guest, n);
     replaying.moving.step_guest(rec);
-    step_flat(&mut replaying.flat, rec);
+    replaying.flat.step(rec);
 }
 
 /// Judges and does a record of the pager.

@@ -1,23 +1,23 @@
 -- One record more of the pass over the guest's log.
-use Rattle.std.proofs.Common.{◌≡◌, ℕ, suc, ◌+◌, ◌<◌, ◌⊎◌, inl, inr, Bool, true, false, not, cond, ◌&&◌, ◌||◌, List, length-set, get_or, set, eqb, eq-eqb, Option, Some, None, refl, sym, ap, ◌∙◌, subst, arith}
+use Rattle.std.proofs.Common.{◌≡◌, ℕ, suc, ◌+◌, Bool, true, false, ◌&&◌, ◌||◌, List, Option, Some, refl, sym, ap, ◌∙◌, subst, arith}
 use Rattle.std.specs.Prelude.{slice_get, ◌==◌}
-use Rattle.std.proofs.lemmas.Bool.{cases_eq, ne_eqb}
-use Rattle.std.proofs.lemmas.List.{get_or-set_same, get_or-set_other}
 use Rattle.migration_types.specs.declared.records.GuestRec.{GuestRec}
 use Rattle.migration_types.specs.declared.records.GuestRec.TheVariants.{Read, Write, Release, Miss, Halt, Resume, See}
 use Rattle.migration_types.specs.Extents.{Extent}
 use Rattle.migration_types.specs.Memory.{Memory}
-use Rattle.migration_types.specs.Sessions.{Recorded, IsSession, GuestRecFits}
+use Rattle.migration_types.specs.Sessions.{Recorded, GuestRecFits}
 use Rattle.audit_model.specs.declared.home.Home.{Home}
-use Rattle.audit_model.specs.Flat.{changed, flat, in_ledger, cell_after, released_after, home_after, home}
+use Rattle.audit_model.specs.Flat.{changed, flat, home_after, home}
 use Rattle.audit_model.specs.Shape.{passes}
-use Rattle.audit_model.proofs.Lists.{each_at}
 use Rattle.audit_model.specs.Certificates.{is_access_of}
+use Rattle.flat_machine.proofs.Stepping.{flat_next}
 use Rattle.page_store.specs.Frames.{memory_of}
-use Rattle.page_facts.specs.declared.machine.Machine.{Machine}
+use Rattle.page_tables.specs.Tables.{Values, values, or_here, IsWith}
+use Rattle.page_tables.proofs.Noting.{noted_none}
+use Rattle.page_facts.specs.declared.machine.FlatGuest.{FlatGuest}
 use Rattle.page_facts.specs.declared.guest.Judge.{Judge}
-use Rattle.page_facts.specs.Tables.{some_before, or_here, first_before, noted, IsTable}
-use Rattle.page_facts.specs.Machines.{GuestPage, is_target, stepped, released_by, late_after, IsMachine, IsStepped}
+use Rattle.page_facts.specs.Tables.{some_before, first_before, IsTable}
+use Rattle.page_facts.specs.Machines.{GuestPage, is_target, late_after, IsMachine, IsStepped}
 use Rattle.page_facts.specs.Judged.{is_wrong_read, is_late_access, wrong_by, accessed_by, IsJudged, IsJudgedOn}
 
 pub guest_page : (e : Extent) (r : GuestRec) → GuestRecFits e r → GuestPage e.pages r
@@ -29,131 +29,113 @@ guest_page e Halt f = tt
 guest_page e (Resume i) f = tt
 guest_page e (See k) f = tt
 
--- a table at one page given anew
-pub table_set : {A : Type 0} (pages : ℕ) (default : A) (table : List A) (f g : ℕ → A) (q : ℕ) (x : A) → q < pages → IsTable pages default table f → g q ≡ x → ((p : ℕ) → (p ≡ q → ⊥) → g p ≡ f p) → IsTable pages default (set table q x) g
-table_set pages default table f g q x lt is here there = (length-set table q x ∙ is.0, λ p l. go p l (cases_eq p q))
+-- ---- tables of what earlier records say
+
+-- what the records before this place say of each page
+abbrev pub some_at : {A : Type 0} → (ℕ → ℕ → A → Bool) → List A → ℕ → ℕ → Bool
+some_at test log n page = some_before (test page) log n
+
+abbrev pub first_at : {A : Type 0} → (ℕ → ℕ → A → Bool) → List A → ℕ → ℕ → Option ℕ
+first_at test log n page = first_before (test page) log n
+
+-- and this record too
+abbrev pub or_by : {A : Type 0} → (ℕ → ℕ → A → Bool) → ℕ → A → (ℕ → Bool) → ℕ → Bool
+or_by test n r marks page = test page n r || marks page
+
+abbrev pub here_by : {A : Type 0} → (ℕ → ℕ → A → Bool) → ℕ → A → (ℕ → Option ℕ) → ℕ → Option ℕ
+here_by test n r at page = or_here (at page) (test page n r) n
+
+module _ {A : Type 0} (test : ℕ → ℕ → A → Bool) (log : List A) (n : ℕ) (r : A) where
+  some_next : slice_get log n ≡ Some r → or_by test n r (some_at test log n) ≡ some_at test log (n + 1)
+  some_next is =
+      let one : suc n ≡ n + 1 = omega arith in
+      let next : or_by test n r (some_at test log n) ≡ some_at test log (suc n) = λ i p. ap (λ o. passes (test p n) o || some_before (test p) log n) (sym is) i in
+      next ∙ ap (λ k. some_at test log k) one
+
+  pub first_next : slice_get log n ≡ Some r → here_by test n r (first_at test log n) ≡ first_at test log (n + 1)
+  first_next is =
+      let one : suc n ≡ n + 1 = omega arith in
+      let next : here_by test n r (first_at test log n) ≡ first_at test log (suc n) = λ i p. ap (λ o. or_here (first_before (test p) log n) (passes (test p n) o) n) (sym is) i in
+      next ∙ ap (λ k. first_at test log k) one
+
+  pub marks_more : (pages : ℕ) (old new : Values Bool) (at : ℕ → Bool) → slice_get log n ≡ Some r → IsTable pages old (some_at test log n) → IsWith old new at → at ≡ or_by test n r (values old) → IsTable pages new (some_at test log (n + 1))
+  marks_more pages old new at is was on here = record {
+    pages_are = on.pages ∙ was.pages_are;
+    values_are = on.values_are ∙ here ∙ ap (λ (f : ℕ → Bool). or_by test n r f) was.values_are ∙ some_next is;
+  }
+
+  pub numbers_more : (pages : ℕ) (old new : Values (Option ℕ)) (at : ℕ → Option ℕ) → slice_get log n ≡ Some r → IsTable pages old (first_at test log n) → IsWith old new at → at ≡ here_by test n r (values old) → IsTable pages new (first_at test log (n + 1))
+  numbers_more pages old new at is was on here = record {
+    pages_are = on.pages ∙ was.pages_are;
+    values_are = on.values_are ∙ here ∙ ap (λ (f : ℕ → Option ℕ). here_by test n r f) was.values_are ∙ first_next is;
+  }
+
+-- ---- the tables of the guest's log
+
+wrong_here : (s : Recorded) (n : ℕ) (r : GuestRec) (m : Memory) (f : ℕ → Bool) → m ≡ flat s n → wrong_by m r f ≡ or_by (is_wrong_read s) n r f
+wrong_here s n r m f e = ap (λ (k : Memory). wrong_by k r f) e ∙ go r
   where
-    go : (p : ℕ) → p < pages → (p ≡ q) ⊎ (p ≡ q → ⊥) → get_or (set table q x) p default ≡ g p
-    go p l (inl same) = ap (λ k. get_or (set table q x) k default) same ∙ get_or-set_same table q x default (omega (arith, is.0)) ∙ sym (ap g same ∙ here)
-    go p l (inr other) = get_or-set_other table q p x default other ∙ is.1 p l ∙ sym (there p other)
+    go : (r : GuestRec) → wrong_by (flat s n) r f ≡ or_by (is_wrong_read s) n r f
+    go (Read v q c x) = refl
+    go (Write v q c x) = refl
+    go (Release v q) = refl
+    go (Miss v q) = refl
+    go Halt = refl
+    go (Resume i) = refl
+    go (See k) = refl
 
-pub table_same : {A : Type 0} (pages : ℕ) (default : A) (table : List A) (f g : ℕ → A) → IsTable pages default table f → ((p : ℕ) → g p ≡ f p) → IsTable pages default table g
-table_same pages default table f g is same = (is.0, λ p l. is.1 p l ∙ sym (same p))
-
--- the tables after a record
-ledger_more : (pages : ℕ) (table : List Bool) (f : ℕ → Bool) (r : GuestRec) → GuestPage pages r → IsTable pages false table f → IsTable pages false (released_by table r) (λ p. released_after p r (f p))
-ledger_more pages table f (Write v q c x) fits is = table_set pages false table f (λ p. cond (q == p) false (f p)) q false fits is (ap (λ b. cond b false (f q)) (eq-eqb q q refl)) (λ p other. ap (λ b. cond b false (f p)) (ne_eqb q p (λ h. other (sym h))))
-ledger_more pages table f (Release v q) fits is = table_set pages false table f (λ p. cond (q == p) true (f p)) q true fits is (ap (λ b. cond b true (f q)) (eq-eqb q q refl)) (λ p other. ap (λ b. cond b true (f p)) (ne_eqb q p (λ h. other (sym h))))
-ledger_more pages table f (Read v q c x) fits is = is
-ledger_more pages table f (Miss v q) fits is = is
-ledger_more pages table f Halt fits is = is
-ledger_more pages table f (Resume i) fits is = is
-ledger_more pages table f (See k) fits is = is
-
-wrong_more : (s : Recorded) (n : ℕ) (table : List Bool) (m : Memory) (f : ℕ → Bool) (r : GuestRec) → m ≡ flat s n → GuestPage s.geometry.pages r → IsTable s.geometry.pages false table f → IsTable s.geometry.pages false (wrong_by m table r) (λ p. is_wrong_read s p n r || f p)
-wrong_more s n table m f (Read v q c x) e fits is = go (eqb x (m q c)) refl
+accessed_here : (s : Recorded) (n : ℕ) (r : GuestRec) (late : Bool) (f : ℕ → Option ℕ) → late ≡ is_target (home s n) → accessed_by late n r f ≡ here_by (is_late_access s) n r f
+accessed_here s n r late f e = go r late ∙ ap (λ b. by b r) e
   where
-    at_flat : eqb x (m q c) ≡ eqb x (flat s n q c)
-    at_flat = ap (λ k. eqb x (k q c)) e
+    by : Bool → GuestRec → ℕ → Option ℕ
+    by b r page = or_here (f page) (is_access_of page r && b) n
 
-    go : (b : Bool) → eqb x (m q c) ≡ b → IsTable s.geometry.pages false (cond b table (set table q true)) (λ p. ((q == p) && not (x == flat s n q c)) || f p)
-    go true t = table_same s.geometry.pages false table f (λ p. ((q == p) && not (x == flat s n q c)) || f p) is (λ p. ap (λ b. ((q == p) && not b) || f p) (sym at_flat ∙ t) ∙ off (q == p) (f p))
-      where
-        off : (a b : Bool) → ((a && false) || b) ≡ b
-        off true b = refl
-        off false b = refl
-    go false t = table_set s.geometry.pages false table f (λ p. ((q == p) && not (x == flat s n q c)) || f p) q true fits is
-        (ap (λ b. ((q == q) && not b) || f q) (sym at_flat ∙ t) ∙ ap (λ a. (a && true) || f q) (eq-eqb q q refl))
-        (λ p other. ap (λ a. (a && not (x == flat s n q c)) || f p) (ne_eqb q p (λ h. other (sym h))))
-wrong_more s n table m f (Write v q c x) e fits is = is
-wrong_more s n table m f (Release v q) e fits is = is
-wrong_more s n table m f (Miss v q) e fits is = is
-wrong_more s n table m f Halt e fits is = is
-wrong_more s n table m f (Resume i) e fits is = is
-wrong_more s n table m f (See k) e fits is = is
+    none : (p : ℕ) → f p ≡ or_here (f p) false n
+    none p = sym (noted_none (f p) n)
 
-pub note_more : (pages n q : ℕ) (table : List (Option ℕ)) (f : ℕ → Option ℕ) → q < pages → IsTable pages None table f → IsTable pages None (noted table q n) (λ p. or_here (f p) (q == p) n)
-note_more pages n q table f lt is = table_set pages None table f (λ p. or_here (f p) (q == p) n) q (or_here (get_or table q None) true n) lt is
-    (ap (λ b. or_here (f q) b n) (eq-eqb q q refl) ∙ ap (λ o. or_here o true n) (sym (is.1 q lt)))
-    (λ p other. ap (λ b. or_here (f p) b n) (ne_eqb q p (λ h. other (sym h))) ∙ none (f p))
-  where
-    none : (o : Option ℕ) → or_here o false n ≡ o
-    none None = refl
-    none (Some k) = refl
-
-access_more : (pages n : ℕ) (late : Bool) (table : List (Option ℕ)) (f : ℕ → Option ℕ) (r : GuestRec) → GuestPage pages r → IsTable pages None table f → IsTable pages None (accessed_by table late n r) (λ p. or_here (f p) (is_access_of p r && late) n)
-access_more pages n late table f r fits is = go r late fits
-  where
-    none : (o : Option ℕ) → or_here o false n ≡ o
-    none None = refl
-    none (Some k) = refl
-
-    off : (b : Bool) → (b && false) ≡ false
-    off true = refl
-    off false = refl
-
-    on : (b : Bool) → (b && true) ≡ b
+    on : (b : Bool) → b ≡ (b && true)
     on true = refl
     on false = refl
 
-    unlate : (g : ℕ → Bool) → IsTable pages None table (λ p. or_here (f p) (g p && false) n)
-    unlate g = table_same pages None table f (λ p. or_here (f p) (g p && false) n) is (λ p. ap (λ b. or_here (f p) b n) (off (g p)) ∙ none (f p))
+    off : (b : Bool) → false ≡ (b && false)
+    off true = refl
+    off false = refl
 
-    islate : (q : ℕ) → q < pages → IsTable pages None (noted table q n) (λ p. or_here (f p) ((q == p) && true) n)
-    islate q lt = table_same pages None (noted table q n) (λ p. or_here (f p) (q == p) n) (λ p. or_here (f p) ((q == p) && true) n) (note_more pages n q table f lt is) (λ p. ap (λ b. or_here (f p) b n) (on (q == p)))
+    islate : (q p : ℕ) → or_here (f p) (q == p) n ≡ or_here (f p) ((q == p) && true) n
+    islate q p = ap (λ t. or_here (f p) t n) (on (q == p))
 
-    other : IsTable pages None table (λ p. or_here (f p) false n)
-    other = table_same pages None table f (λ p. or_here (f p) false n) is (λ p. none (f p))
+    unlate : (q p : ℕ) → f p ≡ or_here (f p) ((q == p) && false) n
+    unlate q p = none p ∙ ap (λ t. or_here (f p) t n) (off (q == p))
 
-    go : (r : GuestRec) (late : Bool) → GuestPage pages r → IsTable pages None (accessed_by table late n r) (λ p. or_here (f p) (is_access_of p r && late) n)
-    go (Read v q c x) true fits = islate q fits
-    go (Read v q c x) false fits = unlate (λ p. q == p)
-    go (Write v q c x) true fits = islate q fits
-    go (Write v q c x) false fits = unlate (λ p. q == p)
-    go (Release v q) late fits = other
-    go (Miss v q) late fits = other
-    go Halt late fits = other
-    go (Resume i) late fits = other
-    go (See k) late fits = other
+    go : (r : GuestRec) (late : Bool) → accessed_by late n r f ≡ by late r
+    go (Read v q c x) true = λ i p. islate q p i
+    go (Read v q c x) false = λ i p. unlate q p i
+    go (Write v q c x) true = λ i p. islate q p i
+    go (Write v q c x) false = λ i p. unlate q p i
+    go (Release v q) late = λ i p. none p i
+    go (Miss v q) late = λ i p. none p i
+    go Halt late = λ i p. none p i
+    go (Resume j) late = λ i p. none p i
+    go (See k) late = λ i p. none p i
 
 late_more : (h : Home) (r : GuestRec) → late_after r (is_target h) ≡ is_target (home_after r h)
 late_more h Halt = refl
 late_more h (Resume i) = refl
 late_more h _ = refl
 
-onto : {A : Type 0} (P : A → Type 0) {x y : A} → x ≡ y → P y → P x
-onto P e h = subst P (sym e) h
-
-fits_at : (s : Recorded) (n : ℕ) (r : GuestRec) → IsSession s → slice_get s.guest n ≡ Some r → GuestPage s.geometry.pages r
-fits_at s n r limits is = guest_page s.geometry r (each_at (GuestRecFits s.geometry) s.guest n r limits.guest is)
-
--- the machine at the next record
-machine_next : (s : Recorded) (n : ℕ) (r : GuestRec) (old new : Machine) → IsSession s → slice_get s.guest n ≡ Some r → IsMachine s n old → IsStepped r old new → IsMachine s (suc n) new
-machine_next s n r old new limits is machine on = record {
-  geometry = on.store.geometry ∙ machine.geometry;
-  memory = on.store.memory_is ∙ ap (λ m. stepped r m) machine.memory ∙ (λ i p c. next_cell p c i);
-  ledger = onto (λ t. IsTable s.geometry.pages false t (in_ledger s (suc n))) on.ledger (table_same s.geometry.pages false _ _ (in_ledger s (suc n)) (ledger_more s.geometry.pages old.released.items (in_ledger s n) r (fits_at s n r limits is) machine.ledger) (λ p. ap (λ o. changed (released_after p) o (in_ledger s n p)) is));
-  late = on.late ∙ ap (λ b. late_after r b) machine.late ∙ late_more (home s n) r ∙ ap (λ o. is_target (changed home_after o (home s n))) (sym is);
-}
-  where
-    next_cell : (p c : ℕ) → stepped r (flat s n) p c ≡ flat s (suc n) p c
-    next_cell p c = ap (λ o. changed (cell_after p c) o (flat s n p c)) (sym is)
-
-pub machine_more : (s : Recorded) (n : ℕ) (r : GuestRec) (old new : Machine) → IsSession s → slice_get s.guest n ≡ Some r → IsMachine s n old → IsStepped r old new → IsMachine s (n + 1) new
-machine_more s n r old new limits is machine on =
-    let one : n + 1 ≡ suc n = omega arith in
-    subst (λ k. IsMachine s k new) (sym one) (machine_next s n r old new limits is machine on)
+-- the guest at the next record
+pub machine_more : (s : Recorded) (n : ℕ) (r : GuestRec) (old new : FlatGuest) → slice_get s.guest n ≡ Some r → IsMachine s n old → IsStepped r old new → IsMachine s (n + 1) new
+machine_more s n r old new is was on =
+    let one : suc n ≡ n + 1 = omega arith in
+    subst (λ k. IsMachine s k new) one (record {
+      flat = flat_next s n r old.machine new.machine is was.flat on.machine;
+      late = on.late ∙ ap (λ b. late_after r b) was.late ∙ late_more (home s n) r ∙ ap (λ o. is_target (changed home_after o (home s n))) (sym is);
+    })
 
 -- what the pass has at the next record
-pub judged_more : (s : Recorded) (n : ℕ) (r : GuestRec) (old new : Judge) → IsSession s → slice_get s.guest n ≡ Some r → IsJudged s n old → IsJudgedOn r n old new → IsJudged s (n + 1) new
-judged_more s n r old new limits is judged on = subst (λ k. IsJudged s k new) (sym one) (record {
-  machine = machine_next s n r old.machine new.machine limits is judged.machine on.machine;
-  wrong = onto (λ t. IsTable s.geometry.pages false t (λ p. some_before (is_wrong_read s p) s.guest (suc n))) on.wrong (table_same s.geometry.pages false _ _ (λ p. some_before (is_wrong_read s p) s.guest (suc n)) (wrong_more s n old.wrong.items (memory_of old.machine.store) (λ p. some_before (is_wrong_read s p) s.guest n) r judged.machine.memory fits judged.wrong) (λ p. ap (λ o. passes (is_wrong_read s p n) o || some_before (is_wrong_read s p) s.guest n) is));
-  first = onto (λ t. IsTable s.geometry.pages None t (λ p. first_before (is_late_access s p) s.guest (suc n))) on.first (table_same s.geometry.pages None _ _ (λ p. first_before (is_late_access s p) s.guest (suc n)) (access_more s.geometry.pages n old.machine.late old.first.items (λ p. first_before (is_late_access s p) s.guest n) r fits judged.first) (λ p. ap (λ o. or_here (first_before (is_late_access s p) s.guest n) (passes (is_late_access s p n) o) n) is ∙ ap (λ b. or_here (first_before (is_late_access s p) s.guest n) (is_access_of p r && b) n) (sym judged.machine.late)));
-})
-  where
-    one : n + 1 ≡ suc n
-    one = omega arith
-
-    fits : GuestPage s.geometry.pages r
-    fits = fits_at s n r limits is
+pub judged_more : (s : Recorded) (n : ℕ) (r : GuestRec) (old new : Judge) → slice_get s.guest n ≡ Some r → IsJudged s n old → IsJudgedOn r n old new → IsJudged s (n + 1) new
+judged_more s n r old new is was on = record {
+  guest = machine_more s n r old.guest new.guest is was.guest on.guest;
+  wrong = marks_more (is_wrong_read s) s.guest n r s.geometry.pages old.wrong new.wrong _ is was.wrong on.wrong (wrong_here s n r (memory_of old.guest.machine.frames) (values old.wrong) was.guest.flat.memory);
+  first = numbers_more (is_late_access s) s.guest n r s.geometry.pages old.first new.first _ is was.first on.first (accessed_here s n r old.guest.late (values old.first) was.guest.late);
+}

@@ -2,7 +2,6 @@ pub mod Reading
 pub mod Before
 pub mod Judging
 pub mod Moving
-pub mod Starting
 pub mod RightEntry
 pub mod Looked
 pub mod LeastReason

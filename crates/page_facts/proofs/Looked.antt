@@ -1,7 +1,7 @@
 -- A page was looked at exactly where its first placement is at or below the frontier.
-use Rattle.std.proofs.Common.{◌≡◌, ℕ, zero, suc, ◌<◌, ◌≤◌, ◌⊎◌, inl, inr, Bool, true, false, cond, ◌||◌, List, length, Option, Some, None, refl, sym, ap, ◌∙◌, arith}
-use Rattle.std.specs.Prelude.{slice_get, nat_le, nat_lt}
-use Rattle.std.proofs.lemmas.Bool.{cases_lt, lt-ltb, le-ltb, le-leb, lt-leb, leb-true, leb-false, ltb-true, ltb-false}
+use Rattle.std.proofs.Common.{◌≡◌, ℕ, zero, suc, ◌<◌, ◌≤◌, ◌⊎◌, inl, inr, Bool, true, false, ◌||◌, List, length, Option, Some, None, refl, sym, ap, ◌∙◌, arith}
+use Rattle.std.specs.Prelude.{slice_get, nat_le, nat_lt, max}
+use Rattle.std.proofs.lemmas.Bool.{cases_lt, lt-ltb, le-ltb, le-leb, lt-leb, leb-true, leb-false}
 use Rattle.std.proofs.lemmas.Option.{slice_get_within}
 use Rattle.migration_types.specs.declared.records.GuestRec.{GuestRec}
 use Rattle.migration_types.specs.declared.records.GuestRec.TheVariants.{Read, Write, Release, Miss, Halt, Resume, See}
@@ -9,8 +9,9 @@ use Rattle.migration_types.specs.Sessions.{Recorded}
 use Rattle.audit_model.specs.Flat.{changed}
 use Rattle.audit_model.specs.Shape.{passes, earlier, is_placement_of}
 use Rattle.audit_model.specs.Faults.{looks_at, has_looked}
+use Rattle.residency.specs.Placements.{raised, is_covered}
 use Rattle.page_facts.specs.Tables.{some_before, first_before}
-use Rattle.page_facts.specs.Frontier.{greater, seen_by, frontier, reaches, is_before}
+use Rattle.page_facts.specs.Frontier.{seen_by, frontier, is_before}
 use Rattle.page_facts.proofs.Before.{some_false, some_true, first_none, first_some, IsFirstAt}
 
 earlier_some : {A : Type 0} (test : A → Bool) (log : List A) (n : ℕ) → earlier test log n ≡ some_before (λ m. test) log n
@@ -54,47 +55,40 @@ placed_before s page n first e = earlier_some (is_placement_of page) s.pager n �
             absurd (cc)
 
 -- the same of the pager's record k, or an earlier one
-placed_below : (s : Recorded) (page k : ℕ) (first : Option ℕ) → first ≡ first_before (λ m. is_placement_of page) s.pager (length s.pager) → earlier (is_placement_of page) s.pager (suc k) ≡ reaches first (Some k)
+placed_below : (s : Recorded) (page k : ℕ) (first : Option ℕ) → first ≡ first_before (λ m. is_placement_of page) s.pager (length s.pager) → earlier (is_placement_of page) s.pager (suc k) ≡ is_covered first (Some k)
 placed_below s page k first e = placed_before s page (suc k) first e ∙ go first
   where
     at : (f : ℕ) → (k < f) ⊎ (f ≤ k) → nat_lt f (suc k) ≡ nat_le f k
     at f (inl lt) = le-ltb f (suc k) (omega arith) ∙ sym (lt-leb f k lt)
     at f (inr le) = lt-ltb f (suc k) (omega arith) ∙ sym (le-leb f k le)
 
-    go : (first : Option ℕ) → is_before first (suc k) ≡ reaches first (Some k)
+    go : (first : Option ℕ) → is_before first (suc k) ≡ is_covered first (Some k)
     go None = refl
     go (Some f) = at f (cases_lt k f)
 
 -- one look more
-reaches_more : (k : ℕ) (first old : Option ℕ) → (reaches first (Some k) || reaches first old) ≡ reaches first (greater k old)
+reaches_more : (k : ℕ) (first old : Option ℕ) → (is_covered first (Some k) || is_covered first old) ≡ is_covered first (raised k old)
 reaches_more k None None = refl
-reaches_more k None (Some m) = go (nat_lt m k)
-  where
-    go : (b : Bool) → false ≡ reaches None (cond b (Some k) (Some m))
-    go true = refl
-    go false = refl
+reaches_more k None (Some m) = refl
 reaches_more k (Some f) None = off (nat_le f k)
   where
     off : (b : Bool) → (b || false) ≡ b
     off true = refl
     off false = refl
-reaches_more k (Some f) (Some m) = go (nat_lt m k) refl (nat_le f k) refl (nat_le f m) refl
+reaches_more k (Some f) (Some m) = go (nat_le f k) refl (nat_le f m) refl
   where
-    go : (b : Bool) → nat_lt m k ≡ b → (x : Bool) → nat_le f k ≡ x → (y : Bool) → nat_le f m ≡ y → (x || y) ≡ reaches (Some f) (cond b (Some k) (Some m))
-    go true t true x y z = sym x
-    go true t false x false z = sym x
-    go true t false x true z = let a = ltb-true m k t in let b = leb-false f k x in let d = leb-true f m z in absurd (omega arith)
-    go false t true x true z = sym z
-    go false t true x false z = let a = ltb-false m k t in let b = leb-true f k x in let d = leb-false f m z in absurd (omega arith)
-    go false t false x y z = sym z
+    go : (x : Bool) → nat_le f k ≡ x → (y : Bool) → nat_le f m ≡ y → (x || y) ≡ nat_le f (max m k)
+    go true x y z = let b = leb-true f k x in sym (le-leb f (max m k) (omega arith))
+    go false x true z = let d = leb-true f m z in sym (le-leb f (max m k) (omega arith))
+    go false x false z = let b = leb-false f k x in let d = leb-false f m z in sym (lt-leb f (max m k) (omega arith))
 
-pub frontier_looked : (s : Recorded) (page : ℕ) (first : Option ℕ) → first ≡ first_before (λ m. is_placement_of page) s.pager (length s.pager) → (n : ℕ) → has_looked s page n ≡ reaches first (frontier s.guest n)
+pub frontier_looked : (s : Recorded) (page : ℕ) (first : Option ℕ) → first ≡ first_before (λ m. is_placement_of page) s.pager (length s.pager) → (n : ℕ) → has_looked s page n ≡ is_covered first (frontier s.guest n)
 frontier_looked s page None e zero = refl
 frontier_looked s page (Some f) e zero = refl
 frontier_looked s page first e (suc n) = go (slice_get s.guest n) (frontier_looked s page first e n)
   where
-    at : (r : GuestRec) → has_looked s page n ≡ reaches first (frontier s.guest n) → (looks_at s page r || has_looked s page n) ≡ reaches first (seen_by r (frontier s.guest n))
-    at (See k) h = ap (λ b. b || has_looked s page n) (placed_below s page k first e) ∙ ap (λ b. reaches first (Some k) || b) h ∙ reaches_more k first (frontier s.guest n)
+    at : (r : GuestRec) → has_looked s page n ≡ is_covered first (frontier s.guest n) → (looks_at s page r || has_looked s page n) ≡ is_covered first (seen_by r (frontier s.guest n))
+    at (See k) h = ap (λ b. b || has_looked s page n) (placed_below s page k first e) ∙ ap (λ b. is_covered first (Some k) || b) h ∙ reaches_more k first (frontier s.guest n)
     at (Read v p c x) h = h
     at (Write v p c x) h = h
     at (Release v p) h = h
@@ -102,6 +96,6 @@ frontier_looked s page first e (suc n) = go (slice_get s.guest n) (frontier_look
     at Halt h = h
     at (Resume i) h = h
 
-    go : (o : Option GuestRec) → has_looked s page n ≡ reaches first (frontier s.guest n) → changed (λ x found. looks_at s page x || found) o (has_looked s page n) ≡ reaches first (changed seen_by o (frontier s.guest n))
+    go : (o : Option GuestRec) → has_looked s page n ≡ is_covered first (frontier s.guest n) → changed (λ x found. looks_at s page x || found) o (has_looked s page n) ≡ is_covered first (changed seen_by o (frontier s.guest n))
     go None h = h
     go (Some r) h = at r h

@@ -1,12 +1,12 @@
 -- What the logs of a session say of its pages.
-use Rattle.std.specs.Prelude.{◌≡◌, ℕ, false, length, None}
+use Rattle.std.specs.Prelude.{◌≡◌, ℕ, length}
 use Rattle.migration_types.specs.Sessions.{Recorded}
 use Rattle.audit_model.specs.Shape.{is_placement_of}
 use Rattle.page_facts.specs.declared.facts.PageFacts.{PageFacts}
 use Rattle.page_facts.specs.declared.facts.PageTables.{PageTables}
 use Rattle.page_facts.specs.Tables.{some_before, first_before, IsTable}
 use Rattle.page_facts.specs.Judged.{is_wrong_read, is_wrong_send, is_altered, is_late_access}
-use Rattle.page_facts.specs.Moved.{is_again}
+use Rattle.page_facts.specs.Moved.{is_again, AreSent, IsPlaced}
 
 -- what the whole logs say of a page
 pub record IsFacts (s : Recorded) (page : ℕ) (f : PageFacts) : Type 0 where
@@ -19,9 +19,7 @@ pub record IsFacts (s : Recorded) (page : ℕ) (f : PageFacts) : Type 0 where
 
 -- the same for each page of the machine
 pub record AreTables (s : Recorded) (t : PageTables) : Type 0 where
-  pub wrong_reads : IsTable s.geometry.pages false t.wrong_reads.items (λ p. some_before (is_wrong_read s p) s.guest (length s.guest))
-  pub wrong_sends : IsTable s.geometry.pages false t.wrong_sends.items (λ p. some_before (is_wrong_send s p) s.source (length s.source))
-  pub placements : IsTable s.geometry.pages None t.placements.items (λ p. first_before (λ m. is_placement_of p) s.pager (length s.pager))
-  pub again : IsTable s.geometry.pages false t.again.items (λ p. some_before (is_again s p) s.pager (length s.pager))
-  pub altered : IsTable s.geometry.pages false t.altered.items (λ p. some_before (is_altered s p) s.pager (length s.pager))
-  pub accesses : IsTable s.geometry.pages None t.accesses.items (λ p. first_before (is_late_access s p) s.guest (length s.guest))
+  pub wrong_reads : IsTable s.geometry.pages t.wrong_reads (λ p. some_before (is_wrong_read s p) s.guest (length s.guest))
+  pub wrong_sends : AreSent s (length s.source) t.wrong_sends
+  pub placed : IsPlaced s (length s.pager) t.placed
+  pub accesses : IsTable s.geometry.pages t.accesses (λ p. first_before (is_late_access s p) s.guest (length s.guest))

@@ -1,5 +1,5 @@
 -- The first reason of a record, and the first fault of a log. This serves proofs alone.
-use Rattle.std.specs.Prelude.{◌≡◌, ℕ, ◌<◌, ◌⊎◌, Bool, not, ◌==◌, ◌&&◌, false, List, length, Option, Some, None, slice_index_or, if◌then◌else◌}
+use Rattle.std.specs.Prelude.{◌≡◌, ℕ, ◌<◌, ◌⊎◌, Bool, not, ◌==◌, ◌&&◌, false, length, Option, Some, None, if◌then◌else◌}
 use Rattle.migration_types.specs.declared.records.LogName.{LogName}
 use Rattle.migration_types.specs.declared.records.LogName.TheVariants.{Source, Pager}
 use Rattle.migration_types.specs.declared.records.GuestRec.{GuestRec}
@@ -13,13 +13,13 @@ use Rattle.migration_types.specs.Receipts.{Name}
 use Rattle.migration_types.specs.Sessions.{Recorded}
 use Rattle.audit_model.specs.declared.reasons.PageReason.{PageReason}
 use Rattle.audit_model.specs.declared.reasons.PageReason.TheVariants.{Read as WrongRead, Early, Given, Stale, Twice, Altered, Unfit}
-use Rattle.audit_model.specs.Shape.{is_placement_of}
 use Rattle.audit_model.specs.inner.PageFaultTests.{fault_test}
+use Rattle.migration_types.specs.PageSets.{Pages}
 use Rattle.page_store.specs.Frames.{Frames}
-use Rattle.page_facts.specs.Tables.{first_before, IsTable}
+use Rattle.residency.specs.Placements.{Places, Placements, placements, is_covered, IsWith as IsResidency}
 use Rattle.page_facts.specs.Machines.{IsMachine, IsStepped}
-use Rattle.page_facts.specs.Moved.{differs}
-use Rattle.page_facts.specs.Frontier.{seen_by, frontier, reaches, is_before}
+use Rattle.page_facts.specs.Moved.{differs, ArePlacements}
+use Rattle.page_facts.specs.Frontier.{seen_by, frontier, is_before}
 use Rattle.page_facts.specs.declared.page_fault.PageFault.{PageFault}
 use Rattle.page_facts.specs.declared.page_fault.Watch.{Watch}
 
@@ -58,42 +58,42 @@ AreMovedClean s = IsCleanLog s Source × IsCleanLog s Pager
 abbrev pub IsFirstMoved : Recorded → PageFault → Type 0
 IsFirstMoved s f = IsFirstOfLog s Source f ⊎ (IsCleanLog s Source × IsFirstOfLog s Pager f)
 
--- the table of the first placements
-abbrev pub ArePlacements : Recorded → List (Option ℕ) → Type 0
-ArePlacements s table = IsTable s.geometry.pages None table (λ p. first_before (λ m. is_placement_of p) s.pager (length s.pager))
+-- the first placements of all pages, and the greatest that a look before guest record n names
+abbrev pub AreAllPlaced : Recorded → ℕ → Places → Type 0
+AreAllPlaced s n r = ArePlacements s (length s.pager) (frontier s.guest n) r
 
 -- the tests that the passes make at a record
 abbrev pub reads_wrong : Memory → GuestRec → Bool
 reads_wrong m (Read vcpu p c value) = not (value == m p c)
 reads_wrong m _ = false
 
-abbrev pub is_unseen : List (Option ℕ) → Bool → Option ℕ → ℕ → Bool
-is_unseen placements late seen p = late && not (reaches (slice_index_or placements p None) seen)
+abbrev pub is_unseen : Places → Bool → ℕ → Bool
+is_unseen r late p = late && not (is_covered (placements r p) r.frontier)
 
-abbrev pub comes_early : List (Option ℕ) → Bool → Option ℕ → GuestRec → Bool
-comes_early placements late seen (Read vcpu p c value) = is_unseen placements late seen p
-comes_early placements late seen (Write vcpu p c value) = is_unseen placements late seen p
-comes_early placements late seen _ = false
+abbrev pub comes_early : Places → Bool → GuestRec → Bool
+comes_early r late (Read vcpu p c value) = is_unseen r late p
+comes_early r late (Write vcpu p c value) = is_unseen r late p
+comes_early r late _ = false
 
 -- the least reason of a record, by these tests
-abbrev pub guest_reason : Memory → List (Option ℕ) → Bool → Option ℕ → GuestRec → Option PageReason
-guest_reason m placements late seen r = or_else (reads_wrong m r) WrongRead (or_else (comes_early placements late seen r) Early None)
+abbrev pub guest_reason : Memory → Places → Bool → GuestRec → Option PageReason
+guest_reason m r late rec = or_else (reads_wrong m rec) WrongRead (or_else (comes_early r late rec) Early None)
 
-abbrev pub source_reason : Frames → List Bool → SourceRec → Option PageReason
-source_reason f released (Send p content) = or_else (slice_index_or released p false) Given (or_else (differs f p content) Stale None)
-source_reason f released _ = None
+abbrev pub source_reason : Frames → Pages → SourceRec → Option PageReason
+source_reason f ledger (Send p content) = or_else (ledger p) Given (or_else (differs f p content) Stale None)
+source_reason f ledger _ = None
 
-abbrev pub pager_reason : Frames → List Bool → List (Option ℕ) → ℕ → PagerRec → Option PageReason
-pager_reason f released placements n (Place p got content) = or_else (is_before (slice_index_or placements p None) n) Twice (or_else (differs f p content) Altered None)
-pager_reason f released placements n (Zero p) = or_else (is_before (slice_index_or placements p None) n) Twice (or_else (not (slice_index_or released p false)) Unfit None)
-pager_reason f released placements n _ = None
+abbrev pub pager_reason : Frames → Pages → Placements → ℕ → PagerRec → Option PageReason
+pager_reason f ledger first n (Place p got content) = or_else (is_before (first p) n) Twice (or_else (differs f p content) Altered None)
+pager_reason f ledger first n (Zero p) = or_else (is_before (first p) n) Twice (or_else (not (ledger p)) Unfit None)
+pager_reason f ledger first n _ = None
 
 -- what the pass over the guest's log keeps before record n
 pub record IsWatched (s : Recorded) (n : ℕ) (w : Watch) : Type 0 where
-  pub machine : IsMachine s n w.machine
-  pub seen : w.seen ≡ frontier s.guest n
+  pub guest : IsMachine s n w.guest
+  pub residency : AreAllPlaced s n w.residency
 
 -- one record more
 pub record IsWatchedOn (r : GuestRec) (old new : Watch) : Type 0 where
-  pub machine : IsStepped r old.machine new.machine
-  pub seen : new.seen ≡ seen_by r old.seen
+  pub guest : IsStepped r old.guest new.guest
+  pub residency : IsResidency old.residency new.residency (placements old.residency) (seen_by r old.residency.frontier)

@@ -1,25 +1,17 @@
 -- The greatest placement that the guest's looks name. This serves proofs alone.
-use Rattle.std.specs.Prelude.{ℕ, Bool, false, nat_lt, nat_le, List, Option, Some, None, if◌then◌else◌}
+use Rattle.std.specs.Prelude.{ℕ, Bool, false, nat_lt, List, Option, Some, None}
 use Rattle.migration_types.specs.declared.records.GuestRec.{GuestRec}
 use Rattle.migration_types.specs.declared.records.GuestRec.TheVariants.{See}
 use Rattle.audit_model.specs.Flat.{before}
-
-abbrev pub greater : ℕ → Option ℕ → Option ℕ
-greater k None = Some k
-greater k (Some m) = if nat_lt m k then Some k else Some m
+use Rattle.residency.specs.Placements.{raised}
 
 abbrev pub seen_by : GuestRec → Option ℕ → Option ℕ
-seen_by (See k) old = greater k old
+seen_by (See k) old = raised k old
 seen_by _ old = old
 
 -- the greatest placement that a look before record n names
 abbrev pub frontier : List GuestRec → ℕ → Option ℕ
 frontier log n = before seen_by None log n
-
--- whether a first placement is there, and at or below the greatest that a look names
-abbrev pub reaches : Option ℕ → Option ℕ → Bool
-reaches (Some place) (Some m) = nat_le place m
-reaches _ _ = false
 
 -- whether a first placement is there, and before record n
 abbrev pub is_before : Option ℕ → ℕ → Bool

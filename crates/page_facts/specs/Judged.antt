@@ -1,5 +1,5 @@
 -- What the pass over the guest's log keeps: the machine, and a few tables. This serves proofs alone.
-use Rattle.std.specs.Prelude.{◌≡◌, ℕ, Bool, true, false, not, ◌==◌, ◌&&◌, ◌||◌, List, Option, None, slice_set, if◌then◌else◌}
+use Rattle.std.specs.Prelude.{ℕ, Bool, false, not, ◌==◌, ◌&&◌, ◌||◌, Option, if◌then◌else◌}
 use Rattle.std.specs.Str.{bytes_eq}
 use Rattle.migration_types.specs.declared.records.GuestRec.{GuestRec}
 use Rattle.migration_types.specs.declared.records.GuestRec.TheVariants.{Read, Write}
@@ -12,7 +12,8 @@ use Rattle.migration_types.specs.Sessions.{Recorded}
 use Rattle.audit_model.specs.Flat.{flat, in_ledger, home, at_halt}
 use Rattle.audit_model.specs.Certificates.{is_access_of}
 use Rattle.page_store.specs.Frames.{memory_of}
-use Rattle.page_facts.specs.Tables.{some_before, first_before, noted, IsTable}
+use Rattle.page_tables.specs.Tables.{values, IsWith}
+use Rattle.page_facts.specs.Tables.{some_before, first_before, noted, marked_if, IsTable}
 use Rattle.page_facts.specs.Machines.{is_target, IsMachine, IsStepped}
 use Rattle.page_facts.specs.declared.guest.Judge.{Judge}
 
@@ -37,23 +38,23 @@ is_altered s page n (Zero p) = (p == page) && not (in_ledger s (at_halt s) p)
 is_altered s page n _ = false
 
 -- the tables after a record
-abbrev pub wrong_by : Memory → List Bool → GuestRec → List Bool
-wrong_by m marks (Read vcpu p c value) = if value == m p c then marks else slice_set marks p true
-wrong_by m marks _ = marks
+abbrev pub wrong_by : Memory → GuestRec → (ℕ → Bool) → ℕ → Bool
+wrong_by m (Read vcpu p c value) marks = marked_if (not (value == m p c)) p marks
+wrong_by m _ marks = marks
 
-abbrev pub accessed_by : List (Option ℕ) → Bool → ℕ → GuestRec → List (Option ℕ)
-accessed_by table late n (Read vcpu p c value) = if late then noted table p n else table
-accessed_by table late n (Write vcpu p c value) = if late then noted table p n else table
-accessed_by table late n _ = table
+abbrev pub accessed_by : Bool → ℕ → GuestRec → (ℕ → Option ℕ) → ℕ → Option ℕ
+accessed_by late n (Read vcpu p c value) at = if late then noted p n at else at
+accessed_by late n (Write vcpu p c value) at = if late then noted p n at else at
+accessed_by late n _ at = at
 
 -- what the pass has before record n
 pub record IsJudged (s : Recorded) (n : ℕ) (j : Judge) : Type 0 where
-  pub machine : IsMachine s n j.machine
-  pub wrong : IsTable s.geometry.pages false j.wrong.items (λ p. some_before (is_wrong_read s p) s.guest n)
-  pub first : IsTable s.geometry.pages None j.first.items (λ p. first_before (is_late_access s p) s.guest n)
+  pub guest : IsMachine s n j.guest
+  pub wrong : IsTable s.geometry.pages j.wrong (λ p. some_before (is_wrong_read s p) s.guest n)
+  pub first : IsTable s.geometry.pages j.first (λ p. first_before (is_late_access s p) s.guest n)
 
 -- one record more
 pub record IsJudgedOn (r : GuestRec) (n : ℕ) (old new : Judge) : Type 0 where
-  pub machine : IsStepped r old.machine new.machine
-  pub wrong : new.wrong.items ≡ wrong_by (memory_of old.machine.store) old.wrong.items r
-  pub first : new.first.items ≡ accessed_by old.first.items old.machine.late n r
+  pub guest : IsStepped r old.guest new.guest
+  pub wrong : IsWith old.wrong new.wrong (wrong_by (memory_of old.guest.machine.frames) r (values old.wrong))
+  pub first : IsWith old.first new.first (accessed_by old.guest.late n r (values old.first))

@@ -1,6 +1,6 @@
 -- What is known of each page's sends and placements, by the memory and the released pages at the halt. This serves
 -- proofs alone.
-use Rattle.std.specs.Prelude.{◌≡◌, ℕ, ◌<◌, Bool, false, not, ◌&&◌, ◌||◌, List, Option, None, slice_index_or, is_some}
+use Rattle.std.specs.Prelude.{◌≡◌, ℕ, ◌<◌, Bool, not, ◌&&◌, ◌||◌, List, Option, Some, None, is_some}
 use Rattle.std.specs.Str.{bytes_eq}
 use Rattle.migration_types.specs.declared.records.SourceRec.{SourceRec}
 use Rattle.migration_types.specs.declared.records.SourceRec.TheVariants.{Send}
@@ -9,7 +9,10 @@ use Rattle.migration_types.specs.declared.records.PagerRec.TheVariants.{Place, Z
 use Rattle.migration_types.specs.Memory.{page_of}
 use Rattle.migration_types.specs.Sessions.{Recorded}
 use Rattle.audit_model.specs.Shape.{is_placement_of}
+use Rattle.migration_types.specs.PageSets.{Pages}
 use Rattle.page_store.specs.Frames.{Frames, memory_of}
+use Rattle.page_tables.specs.Tables.{Values, values, IsWith}
+use Rattle.residency.specs.Placements.{Places, Placements, placements, IsWith as IsResidency}
 use Rattle.page_facts.specs.declared.moved.Placed.{Placed}
 use Rattle.page_facts.specs.Tables.{some_before, first_before, noted, marked_if, IsTable}
 use Rattle.page_facts.specs.Judged.{is_altered, is_wrong_send}
@@ -32,38 +35,51 @@ PagerPage pages _ = Unit {0}
 abbrev pub is_again : Recorded → ℕ → ℕ → PagerRec → Bool
 is_again s page n r = is_placement_of page r && is_some (first_before (λ m. is_placement_of page) s.pager n)
 
+-- the page that a record places
+abbrev pub placed_page : PagerRec → Option ℕ
+placed_page (Place p got content) = Some p
+placed_page (Zero p) = Some p
+placed_page _ = None
+
 -- the tables after a record
-abbrev pub sent_by : Frames → List Bool → List Bool → SourceRec → List Bool
-sent_by f released marks (Send p content) = marked_if (differs f p content || slice_index_or released p false) marks p
-sent_by f released marks _ = marks
+abbrev pub sent_by : Frames → Pages → SourceRec → (ℕ → Bool) → ℕ → Bool
+sent_by f ledger (Send p content) marks = marked_if (differs f p content || ledger p) p marks
+sent_by f ledger _ marks = marks
 
-abbrev pub again_by : List (Option ℕ) → List Bool → PagerRec → List Bool
-again_by first marks (Place p got content) = marked_if (is_some (slice_index_or first p None)) marks p
-again_by first marks (Zero p) = marked_if (is_some (slice_index_or first p None)) marks p
-again_by first marks _ = marks
+abbrev pub again_by : Placements → PagerRec → (ℕ → Bool) → ℕ → Bool
+again_by first (Place p got content) marks = marked_if (is_some (first p)) p marks
+again_by first (Zero p) marks = marked_if (is_some (first p)) p marks
+again_by first _ marks = marks
 
-abbrev pub altered_by : Frames → List Bool → List Bool → PagerRec → List Bool
-altered_by f released marks (Place p got content) = marked_if (differs f p content) marks p
-altered_by f released marks (Zero p) = marked_if (not (slice_index_or released p false)) marks p
-altered_by f released marks _ = marks
+abbrev pub altered_by : Frames → Pages → PagerRec → (ℕ → Bool) → ℕ → Bool
+altered_by f ledger (Place p got content) marks = marked_if (differs f p content) p marks
+altered_by f ledger (Zero p) marks = marked_if (not (ledger p)) p marks
+altered_by f ledger _ marks = marks
 
-abbrev pub placed_by : List (Option ℕ) → ℕ → PagerRec → List (Option ℕ)
-placed_by table n (Place p got content) = noted table p n
-placed_by table n (Zero p) = noted table p n
-placed_by table n _ = table
+-- the numbers with this one at the page of a record that places one which has none
+abbrev pub placed_by : ℕ → PagerRec → Placements → Placements
+placed_by n (Place p got content) at = noted p n at
+placed_by n (Zero p) at = noted p n at
+placed_by n _ at = at
+
+-- the first placement of each page before pager record n
+pub record ArePlacements (s : Recorded) (n : ℕ) (frontier : Option ℕ) (r : Places) : Type 0 where
+  pub geometry : r.geometry ≡ s.geometry
+  pub placements_are : placements r ≡ (λ p. first_before (λ m. is_placement_of p) s.pager n)
+  pub frontier_is : r.frontier ≡ frontier
 
 -- what is known before pager record n
 pub record IsPlaced (s : Recorded) (n : ℕ) (t : Placed) : Type 0 where
-  pub first : IsTable s.geometry.pages None t.first.items (λ p. first_before (λ m. is_placement_of p) s.pager n)
-  pub again : IsTable s.geometry.pages false t.again.items (λ p. some_before (is_again s p) s.pager n)
-  pub altered : IsTable s.geometry.pages false t.altered.items (λ p. some_before (is_altered s p) s.pager n)
+  pub first : ArePlacements s n None t.first
+  pub again : IsTable s.geometry.pages t.again (λ p. some_before (is_again s p) s.pager n)
+  pub altered : IsTable s.geometry.pages t.altered (λ p. some_before (is_altered s p) s.pager n)
 
 -- one record more
-pub record IsPlacedOn (f : Frames) (released : List Bool) (r : PagerRec) (n : ℕ) (old new : Placed) : Type 0 where
-  pub first : new.first.items ≡ placed_by old.first.items n r
-  pub again : new.again.items ≡ again_by old.first.items old.again.items r
-  pub altered : new.altered.items ≡ altered_by f released old.altered.items r
+pub record IsPlacedOn (f : Frames) (ledger : Pages) (r : PagerRec) (n : ℕ) (old new : Placed) : Type 0 where
+  pub first : IsResidency old.first new.first (placed_by n r (placements old.first)) old.first.frontier
+  pub again : IsWith old.again new.again (again_by (placements old.first) r (values old.again))
+  pub altered : IsWith old.altered new.altered (altered_by f ledger r (values old.altered))
 
 -- what is known of each page's sends before source record n
-abbrev pub AreSent : Recorded → ℕ → List Bool → Type 0
-AreSent s n marks = IsTable s.geometry.pages false marks (λ p. some_before (is_wrong_send s p) s.source n)
+abbrev pub AreSent : Recorded → ℕ → Values Bool → Type 0
+AreSent s n marks = IsTable s.geometry.pages marks (λ p. some_before (is_wrong_send s p) s.source n)

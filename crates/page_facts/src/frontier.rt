@@ -1,36 +1,18 @@
 //! The greatest placement that the guest's looks name.
 
 ghost use Rattle.std.specs.Prelude.{◌≡◌};
-ghost use Rattle.page_facts.specs.Frontier.{seen_by, reaches, is_before};
+ghost use Rattle.residency.specs.Placements.{placements, IsWith};
+ghost use Rattle.page_facts.specs.Frontier.{seen_by, is_before};
 
 use migration_types::GuestRec;
+use residency::Residency;
 
-/// The greatest placement that a look names, after this record.
-pub(crate) fn seen_after(rec: &GuestRec, seen: Option<u32>) -> Option<u32>
-    ensures { result ≡ seen_by rec.now seen }
+/// Takes in what a record of the guest sees.
+pub(crate) fn look(residency: &mut Residency, rec: &GuestRec)
+    ensures { IsWith residency.old residency.new (placements residency.old) (seen_by rec.now residency.old.frontier) }
 {
-    match rec {
-        GuestRec::See { placement } => match seen {
-            Some(greatest) => {
-                if greatest < *placement {
-                    Some(*placement)
-                } else {
-                    Some(greatest)
-                }
-            }
-            None => Some(*placement),
-        },
-        _ => seen,
-    }
-}
-
-/// Whether a page's first placement is there, and looks name it or a later one.
-pub(crate) fn reaches(placement: Option<u32>, seen: Option<u32>) -> bool
-    ensures { result ≡ reaches placement seen }
-{
-    match (placement, seen) {
-        (Some(place), Some(greatest)) => place <= greatest,
-        _ => false,
+    if let GuestRec::See { placement } = *rec {
+        residency.saw(placement);
     }
 }
 

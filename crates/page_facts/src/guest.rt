@@ -1,32 +1,34 @@
 //! The pass over the guest's log, with one memory.
 
-ghost use Rattle.std.specs.Prelude.{◌≡◌, ◌<◌, ◌≤◌, ℕ, length, IfOk};
+ghost use Rattle.std.specs.Prelude.{◌≡◌, ◌≤◌, length, IfOk};
 ghost use Rattle.migration_types.specs.Sessions.{GuestRecFits, IsSession};
+ghost use Rattle.flat_machine.specs.Machines.{HasFor};
 ghost use Rattle.page_store.specs.Frames.{memory_of};
+ghost use Rattle.page_tables.specs.Tables.{pages_of, values, IsWith};
 ghost use Rattle.page_facts.specs.Machines.{GuestPage};
 ghost use Rattle.page_facts.specs.Judged.{wrong_by, accessed_by, IsJudged, IsJudgedOn};
 
-use crate::machine::{Machine, machine_at_start, step};
-use crate::marks::{no_marks, no_places, note};
+use crate::machine::{FlatGuest, guest_at_start, step};
 use migration_types::{GuestRec, Session};
 use page_store::Store;
+use page_tables::Table;
 use std::alloc::{AllocError, Global};
 
 /// What the pass over the guest's log keeps.
 #[derive(Drop)]
 pub(crate) struct Judge {
-    pub machine: Machine,
+    pub guest: FlatGuest,
     /// The pages with a read whose value is not the machine's.
-    pub wrong: Vec<bool>,
+    pub wrong: Table<bool>,
     /// The first read or write of each page after handover.
-    pub first: Vec<Option<u32>>,
+    pub first: Table<Option<u32>>,
 }
 
 /// Marks the page of a read whose value is not the memory's.
-fn check_read(store: &Store, wrong: &mut Vec<bool>, rec: &GuestRec)
-    requires fits { GuestRecFits store.now.geometry rec.now }
-    requires sized { length wrong.old.items ≡ store.now.geometry.pages }
-    ensures { wrong.new.items ≡ wrong_by (memory_of store.now) wrong.old.items rec.now }
+fn check_read(frames: &Store, wrong: &mut Table<bool>, rec: &GuestRec)
+    requires fits { GuestRecFits frames.now.geometry rec.now }
+    requires page { GuestPage (pages_of wrong.old) rec.now }
+    ensures { IsWith wrong.old wrong.new (wrong_by (memory_of frames.now) rec.now (values wrong.old)) }
 {
     if let GuestRec::Read {
         page,
@@ -35,38 +37,35 @@ fn check_read(store: &Store, wrong: &mut Vec<bool>, rec: &GuestRec)
         ..
     } = *rec
     {
-        if store.read(page, cell) != value {
-            wrong[page.index()] = true;
-        }
+        wrong.mark_if(page, value != frames.read(page, cell));
     }
 }
 
 /// Notes a page's first read or write after handover.
-fn note_access(first: &mut Vec<Option<u32>>, rec: &GuestRec, late: bool, n: u32)
-    requires { GuestPage (length first.old.items) rec.now }
-    ensures { first.new.items ≡ accessed_by first.old.items late n rec.now }
+fn note_access(first: &mut Table<Option<u32>>, rec: &GuestRec, late: bool, n: u32)
+    requires { GuestPage (pages_of first.old) rec.now }
+    ensures { IsWith first.old first.new (accessed_by late n rec.now (values first.old)) }
 {
     if !late {
         return;
     }
     match *rec {
-        GuestRec::Read { page, .. } => note(first, page.index(), n),
-        GuestRec::Write { page, .. } => note(first, page.index(), n),
+        GuestRec::Read { page, .. } => first.note(page, n),
+        GuestRec::Write { page, .. } => first.note(page, n),
         _ => {}
     }
 }
 
 /// Does one record of the guest.
 fn judge_record(judge: &mut Judge, rec: &GuestRec, n: u32)
-    requires fits { GuestRecFits judge.old.machine.store.geometry rec.now }
-    requires released { GuestPage (length judge.old.machine.released.items) rec.now }
-    requires wrong { length judge.old.wrong.items ≡ judge.old.machine.store.geometry.pages }
-    requires first { GuestPage (length judge.old.first.items) rec.now }
+    requires fits { HasFor rec.now judge.old.guest.machine }
+    requires wrong { GuestPage (pages_of judge.old.wrong) rec.now }
+    requires first { GuestPage (pages_of judge.old.first) rec.now }
     ensures { IsJudgedOn rec.now n judge.old judge.new }
 {
-    check_read(&judge.machine.store, &mut judge.wrong, rec);
-    note_access(&mut judge.first, rec, judge.machine.late, n);
-    step(&mut judge.machine, rec);
+    check_read(&judge.guest.machine.frames, &mut judge.wrong, rec);
+    note_access(&mut judge.first, rec, judge.guest.late, n);
+    step(&mut judge.guest, rec);
 }
 
 /// Does the guest's records from one place to another.
@@ -87,12 +86,12 @@ pub(crate) fn run_guest(session: &Session, judge: &mut Judge, from: usize, to: u
 pub(crate) fn start(alloc: Global, session: &Session) -> Result<Judge, AllocError>
     ensures { IfOk result (λ judge. IsJudged session.now 0 judge) }
 {
+    let guest = guest_at_start(alloc, session)?;
     let pages = session.geometry().pages();
-    let machine = machine_at_start(alloc, session)?;
-    let wrong = no_marks(alloc, pages)?;
-    let first = no_places(alloc, pages)?;
+    let wrong = Table::no_marks(alloc, pages)?;
+    let first = Table::no_numbers(alloc, pages)?;
     Ok(Judge {
-        machine,
+        guest,
         wrong,
         first,
     })

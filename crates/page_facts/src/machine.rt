@@ -1,55 +1,21 @@
-//! One machine that never moved, along the guest's log.
+//! One machine that never moved, along the guest's log, and whether its guest would be at the target.
 
-ghost use Rattle.std.specs.Prelude.{◌≡◌, ◌<◌, ◌≤◌, ℕ, length, IfOk};
-ghost use Rattle.migration_types.specs.Sessions.{GuestRecFits};
+ghost use Rattle.std.specs.Prelude.{◌≡◌, ◌≤◌, length, IfOk};
 ghost use Rattle.audit_model.specs.Flat.{halt_place};
-ghost use Rattle.page_store.specs.Frames.{memory_of, IsWith};
-ghost use Rattle.page_facts.specs.Machines.{GuestPage, stepped, released_by, late_after, IsMachine, IsStepped};
+ghost use Rattle.flat_machine.specs.Machines.{HasFor};
+ghost use Rattle.page_facts.specs.Machines.{late_after, IsMachine, IsStepped};
 
-use crate::marks::no_marks;
-use audit_model::is_halt;
+use crate::kinds::is_halt;
+use flat_machine::Machine;
 use migration_types::{GuestRec, Session};
-use page_store::Store;
 use std::alloc::{AllocError, Global};
 
-/// One machine that never moved, before some record of the guest.
+/// A guest on a machine that never moved, before some record of its log.
 #[derive(Drop)]
-pub(crate) struct Machine {
-    /// Its frames.
-    pub store: Store,
-    /// The pages that are released.
-    pub released: Vec<bool>,
+pub(crate) struct FlatGuest {
+    pub machine: Machine,
     /// Whether the guest is at the target.
     pub late: bool,
-}
-
-/// Does a record to the memory.
-fn step_store(store: &mut Store, rec: &GuestRec)
-    requires { GuestRecFits store.old.geometry rec.now }
-    ensures { IsWith store.old store.new (stepped rec.now (memory_of store.old)) }
-{
-    match *rec {
-        GuestRec::Write {
-            page,
-            cell,
-            value,
-            ..
-        } => store.write(page, cell, value),
-        GuestRec::Release { page, .. } => store.release(page),
-        _ => {}
-    }
-}
-
-/// Does a record to the set of released pages.
-fn step_released(released: &mut Vec<bool>, rec: &GuestRec)
-    requires { GuestPage (length released.old.items) rec.now }
-    ensures { released.new.items ≡ released_by released.old.items rec.now }
-{
-    match *rec {
-        GuestRec::Write { page, .. } => released[page.index()] = false,
-        GuestRec::Release { page, .. } => released[page.index()] = true,
-        _ => {}
-    }
 }
 
 /// Whether the guest is at the target after this record.
@@ -64,26 +30,21 @@ fn late_after(rec: &GuestRec, late: bool) -> bool
 }
 
 /// Does one record of the guest.
-pub(crate) fn step(machine: &mut Machine, rec: &GuestRec)
-    requires fits { GuestRecFits machine.old.store.geometry rec.now }
-    requires released { GuestPage (length machine.old.released.items) rec.now }
-    ensures { IsStepped rec.now machine.old machine.new }
+pub(crate) fn step(guest: &mut FlatGuest, rec: &GuestRec)
+    requires { HasFor rec.now guest.old.machine }
+    ensures { IsStepped rec.now guest.old guest.new }
 {
-    step_released(&mut machine.released, rec);
-    step_store(&mut machine.store, rec);
-    machine.late = late_after(rec, machine.late);
+    guest.machine.step(rec);
+    guest.late = late_after(rec, guest.late);
 }
 
-/// The machine before the guest's first record.
-pub(crate) fn machine_at_start(alloc: Global, session: &Session) -> Result<Machine, AllocError>
-    ensures { IfOk result (λ machine. IsMachine session.now 0 machine) }
+/// The guest before its first record.
+pub(crate) fn guest_at_start(alloc: Global, session: &Session) -> Result<FlatGuest, AllocError>
+    ensures { IfOk result (λ guest. IsMachine session.now 0 guest) }
 {
-    session.keeps_limits();
-    let store = Store::from_init(alloc, session.geometry(), session.init())?;
-    let released = no_marks(alloc, session.geometry().pages())?;
-    Ok(Machine {
-        store,
-        released,
+    let machine = Machine::start(alloc, session)?;
+    Ok(FlatGuest {
+        machine,
         late: false,
     })
 }

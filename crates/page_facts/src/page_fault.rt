@@ -1,23 +1,27 @@
 //! The first fault of a session's pages.
 
-ghost use Rattle.std.specs.Prelude.{◌≡◌, ◌<◌, ◌≤◌, ℕ, length, IfOk, MatchOption};
+ghost use Rattle.std.specs.Prelude.{◌≡◌, ◌<◌, ◌≤◌, length, IfOk, MatchOption};
 ghost use Rattle.migration_types.specs.declared.records.LogName.TheVariants.{Guest, Source, Pager};
 ghost use Rattle.migration_types.specs.Sessions.{GuestRecFits, IsSession};
 ghost use Rattle.audit_model.specs.Flat.{at_halt};
 ghost use Rattle.audit_model.specs.Faults.{HasNoPageFault};
 ghost use Rattle.audit_model.specs.FirstFault.{IsFirstPageFault};
+ghost use Rattle.balloon_ledger.specs.Released.{released};
+ghost use Rattle.flat_machine.specs.Machines.{HasFor, IsFlat};
 ghost use Rattle.page_store.specs.Frames.{memory_of};
-ghost use Rattle.page_facts.specs.Machines.{GuestPage, IsMachine};
+ghost use Rattle.residency.specs.Placements.{placements};
+ghost use Rattle.page_facts.specs.Machines.{GuestPage};
 ghost use Rattle.page_facts.specs.Moved.{SourcePage, PagerPage};
-ghost use Rattle.page_facts.specs.FirstOfLog.{reads_wrong, is_unseen, comes_early, guest_reason, source_reason, pager_reason, ArePlacements, IsCleanBelow, IsCleanLog, IsFirstOfLog, AreMovedClean, IsFirstMoved, IsWatched, IsWatchedOn};
+ghost use Rattle.page_facts.specs.FirstOfLog.{reads_wrong, is_unseen, comes_early, guest_reason, source_reason, pager_reason, AreAllPlaced, IsCleanBelow, IsCleanLog, IsFirstOfLog, AreMovedClean, IsFirstMoved, IsWatched, IsWatchedOn};
 
-use crate::frontier::{is_before, reaches, seen_after};
-use crate::machine::{Machine, halt_place, machine_at_start, step};
-use crate::marks::no_places;
+use crate::frontier::{is_before, look};
+use crate::machine::{FlatGuest, guest_at_start, halt_place, step};
 use crate::moved::{differs, note_placement};
 use audit_model::PageReason;
+use flat_machine::Machine;
 use migration_types::{GuestRec, LogName, PageNo, PagerRec, Session, SourceRec};
 use page_store::Store;
+use residency::Residency;
 use std::alloc::{AllocError, Global};
 
 /// A fault of a page: the record that has it, and why.
@@ -34,22 +38,22 @@ pub struct PageFault {
 /// What the pass for the guest's first fault keeps.
 #[derive(Drop)]
 struct Watch {
-    machine: Machine,
-    /// The greatest placement that a look named.
-    seen: Option<u32>,
+    guest: FlatGuest,
+    /// The first placement of each page, and the greatest that a look named.
+    residency: Residency,
 }
 
 /// The first placement of each page.
-fn first_placements(alloc: Global, session: &Session) -> Result<Vec<Option<u32>>, AllocError>
+fn first_placements(alloc: Global, session: &Session) -> Result<Residency, AllocError>
     requires { IsSession session.now }
-    ensures { IfOk result (λ table. ArePlacements session.now table.items) }
+    ensures { IfOk result (AreAllPlaced session.now 0) }
 {
-    let mut table = no_places(alloc, session.geometry().pages())?;
+    let mut residency = Residency::new(alloc, session.geometry())?;
     let pager = session.pager();
     for n in 0..pager.len() {
-        note_placement(&mut table, &pager[n], n as u32);
+        note_placement(&mut residency, &pager[n], n as u32);
     }
-    Ok(table)
+    Ok(residency)
 }
 
 /// Whether a record reads another value than the memory has.
@@ -69,35 +73,35 @@ fn reads_wrong(store: &Store, rec: &GuestRec) -> bool
 }
 
 /// Whether the guest is at the target, and no look yet covers the page.
-fn is_unseen(placements: &Vec<Option<u32>>, late: bool, seen: Option<u32>, page: PageNo) -> bool
-    requires { page < length placements.now.items }
-    ensures { result ≡ is_unseen placements.now.items late seen page }
+fn is_unseen(residency: &Residency, late: bool, page: PageNo) -> bool
+    requires { page < residency.now.geometry.pages }
+    ensures { result ≡ is_unseen residency.now late page }
 {
-    late && !reaches(placements[page.index()], seen)
+    late && !residency.covers(page)
 }
 
 /// Whether a record uses a page at the target that no look before it covers.
-fn comes_early(placements: &Vec<Option<u32>>, late: bool, seen: Option<u32>, rec: &GuestRec) -> bool
-    requires { GuestPage (length placements.now.items) rec.now }
-    ensures { result ≡ comes_early placements.now.items late seen rec.now }
+fn comes_early(residency: &Residency, late: bool, rec: &GuestRec) -> bool
+    requires { GuestPage residency.now.geometry.pages rec.now }
+    ensures { result ≡ comes_early residency.now late rec.now }
 {
     match *rec {
-        GuestRec::Read { page, .. } => is_unseen(placements, late, seen, page),
-        GuestRec::Write { page, .. } => is_unseen(placements, late, seen, page),
+        GuestRec::Read { page, .. } => is_unseen(residency, late, page),
+        GuestRec::Write { page, .. } => is_unseen(residency, late, page),
         _ => false,
     }
 }
 
 /// Why a record of the guest is a fault.
-fn guest_reason(watch: &Watch, placements: &Vec<Option<u32>>, rec: &GuestRec) -> Option<PageReason>
-    requires fits { GuestRecFits watch.now.machine.store.geometry rec.now }
-    requires placed { GuestPage (length placements.now.items) rec.now }
-    ensures { result ≡ guest_reason (memory_of watch.now.machine.store) placements.now.items watch.now.machine.late watch.now.seen rec.now }
+fn guest_reason(watch: &Watch, rec: &GuestRec) -> Option<PageReason>
+    requires fits { GuestRecFits watch.now.guest.machine.frames.geometry rec.now }
+    requires placed { GuestPage watch.now.residency.geometry.pages rec.now }
+    ensures { result ≡ guest_reason (memory_of watch.now.guest.machine.frames) watch.now.residency watch.now.guest.late rec.now }
 {
-    if reads_wrong(&watch.machine.store, rec) {
+    if reads_wrong(&watch.guest.machine.frames, rec) {
         return Some(PageReason::Read);
     }
-    if comes_early(placements, watch.machine.late, watch.seen, rec) {
+    if comes_early(&watch.residency, watch.guest.late, rec) {
         return Some(PageReason::Early);
     }
     None
@@ -105,26 +109,18 @@ fn guest_reason(watch: &Watch, placements: &Vec<Option<u32>>, rec: &GuestRec) ->
 
 /// Does one record of the guest.
 fn watch_record(watch: &mut Watch, rec: &GuestRec)
-    requires fits { GuestRecFits watch.old.machine.store.geometry rec.now }
-    requires released { GuestPage (length watch.old.machine.released.items) rec.now }
+    requires { HasFor rec.now watch.old.guest.machine }
     ensures { IsWatchedOn rec.now watch.old watch.new }
 {
-    step(&mut watch.machine, rec);
-    watch.seen = seen_after(rec, watch.seen);
+    step(&mut watch.guest, rec);
+    look(&mut watch.residency, rec);
 }
 
 /// Does the guest's records from one place to another, up to the first that is a fault.
-fn guest_fault(
-    session: &Session,
-    placements: &Vec<Option<u32>>,
-    watch: &mut Watch,
-    from: usize,
-    to: usize,
-) -> Option<PageFault>
+fn guest_fault(session: &Session, watch: &mut Watch, from: usize, to: usize) -> Option<PageFault>
     requires limits { IsSession session.now }
     requires order { from ≤ to }
     requires within { to ≤ length session.now.guest }
-    requires placements { ArePlacements session.now placements.now.items }
     requires watched { IsWatched session.now from watch.old }
     requires clean { IsCleanBelow session.now Guest from }
     ensures { MatchOption result (IsWatched session.now to watch.new × IsCleanBelow session.now Guest to) (IsFirstOfLog session.now Guest) }
@@ -132,7 +128,7 @@ fn guest_fault(
     let guest = session.guest();
     for n in from..to {
         let rec = &guest[n];
-        if let Some(reason) = guest_reason(watch, placements, rec) {
+        if let Some(reason) = guest_reason(watch, rec) {
             return Some(PageFault {
                 log: LogName::Guest,
                 place: n as u32,
@@ -145,32 +141,32 @@ fn guest_fault(
 }
 
 /// Why a record of the source is a fault, by the machine at the halt.
-fn source_reason(machine: &Machine, rec: &SourceRec) -> Option<PageReason>
-    requires fits { SourcePage machine.now.store.geometry.pages rec.now }
-    requires released { length machine.now.released.items ≡ machine.now.store.geometry.pages }
-    ensures { result ≡ source_reason machine.now.store machine.now.released.items rec.now }
+fn source_reason(halted: &Machine, rec: &SourceRec) -> Option<PageReason>
+    requires frames { SourcePage halted.now.frames.geometry.pages rec.now }
+    requires ledger { SourcePage halted.now.ledger.geometry.pages rec.now }
+    ensures { result ≡ source_reason halted.now.frames (released halted.now.ledger) rec.now }
 {
     let SourceRec::Send { page, contents } = rec else {
         return None;
     };
-    if machine.released[page.index()] {
+    if halted.ledger.holds(*page) {
         return Some(PageReason::Given);
     }
-    if differs(&machine.store, *page, contents) {
+    if differs(&halted.frames, *page, contents) {
         return Some(PageReason::Stale);
     }
     None
 }
 
 /// The first fault of the source's log.
-fn source_fault(session: &Session, machine: &Machine) -> Option<PageFault>
+fn source_fault(session: &Session, halted: &Machine) -> Option<PageFault>
     requires limits { IsSession session.now }
-    requires machine { IsMachine session.now (at_halt session.now) machine.now }
+    requires halted { IsFlat session.now (at_halt session.now) halted.now }
     ensures { MatchOption result (IsCleanLog session.now Source) (IsFirstOfLog session.now Source) }
 {
     let source = session.source();
     for n in 0..source.len() {
-        if let Some(reason) = source_reason(machine, &source[n]) {
+        if let Some(reason) = source_reason(halted, &source[n]) {
             return Some(PageFault {
                 log: LogName::Source,
                 place: n as u32,
@@ -181,32 +177,32 @@ fn source_fault(session: &Session, machine: &Machine) -> Option<PageFault>
     None
 }
 
-/// Why pager record n is a fault, by the machine at the halt.
+/// Why pager record n is a fault, by the machine at the halt and the first placement of each page.
 fn pager_reason(
-    machine: &Machine,
-    placements: &Vec<Option<u32>>,
+    halted: &Machine,
+    residency: &Residency,
     rec: &PagerRec,
     n: u32,
 ) -> Option<PageReason>
-    requires fits { PagerPage machine.now.store.geometry.pages rec.now }
-    requires released { length machine.now.released.items ≡ machine.now.store.geometry.pages }
-    requires placed { length placements.now.items ≡ machine.now.store.geometry.pages }
-    ensures { result ≡ pager_reason machine.now.store machine.now.released.items placements.now.items n rec.now }
+    requires frames { PagerPage halted.now.frames.geometry.pages rec.now }
+    requires ledger { PagerPage halted.now.ledger.geometry.pages rec.now }
+    requires placed { PagerPage residency.now.geometry.pages rec.now }
+    ensures { result ≡ pager_reason halted.now.frames (released halted.now.ledger) (placements residency.now) n rec.now }
 {
     match rec {
         PagerRec::Place { page, contents, .. } => {
-            if is_before(placements[page.index()], n) {
+            if is_before(residency.placed_at(*page), n) {
                 Some(PageReason::Twice)
-            } else if differs(&machine.store, *page, contents) {
+            } else if differs(&halted.frames, *page, contents) {
                 Some(PageReason::Altered)
             } else {
                 None
             }
         }
         PagerRec::Zero { page } => {
-            if is_before(placements[page.index()], n) {
+            if is_before(residency.placed_at(*page), n) {
                 Some(PageReason::Twice)
-            } else if !machine.released[page.index()] {
+            } else if !halted.ledger.holds(*page) {
                 Some(PageReason::Unfit)
             } else {
                 None
@@ -217,19 +213,19 @@ fn pager_reason(
 }
 
 /// The first fault of the pager's log.
-fn pager_fault(
-    session: &Session,
-    placements: &Vec<Option<u32>>,
-    machine: &Machine,
-) -> Option<PageFault>
+fn pager_fault(session: &Session, halted: &Watch) -> Option<PageFault>
     requires limits { IsSession session.now }
-    requires placements { ArePlacements session.now placements.now.items }
-    requires machine { IsMachine session.now (at_halt session.now) machine.now }
+    requires halted { IsWatched session.now (at_halt session.now) halted.now }
     ensures { MatchOption result (IsCleanLog session.now Pager) (IsFirstOfLog session.now Pager) }
 {
     let pager = session.pager();
     for n in 0..pager.len() {
-        if let Some(reason) = pager_reason(machine, placements, &pager[n], n as u32) {
+        if let Some(reason) = pager_reason(
+            &halted.guest.machine,
+            &halted.residency,
+            &pager[n],
+            n as u32,
+        ) {
             return Some(PageFault {
                 log: LogName::Pager,
                 place: n as u32,
@@ -241,20 +237,43 @@ fn pager_fault(
 }
 
 /// The first fault of the source's log, and else of the pager's.
-fn moved_fault(
-    session: &Session,
-    placements: &Vec<Option<u32>>,
-    machine: &Machine,
-) -> Option<PageFault>
+fn moved_fault(session: &Session, halted: &Watch) -> Option<PageFault>
     requires limits { IsSession session.now }
-    requires placements { ArePlacements session.now placements.now.items }
-    requires machine { IsMachine session.now (at_halt session.now) machine.now }
+    requires halted { IsWatched session.now (at_halt session.now) halted.now }
     ensures { MatchOption result (AreMovedClean session.now) (IsFirstMoved session.now) }
 {
-    if let Some(fault) = source_fault(session, machine) {
+    if let Some(fault) = source_fault(session, &halted.guest.machine) {
         return Some(fault);
     }
-    pager_fault(session, placements, machine)
+    pager_fault(session, halted)
+}
+
+/// Before the guest's first record.
+fn start(alloc: Global, session: &Session) -> Result<Watch, AllocError>
+    requires { IsSession session.now }
+    ensures { IfOk result (IsWatched session.now 0) }
+{
+    let residency = first_placements(alloc, session)?;
+    let guest = guest_at_start(alloc, session)?;
+    Ok(Watch { guest, residency })
+}
+
+/// The first fault of the session that is watched.
+fn fault_of(session: &Session, watch: &mut Watch) -> Option<PageFault>
+    requires limits { IsSession session.now }
+    requires start { IsWatched session.now 0 watch.old }
+    ensures { MatchOption result (HasNoPageFault session.now) (λ f. IsFirstPageFault session.now f.reason (f.log, f.place)) }
+{
+    let halt = halt_place(session.guest());
+    if let Some(fault) = guest_fault(session, watch, 0, halt) {
+        return Some(fault);
+    }
+    let moved = moved_fault(session, watch);
+    let end = session.guest().len();
+    if let Some(fault) = guest_fault(session, watch, halt, end) {
+        return Some(fault);
+    }
+    moved
 }
 
 /// The fault of least line, and then of least reason, of a session's pages; none where no record is a fault. Takes two
@@ -264,20 +283,6 @@ pub fn first_page_fault(alloc: Global, session: &Session) -> Result<Option<PageF
     ensures { IfOk result (λ fault. MatchOption fault (HasNoPageFault session.now) (λ f. IsFirstPageFault session.now f.reason (f.log, f.place))) }
 {
     session.keeps_limits();
-    let placements = first_placements(alloc, session)?;
-    let machine = machine_at_start(alloc, session)?;
-    let mut watch = Watch {
-        machine,
-        seen: None,
-    };
-    let halt = halt_place(session.guest());
-    if let Some(fault) = guest_fault(session, &placements, &mut watch, 0, halt) {
-        return Ok(Some(fault));
-    }
-    let moved = moved_fault(session, &placements, &watch.machine);
-    let end = session.guest().len();
-    if let Some(fault) = guest_fault(session, &placements, &mut watch, halt, end) {
-        return Ok(Some(fault));
-    }
-    Ok(moved)
+    let mut watch = start(alloc, session)?;
+    Ok(fault_of(session, &mut watch))
 }

@@ -29,7 +29,7 @@ impl<T> Model for Table<T> {
 
 impl Table<bool> {
     ghost use Rattle.std.specs.Prelude.{false};
-    ghost use Rattle.page_tables.specs.Tables.{all_at, pages_of, values};
+    ghost use Rattle.page_tables.specs.Tables.{all_at, marked_if, pages_of, values, IsWith};
 
     /// A mark for each of so many pages, none of them set. An error: there is no memory for it.
     pub fn no_marks(alloc: Global, pages: u32) -> Result<Table<bool>, AllocError>
@@ -42,11 +42,21 @@ impl Table<bool> {
             items,
         })
     }
+
+    /// Marks a page where the test is true.
+    pub fn mark_if(&mut self, page: PageNo, test: bool)
+        requires { page < pages_of self.old }
+        ensures { IsWith self.old self.new (marked_if test page (values self.old)) }
+    {
+        if test {
+            self.set(page, true);
+        }
+    }
 }
 
 impl Table<Option<u32>> {
     ghost use Rattle.std.specs.Prelude.{None};
-    ghost use Rattle.page_tables.specs.Tables.{all_at, pages_of, values};
+    ghost use Rattle.page_tables.specs.Tables.{all_at, noted, pages_of, values, IsWith};
 
     /// The number of a record for each of so many pages, none of them there. An error: there is no memory for it.
     pub fn no_numbers(alloc: Global, pages: u32) -> Result<Table<Option<u32>>, AllocError>
@@ -56,6 +66,16 @@ impl Table<Option<u32>> {
         let initial: Option<u32> = None;
         let items = vec![in alloc; initial; pages as usize]?;
         Ok(Table { initial, items })
+    }
+
+    /// Gives a page this number, if it has none.
+    pub fn note(&mut self, page: PageNo, number: u32)
+        requires { page < pages_of self.old }
+        ensures { IsWith self.old self.new (noted page number (values self.old)) }
+    {
+        if self.at(page).is_none() {
+            self.set(page, Some(number));
+        }
     }
 }
 

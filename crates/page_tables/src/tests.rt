@@ -10,10 +10,18 @@ fn keeps_what_each_page_was_given(rt: HostRuntime) -> Result<(), Fail> {
     marks.set(second, true);
     assert!(rt; !marks.at(first));
     assert!(rt; marks.at(second));
+    marks.mark_if(first, false);
+    assert!(rt; !marks.at(first));
+    marks.mark_if(first, true);
+    assert!(rt; marks.at(first));
     let mut numbers = Table::no_numbers(rt.alloc(), 2)?;
     numbers.set(first, Some(7));
     numbers.set(first, Some(3));
     assert_eq!(rt; numbers.at(first), Some(3));
     assert_eq!(rt; numbers.at(second), None);
+    numbers.note(first, 5);
+    numbers.note(second, 5);
+    assert_eq!(rt; numbers.at(first), Some(3));
+    assert_eq!(rt; numbers.at(second), Some(5));
     Ok(())
 }

@@ -1,6 +1,7 @@
-use Rattle.std.proofs.Common.{◌+◌, ◌∙◌, List, length, ap, arith}
+use Rattle.std.proofs.Common.{◌+◌, List, length, ap, arith}
 use Rattle.migration_types.specs.declared.records.LogName.TheVariants.{Guest}
 use Rattle.migration_types.specs.declared.records.GuestRec.{GuestRec}
+use Rattle.flat_machine.proofs.Stepping.{sized_on as flat_sized_on}
 use Rattle.merge_runs.proofs.Reading.{read_at}
 use Rattle.merge_runs.proofs.Machines.{sized_on}
 use Rattle.merge_runs.proofs.OneMore.{guest_more, run_more}
@@ -19,7 +20,7 @@ loop-k-preserved c =
     record {
       sized = record {
         moving = sized_on s.geometry old.moving new.moving _ c.loop-k.invariant.sized.moving c.step_guest.ensures.moving;
-        flat = c.step_guest.ensures.flat.geometry ∙ c.loop-k.invariant.sized.flat;
+        flat = flat_sized_on s.geometry old.flat new.flat _ _ c.loop-k.invariant.sized.flat c.step_guest.ensures.flat;
       };
       run = run_more s Guest c.args.from c.loop-k.k c.args.replaying.now old new c.loop-k.invariant.run (λ order here ran. guest_more s order n rec old new is here ran c.step_guest.ensures);
     }

@@ -1,7 +1,8 @@
-use Rattle.std.proofs.Common.{◌+◌, ◌∙◌, List, length, ap, arith}
+use Rattle.std.proofs.Common.{◌+◌, List, length, ap, sym, subst, arith}
 use Rattle.migration_types.specs.declared.records.LogName.TheVariants.{Pager}
 use Rattle.migration_types.specs.declared.records.PagerRec.{PagerRec}
-use Rattle.page_store.specs.Frames.{Frames}
+use Rattle.flat_machine.specs.declared.machine.Machine.{Machine}
+use Rattle.flat_machine.specs.Machines.{IsSized}
 use Rattle.merge_runs.proofs.Reading.{read_at}
 use Rattle.merge_runs.proofs.Machines.{sized_on}
 use Rattle.merge_runs.proofs.OneMore.{pager_more, run_more}
@@ -21,7 +22,7 @@ loop-k-preserved c =
     record {
       sized = record {
         moving = sized_on s.geometry old.moving new.moving _ sized.moving c.step_pager.ensures.moving;
-        flat = ap (λ (f : Frames). f.geometry) c.step_pager.ensures.flat ∙ sized.flat;
+        flat = subst (λ (m : Machine). IsSized s.geometry m) (sym c.step_pager.ensures.flat) sized.flat;
       };
       run = run_more s Pager c.args.from c.loop-k.k c.args.replaying.now old new c.loop-k.invariant.run (λ order here ran. pager_more s order n rec old new is sized ran c.step_pager.ensures);
     }

@@ -1,6 +1,4 @@
-use Rattle.std.proofs.Common.{ap, ◌∙◌}
-use Rattle.migration_types.specs.Memory.{initial}
 use Rattle.merge_runs.proofs.replaying.start.Goals as goal
 
 pub returns-clause-start : goal.returns-clause-start
-returns-clause-start c = record { world = c.in_ok-moving.ensures.world; flat = c.in_ok-flat.ensures.memory ∙ ap initial c.init.ensures; broken = tt }
+returns-clause-start c = record { world = c.in_ok-moving.ensures.world; flat = c.in_ok-flat.ensures.memory; broken = tt }

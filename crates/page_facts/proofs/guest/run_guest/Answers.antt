@@ -12,4 +12,4 @@ loop-n-preserved c =
     let rec = c.index-guest-n.result in
     let all = ap (λ (xs : List GuestRec). length xs) c.guest-guest.ensures in
     let is = read_at c.guest-guest.result.now s.guest n rec c.guest-guest.ensures (omega (arith, all, c.loop-n-test.true, c.requires.within)) c.index-guest-n.is in
-    judged_more s n rec c.loop-n.judge c.judge_record.new.judge c.requires.limits is c.loop-n.invariant c.judge_record.ensures
+    judged_more s n rec c.loop-n.judge c.judge_record.new.judge is c.loop-n.invariant c.judge_record.ensures

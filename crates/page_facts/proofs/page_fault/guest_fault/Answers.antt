@@ -16,7 +16,7 @@ returns-in-Some c =
     let is = read_at c.guest-guest.result.now s.guest n rec c.guest-guest.ensures (omega (arith, all, c.loop-n-test.true, c.requires.within)) c.index-guest-n.is in
     record {
       is_log = refl;
-      is_reason = guest_turn s n rec c.loop-n.watch c.args.placements.now.items c.requires.limits is i.watched c.requires.placements ∙ (sym c.guest_reason.ensures ∙ c.in-Some.is);
+      is_reason = guest_turn s n rec c.loop-n.watch is i.watched ∙ (sym c.guest_reason.ensures ∙ c.in-Some.is);
       is_clean_below = i.clean;
     }
 
@@ -29,6 +29,6 @@ loop-n-preserved c =
     let all = ap (λ (xs : List GuestRec). length xs) c.guest-guest.ensures in
     let is = read_at c.guest-guest.result.now s.guest n rec c.guest-guest.ensures (omega (arith, all, c.loop-n-test.true, c.requires.within)) c.index-guest-n.is in
     record {
-      watched = watched_more s n rec c.loop-n.watch c.watch_record.new.watch c.requires.limits is i.watched c.watch_record.ensures;
-      clean = below_more s Guest n i.clean (guest_turn s n rec c.loop-n.watch c.args.placements.now.items c.requires.limits is i.watched c.requires.placements ∙ (sym c.guest_reason.ensures ∙ c.in_default.is));
+      watched = watched_more s n rec c.loop-n.watch c.watch_record.new.watch is i.watched c.watch_record.ensures;
+      clean = below_more s Guest n i.clean (guest_turn s n rec c.loop-n.watch is i.watched ∙ (sym c.guest_reason.ensures ∙ c.in_default.is));
     }

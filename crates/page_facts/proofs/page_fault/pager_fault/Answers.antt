@@ -14,7 +14,7 @@ returns-in-Some c =
     let is = read_at c.pager-pager.result.now s.pager n rec c.pager-pager.ensures c.loop-n-test.true c.index-pager-n.is in
     record {
       is_log = refl;
-      is_reason = pager_turn s n rec c.args.machine.now c.args.placements.now.items c.requires.limits is c.requires.machine c.requires.placements ∙ (sym c.pager_reason.ensures ∙ c.in-Some.is);
+      is_reason = pager_turn s n rec c.args.halted.now is c.requires.halted ∙ (sym c.pager_reason.ensures ∙ c.in-Some.is);
       is_clean_below = c.loop-n.invariant;
     }
 
@@ -24,7 +24,7 @@ loop-n-preserved c =
     let n = c.loop-n.n in
     let rec = c.index-pager-n.result in
     let is = read_at c.pager-pager.result.now s.pager n rec c.pager-pager.ensures c.loop-n-test.true c.index-pager-n.is in
-    below_more s Pager n c.loop-n.invariant (pager_turn s n rec c.args.machine.now c.args.placements.now.items c.requires.limits is c.requires.machine c.requires.placements ∙ (sym c.pager_reason.ensures ∙ c.in_default.is))
+    below_more s Pager n c.loop-n.invariant (pager_turn s n rec c.args.halted.now is c.requires.halted ∙ (sym c.pager_reason.ensures ∙ c.in_default.is))
 
 pub returns : goal.returns
 returns c =

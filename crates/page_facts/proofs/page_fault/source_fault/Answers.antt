@@ -14,7 +14,7 @@ returns-in-Some c =
     let is = read_at c.source-source.result.now s.source n rec c.source-source.ensures c.loop-n-test.true c.index-source-n.is in
     record {
       is_log = refl;
-      is_reason = source_turn s n rec c.args.machine.now c.requires.limits is c.requires.machine ∙ (sym c.source_reason.ensures ∙ c.in-Some.is);
+      is_reason = source_turn s n rec c.args.halted.now is c.requires.halted ∙ (sym c.source_reason.ensures ∙ c.in-Some.is);
       is_clean_below = c.loop-n.invariant;
     }
 
@@ -24,7 +24,7 @@ loop-n-preserved c =
     let n = c.loop-n.n in
     let rec = c.index-source-n.result in
     let is = read_at c.source-source.result.now s.source n rec c.source-source.ensures c.loop-n-test.true c.index-source-n.is in
-    below_more s Source n c.loop-n.invariant (source_turn s n rec c.args.machine.now c.requires.limits is c.requires.machine ∙ (sym c.source_reason.ensures ∙ c.in_default.is))
+    below_more s Source n c.loop-n.invariant (source_turn s n rec c.args.halted.now is c.requires.halted ∙ (sym c.source_reason.ensures ∙ c.in_default.is))
 
 pub returns : goal.returns
 returns c =

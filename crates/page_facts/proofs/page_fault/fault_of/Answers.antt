@@ -2,7 +2,7 @@ use Rattle.std.proofs.Common.{List, length, ap, arith}
 use Rattle.migration_types.specs.declared.records.GuestRec.{GuestRec}
 use Rattle.migration_types.specs.declared.records.LogName.TheVariants.{Guest}
 use Rattle.page_facts.proofs.FirstOfAll.{clean_log, guest_first, moved_of_all}
-use Rattle.page_facts.proofs.page_fault.first_page_fault.Goals as goal
+use Rattle.page_facts.proofs.page_fault.fault_of.Goals as goal
 
 pub returns-in-Some : goal.returns-in-Some
 returns-in-Some c = guest_first c.args.session.now c.in-Some.fault c.in-Some.ensures
