@@ -10,7 +10,6 @@ mod entries;
 mod facts;
 mod frontier;
 mod guest;
-mod kinds;
 mod machine;
 mod moved;
 mod page_fault;
@@ -19,10 +18,5 @@ mod tests;
 
 pub use entries::is_right_entry;
 pub use facts::{PageFacts, PageTables, facts_of, tables_of};
-pub use kinds::{
-    delivers_send, delivers_state, delivery, goes_down_at, goes_up_at, is_down_at, is_got_at,
-    is_halt, is_halt_at, is_miss_at, is_placement_at, is_ready_at, is_resume, is_send_of,
-    is_sending_at, is_up_at, is_want_at,
-};
 pub use moved::{Placed, placed_page};
 pub use page_fault::{PageFault, first_page_fault};

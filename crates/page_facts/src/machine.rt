@@ -5,7 +5,7 @@ ghost use Rattle.audit_model.specs.Flat.{halt_place};
 ghost use Rattle.flat_machine.specs.Machines.{HasFor};
 ghost use Rattle.page_facts.specs.Machines.{late_after, IsMachine, IsStepped};
 
-use crate::kinds::is_halt;
+use audit_model::is_halt;
 use flat_machine::Machine;
 use migration_types::{GuestRec, Session};
 use std::alloc::{AllocError, Global};
