@@ -268,3 +268,11 @@ module _ (s : Recorded) (shape : IsRightShape s) (order : List Name) (merging : 
             let b = ltb-true place (late.cut Pager) (below_cut kept stands (Pager, place) h) in
             absurd (omega (arith, late.is_above (Pager, place) itself))
         go (inr le) = le
+
+    -- none of the page's placements stands before the access
+    pub delayed_unplaced : (kept : List Name) → StandsAfter delayed kept (Guest, n) → (m : ℕ) (t : PagerRec) → slice_get s.pager m ≡ Some t → is_placement_of page t ≡ true → Contains kept (Pager, m) → ⊥
+    delayed_unplaced kept stands m t at places h =
+        let low = ltb-true m (late.cut Pager) (below_cut kept stands (Pager, m) h) in
+        let e = earlier_true (is_placement_of page) s.pager m place t at places (omega (arith, late.is_above (Pager, place) itself)) in
+        let f = first.is_first in
+        cc

@@ -17,13 +17,13 @@ use Rattle.audit_model.specs.Faults.{IsEarly, GuestFault, SourceFault, PagerFaul
 use Rattle.audit_model.specs.Flat.{changed}
 use Rattle.migration_types.specs.declared.records.SourceRec.{SourceRec}
 use Rattle.migration_types.specs.declared.records.LogName.TheVariants.{Source, Link}
-use Rattle.audit_model.specs.Laws.{IsFaultless, FaultsBreak, DelayedBreaks, UnplacedBreaks, BreaksAt, SafeExactlyIfClean}
+use Rattle.audit_model.specs.Laws.{IsFaultless, FaultsBreak, DelayedBreaks, DelayedUnplaced, UnplacedBreaks, BreaksAt, SafeExactlyIfClean}
 use Rattle.std.proofs.lemmas.Option.{slice_get_within}
 use Rattle.audit_model.proofs.Delays.{delayed_order}
 use Rattle.audit_model.proofs.History.{earlier_witness, earlier_true}
 use Rattle.audit_model.proofs.Orders.{is_at}
 use Rattle.audit_model.proofs.Clean.{clean_safe, fault_breaks, early_breaks, false_if_not_true, clash}
-use Rattle.audit_model.proofs.Late.{stands_somewhere, delayed_merges, delayed_breaks}
+use Rattle.audit_model.proofs.Late.{stands_somewhere, delayed_merges, delayed_breaks, delayed_unplaced}
 
 pub faultless_is_safe : (s : Recorded) → IsFaultless s → IsSafe s
 faultless_is_safe s given = clean_safe s given.clean given.is_session given.shape
@@ -36,6 +36,10 @@ delayed_order_breaks s shape order merging n page place r is early first delayed
   delayed_merges s shape order merging n page r is early place first delayed late,
   delayed_breaks s shape order merging n page r is early place first delayed late,
 )
+
+pub delayed_order_unplaced : (s : Recorded) → IsRightShape s → DelayedUnplaced s
+delayed_order_unplaced s shape order merging n page place r is early first delayed late =
+    delayed_unplaced s shape order merging n page r is early place first delayed late
 
 pub unplaced_breaks : (s : Recorded) → IsRightShape s → UnplacedBreaks s
 unplaced_breaks s shape order merging n page r is early none past stands d =

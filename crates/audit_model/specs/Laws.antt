@@ -1,5 +1,5 @@
 -- The laws: what a right certificate means in every merging, and what a fault of a page means.
-use Rattle.std.specs.Prelude.{◌≡◌, ◌≢◌, ◌↔◌, ℕ, true, false, List, Some, slice_get}
+use Rattle.std.specs.Prelude.{◌≡◌, ◌≢◌, ◌↔◌, ℕ, true, false, List, Some, Contains, slice_get}
 use Rattle.migration_types.specs.declared.records.LogName.TheVariants.{Guest, Pager}
 use Rattle.migration_types.specs.declared.records.GuestRec.{GuestRec}
 use Rattle.migration_types.specs.declared.records.GuestRec.TheVariants.{Read}
@@ -104,6 +104,19 @@ DelayedBreaks s =
     (order : List Name) → IsMerging s order → (n page place : ℕ) (r : GuestRec) → slice_get s.guest n ≡ Some r →
     IsEarly s n r page → IsFirstPlacement s page place → (delayed : List Name) →
     IsDelayedOrder s order (Pager, place) delayed → IsMerging s delayed × BreaksAt s delayed (Guest, n)
+
+-- in this order no placement of the page stands before the record of this name
+abbrev pub UnplacedBefore : Recorded → List Name → ℕ → Name → Type 0
+UnplacedBefore s order page name =
+    (earlier : List Name) → StandsAfter order earlier name → (m : ℕ) (t : PagerRec) → slice_get s.pager m ≡ Some t →
+    is_placement_of page t ≡ true → Contains earlier (Pager, m) → ⊥
+
+-- where its page's first placement is delayed, each placement of the page comes after such an access
+abbrev pub DelayedUnplaced : Recorded → Type 0
+DelayedUnplaced s =
+    (order : List Name) → IsMerging s order → (n page place : ℕ) (r : GuestRec) → slice_get s.guest n ≡ Some r →
+    IsEarly s n r page → IsFirstPlacement s page place → (delayed : List Name) →
+    IsDelayedOrder s order (Pager, place) delayed → UnplacedBefore s delayed page (Guest, n)
 
 -- each merging has a delayed order for each record of the pager
 abbrev pub HasDelayedOrders : Recorded → Type 0

@@ -12,7 +12,7 @@ ghost use Rattle.audit_model.specs.FoundOrder.{IsKnot};
 ghost use Rattle.audit_model.specs.World.{IsSafe};
 ghost use Rattle.audit_model.specs.Worlds.{FollowsCursors, TargetIsFlat};
 ghost use Rattle.audit_model.specs.Shape.{IsRightShape};
-ghost use Rattle.audit_model.specs.Laws.{IsCertified, FindsResident, ReadsFlat, PlacedOnce, PlacedUntouched, ReleasedAsZeros, IsMigrated, IsFaultless, FaultsBreak, DelayedBreaks, HasDelayedOrders, UnplacedBreaks, SafeExactlyIfClean, HasCertificate, CertifiedFromSource, CertifiedBalloon};
+ghost use Rattle.audit_model.specs.Laws.{IsCertified, FindsResident, ReadsFlat, PlacedOnce, PlacedUntouched, ReleasedAsZeros, IsMigrated, IsFaultless, FaultsBreak, DelayedBreaks, DelayedUnplaced, HasDelayedOrders, UnplacedBreaks, SafeExactlyIfClean, HasCertificate, CertifiedFromSource, CertifiedBalloon};
 
 /// A list of names is a merging exactly where it is a walk of one cursor for each log, to the end of each. Where
 /// records are left and none of the next ones may follow, there is no merging; nor is there one where the found order
@@ -49,12 +49,13 @@ pub fn certified_is_safe()
 {}
 
 /// A session of the right shape with no fault of a page is safe, and a fault of a page breaks the demand at its record:
-/// an early access where its page's placement is delayed, or in each merging where there is none, and any other fault in
-/// each merging. So where there is a merging, the session is safe exactly where no page has a fault.
+/// an early access where its page's placement is delayed, so that none of the page's placements stands before it, or in
+/// each merging where there is none, and any other fault in each merging. So where there is a merging, the session is safe exactly where no page has a fault.
 pub fn faults_are_unsafe()
     ensures clean { (s : Recorded) → IsFaultless s → IsSafe s }
     ensures faults { (s : Recorded) → IsRightShape s → FaultsBreak s }
     ensures delayed { (s : Recorded) → IsRightShape s → DelayedBreaks s }
+    ensures delayed_unplaced { (s : Recorded) → IsRightShape s → DelayedUnplaced s }
     ensures has_delayed { (s : Recorded) → HasDelayedOrders s }
     ensures unplaced { (s : Recorded) → IsRightShape s → UnplacedBreaks s }
     ensures exactly { (s : Recorded) → SafeExactlyIfClean s }
