@@ -2,8 +2,6 @@
 use Rattle.std.specs.Prelude.{ℕ, List, [], ◌∷◌, ◌++◌, codes}
 use Rattle.std.specs.Fmt.{decimal}
 use Rattle.text_lines.specs.Text.{ended}
-use Rattle.migration_types.specs.declared.cert.Run.{Run}
-use Rattle.migration_types.specs.Certs.{Certified}
 use Rattle.audit_model.specs.declared.reasons.ShapeReason.{ShapeReason}
 use Rattle.audit_model.specs.declared.reasons.ShapeReason.TheVariants.{Phases, Named, Start, SecondSend}
 use Rattle.audit_model.specs.declared.reasons.PageReason.{PageReason}
@@ -36,27 +34,34 @@ abbrev pub at_line : List ℕ → ℕ → List ℕ
 at_line said line = said ++ decimal line
 
 -- as in "shape line 30 named"
-abbrev pub shape_lines : ShapeFault → List (List ℕ)
-shape_lines fault = (at_line (codes "shape line ") fault.line ++ 32 ∷ shape_word fault.reason) ∷ []
+abbrev pub shape_line : ShapeFault → List ℕ
+shape_line fault = at_line (codes "shape line ") fault.line ++ 32 ∷ shape_word fault.reason
 
 -- as in "knot line 10"
-abbrev pub knot_lines : ℕ → List (List ℕ)
-knot_lines line = at_line (codes "knot line ") line ∷ []
+abbrev pub knot_line : ℕ → List ℕ
+knot_line line = at_line (codes "knot line ") line
 
--- "clean", and the certificate's text
-abbrev pub clean_lines : Certified → List (List ℕ)
-clean_lines cert = codes "clean" ∷ cert_lines cert
+-- as in "faulty line 13 early"
+abbrev pub faulty_line : ℕ → PageReason → List ℕ
+faulty_line line reason = at_line (codes "faulty line ") line ++ 32 ∷ page_word reason
 
--- as in "faulty line 13 early", and the text of the order's runs
-abbrev pub faulty_lines : ℕ → PageReason → List Run → List (List ℕ)
-faulty_lines line reason order = (at_line (codes "faulty line ") line ++ 32 ∷ page_word reason) ∷ (runs_text_header ∷ runs_lines order)
+-- the first line of a report
+abbrev pub first_line : Report → List ℕ
+first_line (Shape fault) = shape_line fault
+first_line (Knot line) = knot_line line
+first_line (Faulty line reason order) = faulty_line line reason
+first_line (Clean cert) = codes "clean"
+
+-- what stands behind it: the text of the order's runs, or of the certificate
+abbrev pub lines_behind : Report → List (List ℕ)
+lines_behind (Shape fault) = []
+lines_behind (Knot line) = []
+lines_behind (Faulty line reason order) = runs_text_header ∷ runs_lines order
+lines_behind (Clean cert) = cert_lines cert
 
 -- the lines of a report
 abbrev pub report_lines : Report → List (List ℕ)
-report_lines (Shape fault) = shape_lines fault
-report_lines (Knot line) = knot_lines line
-report_lines (Clean cert) = clean_lines cert
-report_lines (Faulty line reason order) = faulty_lines line reason order
+report_lines report = first_line report ∷ lines_behind report
 
 -- the text of a report, each line ended by LF
 abbrev pub report_text : Report → List ℕ

@@ -13,5 +13,5 @@ mod report;
 mod tests;
 
 pub use auditing::audit;
-pub use printing::print_report;
+pub use printing::{print_report, push_first_line, push_shape};
 pub use report::Report;

@@ -1,19 +1,16 @@
 //! The text of a report.
 
-ghost use Rattle.std.specs.Prelude.{◌≡◌, ◌++◌, IfOk, OnOk};
-ghost use Rattle.migration_types.specs.Certs.{AreRuns};
+ghost use Rattle.std.specs.Prelude.{◌≡◌, [], ◌∷◌, ◌++◌, IfOk, OnOk};
 ghost use Rattle.text_lines.specs.Text.{ended};
 ghost use Rattle.audit_report.specs.Reports.{ReportFits};
-ghost use Rattle.audit_report.specs.ReportText.{at_line, shape_word, page_word, shape_lines, knot_lines, clean_lines, faulty_lines, report_text};
+ghost use Rattle.audit_report.specs.ReportText.{shape_word, page_word, shape_line, first_line, lines_behind, report_text};
 
 use crate::report::Report;
 use audit_model::{PageReason, ShapeReason};
 use cert_check::ShapeFault;
 use cert_text::{write_cert, write_runs};
-use itoa::Buffer;
-use migration_types::{Cert, Run};
 use std::alloc::{AllocError, Global};
-use text_lines::push_line;
+use text_lines::{push_keyed, push_keyed_word, push_line};
 
 const SHAPE: &[u8] = b"shape line ";
 
@@ -50,64 +47,38 @@ fn page_word(reason: PageReason) -> &'static [u8]
     }
 }
 
-/// Adds a key and a number.
-fn push_number(out: &mut Vec<u8>, key: &[u8], number: u32) -> Result<(), AllocError>
-    ensures { OnOk result (out.new.items ≡ out.old.items ++ at_line key.now number) }
+/// Adds the line of a fault of shape.
+pub fn push_shape(out: &mut Vec<u8>, fault: &ShapeFault) -> Result<(), AllocError>
+    ensures { OnOk result (out.new.items ≡ out.old.items ++ ended (shape_line fault.now ∷ [])) }
 {
-    out.extend_from_slice(key)?;
-    let mut buffer = Buffer::new();
-    out.extend_from_slice(buffer.format(number).as_bytes())
+    push_keyed_word(out, SHAPE, fault.line, shape_word(fault.reason))
 }
 
-/// The text of a fault of shape.
-fn print_shape(alloc: Global, fault: &ShapeFault) -> Result<Vec<u8>, AllocError>
-    ensures { IfOk result (λ out. out.items ≡ ended (shape_lines fault.now)) }
+/// Adds the first line of a report.
+pub fn push_first_line(out: &mut Vec<u8>, report: &Report) -> Result<(), AllocError>
+    ensures { OnOk result (out.new.items ≡ out.old.items ++ ended (first_line report.now ∷ [])) }
 {
-    let mut out = Vec::new(alloc);
-    push_number(&mut out, SHAPE, fault.line)?;
-    out.push(b' ')?;
-    push_line(&mut out, shape_word(fault.reason))?;
-    Ok(out)
+    match report {
+        Report::Clean(_) => push_line(out, CLEAN),
+        Report::Shape(fault) => push_shape(out, fault),
+        Report::Knot(line) => push_keyed(out, KNOT, *line),
+        Report::Faulty { line, reason, .. } => {
+            push_keyed_word(out, FAULTY, *line, page_word(*reason))
+        }
+    }
 }
 
-/// The text of a knot.
-fn print_knot(alloc: Global, line: u32) -> Result<Vec<u8>, AllocError>
-    ensures { IfOk result (λ out. out.items ≡ ended (knot_lines line)) }
+/// The text behind the first line: the certificate's where the report is clean, that of the order's runs where a page has
+/// a fault, and else none.
+fn text_behind(alloc: Global, report: &Report) -> Result<Vec<u8>, AllocError>
+    requires { ReportFits report.now }
+    ensures { IfOk result (λ out. out.items ≡ ended (lines_behind report.now)) }
 {
-    let mut out = Vec::new(alloc);
-    push_number(&mut out, KNOT, line)?;
-    out.push(b'\n')?;
-    Ok(out)
-}
-
-/// The text of a clean report.
-fn print_clean(alloc: Global, cert: &Cert) -> Result<Vec<u8>, AllocError>
-    ensures { IfOk result (λ out. out.items ≡ ended (clean_lines cert.now)) }
-{
-    let mut out = Vec::new(alloc);
-    push_line(&mut out, CLEAN)?;
-    let text = write_cert(alloc, cert)?;
-    out.extend_from_slice(&text)?;
-    Ok(out)
-}
-
-/// The text of a fault of a page, with the runs of an order.
-fn print_faulty(
-    alloc: Global,
-    line: u32,
-    reason: PageReason,
-    order: &[Run],
-) -> Result<Vec<u8>, AllocError>
-    requires { AreRuns order.now }
-    ensures { IfOk result (λ out. out.items ≡ ended (faulty_lines line reason order.now)) }
-{
-    let mut out = Vec::new(alloc);
-    push_number(&mut out, FAULTY, line)?;
-    out.push(b' ')?;
-    push_line(&mut out, page_word(reason))?;
-    let text = write_runs(alloc, order)?;
-    out.extend_from_slice(&text)?;
-    Ok(out)
+    match report {
+        Report::Clean(cert) => write_cert(alloc, cert),
+        Report::Faulty { order, .. } => write_runs(alloc, order.as_slice()),
+        _ => Ok(Vec::new(alloc)),
+    }
 }
 
 /// The text of a report: its first line, and behind it the certificate's text where it is clean, or the text of the
@@ -116,14 +87,9 @@ pub fn print_report(alloc: Global, report: &Report) -> Result<Vec<u8>, AllocErro
     requires { ReportFits report.now }
     ensures { IfOk result (λ out. out.items ≡ report_text report.now) }
 {
-    match report {
-        Report::Clean(cert) => print_clean(alloc, cert),
-        Report::Shape(fault) => print_shape(alloc, fault),
-        Report::Knot(line) => print_knot(alloc, *line),
-        Report::Faulty {
-            line,
-            reason,
-            order,
-        } => print_faulty(alloc, *line, *reason, order.as_slice()),
-    }
+    let mut out = Vec::new(alloc);
+    push_first_line(&mut out, report)?;
+    let behind = text_behind(alloc, report)?;
+    out.extend_from_slice(&behind)?;
+    Ok(out)
 }

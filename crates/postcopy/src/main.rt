@@ -3,24 +3,16 @@
 //! `postcopy check SESSION CERT` reads the two texts and writes one line, the verdict. `certify SESSION` writes the
 //! certificate of a session, `audit SESSION` the report on it, and `replay SESSION RUNS` what becomes of a merging. A file
 //! named `-` is standard input; where two are, the first text ends with the first line `end`. With no word it does
-//! `check - -`. The status is 0 where all is well, 1 for another answer, 2 for words that are refused, 3 for a file or an
-//! output that failed, and 4 for want of memory.
+//! `check - -`. The status is 0 where all is well, 1 for another answer, 2 for words that are no command, 3 for a file or
+//! an output that failed, and 4 for want of memory.
 #![tactic(auto)]
 
-mod answer;
-mod auditing;
-mod command;
-mod cutting;
-mod naming;
-mod pair;
-mod program;
-mod reading;
-mod replaying;
+ghost use Rattle.std.specs.Prelude.{◌≤◌};
+
 #[cfg(test)]
 mod tests;
 
-pub use program::run;
-pub use reading::TextSource;
+use commands::{Fault, TextSource, USAGE, run, tell};
 use std::alloc::{AllocError, Global};
 use std::io::{ErrorKind, Write};
 use std::process::ExitCode;
@@ -50,12 +42,14 @@ fn slices<'a>(alloc: Global, words: &'a [String]) -> Result<Vec<&'a str>, AllocE
 }
 
 // Tells why the words were not had.
-fn refuse_words<E: Write>(error: &io::Error, errors: &mut E) -> u8 {
+fn refuse_words<E: Write>(error: &io::Error, errors: &mut E) -> u8
+    ensures { (2 ≤ result) × (result ≤ 4) }
+{
     if error.kind() == ErrorKind::OutOfMemory {
-        return answer::tell(answer::Fault::Memory, errors);
+        return tell(Fault::Memory, errors);
     }
     let _ = errors.write_all(b"error: a word is not UTF-8\n");
-    answer::USAGE
+    USAGE
 }
 
 fn main(rt: HostRuntime) -> ExitCode {
@@ -66,7 +60,7 @@ fn main(rt: HostRuntime) -> ExitCode {
         Err(error) => return ExitCode::from(refuse_words(&error, &mut errors)),
     };
     let Ok(words) = slices(alloc, words.as_slice()) else {
-        return ExitCode::from(answer::tell(answer::Fault::Memory, &mut errors));
+        return ExitCode::from(tell(Fault::Memory, &mut errors));
     };
     let files = Disk { rt: &rt };
     let status = run(

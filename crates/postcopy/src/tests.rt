@@ -2,11 +2,9 @@
 
 ghost use Rattle.std.specs.Prelude.{◌≡◌, ◌<◌, ◌≤◌};
 
-use crate::answer::{line, status};
-use crate::reading::{ReadFault, TextSource, read_within};
-use crate::run;
 use audit_model::ShapeReason;
 use cert_check::{ShapeFault, Verdict};
+use commands::{TextSource, push_verdict, run, status_of};
 use std::alloc::Global;
 use std::cell::Cell;
 use std::io;
@@ -19,6 +17,10 @@ const SESSION: &[u8] =
 
 // The session's certificate.
 const CERT: &[u8] = b"postcopy-certificate 1\npages 1\npage 0 none\nruns 1\nrun guest 4\nend\n";
+
+// The report on the session.
+const CLEAN_REPORT: &[u8] =
+    b"clean\npostcopy-certificate 1\npages 1\npage 0 none\nruns 1\nrun guest 4\nend\n";
 
 const BOTH: &[u8] =
     b"postcopy-session 1\npages 1\ncells 1\ninit 0\nguest 4\nw 0 0 0 3\nr 0 0 0 3\nz 0 0\nr 0 0 0 0\nsource 0\nlink 0\npager 0\nend\npostcopy-certificate 1\npages 1\npage 0 none\nruns 1\nrun guest 4\nend\n";
@@ -289,11 +291,118 @@ fn help(rt: HostRuntime) {
 }
 
 #[test]
+fn help_tells(rt: HostRuntime) {
+    let found = ran(rt.alloc(), ["postcopy", "--help"].as_slice(), BOTH);
+    let Ok(text) = str::from_utf8(found.output.as_slice()) else {
+        assert!(rt; false, "the help is no text");
+        return;
+    };
+    for told in [
+        "0  all is well",
+        "1  another answer",
+        "2  words that are no command",
+        "3  a file or an output that failed",
+        "4  want of memory",
+        "A file named - is standard input",
+        "postcopy check session cert",
+        "postcopy certify session",
+        "postcopy audit session",
+        "postcopy replay session runs",
+    ] {
+        assert!(rt; text.contains(told), "without {told}");
+    }
+}
+
+#[test]
+fn version(rt: HostRuntime) {
+    for option in ["--version", "-V"] {
+        let found = ran(rt.alloc(), ["postcopy", option].as_slice(), BOTH);
+        assert_eq!(rt; found.status, 0, "at {option}");
+        assert_eq!(rt; found.output.as_slice(), b"postcopy 1.0.0\n".as_slice());
+        assert_eq!(rt; found.errors.as_slice(), b"".as_slice(), "at {option}");
+        assert_eq!(rt; found.asked, 0, "at {option}");
+    }
+}
+
+#[test]
+fn audits(rt: HostRuntime) {
+    for (command, session, status, text) in [
+        ("certify", "session", 0, CERT),
+        ("audit", "session", 0, CLEAN_REPORT),
+        ("certify", "cert", 1, EMPTY_SESSION_LINE),
+        ("audit", "cert", 1, EMPTY_SESSION_LINE),
+        ("certify", "handover", 1, b"faulty line 13 early\n".as_slice()),
+    ] {
+        let words = ["postcopy", command, session];
+        let found = ran(rt.alloc(), words.as_slice(), b"");
+        assert_eq!(rt; found.status, status, "at {words:?}");
+        assert_eq!(rt; found.output.as_slice(), text, "at {words:?}");
+        assert_eq!(rt; found.errors.as_slice(), b"".as_slice(), "at {words:?}");
+    }
+}
+
+// No memory is left to open a text, or to read it.
+#[derive(Drop)]
+struct Starved {
+    opens: bool,
+}
+
+impl Read for Starved {
+    fn read(&mut self, _buf: &mut [u8]) -> io::Result<usize> {
+        Err(io::Error::from(ErrorKind::OutOfMemory))
+    }
+}
+
+impl TextSource for Starved {
+    type Text = Starved;
+
+    fn text(&self, _name: &str) -> io::Result<Starved> {
+        if self.opens {
+            Ok(Starved { opens: true })
+        } else {
+            Err(io::Error::from(ErrorKind::OutOfMemory))
+        }
+    }
+}
+
+#[test]
+fn want_of_memory(rt: HostRuntime) {
+    let alloc = rt.alloc();
+    for words in [
+        ["postcopy"].as_slice(),
+        ["postcopy", "check", "session", "cert"].as_slice(),
+        ["postcopy", "certify", "session"].as_slice(),
+        ["postcopy", "audit", "-"].as_slice(),
+        ["postcopy", "replay", "-", "-"].as_slice(),
+    ] {
+        for opens in [false, true] {
+            let mut output = Vec::new(alloc);
+            let mut errors = Vec::new(alloc);
+            let status = run(
+                alloc,
+                words,
+                &Starved { opens },
+                &mut Starved { opens },
+                &mut output,
+                &mut errors,
+            );
+            assert_eq!(rt; status, 4, "at {words:?}");
+            assert_eq!(rt; output.as_slice(), b"".as_slice(), "at {words:?}");
+            assert_eq!(rt; errors.as_slice(), b"out of memory\n".as_slice(), "at {words:?}");
+        }
+    }
+}
+
+#[test]
 fn an_output_that_fails(rt: HostRuntime) {
     let alloc = rt.alloc();
     for words in [
         ["postcopy", "check", "session", "cert"].as_slice(),
+        ["postcopy", "certify", "session"].as_slice(),
+        ["postcopy", "audit", "session"].as_slice(),
+        ["postcopy", "replay", "handover", "safe-runs"].as_slice(),
         ["postcopy", "--help"].as_slice(),
+        ["postcopy", "--version"].as_slice(),
     ] {
         let shelf = Shelf {
             texts: TEXTS.as_slice(),
@@ -347,29 +456,48 @@ fn an_input_that_fails(rt: HostRuntime) {
     }
 }
 
-#[test]
-fn limits(rt: HostRuntime) {
-    for (most_bytes, most_reads, fits) in [
-        (5, 6, true),
-        (4, 6, false),
-        (5, 5, false),
-        (0, 6, false),
-        (9, 9, true),
-    ] {
-        let mut input = Slow {
-            text: b"12345",
-            fails: false,
-        };
-        match read_within(rt.alloc(), &mut input, most_bytes, most_reads) {
-            Ok(bytes) => {
-                assert!(rt; fits, "at {most_bytes}, {most_reads}");
-                assert_eq!(rt; bytes.as_slice(), b"12345".as_slice());
-            }
-            Err(fault) => {
-                assert!(rt; !fits, "at {most_bytes}, {most_reads}");
-                assert_eq!(rt; fault, ReadFault::File);
-            }
+// Gives so many bytes, of which the first is LF, each time as many as are asked for or one. It leaves the others as they are.
+#[derive(Drop)]
+struct Plenty {
+    left: usize,
+    one_by_one: bool,
+}
+
+impl Read for Plenty {
+    fn read(&mut self, buf: &mut [u8]) -> io::Result<usize> {
+        let most = if self.one_by_one { 1 } else { buf.len() };
+        let count = most.min(self.left).min(buf.len());
+        if let Some(first) = buf.first_mut() {
+            *first = b'\n';
         }
+        self.left -= count;
+        Ok(count)
+    }
+}
+
+// An input of 268,435,456 bytes is read, and one in 1,048,576 reads, the last of which finds its end; no greater one is.
+#[test]
+fn limits_of_an_input(rt: HostRuntime) {
+    for (left, one_by_one, fits) in [
+        (268_435_456, false, true),
+        (268_435_457, false, false),
+        (1_048_575, true, true),
+        (1_048_576, true, false),
+    ] {
+        let mut input = Plenty { left, one_by_one };
+        let found = ran_over(
+            rt.alloc(),
+            ["postcopy", "audit", "-"].as_slice(),
+            &mut input,
+        );
+        let (status, output, errors) = if fits {
+            (1, EMPTY_SESSION_LINE, b"".as_slice())
+        } else {
+            (3, b"".as_slice(), b"file -\n".as_slice())
+        };
+        assert_eq!(rt; found.status, status, "at {left}");
+        assert_eq!(rt; found.output.as_slice(), output, "at {left}");
+        assert_eq!(rt; found.errors.as_slice(), errors, "at {left}");
     }
 }
 
@@ -403,9 +531,10 @@ fn lines(rt: HostRuntime) -> Result<(), Fail> {
         ),
         (Verdict::Yes, b"yes\n".as_slice(), 0),
     ] {
-        let text = line(rt.alloc(), verdict)?;
+        let mut text = Vec::new(rt.alloc());
+        push_verdict(&mut text, verdict)?;
         assert_eq!(rt; text.as_slice(), wanted);
-        assert_eq!(rt; status(verdict), wanted_status, "at {verdict:?}");
+        assert_eq!(rt; status_of(verdict), wanted_status, "at {verdict:?}");
     }
     Ok(())
 }

@@ -1,0 +1,3 @@
+pub mod Cuts
+pub mod Statuses
+pub mod Audits

@@ -1,0 +1,7 @@
+use Rattle.commands.proofs.program.perform.Goals as goal
+
+pub returns-in-One-clause-told : goal.returns-in-One-clause-told
+returns-in-One-clause-told g c = rw c.in-One.is c.perform_one.ensures.told
+
+pub returns-in-Two-clause-told : goal.returns-in-Two-clause-told
+returns-in-Two-clause-told g c = rw c.in-Two.is c.perform_two.ensures.told

@@ -1,0 +1,5 @@
+pub mod Cutting
+pub mod Answers
+pub mod Replayed
+pub mod Told
+pub mod Pairs

@@ -1,0 +1,71 @@
+//! Answers and faults, with their statuses.
+
+ghost use Rattle.std.specs.Prelude.{◌≡◌, IfOk};
+ghost use Rattle.std.specs.Io.KnownBytes.{Appends};
+ghost use Rattle.commands.specs.Answers.{fault_status};
+
+use std::io::Write;
+
+/// The status where all is well.
+pub const ACCEPTED: u8 = 0;
+
+/// The status of another answer.
+pub const REFUSED: u8 = 1;
+
+/// The status of words that are no command.
+pub const USAGE: u8 = 2;
+
+/// The status of a text that was not read, or of an output that was not written.
+pub const FAILED: u8 = 3;
+
+/// The status of want of memory.
+pub const MEMORY: u8 = 4;
+
+/// What a command writes, and its status.
+#[derive(Drop)]
+pub struct Answer {
+    pub text: Vec<u8>,
+    pub status: u8,
+}
+
+/// Why there is no answer.
+#[derive(Clone, Copy, Debug)]
+pub enum Fault<'a> {
+    /// The text under this name was not read whole.
+    File(&'a str),
+    /// The output was not written.
+    Output,
+    /// Memory was refused.
+    Memory,
+}
+
+/// Tells a fault on a line of its own, and answers its status. Where that line is not written the status is the same.
+pub fn tell<E: Write>(fault: Fault<'_>, errors: &mut E) -> u8
+    ensures { result ≡ fault_status fault.entry }
+{
+    match fault {
+        Fault::File(name) => {
+            let _ = writeln!(errors, "file {name}");
+            FAILED
+        }
+        Fault::Output => {
+            let _ = errors.write_all(b"output\n");
+            FAILED
+        }
+        Fault::Memory => {
+            let _ = errors.write_all(b"out of memory\n");
+            MEMORY
+        }
+    }
+}
+
+/// Writes an answer's text, and answers its status.
+pub fn written<O: Write>(answer: &Answer, output: &mut O) -> Result<u8, Fault<'static>>
+    ensures status { IfOk result (λ status. status ≡ answer.now.status) }
+    ensures text { IfOk result (λ status. Appends (O.contents output.old) (O.contents output.new) answer.now.text.items) }
+{
+    if output.write_all(answer.text.as_slice()).is_err() {
+        return Err(Fault::Output);
+    }
+    Ok(answer.status)
+}

@@ -1,0 +1,48 @@
+//! The verdict on a session and its certificate, as a line and a status.
+
+ghost use Rattle.std.specs.Prelude.{◌≡◌, ◌++◌, IfOk, OnOk};
+ghost use Rattle.commands.specs.Answers.{IsVerdictAnswer, verdict_line, verdict_status};
+
+use crate::answer::{ACCEPTED, Answer, REFUSED};
+use audit_report::push_shape;
+use cert_check::{Verdict, check_texts};
+use std::alloc::{AllocError, Global};
+use text_lines::{push_keyed, push_line};
+
+/// The status of a verdict.
+pub fn status_of(verdict: Verdict) -> u8
+    ensures { result ≡ verdict_status verdict }
+{
+    match verdict {
+        Verdict::Yes => ACCEPTED,
+        _ => REFUSED,
+    }
+}
+
+/// Adds the line of a verdict.
+pub fn push_verdict(out: &mut Vec<u8>, verdict: Verdict) -> Result<(), AllocError>
+    ensures { OnOk result (out.new.items ≡ out.old.items ++ verdict_line verdict) }
+{
+    match verdict {
+        Verdict::SessionText(line) => push_keyed(out, b"session-text line ", line),
+        Verdict::CertText(line) => push_keyed(out, b"certificate-text line ", line),
+        Verdict::Shape(fault) => push_shape(out, &fault),
+        Verdict::Pages => push_line(out, b"pages"),
+        Verdict::Runs(line) => push_keyed(out, b"runs line ", line),
+        Verdict::Page(line) => push_keyed(out, b"page line ", line),
+        Verdict::Yes => push_line(out, b"yes"),
+    }
+}
+
+/// The verdict on the texts of a session and a certificate.
+pub fn judge(alloc: Global, session: &[u8], cert: &[u8]) -> Result<Answer, AllocError>
+    ensures { IfOk result (λ answer. IsVerdictAnswer session.now cert.now answer.text.items answer.status) }
+{
+    let verdict = check_texts(alloc, session, cert)?;
+    let mut text = Vec::new(alloc);
+    push_verdict(&mut text, verdict)?;
+    Ok(Answer {
+        text,
+        status: status_of(verdict),
+    })
+}

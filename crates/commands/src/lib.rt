@@ -1,0 +1,18 @@
+//! The commands of the program: the texts that their words name are read, and each is answered by a text and a status.
+#![tactic(auto)]
+
+mod answer;
+mod answering;
+mod auditing;
+mod checking;
+mod cutting;
+mod naming;
+mod pair;
+mod program;
+mod reading;
+mod replaying;
+
+pub use answer::{Fault, USAGE, tell};
+pub use checking::{push_verdict, status_of};
+pub use program::run;
+pub use reading::TextSource;

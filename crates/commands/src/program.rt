@@ -1,0 +1,177 @@
+//! The program, from its words to its status.
+
+ghost use Rattle.std.specs.Prelude.{◌≡◌, ◌≢◌, ◌<◌, ◌≤◌, ℕ, List, IfOk, IfSome, MatchResult, length, true};
+ghost use Rattle.clap.specs.Words.{kind_of, takes};
+ghost use Rattle.command_words.specs.Table.{asked_names};
+ghost use Rattle.command_words.specs.Words.{IsPlain, asked, asked_by, postcopy_words, word_texts};
+ghost use Rattle.commands.specs.Answers.{fault_status};
+ghost use Rattle.commands.specs.Told.{AreNamed, AreOfInput, IsNamed, IsOneAnswer, IsTwoAnswer, Tells, TellsAsked, TellsOf};
+
+use crate::answer::{Fault, USAGE, tell, written};
+use crate::answering::{one_answer, two_answer};
+use crate::naming::{read_named, read_pair};
+use crate::reading::TextSource;
+use clap::error::ErrorKind;
+use command_words::{Asked, Job, OneText, TwoTexts, read_words};
+use std::alloc::Global;
+use std::io::{Read, Write};
+
+// Tells the answer of a command on one text.
+fn tell_one<O: Write>(
+    alloc: Global,
+    task: OneText,
+    text: &[u8],
+    output: &mut O,
+) -> Result<u8, Fault<'static>>
+    ensures few { IfOk result (λ status. status < 2) }
+    ensures told { IfOk result (TellsOf (IsOneAnswer task text.now) (O.contents output.old) (O.contents output.new)) }
+{
+    match one_answer(alloc, task, text) {
+        Ok(answer) => written(&answer, output),
+        Err(_) => Err(Fault::Memory),
+    }
+}
+
+// Tells the answer of a command on two texts.
+fn tell_two<O: Write>(
+    alloc: Global,
+    task: TwoTexts,
+    first: &[u8],
+    second: &[u8],
+    output: &mut O,
+) -> Result<u8, Fault<'static>>
+    ensures few { IfOk result (λ status. status < 2) }
+    ensures told { IfOk result (TellsOf (IsTwoAnswer task (first.now, second.now)) (O.contents output.old) (O.contents output.new)) }
+{
+    match two_answer(alloc, task, first, second) {
+        Ok(answer) => written(&answer, output),
+        Err(_) => Err(Fault::Memory),
+    }
+}
+
+// Does a command on the text under a name.
+fn perform_one<'a, S: TextSource, I: Read, O: Write>(
+    alloc: Global,
+    task: OneText,
+    name: &'a str,
+    texts: &S,
+    input: &mut I,
+    output: &mut O,
+) -> Result<u8, Fault<'a>>
+    ensures few { IfOk result (λ status. status < 2) }
+    ensures told { IfOk result (Tells (IsNamed name.entry.now (S.bytes_of texts.now) (I.remaining input.old)) (IsOneAnswer task) (O.contents output.old) (O.contents output.new)) }
+{
+    let text = read_named(alloc, name, texts, input)?;
+    tell_one(alloc, task, text.as_slice(), output)
+}
+
+// Does a command on the texts under two names, read in this order.
+fn perform_two<'a, S: TextSource, I: Read, O: Write>(
+    alloc: Global,
+    task: TwoTexts,
+    first: &'a str,
+    second: &'a str,
+    texts: &S,
+    input: &mut I,
+    output: &mut O,
+) -> Result<u8, Fault<'a>>
+    ensures few { IfOk result (λ status. status < 2) }
+    ensures told { IfOk result (Tells (AreNamed first.entry.now second.entry.now (S.bytes_of texts.now) (I.remaining input.old)) (IsTwoAnswer task) (O.contents output.old) (O.contents output.new)) }
+{
+    let pair = read_pair(alloc, first, second, texts, input)?;
+    let (first, second) = pair.texts();
+    tell_two(alloc, task, first, second, output)
+}
+
+// Judges the two texts of the input.
+fn check_input<S: TextSource, I: Read, O: Write>(
+    alloc: Global,
+    texts: &S,
+    input: &mut I,
+    output: &mut O,
+) -> Result<u8, Fault<'static>>
+    ensures few { IfOk result (λ status. status < 2) }
+    ensures told { IfOk result (Tells (AreOfInput (I.remaining input.old)) (IsTwoAnswer TwoTexts.Check) (O.contents output.old) (O.contents output.new)) }
+{
+    perform_two(alloc, TwoTexts::Check, "-", "-", texts, input, output)
+}
+
+// Does what the words ask for.
+fn perform<'a, S: TextSource, I: Read, O: Write>(
+    alloc: Global,
+    job: Job<'a>,
+    texts: &S,
+    input: &mut I,
+    output: &mut O,
+) -> Result<u8, Fault<'a>>
+    ensures few { IfOk result (λ status. status < 2) }
+    ensures told { IfOk result (TellsAsked (asked_names job.entry) (S.bytes_of texts.now) (I.remaining input.old) (O.contents output.old) (O.contents output.new)) }
+{
+    match job {
+        Asked::One(task, name) => perform_one(alloc, task, name, texts, input, output),
+        Asked::Two(task, first, second) => {
+            perform_two(alloc, task, first, second, texts, input, output)
+        }
+    }
+}
+
+// The status of a job, whose fault is told.
+fn settle<E: Write>(done: Result<u8, Fault<'_>>, errors: &mut E) -> u8
+    ensures { MatchResult done.entry (λ status. result ≡ status) (λ fault. result ≡ fault_status fault) }
+{
+    match done {
+        Ok(status) => status,
+        Err(fault) => tell(fault, errors),
+    }
+}
+
+// Tells of words that were refused, or shows the help or the version.
+fn refuse<O: Write, E: Write>(error: clap::Error, output: &mut O, errors: &mut E) -> u8
+    ensures memory { kind_of error ≡ ErrorKind.OutOfMemory → result ≡ 4 }
+    ensures known { result ≤ 4 }
+{
+    if error.kind() == ErrorKind::OutOfMemory {
+        return tell(Fault::Memory, errors);
+    }
+    if error.use_stderr() {
+        let _ = write!(errors, "{error}");
+        return USAGE;
+    }
+    if write!(output, "{error}").is_ok() {
+        0
+    } else {
+        tell(Fault::Output, errors)
+    }
+}
+
+/// The program: it reads the texts that the words name, writes what the command answers to them, and answers its status.
+///
+/// The first of the words is the program's own name; with no other it checks the two texts of the input. The status is
+/// 0 where all is well or help was asked for, 1 for another answer, 2 where the words are no command, 3 where a text was
+/// not read whole, has more than 268,435,456 bytes or takes too many reads, or the output was not written, and 4 for want
+/// of memory. At 2 to 4 the errors tell why. The texts are read in the order of the words, and both before an answer is
+/// sought.
+pub fn run<S: TextSource, I: Read, O: Write, E: Write>(
+    alloc: Global,
+    words: &[&str],
+    texts: &S,
+    input: &mut I,
+    output: &mut O,
+    errors: &mut E,
+) -> u8
+    ensures known { result ≤ 4 }
+    ensures bare_usage { length words.entry.now ≤ 1 → result ≢ 2 }
+    ensures bare { length words.entry.now ≤ 1 → result < 2 → Tells (AreOfInput (I.remaining input.old)) (IsTwoAnswer TwoTexts.Check) (O.contents output.old) (O.contents output.new) result }
+    ensures usage { takes postcopy_words (word_texts words.entry.now) ≡ true → result ≢ 2 }
+    ensures told { takes postcopy_words (word_texts words.entry.now) ≡ true → result < 2 → IfSome (asked (word_texts words.entry.now)) (λ job. TellsAsked job (S.bytes_of texts.now) (I.remaining input.old) (O.contents output.old) (O.contents output.new) result) }
+    ensures plain { (name : List ℕ) (names : List (List ℕ)) → IsPlain (word_texts words.entry.now) name names → IfSome (asked_by name names) (λ job. (result ≢ 2) × (result < 2 → TellsAsked job (S.bytes_of texts.now) (I.remaining input.old) (O.contents output.old) (O.contents output.new) result)) }
+{
+    if words.len() <= 1 {
+        return settle(check_input(alloc, texts, input, output), errors);
+    }
+    match read_words(alloc, words) {
+        Ok(Some(job)) => settle(perform(alloc, job, texts, input, output), errors),
+        Ok(None) => settle(check_input(alloc, texts, input, output), errors),
+        Err(error) => refuse(error, output, errors),
+    }
+}

@@ -1,0 +1,114 @@
+//! What becomes of a merging of a session along its runs, as a line and a status.
+
+ghost use Rattle.std.specs.Prelude.{◌≡◌, ◌++◌, IfOk, OnOk};
+ghost use Rattle.audit_model.specs.Shape.{IsRightShape};
+ghost use Rattle.commands.specs.Replayed.{IsAlong, IsOutcome, IsReplayAnswer, IsReplayed, outcome_line, outcome_status};
+
+use crate::answer::{ACCEPTED, Answer, REFUSED};
+use audit_report::push_shape;
+use cert_check::{ShapeFault, shape};
+use cert_text::read_runs;
+use merge_runs::{MergeFault, replay};
+use migration_types::{Run, Session};
+use session_log::{line_of, read_session};
+use std::alloc::{AllocError, Global};
+use text_lines::{push_keyed, push_line};
+
+/// What becomes of a replay: the first that applies.
+#[derive(Clone, Copy, Debug)]
+pub enum Outcome {
+    /// The session's text is refused at this line.
+    SessionText(u32),
+    /// The text of the runs is refused at this line.
+    RunsText(u32),
+    /// The session has not the right shape.
+    Shape(ShapeFault),
+    /// The runs spell no merging.
+    NoMerging,
+    /// The record at this line of the session's text is the first whose demand fails.
+    Broken(u32),
+    /// The demand of each record holds.
+    Safe,
+}
+
+/// What becomes of the replay of a session of the right shape along runs.
+fn along_runs(alloc: Global, session: &Session, runs: &[Run]) -> Result<Outcome, AllocError>
+    requires { IsRightShape session.now }
+    ensures { IfOk result (IsReplayed session.now runs.now) }
+{
+    match replay(alloc, session, runs) {
+        Ok(replayed) => match replayed.first_broken {
+            Some((log, place)) => Ok(Outcome::Broken(line_of(session, log, place))),
+            None => Ok(Outcome::Safe),
+        },
+        Err(MergeFault::NoMerging) => Ok(Outcome::NoMerging),
+        Err(MergeFault::Memory) => Err(AllocError),
+    }
+}
+
+/// What becomes of the replay of a session along runs, once the runs were read: the shape comes first.
+fn shaped(alloc: Global, session: &Session, runs: &[Run]) -> Result<Outcome, AllocError>
+    ensures { IfOk result (IsReplayed session.now runs.now) }
+{
+    match shape(alloc, session)? {
+        Some(fault) => Ok(Outcome::Shape(fault)),
+        None => along_runs(alloc, session, runs),
+    }
+}
+
+/// What becomes of the replay of a session along runs, by their text.
+fn along_text(alloc: Global, session: &Session, runs: &[u8]) -> Result<Outcome, AllocError>
+    ensures { IfOk result (IsAlong session.now runs.now) }
+{
+    match read_runs(alloc, runs) {
+        Ok(runs) => shaped(alloc, session, runs.as_slice()),
+        Err(fault) => Ok(Outcome::RunsText(fault.refused_line()?)),
+    }
+}
+
+/// What becomes of the replay of a session along runs, by their texts.
+fn find_outcome(alloc: Global, session: &[u8], runs: &[u8]) -> Result<Outcome, AllocError>
+    ensures { IfOk result (IsOutcome session.now runs.now) }
+{
+    match read_session(alloc, session) {
+        Ok(session) => along_text(alloc, &session, runs),
+        Err(fault) => Ok(Outcome::SessionText(fault.refused_line()?)),
+    }
+}
+
+/// Adds the line of an outcome.
+fn push_outcome(out: &mut Vec<u8>, outcome: Outcome) -> Result<(), AllocError>
+    ensures { OnOk result (out.new.items ≡ out.old.items ++ outcome_line outcome) }
+{
+    match outcome {
+        Outcome::SessionText(line) => push_keyed(out, b"session-text line ", line),
+        Outcome::RunsText(line) => push_keyed(out, b"runs-text line ", line),
+        Outcome::Shape(fault) => push_shape(out, &fault),
+        Outcome::NoMerging => push_line(out, b"no-merging"),
+        Outcome::Broken(line) => push_keyed(out, b"broken line ", line),
+        Outcome::Safe => push_line(out, b"safe"),
+    }
+}
+
+/// The status of an outcome.
+fn status_of(outcome: Outcome) -> u8
+    ensures { result ≡ outcome_status outcome }
+{
+    match outcome {
+        Outcome::Safe => ACCEPTED,
+        _ => REFUSED,
+    }
+}
+
+/// What becomes of the replay of a session along runs, by their texts.
+pub fn replay_texts(alloc: Global, session: &[u8], runs: &[u8]) -> Result<Answer, AllocError>
+    ensures { IfOk result (λ answer. IsReplayAnswer session.now runs.now answer.text.items answer.status) }
+{
+    let outcome = find_outcome(alloc, session, runs)?;
+    let mut text = Vec::new(alloc);
+    push_outcome(&mut text, outcome)?;
+    Ok(Answer {
+        text,
+        status: status_of(outcome),
+    })
+}

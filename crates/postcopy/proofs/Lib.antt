@@ -1,4 +1,0 @@
-pub mod Cuts
-pub mod Names
-pub mod Verdicts
-pub mod Plain

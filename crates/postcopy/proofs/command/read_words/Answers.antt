@@ -1,7 +1,0 @@
-use Rattle.std.proofs.Common.{◌∙◌, ap}
-use Rattle.clap.specs.Words.{App, takes}
-use Rattle.postcopy.specs.Commands.{word_texts}
-use Rattle.postcopy.proofs.command.read_words.Goals as goal
-
-pub returns-in-Err-clause-err : goal.returns-in-Err-clause-err
-returns-in-Err-clause-err c = λ t. c.in-Err.ensures.passes (ap (λ (a : App). takes a (word_texts c.args.words.now)) c.in_ok-command.ensures ∙ t)

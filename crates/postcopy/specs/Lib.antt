@@ -1,4 +1,0 @@
-pub mod Commands
-pub mod Cutting
-pub mod Answers
-pub mod Pairs
