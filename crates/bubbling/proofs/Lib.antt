@@ -1,4 +1,3 @@
 pub mod Sizes
 pub mod Nearest
 pub mod Rings
-pub mod Shifts

@@ -1,25 +1,16 @@
 -- A page that becomes the newest pivot.
 use Rattle.std.proofs.Common.{◌≡◌, ◌≢◌, ℕ, zero, suc, ◌-◌, ◌<◌, ◌≤◌, List, [], ◌∷◌, length, take, get_or, min, refl, sym, ap, ◌∙◌, arith}
 use Rattle.std.specs.List.{Contains}
-use Rattle.std.proofs.lemmas.List.{length-take, take_min, get_or-take, get_or_default}
+use Rattle.std.proofs.lemmas.List.{length-take, get_or-take, get_or_default}
 use Rattle.bubbling.specs.Bubbling.{Ring, IsRing, AreDistinct, faulted}
 
 abbrev pub ring : ℕ → List ℕ → ℕ → Ring
 ring most pivots turn = record { most = most; pivots = pivots; turn = turn }
 
-pub take_within : (n m : ℕ) (xs : List ℕ) → n ≤ m → take n (take m xs) ≡ take n xs
-take_within zero m xs le = refl
-take_within (suc n) zero xs le = absurd (omega arith)
-take_within (suc n) (suc m) [] le = refl
-take_within (suc n) (suc m) (x ∷ xs) le = ap (λ ys. x ∷ ys) (take_within n m xs (omega arith))
-
--- the pivots that stay behind a new one
-pub newest : (most kept older page : ℕ) (pages : List ℕ) → 1 ≤ most → length (take kept pages) ≡ kept → older ≡ min (most - 1) kept → page ∷ take older pages ≡ take most (page ∷ take kept pages)
-newest zero kept older page pages some sized is = absurd (omega arith)
-newest (suc m) kept older page pages some sized is = ap (λ xs. page ∷ xs) (sym (take_within older kept pages (omega arith)) ∙ ap (λ k. take k (take kept pages)) each ∙ take_min m (take kept pages))
-  where
-    each : older ≡ min m (length (take kept pages))
-    each = omega arith
+-- the newest pivot and those that stay behind it
+pub newest : (most page : ℕ) (pivots : List ℕ) → 1 ≤ most → page ∷ take (most - 1) pivots ≡ take most (page ∷ pivots)
+newest zero page pivots some = absurd (omega arith)
+newest (suc m) page pivots some = ap (λ (k : ℕ). page ∷ take k pivots) (let e : suc m - 1 ≡ m = omega arith in e)
 
 with_newest : (page : ℕ) (pivots : List ℕ) → (Contains pivots page → ⊥) → AreDistinct pivots → AreDistinct (page ∷ pivots)
 with_newest page pivots new distinct j zero less in_list = absurd (omega arith)

@@ -39,7 +39,7 @@ impl Model for Bubbles {
 impl Bubbles {
     ghost use Rattle.migration_types.specs.PageSets.{no_page, without_page, size_below};
     ghost use Rattle.balloon_ledger.specs.Released.{released};
-    ghost use Rattle.bubbling.specs.Bubbling.{unsent, rest_of, in_turn, turned, faulted, IsNextPushed, IsStart, IsWith};
+    ghost use Rattle.bubbling.specs.Bubbling.{unsent, rest_of, in_turn, turned, faulted, IsNextPushed, IsRing, IsStart, IsWith};
 
     /// All pages of the machine that are not released are to be pushed. Page 0 is the only pivot; at most so many
     /// pivots, 1 to 16, are ever kept.
@@ -107,5 +107,14 @@ impl Bubbles {
         ensures { result ≡ self.now.geometry }
     {
         self.geometry
+    }
+
+    /// Tells callers that the pivots are 1 to 16, all different, that one of them is in turn, and that each page of the
+    /// machine has a mark.
+    pub fn keeps_limits(&self)
+        ensures ring { IsRing self.now.ring }
+        ensures marks { length self.now.marks ≡ self.now.geometry.pages }
+    {
+        self.pivots.keeps_limits();
     }
 }

@@ -1,8 +1,9 @@
 //! The pages that pushing grows from, and whose turn it is.
 
-ghost use Rattle.std.specs.Prelude.{◌≡◌, ℕ, ◌+◌, ◌<◌, ◌≤◌, ◌∷◌, MatchBool, Contains, length, take, slice_index};
-ghost use Rattle.bubbling.specs.Bubbling.{Ring, first_ring, in_turn, turned, faulted};
+ghost use Rattle.std.specs.Prelude.{◌≡◌, ◌≤◌, MatchBool, Contains};
+ghost use Rattle.bubbling.specs.Bubbling.{IsRing, first_ring, in_turn, turned, faulted};
 
+use arrayvec::ArrayVec;
 use migration_types::PageNo;
 use std::marker::Model;
 
@@ -15,20 +16,18 @@ const ROOM: usize = MOST_PIVOTS as usize;
 #[derive(Drop)]
 pub struct Pivots {
     most: usize,
-    pages: [PageNo; ROOM],
-    kept: usize,
+    pages: ArrayVec<PageNo, ROOM>,
     turn: usize,
 }
 
 impl Model for Pivots {
-    ghost use Rattle.std.specs.Prelude.{◌≡◌, ◌≤◌, length, take};
     ghost use Rattle.bubbling.specs.Bubbling.{Ring, IsRing};
 
     ghost Value = { Ring };
 
-    ghost view = { λ a. record { most = a.most; pivots = take a.kept a.pages; turn = a.turn } };
+    ghost view = { λ a. record { most = a.most; pivots = a.pages.items; turn = a.turn } };
 
-    ghost invariant = { λ a. (length (take a.kept a.pages) ≡ a.kept) × IsRing (record { most = a.most; pivots = take a.kept a.pages; turn = a.turn }) };
+    ghost invariant = { λ a. IsRing (record { most = a.most; pivots = a.pages.items; turn = a.turn }) };
 }
 
 impl Pivots {
@@ -38,10 +37,11 @@ impl Pivots {
         requires few { most ≤ 16 }
         ensures { result ≡ first_ring most }
     {
+        let mut pages = ArrayVec::new();
+        pages.push(PageNo::new(0));
         Pivots {
             most: most as usize,
-            pages: [PageNo::new(0); ROOM],
-            kept: 1,
+            pages,
             turn: 0,
         }
     }
@@ -50,14 +50,14 @@ impl Pivots {
     pub fn in_turn(&self) -> PageNo
         ensures { result ≡ in_turn self.now }
     {
-        self.pages[self.turn]
+        self.pages.as_slice()[self.turn]
     }
 
     /// Gives the turn to the next pivot.
     pub fn pass_turn(&mut self)
         ensures { self.new ≡ turned self.old }
     {
-        self.turn = (self.turn + 1) % self.kept;
+        self.turn = (self.turn + 1) % self.pages.len();
     }
 
     /// Makes a page the newest pivot, with the turn, unless it is one already.
@@ -70,14 +70,20 @@ impl Pivots {
         }
     }
 
+    /// Tells callers that there are 1 to 16 pivots, all different, and one of them in turn.
+    pub fn keeps_limits(&self)
+        ensures { IsRing self.now }
+    {
+        let _turn = self.turn;
+    }
+
     /// Makes a page the newest pivot, with the turn. The oldest of a full list is dropped.
     fn add(&mut self, page: PageNo)
         requires { ¬ (Contains self.old.pivots page) }
         ensures { self.new ≡ faulted page self.old }
     {
-        let older = (self.most - 1).min(self.kept);
-        put_first(&mut self.pages, older, page);
-        self.kept = older + 1;
+        self.pages.truncate(self.most - 1);
+        self.pages.insert(0, page);
         self.turn = 0;
     }
 
@@ -85,22 +91,11 @@ impl Pivots {
     fn has(&self, page: PageNo) -> bool
         ensures { MatchBool result (Contains self.now.pivots page) (¬ (Contains self.now.pivots page)) }
     {
-        for k in 0..self.kept {
-            if self.pages[k] == page {
+        for pivot in self.pages.as_slice() {
+            if *pivot == page {
                 return true;
             }
         }
         false
     }
-}
-
-/// Puts a page before the first so many.
-fn put_first(pages: &mut [PageNo; ROOM], older: usize, page: PageNo)
-    requires { older < 16 }
-    ensures { take (older + 1) pages.new ≡ page ∷ take older pages.old }
-{
-    for k in 0..older {
-        pages[older - k] = pages[older - k - 1];
-    }
-    pages[0] = page;
 }
