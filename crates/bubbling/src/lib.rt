@@ -1,7 +1,7 @@
 //! Which page a source pushes next: outward on both sides of pivot pages, of which each fault makes one.
 #![tactic(auto)]
 
-ghost use Rattle.std.specs.Prelude.{◌≡◌, ◌+◌, ◌<◌, ◌≤◌, IfOk, IfSome, MatchOption, Contains};
+ghost use Rattle.std.specs.Prelude.{◌≡◌, ◌+◌, ◌<◌, ◌≤◌, IfOk, IfSome, MatchOption, Contains, length};
 
 mod pivots;
 #[cfg(test)]

@@ -6,7 +6,7 @@ use crate::contents::Contents;
 use std::marker::Model;
 
 /// A page's number, 0 to 65,535. Contracts see the number.
-#[derive(Clone, Copy, Debug, PartialEq, Eq, Hash)]
+#[derive(Clone, Copy, Debug, Default, PartialEq, Eq, Hash)]
 pub struct PageNo {
     number: u16,
 }

@@ -169,18 +169,18 @@ pub release_frames : (f : Frames) (pages cells : ℕ) (items after : List ℕ) (
 release_frames f pages cells items after p is sized lp e =
     subst (λ (g : Frames). p < g.geometry.pages → IsWith g (at pages cells after) (with_zeros p (memory_of g))) is
     (λ lp.
-        let fits = page_fits pages cells p lp in
-        let each = zeros_put items after (p * cells) cells (omega arith) e in
-        record { geometry = refl; memory_is = rows_memory pages cells items after p (λ d. 0) lp each (λ d le. refl) }) lp
+    let fits = page_fits pages cells p lp in
+    let each = zeros_put items after (p * cells) cells (omega arith) e in
+    record { geometry = refl; memory_is = rows_memory pages cells items after p (λ d. 0) lp each (λ d le. refl) }) lp
 
 pub install_frames : (f : Frames) (pages cells : ℕ) (items after content : List ℕ) (p : ℕ) → at pages cells items ≡ f → length items ≡ pages * cells → p < f.geometry.pages → length content ≡ f.geometry.cells → after ≡ take (p * cells) items ++ (content ++ drop (p * cells + length content) items) → IsWith f (at pages cells after) (with_content p content (memory_of f))
 install_frames f pages cells items after content p is sized lp whole e =
     subst (λ (g : Frames). p < g.geometry.pages → length content ≡ g.geometry.cells → IsWith g (at pages cells after) (with_content p content (memory_of g))) is
     (λ lp whole.
-        let fits = page_fits pages cells p lp in
-        let same = e ∙ ap (λ (n : ℕ). take (p * cells) items ++ (content ++ drop (p * cells + n) items)) whole in
-        let each = cells_put items after content (p * cells) cells whole (omega arith) same in
-        record { geometry = refl; memory_is = rows_memory pages cells items after p (λ d. get_or content d 0) lp each (λ d le. get_or_past content d 0 (omega arith)) }) lp whole
+    let fits = page_fits pages cells p lp in
+    let same = e ∙ ap (λ (n : ℕ). take (p * cells) items ++ (content ++ drop (p * cells + n) items)) whole in
+    let each = cells_put items after content (p * cells) cells whole (omega arith) same in
+    record { geometry = refl; memory_is = rows_memory pages cells items after p (λ d. get_or content d 0) lp each (λ d le. get_or_past content d 0 (omega arith)) }) lp whole
 
 pub page_frames : (f : Frames) (pages cells : ℕ) (items page whole : List ℕ) (p : ℕ) → at pages cells items ≡ f → length items ≡ pages * cells → p < f.geometry.pages → whole ≡ items → page ≡ take (p * cells + cells - p * cells) (drop (p * cells) whole) → page ≡ page_of f.geometry.cells (memory_of f) p
 page_frames f pages cells items page whole p is sized lp same e =
