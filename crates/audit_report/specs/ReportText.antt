@@ -2,32 +2,13 @@
 use Rattle.std.specs.Prelude.{ℕ, List, [], ◌∷◌, ◌++◌, codes}
 use Rattle.std.specs.Fmt.{decimal}
 use Rattle.text_lines.specs.Text.{ended}
-use Rattle.audit_model.specs.declared.reasons.ShapeReason.{ShapeReason}
-use Rattle.audit_model.specs.declared.reasons.ShapeReason.TheVariants.{Phases, Named, Start, SecondSend}
 use Rattle.audit_model.specs.declared.reasons.PageReason.{PageReason}
-use Rattle.audit_model.specs.declared.reasons.PageReason.TheVariants.{Read, Early, Given, Stale, Twice, Altered, Unfit}
+use Rattle.audit_model.specs.Reasons.{page_word, shape_word}
 use Rattle.cert_check.specs.declared.verdict.ShapeFault.{ShapeFault}
 use Rattle.cert_text.specs.Runs.{runs_text_header, runs_lines}
 use Rattle.cert_text.specs.Grammar.{cert_lines}
 use Rattle.audit_report.specs.declared.report.Report.{Report}
 use Rattle.audit_report.specs.declared.report.Report.TheVariants.{Clean, Shape, Knot, Faulty}
-
--- the word for a reason of shape
-abbrev pub shape_word : ShapeReason → List ℕ
-shape_word Phases = codes "phases"
-shape_word Named = codes "named"
-shape_word Start = codes "start"
-shape_word SecondSend = codes "second-send"
-
--- the word for a reason of a page's fault
-abbrev pub page_word : PageReason → List ℕ
-page_word Read = codes "read"
-page_word Early = codes "early"
-page_word Given = codes "given"
-page_word Stale = codes "stale"
-page_word Twice = codes "twice"
-page_word Altered = codes "altered"
-page_word Unfit = codes "unfit"
 
 -- what is said of a line, and its number
 abbrev pub at_line : List ℕ → ℕ → List ℕ

@@ -3,10 +3,9 @@
 ghost use Rattle.std.specs.Prelude.{◌≡◌, [], ◌∷◌, ◌++◌, IfOk, OnOk};
 ghost use Rattle.text_lines.specs.Text.{ended};
 ghost use Rattle.audit_report.specs.Reports.{ReportFits};
-ghost use Rattle.audit_report.specs.ReportText.{shape_word, page_word, shape_line, first_line, lines_behind, report_text};
+ghost use Rattle.audit_report.specs.ReportText.{shape_line, first_line, lines_behind, report_text};
 
 use crate::report::Report;
-use audit_model::{PageReason, ShapeReason};
 use cert_check::ShapeFault;
 use cert_text::{write_cert, write_runs};
 use std::alloc::{AllocError, Global};
@@ -20,38 +19,11 @@ const CLEAN: &[u8] = b"clean";
 
 const FAULTY: &[u8] = b"faulty line ";
 
-/// The word for a reason of shape.
-fn shape_word(reason: ShapeReason) -> &'static [u8]
-    ensures { result.now ≡ shape_word reason }
-{
-    match reason {
-        ShapeReason::Phases => b"phases",
-        ShapeReason::Named => b"named",
-        ShapeReason::Start => b"start",
-        ShapeReason::SecondSend => b"second-send",
-    }
-}
-
-/// The word for a reason of a page's fault.
-fn page_word(reason: PageReason) -> &'static [u8]
-    ensures { result.now ≡ page_word reason }
-{
-    match reason {
-        PageReason::Read => b"read",
-        PageReason::Early => b"early",
-        PageReason::Given => b"given",
-        PageReason::Stale => b"stale",
-        PageReason::Twice => b"twice",
-        PageReason::Altered => b"altered",
-        PageReason::Unfit => b"unfit",
-    }
-}
-
 /// Adds the line of a fault of shape.
 pub fn push_shape(out: &mut Vec<u8>, fault: &ShapeFault) -> Result<(), AllocError>
     ensures { OnOk result (out.new.items ≡ out.old.items ++ ended (shape_line fault.now ∷ [])) }
 {
-    push_keyed_word(out, SHAPE, fault.line, shape_word(fault.reason))
+    push_keyed_word(out, SHAPE, fault.line, fault.reason.word())
 }
 
 /// Adds the first line of a report.
@@ -63,7 +35,7 @@ pub fn push_first_line(out: &mut Vec<u8>, report: &Report) -> Result<(), AllocEr
         Report::Shape(fault) => push_shape(out, fault),
         Report::Knot(line) => push_keyed(out, KNOT, *line),
         Report::Faulty { line, reason, .. } => {
-            push_keyed_word(out, FAULTY, *line, page_word(*reason))
+            push_keyed_word(out, FAULTY, *line, reason.word())
         }
     }
 }
