@@ -1,8 +1,7 @@
 -- The reason at a record, and what is known below the next one.
-use Rattle.std.proofs.Common.{not, get_or, set, eqb, eq-eqb, length-set, ◌≡◌, ℕ, suc, ◌+◌, ◌<◌, ◌≤◌, ◌⊎◌, inl, inr, Bool, true, false, ◌||◌, List, length, Option, Some, None, refl, sym, ap, ◌∙◌, subst, arith}
+use Rattle.std.proofs.Common.{not, cond, get_or, eqb, ◌≡◌, ℕ, suc, ◌+◌, ◌<◌, ◌≤◌, ◌⊎◌, inl, inr, Bool, true, false, ◌||◌, List, length, Option, Some, None, refl, sym, ap, ◌∙◌, subst, arith}
 use Rattle.std.specs.Prelude.{slice_get}
-use Rattle.std.proofs.lemmas.Bool.{cases_lt, cases_eq, ne_eqb}
-use Rattle.std.proofs.lemmas.List.{get_or-set_same, get_or-set_other}
+use Rattle.std.proofs.lemmas.Bool.{cases_lt}
 use Rattle.std.proofs.lemmas.Option.{slice_get_past}
 use Rattle.migration_types.specs.declared.records.LogName.{LogName}
 use Rattle.migration_types.specs.declared.records.LogName.TheVariants.{Guest, Source, Link, Pager}
@@ -15,10 +14,13 @@ use Rattle.migration_types.specs.declared.records.LinkRec.{LinkRec}
 use Rattle.migration_types.specs.declared.records.PagerRec.{PagerRec}
 use Rattle.audit_model.specs.Names.{log_length}
 use Rattle.audit_model.proofs.Lists.{each_at}
+use Rattle.page_tables.specs.Tables.{Values, pages_of, values, IsWith}
+use Rattle.page_facts.specs.Moved.{SourcePage}
+use Rattle.page_facts.proofs.Moving.{source_page}
 use Rattle.cert_check.proofs.Reading.{item_at, read_at}
 use Rattle.audit_model.specs.Flat.{changed}
 use Rattle.audit_model.specs.Shape.{keeps, earlier, is_halt, is_resume, is_send_of, in_phase_by, in_phase, guest_named, source_named, source_start, is_first_send, link_named, pager_named, pager_start}
-use Rattle.cert_check.specs.FirstOfLog.{first_reason, is_unmarked, marked_by, reason_at, IsRightBelow, IsRightLog}
+use Rattle.cert_check.specs.FirstOfLog.{first_reason, is_unmarked, marked_by, sent_before, AreSent, reason_at, IsRightBelow, IsRightLog}
 
 -- one more record of a log
 pub earlier_more : {A : Type 0} (test : A → Bool) (log : List A) (n : ℕ) (r : A) → slice_get log n ≡ Some r → earlier test log (n + 1) ≡ (test r || earlier test log n)
@@ -95,46 +97,46 @@ pub guest_turn : (s : Recorded) (n : ℕ) (x : GuestRec) (halted resumed : Bool)
 guest_turn s n x halted resumed found is h r e =
     guest_reason_at s n x is ∙ ap (λ b. first_reason (in_phase_by b (earlier is_resume s.guest n) x) (guest_named s x) true true) (sym h) ∙ ap (λ b. first_reason (in_phase_by halted b x) (guest_named s x) true true) (sym r) ∙ sym e
 
-pub source_turn : (s : Recorded) (xs : List SourceRec) (marks : List Bool) (n : ℕ) (x : SourceRec) (found : Option ShapeReason) → IsSession s → xs ≡ s.source → n < length xs → x ≡ get_or xs n x → ((p : ℕ) → p < s.geometry.pages → get_or marks p false ≡ earlier (is_send_of p) s.source n) →
-    found ≡ first_reason true (source_named s n x) (source_start s n x) (is_unmarked marks x) → reason_at s (Source, n) ≡ found
-source_turn s xs marks n x found fits same lt at are e =
-    let is = read_at xs s.source n x same lt at in
-    source_reason_at s n x is ∙ ap (λ b. first_reason true (source_named s n x) (source_start s n x) b) (first x (each_at (SourceRecFits s.geometry) s.source n x fits.source is)) ∙ sym e
+pub source_turn : (s : Recorded) (marks : Values Bool) (n : ℕ) (x : SourceRec) (found : Option ShapeReason) → slice_get s.source n ≡ Some x → AreSent s n marks →
+    found ≡ first_reason true (source_named s n x) (source_start s n x) (is_unmarked (values marks) x) → reason_at s (Source, n) ≡ found
+source_turn s marks n x found is sent e =
+    source_reason_at s n x is ∙ ap (λ b. first_reason true (source_named s n x) (source_start s n x) b) (first x) ∙ sym e
   where
-    first : (x : SourceRec) → SourceRecFits s.geometry x → is_first_send s n x ≡ is_unmarked marks x
-    first (Send p content) f = ap (λ b. not b) (sym (are p f.0))
-    first (Halted h) f = refl
-    first State f = refl
-    first (Again i) f = refl
-    first (Ask i) f = refl
-    first Done f = refl
+    first : (x : SourceRec) → is_first_send s n x ≡ is_unmarked (values marks) x
+    first (Send p content) = ap (λ (f : ℕ → Bool). not (f p)) (sym sent.values_are)
+    first (Halted h) = refl
+    first State = refl
+    first (Again i) = refl
+    first (Ask i) = refl
+    first Done = refl
 
-marks_more : (marks : List Bool) (x : SourceRec) (p : ℕ) (old : Bool) → p < length marks → get_or marks p false ≡ old → get_or (marked_by marks x) p false ≡ (is_send_of p x || old)
-marks_more marks (Send q content) p old lt e = go (cases_eq p q)
+pub marks_turn : (s : Recorded) (n : ℕ) (x : SourceRec) (old new : Values Bool) → slice_get s.source n ≡ Some x → AreSent s n old → IsWith old new (marked_by x (values old)) → AreSent s (n + 1) new
+marks_turn s n x old new is was on = record {
+  pages_are = on.pages ∙ was.pages_are;
+  values_are = on.values_are ∙ ap (λ (f : ℕ → Bool). marked_by x f) was.values_are ∙ next;
+}
   where
-    go : (p ≡ q) ⊎ (p ≡ q → ⊥) → get_or (set marks q true) p false ≡ (eqb q p || old)
-    go (inl same) = let i : q < length marks = omega arith in ap (λ k. get_or (set marks q true) k false) same ∙ get_or-set_same marks q true false i ∙ ap (λ b. b || old) (sym (eq-eqb q p (sym same)))
-    go (inr other) = get_or-set_other marks q p true false other ∙ e ∙ ap (λ b. b || old) (sym (ne_eqb q p (λ h. other (sym h))))
-marks_more marks (Halted h) p old lt e = e
-marks_more marks State p old lt e = e
-marks_more marks (Again i) p old lt e = e
-marks_more marks (Ask i) p old lt e = e
-marks_more marks Done p old lt e = e
+    or_is : (b c : Bool) → cond b true c ≡ (b || c)
+    or_is true c = refl
+    or_is false c = refl
 
-marks_length : (marks : List Bool) (x : SourceRec) → length (marked_by marks x) ≡ length marks
-marks_length marks (Send q content) = length-set marks q true
-marks_length marks (Halted h) = refl
-marks_length marks State = refl
-marks_length marks (Again i) = refl
-marks_length marks (Ask i) = refl
-marks_length marks Done = refl
+    also : (x : SourceRec) (p : ℕ) → marked_by x (sent_before s n) p ≡ (is_send_of p x || sent_before s n p)
+    also (Send q content) p = or_is (eqb q p) (sent_before s n p)
+    also (Halted h) p = refl
+    also State p = refl
+    also (Again i) p = refl
+    also (Ask i) p = refl
+    also Done p = refl
 
-pub marks_turn : (s : Recorded) (xs : List SourceRec) (marks after : List Bool) (n : ℕ) (x : SourceRec) → xs ≡ s.source → n < length xs → x ≡ get_or xs n x → length marks ≡ s.geometry.pages → ((p : ℕ) → p < s.geometry.pages → get_or marks p false ≡ earlier (is_send_of p) s.source n) → after ≡ marked_by marks x →
-    (length after ≡ s.geometry.pages) × ((p : ℕ) → p < s.geometry.pages → get_or after p false ≡ earlier (is_send_of p) s.source (n + 1))
-marks_turn s xs marks after n x same lt at sized are e = (
-  ap (λ (ms : List Bool). length ms) e ∙ marks_length marks x ∙ sized,
-  λ p l. ap (λ (ms : List Bool). get_or ms p false) e ∙ marks_more marks x p (earlier (is_send_of p) s.source n) (omega arith) (are p l) ∙ sym (earlier_more (is_send_of p) s.source n x (read_at xs s.source n x same lt at)),
-)
+    at : (p : ℕ) → marked_by x (sent_before s n) p ≡ sent_before s (n + 1) p
+    at p = also x p ∙ sym (earlier_more (is_send_of p) s.source n x is)
+
+    next : marked_by x (sent_before s n) ≡ sent_before s (n + 1)
+    next = λ i p. at p i
+
+-- a record's page is in the table
+pub sent_page : (s : Recorded) (n : ℕ) (x : SourceRec) (marks : Values Bool) → IsSession s → slice_get s.source n ≡ Some x → AreSent s n marks → SourcePage (pages_of marks) x
+sent_page s n x marks limits is sent = subst (λ k. SourcePage k x) (sym sent.pages_are) (source_page s.geometry x (each_at (SourceRecFits s.geometry) s.source n x limits.source is))
 
 pub link_turn : (s : Recorded) (xs : List LinkRec) (n : ℕ) (d : LinkRec) (named : Bool) → xs ≡ s.link → n < length xs → named ≡ link_named s (get_or xs n d) → reason_at s (Link, n) ≡ first_reason true named true true
 link_turn s xs n d named same lt e = link_reason_at s n (get_or xs n d) (item_at xs s.link n d same lt) ∙ ap (λ b. first_reason true b true true) (sym e)

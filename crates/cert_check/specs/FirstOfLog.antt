@@ -1,5 +1,5 @@
 -- The first reason at each record of a log. This serves proofs alone.
-use Rattle.std.specs.Prelude.{not, List, slice_index_or, slice_set, ◌≡◌, ℕ, ◌<◌, Bool, true, false, Option, Some, None, if◌then◌else◌}
+use Rattle.std.specs.Prelude.{not, ◌≡◌, ℕ, ◌<◌, Bool, true, false, Option, Some, None, if◌then◌else◌}
 use Rattle.migration_types.specs.declared.records.LogName.{LogName}
 use Rattle.migration_types.specs.Sessions.{Recorded}
 use Rattle.audit_model.specs.declared.reasons.ShapeReason.{ShapeReason}
@@ -7,7 +7,8 @@ use Rattle.audit_model.specs.declared.reasons.ShapeReason.TheVariants.{Phases, N
 use Rattle.migration_types.specs.declared.records.SourceRec.{SourceRec}
 use Rattle.migration_types.specs.declared.records.SourceRec.TheVariants.{Send}
 use Rattle.migration_types.specs.Receipts.{Name}
-use Rattle.audit_model.specs.Shape.{is_right}
+use Rattle.audit_model.specs.Shape.{is_right, is_send_of, earlier}
+use Rattle.page_tables.specs.Tables.{Values, pages_of, values, with_value}
 
 -- the first of the reasons for which a record is not right
 abbrev pub first_reason : Bool → Bool → Bool → Bool → Option ShapeReason
@@ -31,10 +32,19 @@ pub record IsFirstOfLog (s : Recorded) (log : LogName) (place : ℕ) (reason : S
   pub is_right_below : IsRightBelow s log place
 
 -- marks of pages, by which a second `send` is found
-abbrev pub is_unmarked : List Bool → SourceRec → Bool
-is_unmarked marks (Send p content) = not (slice_index_or marks p false)
+abbrev pub is_unmarked : (ℕ → Bool) → SourceRec → Bool
+is_unmarked marks (Send p content) = not (marks p)
 is_unmarked marks _ = true
 
-abbrev pub marked_by : List Bool → SourceRec → List Bool
-marked_by marks (Send p content) = slice_set marks p true
-marked_by marks _ = marks
+abbrev pub marked_by : SourceRec → (ℕ → Bool) → ℕ → Bool
+marked_by (Send p content) marks = with_value p true marks
+marked_by _ marks = marks
+
+-- the pages that were sent before source record n
+abbrev pub sent_before : Recorded → ℕ → ℕ → Bool
+sent_before s n page = earlier (is_send_of page) s.source n
+
+-- marks of these
+pub record AreSent (s : Recorded) (n : ℕ) (marks : Values Bool) : Type 0 where
+  pub pages_are : pages_of marks ≡ s.geometry.pages
+  pub values_are : values marks ≡ sent_before s n

@@ -5,6 +5,8 @@ ghost use Rattle.migration_types.specs.declared.records.LogName.TheVariants.{Gue
 ghost use Rattle.migration_types.specs.Sessions.{Recorded, IsSession, line_of};
 ghost use Rattle.audit_model.specs.Names.{log_length};
 ghost use Rattle.audit_model.specs.Shape.{IsRightShape, in_phase_by, is_halt, is_resume, guest_named, source_named, link_named, pager_named, source_start, pager_start};
+ghost use Rattle.page_tables.specs.Tables.{pages_of, values, IsWith};
+ghost use Rattle.page_facts.specs.Moved.{SourcePage};
 ghost use Rattle.cert_check.specs.FirstOfLog.{first_reason, is_unmarked, marked_by, IsRightLog, IsFirstOfLog};
 ghost use Rattle.cert_check.specs.Verdicts.{IsShapeFault};
 
@@ -14,7 +16,7 @@ use audit_model::{
     source_named, source_start,
 };
 use migration_types::{GuestRec, LinkRec, LogName, PagerRec, Session, SourceRec};
-use page_facts::no_marks;
+use page_tables::Table;
 use session_log::line_of;
 use std::alloc::{AllocError, Global};
 
@@ -75,27 +77,23 @@ fn guest_fault(session: &Session) -> Option<LogFault>
 }
 
 /// Whether the page of a `send` is not marked.
-fn is_unmarked(marks: &Vec<bool>, rec: &SourceRec) -> bool
-    ensures { result ≡ is_unmarked marks.now.items rec.now }
+fn is_unmarked(marks: &Table<bool>, rec: &SourceRec) -> bool
+    requires { SourcePage (pages_of marks.now) rec.now }
+    ensures { result ≡ is_unmarked (values marks.now) rec.now }
 {
     match rec {
-        SourceRec::Send { page, .. } => match marks.get(page.index()) {
-            Some(marked) => !*marked,
-            None => true,
-        },
+        SourceRec::Send { page, .. } => !marks.at(*page),
         _ => true,
     }
 }
 
 /// Marks the page of a `send`.
-fn mark(marks: &mut Vec<bool>, rec: &SourceRec)
-    ensures { marks.new.items ≡ marked_by marks.old.items rec.now }
+fn mark(marks: &mut Table<bool>, rec: &SourceRec)
+    requires { SourcePage (pages_of marks.old) rec.now }
+    ensures { IsWith marks.old marks.new (marked_by rec.now (values marks.old)) }
 {
     if let SourceRec::Send { page, .. } = rec {
-        let page = page.index();
-        if page < marks.len() {
-            marks[page] = true;
-        }
+        marks.set(*page, true);
     }
 }
 
@@ -104,9 +102,10 @@ fn source_reason(
     session: &Session,
     n: usize,
     rec: &SourceRec,
-    marks: &Vec<bool>,
+    marks: &Table<bool>,
 ) -> Option<ShapeReason>
-    ensures { result ≡ first_reason true (source_named session.now n rec.now) (source_start session.now n rec.now) (is_unmarked marks.now.items rec.now) }
+    requires { SourcePage (pages_of marks.now) rec.now }
+    ensures { result ≡ first_reason true (source_named session.now n rec.now) (source_start session.now n rec.now) (is_unmarked (values marks.now) rec.now) }
 {
     if !source_named(session, n, rec) {
         return Some(ShapeReason::Named);
@@ -125,7 +124,7 @@ fn source_fault(alloc: Global, session: &Session) -> Result<Option<LogFault>, Al
     requires { IsSession session.now }
     ensures { IfOk result (λ o. MatchOption o (IsRightLog session.now Source) (λ f. IsFirstOfLog session.now Source f.place f.reason)) }
 {
-    let mut marks = no_marks(alloc, session.geometry().pages())?;
+    let mut marks = Table::no_marks(alloc, session.geometry().pages())?;
     let source = session.source();
     for (n, rec) in source.iter().enumerate() {
         if let Some(reason) = source_reason(session, n, rec, &marks) {

@@ -11,12 +11,13 @@ use Rattle.audit_model.specs.Flat.{changed}
 use Rattle.audit_model.specs.Shape.{passes, is_placement_of, earlier}
 use Rattle.audit_model.specs.Faults.{looks_at}
 use Rattle.audit_model.proofs.Lists.{each_at}
+use Rattle.page_tables.proofs.Noting.{noted_none}
+use Rattle.page_tables.specs.Tables.{Values, pages_of, values, IsWith}
 use Rattle.page_facts.specs.Tables.{some_before, or_here, IsTable}
 use Rattle.page_facts.specs.Moved.{PagerPage, placed_by}
-use Rattle.page_facts.proofs.Judging.{table_same}
+use Rattle.page_facts.proofs.Judging.{here_by}
 use Rattle.page_facts.proofs.Before.{some_true, some_false}
-use Rattle.page_facts.proofs.Moving.{pager_page, first_more}
-use Rattle.page_facts.proofs.Starting.{table_start}
+use Rattle.page_facts.proofs.Moving.{pager_page, places, placed_here}
 use Rattle.cert_maker.specs.declared.looks.Looks.{Looks}
 use Rattle.cert_maker.specs.Looks.{look_of, first_look, is_placed, AreNoted, AreLooks, AreLooksOf}
 
@@ -63,10 +64,6 @@ some_past test log n le = go (some_before test log n) refl
 
 -- ---- noting
 
-noted_none : (o : Option ℕ) (n : ℕ) → or_here o false n ≡ o
-noted_none None n = refl
-noted_none (Some k) n = refl
-
 noted_same : (o : Option ℕ) (b : Bool) (n : ℕ) → is_some o ≡ b → or_here o b n ≡ o
 noted_same None true n e = absurd (cc)
 noted_same None false n e = refl
@@ -79,21 +76,32 @@ noted_twice None false true n = refl
 noted_twice None true false n = refl
 noted_twice None false false n = refl
 
-pub noted_start : (s : Recorded) (n : ℕ) (looks : Looks) → AreLooks s n looks → AreNoted s n looks.reached looks.first.items
-noted_start s n looks is = table_same s.geometry.pages None looks.first.items (first_look s n) (λ p. or_here (first_look s n p) (is_placed s looks.reached p) n) is.table (λ p. noted_same (first_look s n p) (is_placed s looks.reached p) n (is.known p))
+table_same : (pages : ℕ) (table : Values (Option ℕ)) (f g : ℕ → Option ℕ) → IsTable pages table f → ((p : ℕ) → g p ≡ f p) → IsTable pages table g
+table_same pages table f g is same = record { pages_are = is.pages_are; values_are = is.values_are ∙ all }
+  where
+    all : f ≡ g
+    all = λ i p. sym (same p) i
 
-pub fits_table : (s : Recorded) (m : ℕ) (r : PagerRec) (table : List (Option ℕ)) (f : ℕ → Option ℕ) → IsSession s → slice_get s.pager m ≡ Some r → IsTable s.geometry.pages None table f → PagerPage (length table) r
-fits_table s m r table f limits is sized = subst (λ k. PagerPage k r) (sym sized.0) (pager_page s.geometry r (each_at (PagerRecFits s.geometry) s.pager m r limits.pager is))
+pub noted_start : (s : Recorded) (n : ℕ) (looks : Looks) → AreLooks s n looks → AreNoted s n looks.reached looks.first
+noted_start s n looks is = table_same s.geometry.pages looks.first (first_look s n) (λ p. or_here (first_look s n p) (is_placed s looks.reached p) n) is.table (λ p. noted_same (first_look s n p) (is_placed s looks.reached p) n (is.known p))
 
-pub noted_more : (s : Recorded) (n m : ℕ) (r : PagerRec) (old new : List (Option ℕ)) → IsSession s → slice_get s.pager m ≡ Some r → AreNoted s n m old → new ≡ placed_by old n r → AreNoted s n (m + 1) new
-noted_more s n m r old new limits is noted e =
-    let fits = pager_page s.geometry r (each_at (PagerRecFits s.geometry) s.pager m r limits.pager is) in
-    let more = first_more s n r old (λ p. or_here (first_look s n p) (is_placed s m p) n) fits noted in
-    let one : m + 1 ≡ suc m = omega arith in
-    subst (λ k. AreNoted s n k new) (sym one)
-    (subst (λ (t : List (Option ℕ)). AreNoted s n (suc m) t) (sym e)
-    (table_same s.geometry.pages None (placed_by old n r) (λ p. or_here (or_here (first_look s n p) (is_placed s m p) n) (is_placement_of p r) n) (λ p. or_here (first_look s n p) (is_placed s (suc m) p) n) more
-    (λ p. ap (λ o. or_here (first_look s n p) (passes (is_placement_of p) o || is_placed s m p) n) is ∙ noted_twice (first_look s n p) (is_placement_of p r) (is_placed s m p) n)))
+pub fits_table : (s : Recorded) (m : ℕ) (r : PagerRec) (table : Values (Option ℕ)) (f : ℕ → Option ℕ) → IsSession s → slice_get s.pager m ≡ Some r → IsTable s.geometry.pages table f → PagerPage (pages_of table) r
+fits_table s m r table f limits is sized = subst (λ k. PagerPage k r) (sym sized.pages_are) (pager_page s.geometry r (each_at (PagerRecFits s.geometry) s.pager m r limits.pager is))
+
+pub noted_more : (s : Recorded) (n m : ℕ) (r : PagerRec) (old new : Values (Option ℕ)) → slice_get s.pager m ≡ Some r → AreNoted s n m old → IsWith old new (placed_by n r (values old)) → AreNoted s n (m + 1) new
+noted_more s n m r old new is noted on =
+    let one : suc m ≡ m + 1 = omega arith in
+    subst (λ k. AreNoted s n k new) one (table_same s.geometry.pages new (here_by places n r before_it) (λ p. or_here (first_look s n p) (is_placed s (suc m) p) n) more
+    (λ p. ap (λ o. or_here (first_look s n p) (passes (is_placement_of p) o || is_placed s m p) n) is ∙ noted_twice (first_look s n p) (is_placement_of p r) (is_placed s m p) n))
+  where
+    before_it : ℕ → Option ℕ
+    before_it p = or_here (first_look s n p) (is_placed s m p) n
+
+    more : IsTable s.geometry.pages new (here_by places n r before_it)
+    more = record {
+      pages_are = on.pages ∙ noted.pages_are;
+      values_are = on.values_are ∙ placed_here n r (values old) ∙ ap (λ (f : ℕ → Option ℕ). here_by places n r f) noted.values_are;
+    }
 
 -- ---- a look
 
@@ -116,9 +124,9 @@ known_less (Some k) b c n e down = refl
 
 module _ (s : Recorded) (n k to : ℕ) (reach : ((k < length s.pager) × (to ≡ k + 1)) ⊎ ((length s.pager ≤ k) × (to ≡ length s.pager))) where
   -- the look reaches further
-  pub look_further : (old new : Looks) → AreLooks s n old → old.reached < to → to ≤ length s.pager → AreNoted s n to new.first.items → new.reached ≡ to → AreLooksOf s (λ page. or_here (first_look s n page) (looks_at s page (See k)) n) new
+  pub look_further : (old new : Looks) → AreLooks s n old → old.reached < to → to ≤ length s.pager → AreNoted s n to new.first → new.reached ≡ to → AreLooksOf s (λ page. or_here (first_look s n page) (looks_at s page (See k)) n) new
   look_further old new is lt within noted reached = record {
-    table = table_same s.geometry.pages None new.first.items (λ p. or_here (first_look s n p) (is_placed s to p) n) (λ p. or_here (first_look s n p) (looks_at s p (See k)) n) noted (λ p. ap (λ b. or_here (first_look s n p) b n) (placed_to s k to p reach));
+    table = table_same s.geometry.pages new.first (λ p. or_here (first_look s n p) (is_placed s to p) n) (λ p. or_here (first_look s n p) (looks_at s p (See k)) n) noted (λ p. ap (λ b. or_here (first_look s n p) b n) (placed_to s k to p reach));
     known = λ p.
         ap (λ b. is_some (or_here (first_look s n p) b n)) (placed_to s k to p reach)
         ∙ known_more (first_look s n p) (is_placed s old.reached p) (is_placed s to p) n (is.known p) (λ e. some_up (λ m. is_placement_of p) s.pager old.reached to (omega arith) e)
@@ -129,7 +137,7 @@ module _ (s : Recorded) (n k to : ℕ) (reach : ((k < length s.pager) × (to ≡
   -- it does not
   pub look_same : (old : Looks) → AreLooks s n old → to ≤ old.reached → AreLooksOf s (λ page. or_here (first_look s n page) (looks_at s page (See k)) n) old
   look_same old is le = record {
-    table = table_same s.geometry.pages None old.first.items (first_look s n) (λ p. or_here (first_look s n p) (looks_at s p (See k)) n) is.table same;
+    table = table_same s.geometry.pages old.first (first_look s n) (λ p. or_here (first_look s n p) (looks_at s p (See k)) n) is.table same;
     known = λ p. ap (λ o. is_some o) (same p) ∙ is.known p;
     within = is.within;
   }
@@ -141,7 +149,7 @@ module _ (s : Recorded) (n k to : ℕ) (reach : ((k < length s.pager) × (to ≡
 
 looks_of_same : (s : Recorded) (f g : ℕ → Option ℕ) (looks : Looks) → ((p : ℕ) → g p ≡ f p) → AreLooksOf s f looks → AreLooksOf s g looks
 looks_of_same s f g looks same is = record {
-  table = table_same s.geometry.pages None looks.first.items f g is.table same;
+  table = table_same s.geometry.pages looks.first f g is.table same;
   known = λ p. ap (λ o. is_some o) (same p) ∙ is.known p;
   within = is.within;
 }
@@ -163,13 +171,6 @@ no_look s p (Release v q) e = refl
 no_look s p (Miss v q) e = refl
 no_look s p Halt e = refl
 no_look s p (Resume i) e = refl
-
-pub looks_start : (s : Recorded) (looks : Looks) → looks.first.items ≡ replicate s.geometry.pages None → looks.reached ≡ 0 → AreLooks s 0 looks
-looks_start s looks first reached = record {
-  table = table_start s.geometry.pages None looks.first.items first;
-  known = λ p. ap (λ r. is_placed s r p) (sym reached);
-  within = omega arith;
-}
 
 pub looks_more : (s : Recorded) (n k : ℕ) (r : GuestRec) (looks : Looks) → slice_get s.guest n ≡ Some r → look_of r ≡ Some k → AreLooksOf s (λ page. or_here (first_look s n page) (looks_at s page (See k)) n) looks → AreLooks s (n + 1) looks
 looks_more s n k r looks is sees more =

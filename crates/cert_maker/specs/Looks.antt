@@ -5,6 +5,7 @@ use Rattle.migration_types.specs.declared.records.GuestRec.TheVariants.{See}
 use Rattle.migration_types.specs.Sessions.{Recorded}
 use Rattle.audit_model.specs.Shape.{is_placement_of}
 use Rattle.audit_model.specs.Faults.{looks_at}
+use Rattle.page_tables.specs.Tables.{Values}
 use Rattle.page_facts.specs.Tables.{some_before, or_here, first_before, IsTable}
 use Rattle.cert_maker.specs.declared.looks.Looks.{Looks}
 
@@ -22,7 +23,7 @@ is_placed s reached page = some_before (λ m. is_placement_of page) s.pager reac
 
 -- the table has each page's first look, and these reach the first records of the pager
 pub record AreLooksOf (s : Recorded) (f : ℕ → Option ℕ) (looks : Looks) : Type 0 where
-  pub table : IsTable s.geometry.pages None looks.first.items f
+  pub table : IsTable s.geometry.pages looks.first f
   pub known : (page : ℕ) → is_some (f page) ≡ is_placed s looks.reached page
   pub within : looks.reached ≤ length s.pager
 
@@ -31,5 +32,5 @@ abbrev pub AreLooks : Recorded → ℕ → Looks → Type 0
 AreLooks s n looks = AreLooksOf s (first_look s n) looks
 
 -- guest record n is noted for the pages that the pager's first records place
-abbrev pub AreNoted : Recorded → ℕ → ℕ → List (Option ℕ) → Type 0
-AreNoted s n reached table = IsTable s.geometry.pages None table (λ page. or_here (first_look s n page) (is_placed s reached page) n)
+abbrev pub AreNoted : Recorded → ℕ → ℕ → Values (Option ℕ) → Type 0
+AreNoted s n reached table = IsTable s.geometry.pages table (λ page. or_here (first_look s n page) (is_placed s reached page) n)

@@ -1,6 +1,6 @@
 //! The entries of a certificate, by the facts of the pages.
 
-ghost use Rattle.std.specs.Prelude.{◌≡◌, ◌<◌, length, slice_get, IfOk, MatchOption, None};
+ghost use Rattle.std.specs.Prelude.{◌≡◌, ◌<◌, length, slice_get, IfOk, MatchOption};
 ghost use Rattle.migration_types.specs.Sessions.{IsSession};
 ghost use Rattle.audit_model.specs.Names.{if_there};
 ghost use Rattle.page_facts.specs.Facts.{IsFacts, AreTables};
@@ -12,6 +12,7 @@ use crate::looks::first_looks;
 use audit_model::delivery;
 use migration_types::{Entry, First, PageNo, PagerRec, Seq, Session, SourceRec};
 use page_facts::{PageFacts, PageTables, facts_of, is_right_entry, tables_of};
+use page_tables::Table;
 use std::alloc::{AllocError, Global};
 
 /// The `send` whose contents came with a `got` of the pager, itself or by an `again`.
@@ -84,18 +85,19 @@ fn entries_in(
     alloc: Global,
     session: &Session,
     tables: &PageTables,
-    looks: &[Option<u32>],
+    looks: &Table<Option<u32>>,
 ) -> Result<Option<Seq<Entry>>, AllocError>
     requires limits { IsSession session.now }
     requires tables { AreTables session.now tables.now }
-    requires looks { IsTable session.now.geometry.pages None looks.now (first_look session.now (length session.now.guest)) }
+    requires looks { IsTable session.now.geometry.pages looks.now (first_look session.now (length session.now.guest)) }
     ensures { IfOk result (λ o. MatchOption o (HasBarePage session.now) (AreMade session.now)) }
 {
-    let mut entries = Vec::with_capacity(alloc, looks.len())?;
-    for page in 0..looks.len() {
+    let pages = session.geometry().pages() as usize;
+    let mut entries = Vec::with_capacity(alloc, pages)?;
+    for page in 0..pages {
         let number = PageNo::new(page as u16);
         let facts = facts_of(session, tables, number);
-        let Some(entry) = made_entry(session, number, &facts, looks[page]) else {
+        let Some(entry) = made_entry(session, number, &facts, looks.at(number)) else {
             return Ok(None);
         };
         entries.push(entry)?;

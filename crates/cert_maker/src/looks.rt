@@ -1,21 +1,23 @@
 //! The guest's first look that reaches a placement of each page.
 
-ghost use Rattle.std.specs.Prelude.{◌≡◌, ◌≤◌, length, IfOk, None};
+ghost use Rattle.std.specs.Prelude.{◌≡◌, ◌≤◌, length, IfOk};
 ghost use Rattle.migration_types.specs.declared.records.GuestRec.TheVariants.{See};
 ghost use Rattle.migration_types.specs.Sessions.{IsSession};
 ghost use Rattle.audit_model.specs.Faults.{looks_at};
+ghost use Rattle.page_tables.specs.Tables.{pages_of, values, IsWith};
+ghost use Rattle.page_facts.specs.Moved.{PagerPage, placed_by};
 ghost use Rattle.page_facts.specs.Tables.{or_here, IsTable};
 ghost use Rattle.cert_maker.specs.Looks.{look_of, first_look, AreNoted, AreLooks, AreLooksOf};
 
-use migration_types::{GuestRec, Session};
-use page_facts::{no_places, note_placement};
+use migration_types::{GuestRec, PagerRec, Session};
+use page_tables::Table;
 use std::alloc::{AllocError, Global};
 
 /// What the walk over the guest's log keeps.
 #[derive(Drop)]
 pub(crate) struct Looks {
     /// The guest's first look at a placement of each page, or at a later record of the pager.
-    pub first: Vec<Option<u32>>,
+    pub first: Table<Option<u32>>,
     /// How many of the pager's records the looks reach.
     pub reached: usize,
 }
@@ -30,17 +32,29 @@ fn look_of(logged: &GuestRec) -> Option<u32>
     }
 }
 
+/// Notes a look for the page that a record places, if it places one and no look is noted.
+fn note_placed(first: &mut Table<Option<u32>>, rec: &PagerRec, n: u32)
+    requires { PagerPage (pages_of first.old) rec.now }
+    ensures { IsWith first.old first.new (placed_by n rec.now (values first.old)) }
+{
+    match rec {
+        PagerRec::Place { page, .. } => first.note(*page, n),
+        PagerRec::Zero { page } => first.note(*page, n),
+        _ => {}
+    }
+}
+
 /// Notes a look for the pages that these records of the pager place, where no look is noted.
-fn note_reached(session: &Session, first: &mut Vec<Option<u32>>, from: usize, to: usize, n: u32)
+fn note_reached(session: &Session, first: &mut Table<Option<u32>>, from: usize, to: usize, n: u32)
     requires limits { IsSession session.now }
     requires order { from ≤ to }
     requires within { to ≤ length session.now.pager }
-    requires noted { AreNoted session.now n from first.old.items }
-    ensures { AreNoted session.now n to first.new.items }
+    requires noted { AreNoted session.now n from first.old }
+    ensures { AreNoted session.now n to first.new }
 {
     let pager = session.pager();
     for place in from..to {
-        note_placement(first, &pager[place], n);
+        note_placed(first, &pager[place], n);
     }
 }
 
@@ -61,11 +75,14 @@ fn take_look(session: &Session, looks: &mut Looks, placement: u32, n: u32)
 
 /// The guest's first look at a placement of each page, or at a later record of the pager. Takes each record of the guest
 /// and of the pager once, and memory for a number for each page. An error: there is no memory for them.
-pub(crate) fn first_looks(alloc: Global, session: &Session) -> Result<Vec<Option<u32>>, AllocError>
-    ensures { IfOk result (λ table. IsTable session.now.geometry.pages None table.items (first_look session.now (length session.now.guest))) }
+pub(crate) fn first_looks(
+    alloc: Global,
+    session: &Session,
+) -> Result<Table<Option<u32>>, AllocError>
+    ensures { IfOk result (λ table. IsTable session.now.geometry.pages table (first_look session.now (length session.now.guest))) }
 {
     session.keeps_limits();
-    let first = no_places(alloc, session.geometry().pages())?;
+    let first = Table::no_numbers(alloc, session.geometry().pages())?;
     let mut looks = Looks { first, reached: 0 };
     let guest = session.guest();
     for n in 0..guest.len() {

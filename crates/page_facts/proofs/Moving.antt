@@ -69,7 +69,7 @@ sent_more s n r m old new is halted was on = marks_more (is_wrong_send s) s.sour
 
 -- ---- placements
 
-abbrev places : ℕ → ℕ → PagerRec → Bool
+abbrev pub places : ℕ → ℕ → PagerRec → Bool
 places page n = is_placement_of page
 
 pub placed_here : (n : ℕ) (r : PagerRec) (f : ℕ → Option ℕ) → placed_by n r f ≡ here_by places n r f

@@ -1,6 +1,6 @@
 -- What is known of each page's sends and placements, by the memory and the released pages at the halt. This serves
 -- proofs alone.
-use Rattle.std.specs.Prelude.{◌≡◌, ℕ, ◌<◌, Bool, not, ◌&&◌, ◌||◌, List, Option, Some, None, is_some}
+use Rattle.std.specs.Prelude.{◌≡◌, ℕ, ◌<◌, Bool, not, ◌&&◌, ◌||◌, List, Option, None, is_some}
 use Rattle.std.specs.Str.{bytes_eq}
 use Rattle.migration_types.specs.declared.records.SourceRec.{SourceRec}
 use Rattle.migration_types.specs.declared.records.SourceRec.TheVariants.{Send}
@@ -34,12 +34,6 @@ PagerPage pages _ = Unit {0}
 -- a second placement of the page
 abbrev pub is_again : Recorded → ℕ → ℕ → PagerRec → Bool
 is_again s page n r = is_placement_of page r && is_some (first_before (λ m. is_placement_of page) s.pager n)
-
--- the page that a record places
-abbrev pub placed_page : PagerRec → Option ℕ
-placed_page (Place p got content) = Some p
-placed_page (Zero p) = Some p
-placed_page _ = None
 
 -- the tables after a record
 abbrev pub sent_by : Frames → Pages → SourceRec → (ℕ → Bool) → ℕ → Bool

@@ -18,5 +18,5 @@ mod tests;
 
 pub use entries::is_right_entry;
 pub use facts::{PageFacts, PageTables, facts_of, tables_of};
-pub use moved::{Placed, placed_page};
+pub use moved::Placed;
 pub use page_fault::{PageFault, first_page_fault};

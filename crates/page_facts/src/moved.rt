@@ -7,7 +7,7 @@ ghost use Rattle.balloon_ledger.specs.Released.{released};
 ghost use Rattle.flat_machine.specs.Machines.{IsFlat};
 ghost use Rattle.page_tables.specs.Tables.{noted, pages_of, values, IsWith};
 ghost use Rattle.residency.specs.Placements.{placements, IsWith as IsResidency};
-ghost use Rattle.page_facts.specs.Moved.{differs, placed_page, SourcePage, PagerPage, sent_by, again_by, altered_by, placed_by, ArePlacements, IsPlaced, IsPlacedOn, AreSent};
+ghost use Rattle.page_facts.specs.Moved.{differs, SourcePage, PagerPage, sent_by, again_by, altered_by, placed_by, ArePlacements, IsPlaced, IsPlacedOn, AreSent};
 
 use flat_machine::Machine;
 use migration_types::{Contents, PageNo, PagerRec, Session, SourceRec};
@@ -33,17 +33,6 @@ pub(crate) fn differs(frames: &Store, page: PageNo, contents: &Contents) -> bool
     ensures { result ≡ differs frames.now page contents.now }
 {
     contents.as_slice() != frames.page(page)
-}
-
-/// The page that a record places, if it places one.
-pub fn placed_page(rec: &PagerRec) -> Option<PageNo>
-    ensures { result ≡ placed_page rec.now }
-{
-    match rec {
-        PagerRec::Place { page, .. } => Some(*page),
-        PagerRec::Zero { page } => Some(*page),
-        _ => None,
-    }
 }
 
 /// Marks the page of a `send` that is not right.

@@ -1,8 +1,12 @@
-use Rattle.std.proofs.Common.{ℕ, ◌∙◌, List, sym, subst, arith}
+use Rattle.std.proofs.Common.{ℕ, Option, ◌∙◌, List, sym, ap, subst, arith}
+use Rattle.migration_types.specs.Extents.{Extent}
 use Rattle.migration_types.specs.declared.cert.Entry.{Entry}
 use Rattle.cert_maker.specs.Entries.{IsMadeEntry, AreMade}
 use Rattle.cert_maker.proofs.Certifying.{each_more, pushed_length}
 use Rattle.cert_maker.proofs.entries.entries_in.Goals as goal
+
+pub made_entry-requires-clause-look : goal.made_entry-requires-clause-look
+made_entry-requires-clause-look c = c.at.ensures ∙ ap (λ (f : ℕ → Option ℕ). f c.new-number.result) c.requires.looks.values_are
 
 pub loop-page-preserved : goal.loop-page-preserved
 loop-page-preserved c =
@@ -19,7 +23,7 @@ pub returns : goal.returns
 returns c =
     let s = c.args.session.now in
     let made : AreMade s c.loop-page.entries.items = record {
-      pages = omega (arith, c.loop-page.invariant.count, c.loop-page-test.false, c.requires.looks.0, c.loop-page.auto.page-end);
+      pages = omega (arith, c.loop-page.invariant.count, c.loop-page-test.false, ap (λ (e : Extent). e.pages) c.geometry.ensures, c.pages-pages.ensures, c.loop-page.auto.page-end);
       each = c.loop-page.invariant.each;
     } in
     subst (λ (xs : List Entry). AreMade s xs) (sym c.from_vec.ensures) made

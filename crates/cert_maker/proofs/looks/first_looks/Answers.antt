@@ -1,10 +1,21 @@
-use Rattle.std.proofs.Common.{◌+◌, sym, ◌∙◌, subst}
+use Rattle.std.proofs.Common.{◌+◌, refl, sym, ap, ◌∙◌, subst, arith}
+use Rattle.migration_types.specs.Extents.{Extent}
 use Rattle.page_facts.proofs.Reading.{read_at}
 use Rattle.cert_maker.specs.declared.looks.Looks.{Looks}
 use Rattle.cert_maker.specs.Looks.{AreLooks}
 use Rattle.cert_maker.proofs.Looking.{looks_more, looks_kept}
 use Rattle.cert_maker.proofs.looks.first_looks.Goals as goal
 use Rattle.cert_maker.proofs.looks.first_looks.Goals.{in-Some, in_default}
+
+pub loop-n-init : goal.loop-n-init
+loop-n-init c = record {
+  table = record {
+    pages_are = c.in_ok-first.ensures.pages ∙ c.pages.ensures ∙ ap (λ (e : Extent). e.pages) c.geometry.ensures;
+    values_are = c.in_ok-first.ensures.values;
+  };
+  known = λ p. refl;
+  within = omega arith;
+}
 
 pub loop-n-preserved : goal.loop-n-preserved
 loop-n-preserved c =

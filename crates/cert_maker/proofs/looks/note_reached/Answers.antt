@@ -11,4 +11,4 @@ loop-place-preserved c =
     let rec = c.index-pager-place.result in
     let all = ap (λ (xs : List PagerRec). length xs) c.pager-pager.ensures in
     let is = read_at c.pager-pager.result.now s.pager place rec c.pager-pager.ensures (omega (arith, all, c.loop-place-test.true, c.requires.within)) c.index-pager-place.is in
-    noted_more s c.args.n place rec c.loop-place.first.items c.note_placement.new.first.items c.requires.limits is c.loop-place.invariant c.note_placement.ensures
+    noted_more s c.args.n place rec c.loop-place.first c.note_placed.new.first is c.loop-place.invariant c.note_placed.ensures
