@@ -1,34 +1,33 @@
 //! Fields that several records' lines have.
 
-ghost use Rattle.std.specs.Prelude.{◌≡◌, ◌≢◌, ◌<◌, ◌≤◌, ◌∷◌, ◌++◌, List, ℕ, MatchOption, IfSome, IfOk, IfErr};
+ghost use Rattle.std.specs.Prelude.{◌≡◌, ◌≢◌, ◌<◌, ◌≤◌, [], ◌∷◌, ◌++◌, List, ℕ, IfSome, IsSomeAnd, IfOk, IfErr};
 ghost use Rattle.std.specs.Fmt.{decimal};
 ghost use Rattle.text_lines.specs.Contents.{contents_text, IsContent};
 
 use migration_types::{Contents, LAST_RECORD, PageNo};
 use std::alloc::Global;
-use text_lines::{FaultKind, after_key, read_cell, read_contents, read_keyed, short_before};
+use text_lines::{FaultKind, after_key, number_last, read_cell, read_contents};
 
-/// The number of a record, where a line is a key and such a number.
-pub(crate) fn read_numbered(line: &[u8], key: &[u8]) -> Option<u32>
-    ensures { MatchOption result
-        ((n : ℕ) → n < 1048576 → line.now ≢ key.now ++ decimal n)
-        (λ n. (n < 1048576) × (line.now ≡ key.now ++ decimal n)) }
+/// The number of a record behind a key at the front, and what follows. Nothing follows where the text is theirs alone.
+#[inline(always)]
+pub(crate) fn numbered_then<'a>(text: &'a [u8], key: &[u8]) -> Option<(u32, &'a [u8])>
+    ensures found { IfSome result (λ found. (found.0 < 1048576) × (text.now ≡ key.now ++ (decimal found.0 ++ found.1.now))) }
+    ensures whole { (n : ℕ) → n < 1048576 → text.now ≡ key.now ++ decimal n → IsSomeAnd result (λ found. found.1.now ≡ []) }
 {
-    read_keyed(line, key, LAST_RECORD).ok()
+    let (number, rest) = number_last(after_key(text, key)?, u64::from(LAST_RECORD))?;
+    Some((number as u32, rest))
 }
 
-/// A page of so many, where a line is a key and its number.
-pub(crate) fn read_page_number(line: &[u8], key: &[u8], pages: u32) -> Option<PageNo>
+/// A page of so many behind a key at the front, and what follows. Nothing follows where the text is theirs alone.
+#[inline(always)]
+pub(crate) fn page_then<'a>(text: &'a [u8], key: &[u8], pages: u32) -> Option<(PageNo, &'a [u8])>
     requires some { 0 < pages }
     requires few { pages ≤ 65536 }
-    ensures { MatchOption result
-        ((p : ℕ) → p < pages → line.now ≢ key.now ++ decimal p)
-        (λ p. (p < pages) × (line.now ≡ key.now ++ decimal p)) }
+    ensures found { IfSome result (λ found. (found.0 < pages) × (text.now ≡ key.now ++ (decimal found.0 ++ found.1.now))) }
+    ensures whole { (p : ℕ) → p < pages → text.now ≡ key.now ++ decimal p → IsSomeAnd result (λ found. found.1.now ≡ []) }
 {
-    match read_keyed(line, key, pages - 1) {
-        Ok(page) => Some(PageNo::new(page as u16)),
-        Err(_) => None,
-    }
+    let (page, rest) = number_last(after_key(text, key)?, u64::from(pages) - 1)?;
+    Some((PageNo::new(page as u16), rest))
 }
 
 /// The values of a page's cells that a text spells, cell 0 first. Those of one cell take no memory.
@@ -50,9 +49,30 @@ pub(crate) fn read_page_contents(
     Ok(Contents::from_vec(values))
 }
 
+/// The values of a page's cells, of which there are so many, at the front, and what follows. Nothing follows where the
+/// text is theirs alone. Those of one cell take no memory.
+#[inline(always)]
+pub(crate) fn contents_then(
+    alloc: Global,
+    text: &[u8],
+    cells: u32,
+) -> Result<(Contents, &[u8]), FaultKind>
+    ensures found { IfOk result (λ found. IsContent cells found.0 × (text.now ≡ contents_text found.0 ++ found.1.now)) }
+    ensures refused { IfErr result (λ kind. kind ≢ FaultKind.Memory → (xs : List ℕ) → IsContent cells xs → text.now ≢ contents_text xs) }
+    ensures whole { IfOk result (λ found. (xs : List ℕ) → IsContent cells xs → text.now ≡ contents_text xs → found.1.now ≡ []) }
+{
+    let digits = 16 * cells as usize;
+    if text.len() < digits {
+        return Err(FaultKind::Form);
+    }
+    let (digits, rest) = text.split_at(digits);
+    let contents = read_page_contents(alloc, digits, cells)?;
+    Ok((contents, rest))
+}
+
 /// What follows the line feed at the front of a text.
 #[inline(always)]
-pub(crate) fn front_ended(text: &[u8]) -> Option<&[u8]>
+pub(crate) fn after_end(text: &[u8]) -> Option<&[u8]>
     ensures { IfSome result (λ rest. text.now ≡ 10 ∷ rest.now) }
 {
     let (end, rest) = text.split_first()?;
@@ -60,41 +80,4 @@ pub(crate) fn front_ended(text: &[u8]) -> Option<&[u8]>
         return None;
     }
     Some(rest)
-}
-
-/// A number up to a limit at the front of a text of whole lines, and what follows the line. It may answer `None` at
-/// any text.
-#[inline(always)]
-pub(crate) fn front_last(text: &[u8], limit: u32) -> Option<(u32, &[u8])>
-    ensures { IfSome result (λ found. (found.0 ≤ limit) × (text.now ≡ decimal found.0 ++ 10 ∷ found.1.now)) }
-{
-    if text.len() < 8 {
-        return None;
-    }
-    short_before(text, b'\n', limit)
-}
-
-/// The number of a record behind a key at the front of a text of whole lines, and what follows the line. It may answer
-/// `None` at any text.
-#[inline(always)]
-pub(crate) fn front_numbered<'a>(text: &'a [u8], key: &[u8]) -> Option<(u32, &'a [u8])>
-    ensures { IfSome result (λ found. (found.0 < 1048576) × (text.now ≡ key.now ++ (decimal found.0 ++ 10 ∷ found.1.now))) }
-{
-    front_last(after_key(text, key)?, LAST_RECORD)
-}
-
-/// The values of a page's cells, of which there are so many, at the front of a text of whole lines, and what follows
-/// the line. It may answer `None` at any text.
-#[inline(always)]
-pub(crate) fn front_contents(alloc: Global, text: &[u8], cells: u32) -> Option<(Contents, &[u8])>
-    ensures { IfSome result (λ found. IsContent cells found.0 × (text.now ≡ contents_text found.0 ++ 10 ∷ found.1.now)) }
-{
-    let digits = 16 * cells as usize;
-    if text.len() < digits {
-        return None;
-    }
-    let (digits, after) = text.split_at(digits);
-    let rest = front_ended(after)?;
-    let contents = read_page_contents(alloc, digits, cells).ok()?;
-    Some((contents, rest))
 }

@@ -2,9 +2,14 @@
 
 ghost use Rattle.std.specs.Prelude.{◌≡◌, []};
 
-use super::*;
+use crate::refusal_line;
 use std::marker::Model;
 use std::test::Fail;
+use text_lines::{
+    FaultKind, LineReader, Rewind, TextFault, TextReader, after_key, front_number, is_line,
+    next_line, number_then, push_keyed, push_keyed_word, push_line, push_number, push_then, read,
+    read_cell, read_contents, read_decimal, read_keyed, short_then,
+};
 
 /// Reads a text of one line of one byte.
 #[derive(Drop)]
@@ -14,7 +19,7 @@ struct OneByte {
 
 impl Model for OneByte {
     ghost use Rattle.std.specs.Prelude.{List, ℕ};
-    ghost use Rattle.text_lines.specs.OneByte.{lines_so_far, IsLineByte};
+    ghost use Rattle.text_tests.specs.OneByte.{lines_so_far, IsLineByte};
 
     ghost Value = { List (List ℕ) };
 
@@ -30,7 +35,7 @@ fn no_line() -> OneByte
 }
 
 impl LineReader for OneByte {
-    ghost use Rattle.text_lines.specs.OneByte.{SpellsByte, plain_byte};
+    ghost use Rattle.text_tests.specs.OneByte.{SpellsByte, plain_byte};
 
     type Text = u8;
 
@@ -72,13 +77,6 @@ impl Rewind for OneByte {
     }
 }
 
-fn line_of(answer: Result<u8, TextFault>) -> u32 {
-    match answer {
-        Ok(_) => 0,
-        Err(fault) => fault.line,
-    }
-}
-
 #[test]
 fn reads_whole_texts(rt: HostRuntime) {
     assert_eq!(rt; read(no_line(), b"a\n"), Ok(b'a'));
@@ -90,7 +88,7 @@ fn reads_whole_texts(rt: HostRuntime) {
         (b"a\n\n".as_slice(), 2),
         (b"a\nb".as_slice(), 2),
     ] {
-        assert_eq!(rt; line_of(read(no_line(), text)), line);
+        assert_eq!(rt; refusal_line(&read(no_line(), text)), line);
     }
 }
 
