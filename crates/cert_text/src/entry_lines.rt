@@ -11,7 +11,7 @@ ghost use Rattle.cert_text.specs.inner.Taken.{TakesEntries, TakesEntry};
 
 use crate::keys::{BALLOON_KEY, NO_FIRST, NONE, PAGE_KEY, SOURCE_KEY, after_end};
 use migration_types::{Entry, First, LAST_RECORD};
-use text_lines::{FaultKind, after_key, front_number, number_then, short_then};
+use text_lines::{FaultKind, after_key, front_number, number_then};
 
 /// A number up to a limit at the front, and what follows the space after it.
 #[inline(always)]
@@ -19,11 +19,6 @@ fn limited_then(text: &[u8], limit: u32) -> Option<(u32, &[u8])>
     ensures found { IfSome result (λ found. (found.0 ≤ limit) × (text.now ≡ decimal found.0 ++ 32 ∷ found.1.now)) }
     ensures whole { (n : ℕ) (rest : List ℕ) → n ≤ limit → text.now ≡ decimal n ++ 32 ∷ rest → IsSomeAnd result (λ found. (found.0 ≡ n) × (found.1.now ≡ rest)) }
 {
-    if text.len() >= 8 {
-        if let Some((number, rest)) = short_then(text, limit) {
-            return Some((number, rest));
-        }
-    }
     let (number, rest) = number_then(text, u64::from(limit))?;
     Some((number as u32, rest))
 }

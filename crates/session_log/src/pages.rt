@@ -30,10 +30,10 @@ pub(crate) fn read_page(
     let Some(rest) = after_key(line, PAGE_KEY) else {
         return Err(FaultKind::Form);
     };
-    let Some((number, text)) = number_then(rest, u64::from(high)) else {
+    let Some((number, text)) = number_then(rest, u64::MAX) else {
         return Err(FaultKind::Form);
     };
-    if number < u64::from(low) {
+    if number < u64::from(low) || number > u64::from(high) {
         return Err(FaultKind::Range);
     }
     let cells = read_init_content(alloc, text, cells)?;

@@ -1,68 +1,84 @@
 //! Which kind of fault a text has: a line that is not of the grammar's form, a number out of its range, or an end that is
 //! too early or too late.
 
+use crate::sessions::KINDS;
+use crate::{fault_of, spelled_out};
 use session_log::read_session;
 use std::test::Fail;
-use text_lines::{FaultKind, TextFault};
+use text_lines::FaultKind;
 
-/// A machine of three pages of two cells, two initial pages and a record in each log.
-const SESSION: &str =
-    "postcopy-session 1\npages 3\ncells 2\ninit 2\npage 0 00000000000000050000000000000000\npage 1 00000000000000000000000000000006\nguest 1\nr 0 0 0 5\nsource 1\nsend 1 00000000000000000000000000000006\nlink 1\ndown 0\npager 1\nplace 1 0 00000000000000000000000000000006\nend\n";
+/// Changes of a session's text: the line at which it is then refused, the kind of the fault, what is changed, and what
+/// into. There `/` stands for a line feed, and `_` for a space.
+const CHANGES: &str = "1 Form session 1 => session 2
+2 Form pages 3 => page 3
+2 Form pages 3 => pages 03
+2 Form pages 3 => pages__3
+2 Range pages 3 => pages 0
+2 Range pages 3 => pages 65537
+3 Form cells 2 => cells two
+3 Range cells 2 => cells 0
+3 Range cells 2 => cells 513
+3 Range pages 3/cells 2 => pages 2049/cells 512
+3 Range pages 3/cells 2 => pages 65536/cells 17
+4 Form init 2 => init 02
+4 Range init 2 => init 4
+7 Form pages 3/cells 2/init 2 => pages 4/cells 2/init 3
+6 Range init 2 => init 3
+6 Form init 2 => init 1
+5 Form page 0_ => page 00_
+5 Range page 0_ => page 2_
+5 Form page 0 0000000000000005 => page 0 0000000000000000
+5 Form page 0 0000000000000005 => page 0 000000000000000A
+5 Form page 0 0000000000000005 => page 0 000000000000005
+6 Range page 2_ => page 0_
+6 Range page 2_ => page 3_
+7 Form guest 7 => guest 07
+7 Range guest 7 => guest 1048577
+15 Form guest 7 => guest 8
+14 Form guest 7 => guest 6
+15 Range source 6 => source 1048577
+22 Form source 6 => source 7
+21 Form source 6 => source 5
+15 Form source 6 => link 6
+22 Range link 2 => link 1048577
+25 Form link 2 => link 3
+24 Form link 2 => link 1
+25 Range pager 9 => pager 1048577
+35 Form pager 9 => pager 10
+34 Form pager 9 => pager 8
+35 Form end/ => END/
+35 Ended end/ => end
+36 Ended end/ => end//
+36 Ended end/ => end/x";
 
-#[test]
-fn faults_have_their_kinds(rt: HostRuntime) -> Result<(), Fail> {
-    for (old, new, line, kind) in [
-        ("session 1", "session 2", 1, FaultKind::Form),
-        ("pages 3", "pages 03", 2, FaultKind::Form),
-        ("pages 3", "page 3", 2, FaultKind::Form),
-        ("pages 3", "pages 0", 2, FaultKind::Range),
-        ("pages 3", "pages 65537", 2, FaultKind::Range),
-        ("cells 2", "cells two", 3, FaultKind::Form),
-        ("cells 2", "cells 0", 3, FaultKind::Range),
-        ("cells 2", "cells 513", 3, FaultKind::Range),
-        ("pages 3\ncells 2", "pages 65536\ncells 17", 3, FaultKind::Range),
-        ("init 2", "init 4", 4, FaultKind::Range),
-        ("init 2", "init +2", 4, FaultKind::Form),
-        ("page 1 ", "page 0 ", 6, FaultKind::Range),
-        ("page 1 0000000000000000", "page 1 000000000000000g", 6, FaultKind::Form),
-        ("page 1 00000000000000000000000000000006", "page 1 00000000000000000000000000000000", 6, FaultKind::Form),
-        ("init 2", "init 3", 7, FaultKind::Form),
-        ("init 2", "init 1", 6, FaultKind::Form),
-        ("guest 1", "guest 1048577", 7, FaultKind::Range),
-        ("guest 1", "source 1", 7, FaultKind::Form),
-        ("guest 1", "guest 0", 8, FaultKind::Form),
-        ("guest 1", "guest 2", 9, FaultKind::Form),
-        ("source 1", "source 1048577", 9, FaultKind::Range),
-        ("link 1", "link 1048577", 11, FaultKind::Range),
-        ("pager 1", "pager 1048577", 13, FaultKind::Range),
-        ("r 0 0 0 5", "R 0 0 0 5", 8, FaultKind::Form),
-        ("r 0 0 0 5", "r 0 0 0", 8, FaultKind::Form),
-        ("send 1 0000000000000000", "send 1 000000000000000", 10, FaultKind::Form),
-        ("down 0", "down  0", 12, FaultKind::Form),
-        ("place 1 0 ", "place 1 ", 14, FaultKind::Form),
-        ("end\n", "END\n", 15, FaultKind::Form),
-        ("end\n", "", 15, FaultKind::Ended),
-        ("end\n", "end", 15, FaultKind::Ended),
-        ("end\n", "end\nend\n", 16, FaultKind::Ended),
-        ("end\n", "end\nx", 16, FaultKind::Ended),
-    ] {
-        let text = SESSION.replacen(rt.alloc(), old, new, 1)?;
-        let Err(fault) = read_session(rt.alloc(), text.as_bytes()) else {
-            return Err(Fail::new("the text is read"));
-        };
-        assert_eq!(rt; fault, TextFault { line, kind }, "{new}");
+fn kind_of(word: &str) -> Option<FaultKind> {
+    match word {
+        "Form" => Some(FaultKind::Form),
+        "Range" => Some(FaultKind::Range),
+        "Ended" => Some(FaultKind::Ended),
+        _ => None,
     }
-    Ok(())
+}
+
+/// What a row of changes says: a line, a kind, what is changed, and what into.
+fn change_of(row: &str) -> Option<(u32, FaultKind, &str, &str)> {
+    let (line, rest) = row.split_once(' ')?;
+    let (kind, rest) = rest.split_once(' ')?;
+    let (old, new) = rest.split_once(" => ")?;
+    Some((line.parse::<u32>().ok()?, kind_of(kind)?, old, new))
 }
 
 #[test]
-fn a_text_that_ends_too_early_says_so(rt: HostRuntime) -> Result<(), Fail> {
-    let bytes = SESSION.as_bytes();
-    for length in 0..bytes.len() {
-        let Err(fault) = read_session(rt.alloc(), &bytes[..length]) else {
-            return Err(Fail::new("the text is read"));
+fn faults_have_their_kinds(rt: HostRuntime) -> Result<(), Fail> {
+    for row in CHANGES.lines() {
+        let Some((line, kind, old, new)) = change_of(row) else {
+            return Err(Fail::new("the row is no change"));
         };
-        assert_eq!(rt; fault.kind, FaultKind::Ended, "{length} bytes");
+        let old = spelled_out(rt.alloc(), old)?;
+        let new = spelled_out(rt.alloc(), new)?;
+        let text = KINDS.replacen(rt.alloc(), old.as_str(), new.as_str(), 1)?;
+        let fault = fault_of(&read_session(rt.alloc(), text.as_bytes()));
+        assert_eq!(rt; fault, Some((line, kind)), "{row}");
     }
     Ok(())
 }

@@ -14,7 +14,8 @@ mod sessions;
 #[cfg(test)]
 mod slow;
 
-use text_lines::TextFault;
+use std::alloc::{AllocError, Global};
+use text_lines::{FaultKind, TextFault};
 
 /// The line at which a text is refused, and 0 where it is read.
 pub fn refusal_line<T>(answer: &Result<T, TextFault>) -> u32
@@ -24,4 +25,20 @@ pub fn refusal_line<T>(answer: &Result<T, TextFault>) -> u32
         Ok(_) => 0,
         Err(fault) => fault.line,
     }
+}
+
+/// The line and the kind of the fault, where there is one.
+pub fn fault_of<T>(answer: &Result<T, TextFault>) -> Option<(u32, FaultKind)>
+    ensures { MatchResult answer.now (λ _. result ≡ None) (λ fault. result ≡ Some (fault.line, fault.kind)) }
+{
+    match answer {
+        Ok(_) => None,
+        Err(fault) => Some((fault.line, fault.kind)),
+    }
+}
+
+/// A text with a line feed for each `/` and a space for each `_`.
+pub fn spelled_out(alloc: Global, text: &str) -> Result<String, AllocError> {
+    let lines = text.replacen(alloc, "/", "\n", 99)?;
+    lines.replacen(alloc, "_", " ", 99)
 }

@@ -7,8 +7,8 @@ use std::marker::Model;
 use std::test::Fail;
 use text_lines::{
     FaultKind, LineReader, Rewind, TextFault, TextReader, after_key, front_number, is_line,
-    next_line, number_then, push_keyed, push_keyed_word, push_line, push_number, push_then, read,
-    read_cell, read_contents, read_decimal, read_keyed, short_then,
+    next_line, number_last, number_then, push_keyed, push_keyed_word, push_line, push_number,
+    push_then, read, read_cell, read_contents, read_decimal, read_keyed,
 };
 
 /// Reads a text of one line of one byte.
@@ -113,29 +113,65 @@ fn reads_pieces(rt: HostRuntime) -> Result<(), Fail> {
 }
 
 #[test]
+fn reads_numbers(rt: HostRuntime) {
+    for (text, number, rest) in [
+        (b"7 x".as_slice(), 7, b" x".as_slice()),
+        (b"70x", 70, b"x"),
+        (b"1048575\nand more", 1_048_575, b"\nand more"),
+        (b"0 ", 0, b" "),
+    ] {
+        assert_eq!(rt; front_number(text), Some((number, rest)));
+        assert_eq!(rt; number_last(text, 1_048_575), Some((number, rest)));
+    }
+    for text in [
+        b"".as_slice(),
+        b"x",
+        b"00",
+        b"01 ",
+        b" 7",
+        b"1048576\nand more",
+    ] {
+        assert_eq!(rt; number_last(text, 1_048_575), None);
+        assert_eq!(rt; number_then(text, 1_048_575), None);
+    }
+    let then = (
+        number_then(b"7 x", 7),
+        number_then(b"7", 9),
+        number_then(b"7\tx", 9),
+    );
+    assert_eq!(rt; then, (Some((7, b"x".as_slice())), None, None));
+    let alone = (read_decimal(b"0"), read_decimal(b"00"), read_decimal(b"7 "));
+    assert_eq!(rt; alone, (Some(0), None, None));
+}
+
+#[test]
 fn reads_fields(rt: HostRuntime) -> Result<(), Fail> {
-    assert_eq!(rt; after_key(b"pages 3", b"pages "), Some(b"3".as_slice()));
-    assert_eq!(rt; after_key(b"page 3", b"pages "), None);
-    assert_eq!(rt; read_keyed(b"pages 3", b"pages ", 3), Ok(3));
-    assert_eq!(rt; read_keyed(b"pages 4", b"pages ", 3), Err(FaultKind::Range));
-    assert_eq!(rt; read_keyed(b"pages 03", b"pages ", 3), Err(FaultKind::Form));
-    assert!(rt; is_line(b"end", b"end"));
-    assert!(rt; !is_line(b"end ", b"end"));
-    assert_eq!(rt; number_then(b"7 x", 9), Some((7, b"x".as_slice())));
-    assert_eq!(rt; number_then(b"7", 9), None);
-    assert_eq!(rt; short_then(b"7 xxxxxx", 9), Some((7, b"xxxxxx".as_slice())));
-    assert_eq!(rt; front_number(b"70x"), Some((70, b"x".as_slice())));
-    assert_eq!(rt; read_decimal(b"0"), Some(0));
-    assert_eq!(rt; read_decimal(b"00"), None);
+    let behind = (
+        after_key(b"pages 3", b"pages "),
+        after_key(b"page 3", b"pages "),
+    );
+    assert_eq!(rt; behind, (Some(b"3".as_slice()), None));
+    for (line, answer) in [
+        (b"pages 3".as_slice(), Ok(3)),
+        (b"pages 4", Err(FaultKind::Range)),
+        (b"pages 03", Err(FaultKind::Form)),
+        (b"page 3", Err(FaultKind::Form)),
+    ] {
+        assert_eq!(rt; read_keyed(line, b"pages ", 3), answer);
+    }
+    let ends = (is_line(b"end", b"end"), is_line(b"end ", b"end"));
+    assert_eq!(rt; ends, (true, false));
     assert_eq!(rt;
         next_line(b"a\nb"),
         Some((b"a".as_slice(), b"b".as_slice()))
     );
-    assert_eq!(rt; read_cell(b"00000000000000ff"), Some(255));
-    assert_eq!(rt; read_cell(b"00000000000000FF"), None);
+    let cells = (
+        read_cell(b"00000000000000ff"),
+        read_cell(b"00000000000000FF"),
+    );
+    assert_eq!(rt; cells, (Some(255), None));
     let cells = read_contents(rt.alloc(), b"0000000000000001fedcba9876543210", 2)?;
     assert_eq!(rt; cells.as_slice(), [1, 0xfedc_ba98_7654_3210].as_slice());
-    assert!(rt; read_contents(rt.alloc(), b"0000000000000001", 2).is_err());
     Ok(())
 }
 

@@ -1,10 +1,11 @@
 //! Single records of each log: what their lines spell, and lines that are refused.
 
-use crate::refusal_line;
-use migration_types::{GuestRec, LinkRec, LogName, PageNo, PagerRec, SourceRec};
+use crate::{fault_of, spelled_out};
+use migration_types::{LogName, PagerRec, SourceRec};
 use session_log::read_session;
 use std::alloc::{AllocError, Global};
 use std::test::Fail;
+use text_lines::FaultKind;
 
 /// The text of a session whose one record, of this log, has this line, on a machine of three pages of two cells.
 fn text_of_one(alloc: Global, log: LogName, line: &str) -> Result<String, AllocError> {
@@ -25,54 +26,6 @@ fn line_of_one(log: LogName) -> u32 {
         LogName::Link => 8,
         LogName::Pager => 9,
     }
-}
-
-#[test]
-fn guest_lines_are_read(rt: HostRuntime) -> Result<(), Fail> {
-    let page = PageNo::new(2);
-    for (line, record) in [
-        (
-            "r 63 2 1 18446744073709551615",
-            GuestRec::Read {
-                vcpu: 63,
-                page,
-                cell: 1,
-                value: 18_446_744_073_709_551_615,
-            },
-        ),
-        (
-            "w 0 2 0 0",
-            GuestRec::Write {
-                vcpu: 0,
-                page,
-                cell: 0,
-                value: 0,
-            },
-        ),
-        ("z 7 2", GuestRec::Release { vcpu: 7, page }),
-        ("miss 7 2", GuestRec::Miss { vcpu: 7, page }),
-        ("halt", GuestRec::Halt),
-        ("resume 1048575", GuestRec::Resume { ready: 1_048_575 }),
-        ("see 0", GuestRec::See { placement: 0 }),
-    ] {
-        let text = text_of_one(rt.alloc(), LogName::Guest, line)?;
-        let session = read_session(rt.alloc(), text.as_bytes())?;
-        assert_eq!(rt; session.guest(), [record].as_slice(), "{line}");
-    }
-    Ok(())
-}
-
-#[test]
-fn link_lines_are_read(rt: HostRuntime) -> Result<(), Fail> {
-    for (line, record) in [
-        ("down 0", LinkRec::Down { sending: 0 }),
-        ("up 1048575", LinkRec::Up { asking: 1_048_575 }),
-    ] {
-        let text = text_of_one(rt.alloc(), LogName::Link, line)?;
-        let session = read_session(rt.alloc(), text.as_bytes())?;
-        assert_eq!(rt; session.link(), [record].as_slice(), "{line}");
-    }
-    Ok(())
 }
 
 /// Whether the source's record is this line's.
@@ -160,70 +113,88 @@ fn pager_lines_are_read(rt: HostRuntime) -> Result<(), Fail> {
     Ok(())
 }
 
+/// Lines that are no record's in their log, behind its name. There `_` stands for a space.
+const OTHERS: &str = "guest|r 64 2 1 0
+guest|r 63 3 1 0
+guest|r 63 2 2 0
+guest|r 63 2 1 18446744073709551616
+guest|r 63 2 1
+guest|z 7 3
+guest|z_7_2_
+guest|miss 64 2
+guest|miss 7
+guest|Halt
+guest|halt_
+guest|halt 0
+guest|resume
+guest|resume 1048576
+guest|resume 01
+guest|see -1
+guest|see 1048576
+guest|down 1
+guest|
+source|halted
+source|halted 1048576
+source|state_
+source|again 01
+source|ask 1048576
+source|Done
+source|
+source|send 3 00000000000000ff1000000000000000
+source|send 2 00000000000000ff100000000000000
+source|send 2 00000000000000ff100000000000000F
+source|send_2_00000000000000ff1000000000000000_
+source|send 2
+source|send_2__0000000000000ff1000000000000000
+source|got 1
+link|down 1048576
+link|down
+link|down__0
+link|up 00
+link|Up 0
+link|see 0
+link|
+pager|got 1048576
+pager|ready 0
+pager|fault
+pager|join 1048576
+pager|want 3
+pager|zero 3
+pager|skip 1048576
+pager|All
+pager|
+pager|place 3 0 00000000000000ff1000000000000000
+pager|place 2 1048576 00000000000000ff1000000000000000
+pager|place 2 0 00000000000000ff100000000000000
+pager|place 2 00000000000000ff1000000000000000
+pager|place 2 0
+pager|zero 02
+pager|want_2_
+pager|down 1";
+
+fn log_of(word: &str) -> Option<LogName> {
+    match word {
+        "guest" => Some(LogName::Guest),
+        "source" => Some(LogName::Source),
+        "link" => Some(LogName::Link),
+        "pager" => Some(LogName::Pager),
+        _ => None,
+    }
+}
+
 #[test]
-fn other_lines_are_refused(rt: HostRuntime) -> Result<(), Fail> {
-    for (log, line) in [
-        (LogName::Guest, "r 64 2 1 0"),
-        (LogName::Guest, "r 63 3 1 0"),
-        (LogName::Guest, "r 63 2 2 0"),
-        (LogName::Guest, "r 63 2 1 18446744073709551616"),
-        (LogName::Guest, "r 63 2 1"),
-        (LogName::Guest, "z 7 3"),
-        (LogName::Guest, "z 7 2 "),
-        (LogName::Guest, "miss 64 2"),
-        (LogName::Guest, "miss 7"),
-        (LogName::Guest, "Halt"),
-        (LogName::Guest, "halt "),
-        (LogName::Guest, "halt 0"),
-        (LogName::Guest, "resume"),
-        (LogName::Guest, "resume 1048576"),
-        (LogName::Guest, "resume 01"),
-        (LogName::Guest, "see -1"),
-        (LogName::Guest, "see 1048576"),
-        (LogName::Guest, "down 1"),
-        (LogName::Guest, ""),
-        (LogName::Source, "halted"),
-        (LogName::Source, "halted 1048576"),
-        (LogName::Source, "state "),
-        (LogName::Source, "again 01"),
-        (LogName::Source, "ask 1048576"),
-        (LogName::Source, "Done"),
-        (LogName::Source, ""),
-        (LogName::Source, "send 3 00000000000000ff1000000000000000"),
-        (LogName::Source, "send 2 00000000000000ff100000000000000"),
-        (LogName::Source, "send 2 00000000000000ff100000000000000F"),
-        (LogName::Source, "send 2 00000000000000ff1000000000000000 "),
-        (LogName::Source, "send 2"),
-        (LogName::Source, "send 2  0000000000000ff1000000000000000"),
-        (LogName::Source, "got 1"),
-        (LogName::Link, "down 1048576"),
-        (LogName::Link, "down"),
-        (LogName::Link, "down  0"),
-        (LogName::Link, "up 00"),
-        (LogName::Link, "Up 0"),
-        (LogName::Link, "see 0"),
-        (LogName::Link, ""),
-        (LogName::Pager, "got 1048576"),
-        (LogName::Pager, "ready 0"),
-        (LogName::Pager, "fault"),
-        (LogName::Pager, "join 1048576"),
-        (LogName::Pager, "want 3"),
-        (LogName::Pager, "zero 3"),
-        (LogName::Pager, "skip 1048576"),
-        (LogName::Pager, "All"),
-        (LogName::Pager, ""),
-        (LogName::Pager, "place 3 0 00000000000000ff1000000000000000"),
-        (LogName::Pager, "place 2 1048576 00000000000000ff1000000000000000"),
-        (LogName::Pager, "place 2 0 00000000000000ff100000000000000"),
-        (LogName::Pager, "place 2 00000000000000ff1000000000000000"),
-        (LogName::Pager, "place 2 0"),
-        (LogName::Pager, "zero 02"),
-        (LogName::Pager, "want 2 "),
-        (LogName::Pager, "down 1"),
-    ] {
-        let text = text_of_one(rt.alloc(), log, line)?;
-        let answer = read_session(rt.alloc(), text.as_bytes());
-        assert_eq!(rt; refusal_line(&answer), line_of_one(log), "{line}");
+fn other_lines_have_not_their_form(rt: HostRuntime) -> Result<(), Fail> {
+    for row in OTHERS.lines() {
+        let Some((word, line)) = row.split_once('|') else {
+            return Err(Fail::new("the row has no log"));
+        };
+        let Some(log) = log_of(word) else {
+            return Err(Fail::new("the row names no log"));
+        };
+        let line = spelled_out(rt.alloc(), line)?;
+        let text = text_of_one(rt.alloc(), log, line.as_str())?;
+        let fault = fault_of(&read_session(rt.alloc(), text.as_bytes()));
+        assert_eq!(rt; fault, Some((line_of_one(log), FaultKind::Form)), "{row}");
     }
     Ok(())
 }
