@@ -1,7 +1,7 @@
-//! Tests against the rules of the texts.
+//! Certificates and runs against the rules of their texts.
 
 use crate::{read_cert, read_runs, write_cert, write_runs};
-use migration_types::{Entry, First, LogName, Run};
+use migration_types::{Entry, FaultKind, First, LogName, Run, TextFault};
 use std::alloc::Global;
 use std::test::Fail;
 
@@ -17,20 +17,19 @@ const UNUSED: &str =
 const RUNS: &str =
     "postcopy-runs 1\nruns 4\nrun guest 3\nrun source 1\nrun link 1048576\nrun pager 1\nend\n";
 
-/// The line at which a certificate's text is refused, and 0 where it is read.
-fn cert_line(alloc: Global, text: &[u8]) -> u32 {
-    match read_cert(alloc, text) {
-        Ok(_) => 0,
-        Err(fault) => fault.line,
-    }
+/// Where and why a certificate's text is refused.
+fn cert_fault(alloc: Global, text: &[u8]) -> Option<TextFault> {
+    read_cert(alloc, text).err()
 }
 
-/// The line at which a text of runs is refused, and 0 where it is read.
-fn runs_line(alloc: Global, text: &[u8]) -> u32 {
-    match read_runs(alloc, text) {
-        Ok(_) => 0,
-        Err(fault) => fault.line,
-    }
+/// Where and why a text of runs is refused.
+fn runs_fault(alloc: Global, text: &[u8]) -> Option<TextFault> {
+    read_runs(alloc, text).err()
+}
+
+/// The line of a fault, and 0 where there is none.
+fn line_of(fault: Option<TextFault>) -> u32 {
+    fault.map_or(0, |fault| fault.line)
 }
 
 #[test]
@@ -179,7 +178,11 @@ fn changed_certificates_are_refused_at_their_line(rt: HostRuntime) -> Result<(),
         ("end\n", "end\n\n", 18),
     ] {
         let text = SENT.replacen(rt.alloc(), old, new, 1)?;
-        assert_eq!(rt; cert_line(rt.alloc(), text.as_bytes()), line, "{new}");
+        assert_eq!(rt;
+            line_of(cert_fault(rt.alloc(), text.as_bytes())),
+            line,
+            "{new}"
+        );
     }
     Ok(())
 }
@@ -204,18 +207,79 @@ fn changed_texts_of_runs_are_refused_at_their_line(rt: HostRuntime) -> Result<()
         ("end\n", "end\nx", 8),
     ] {
         let text = RUNS.replacen(rt.alloc(), old, new, 1)?;
-        assert_eq!(rt; runs_line(rt.alloc(), text.as_bytes()), line, "{new}");
+        assert_eq!(rt;
+            line_of(runs_fault(rt.alloc(), text.as_bytes())),
+            line,
+            "{new}"
+        );
     }
     Ok(())
 }
 
 #[test]
-fn each_cut_is_refused_at_its_last_line(rt: HostRuntime) -> Result<(), Fail> {
+fn faults_of_certificates_are_of_their_kinds(rt: HostRuntime) -> Result<(), Fail> {
+    for (old, new, line, kind) in [
+        (
+            "postcopy-certificate 1",
+            "postcopy-certificate 2",
+            1,
+            FaultKind::Form,
+        ),
+        ("pages 2", "page 2", 2, FaultKind::Form),
+        ("pages 2", "pages 02", 2, FaultKind::Form),
+        ("pages 2", "pages 0", 2, FaultKind::Range),
+        ("pages 2", "pages 65537", 2, FaultKind::Range),
+        ("page 0 source", "page 1 source", 3, FaultKind::Form),
+        ("3 5 5 4\n", "3 5 5\n", 3, FaultKind::Form),
+        ("page 1 source 4 7 7 6\n", "", 4, FaultKind::Form),
+        ("runs 11", "runs", 5, FaultKind::Form),
+        ("runs 11", "runs 4194305", 5, FaultKind::Range),
+        ("guest 2", "target 2", 6, FaultKind::Form),
+        ("source 2", "guest 2", 7, FaultKind::Form),
+        ("end\n", "stop\n", 17, FaultKind::Form),
+        ("end\n", "", 17, FaultKind::Ended),
+        ("end\n", "end\n\n", 18, FaultKind::Ended),
+        ("end\n", "end\nx", 18, FaultKind::Ended),
+    ] {
+        let text = SENT.replacen(rt.alloc(), old, new, 1)?;
+        let fault = cert_fault(rt.alloc(), text.as_bytes());
+        assert_eq!(rt; fault, Some(TextFault { line, kind }), "{new}");
+    }
+    Ok(())
+}
+
+#[test]
+fn faults_of_runs_are_of_their_kinds(rt: HostRuntime) -> Result<(), Fail> {
+    for (old, new, line, kind) in [
+        (
+            "postcopy-runs 1",
+            "postcopy-certificate 1",
+            1,
+            FaultKind::Form,
+        ),
+        ("runs 4", "run 4", 2, FaultKind::Form),
+        ("runs 4", "runs 4194305", 2, FaultKind::Range),
+        ("guest 3", "guest 3 ", 3, FaultKind::Form),
+        ("source 1", "guest 1", 4, FaultKind::Form),
+        ("end\n", "", 7, FaultKind::Ended),
+        ("end\n", "end\nend\n", 8, FaultKind::Ended),
+    ] {
+        let text = RUNS.replacen(rt.alloc(), old, new, 1)?;
+        let fault = runs_fault(rt.alloc(), text.as_bytes());
+        assert_eq!(rt; fault, Some(TextFault { line, kind }), "{new}");
+    }
+    Ok(())
+}
+
+#[test]
+fn each_cut_ends_too_early_at_its_last_line(rt: HostRuntime) -> Result<(), Fail> {
+    let kind = FaultKind::Ended;
     for text in [SENT, RELEASED, UNUSED] {
         let bytes = text.as_bytes();
         let mut line: u32 = 1;
         for length in 0..bytes.len() {
-            assert_eq!(rt; cert_line(rt.alloc(), &bytes[..length]), line, "{length}");
+            let fault = cert_fault(rt.alloc(), &bytes[..length]);
+            assert_eq!(rt; fault, Some(TextFault { line, kind }), "{length}");
             if bytes[length] == b'\n' {
                 line = line.saturating_add(1);
             }
@@ -224,7 +288,8 @@ fn each_cut_is_refused_at_its_last_line(rt: HostRuntime) -> Result<(), Fail> {
     let bytes = RUNS.as_bytes();
     let mut line: u32 = 1;
     for length in 0..bytes.len() {
-        assert_eq!(rt; runs_line(rt.alloc(), &bytes[..length]), line, "{length}");
+        let fault = runs_fault(rt.alloc(), &bytes[..length]);
+        assert_eq!(rt; fault, Some(TextFault { line, kind }), "{length}");
         if bytes[length] == b'\n' {
             line = line.saturating_add(1);
         }
