@@ -3,6 +3,10 @@ use Rattle.std.specs.Prelude.{◌≡◌, ◌≢◌, ℕ, ◌+◌, ◌-◌, ◌%�
 use Rattle.migration_types.specs.Extents.{Extent}
 use Rattle.migration_types.specs.PageSets.{Pages, others}
 
+-- at most so many pivots are ever kept
+abbrev pub most_pivots : ℕ
+most_pivots = 16
+
 -- how many pivots are kept at most, the pivots, newest first, and the place of the one whose turn it is
 pub record Ring : Type 0 where
   pub most : ℕ
@@ -31,11 +35,11 @@ rest_of pages set page = nat_lt page pages && others set page
 abbrev pub AreDistinct : List ℕ → Type 0
 AreDistinct pivots = (j k : ℕ) → j < k → k < length pivots → slice_index pivots j ≢ slice_index pivots k
 
--- 1 to 16 pivots, all different, and one of them in turn
+-- some pivots, all different, and one of them in turn
 pub record IsRing (r : Ring) : Type 0 where
   pub some : 1 ≤ length r.pivots
   pub few : length r.pivots ≤ r.most
-  pub most : r.most ≤ 16
+  pub most : r.most ≤ most_pivots
   pub distinct : AreDistinct r.pivots
   pub turn : r.turn < length r.pivots
 

@@ -39,7 +39,7 @@ impl Model for Bubbles {
 impl Bubbles {
     ghost use Rattle.migration_types.specs.PageSets.{no_page, without_page, size_below};
     ghost use Rattle.balloon_ledger.specs.Released.{released};
-    ghost use Rattle.bubbling.specs.Bubbling.{unsent, rest_of, in_turn, turned, faulted, IsNextPushed, IsRing, IsStart, IsWith};
+    ghost use Rattle.bubbling.specs.Bubbling.{unsent, rest_of, in_turn, turned, faulted, IsNextPushed, IsRing, most_pivots, IsStart, IsWith};
 
     /// All pages of the machine that are not released are to be pushed. Page 0 is the only pivot; at most so many
     /// pivots, 1 to 16, are ever kept.
@@ -50,7 +50,7 @@ impl Bubbles {
         ledger: &Ledger,
     ) -> Result<Bubbles, AllocError>
         requires some { 1 ≤ pivots }
-        requires few { pivots ≤ 16 }
+        requires few { pivots ≤ most_pivots }
         requires geometry { ledger.now.geometry ≡ geometry }
         ensures { IfOk result (IsStart geometry pivots (rest_of geometry.pages (released ledger.now))) }
     {

@@ -1,7 +1,7 @@
 //! The pages that pushing grows from, and whose turn it is.
 
 ghost use Rattle.std.specs.Prelude.{◌≡◌, ◌≤◌, MatchBool, Contains};
-ghost use Rattle.bubbling.specs.Bubbling.{IsRing, first_ring, in_turn, turned, faulted};
+ghost use Rattle.bubbling.specs.Bubbling.{IsRing, most_pivots, first_ring, in_turn, turned, faulted};
 
 use arrayvec::ArrayVec;
 use migration_types::PageNo;
@@ -34,7 +34,7 @@ impl Pivots {
     /// Page 0 alone, with room for so many pivots.
     pub fn new(most: u32) -> Pivots
         requires some { 1 ≤ most }
-        requires few { most ≤ 16 }
+        requires few { most ≤ most_pivots }
         ensures { result ≡ first_ring most }
     {
         let mut pages = ArrayVec::new();

@@ -1,6 +1,7 @@
 //! The pages that are still to be pushed.
 
 ghost use Rattle.std.specs.Prelude.{◌≡◌, ℕ, ◌<◌, ◌≤◌, nat_lt, false, IfOk, MatchOption, length, replicate, if◌then◌else◌};
+ghost use Rattle.migration_types.specs.Limits.{most_pages};
 ghost use Rattle.migration_types.specs.PageSets.{no_page, without_page, size_below};
 ghost use Rattle.balloon_ledger.specs.Released.{released};
 ghost use Rattle.bubbling.specs.Bubbling.{marked, rest_of, distance, IsNextPushed};
@@ -19,6 +20,7 @@ pub struct Unsent {
 
 impl Model for Unsent {
     ghost use Rattle.std.specs.Prelude.{◌≡◌, ◌≤◌, List, Bool, length};
+    ghost use Rattle.migration_types.specs.Limits.{most_pages};
     ghost use Rattle.migration_types.specs.PageSets.{size_below};
     ghost use Rattle.bubbling.specs.Bubbling.{marked};
 
@@ -26,7 +28,7 @@ impl Model for Unsent {
 
     ghost view = { λ a. a.marks.items };
 
-    ghost invariant = { λ a. (length a.marks.items ≤ 65536) × (a.left ≡ size_below (length a.marks.items) (marked a.marks.items)) };
+    ghost invariant = { λ a. (length a.marks.items ≤ most_pages) × (a.left ≡ size_below (length a.marks.items) (marked a.marks.items)) };
 }
 
 impl Unsent {
@@ -95,7 +97,7 @@ fn no_marks(alloc: Global, count: usize) -> Result<Vec<bool>, AllocError>
 /// Marks each page that is not released.
 fn mark_rest(marks: &mut Vec<bool>, ledger: &Ledger)
     requires len { length marks.old.items ≡ ledger.now.geometry.pages }
-    requires few { length marks.old.items ≤ 65536 }
+    requires few { length marks.old.items ≤ most_pages }
     ensures len { length marks.new.items ≡ length marks.old.items }
     ensures unsent { marked marks.new.items ≡ rest_of ledger.now.geometry.pages (released ledger.now) }
 {
@@ -106,7 +108,7 @@ fn mark_rest(marks: &mut Vec<bool>, ledger: &Ledger)
 
 /// How many pages are marked.
 fn count(marks: &[bool]) -> u32
-    requires { length marks.now ≤ 65536 }
+    requires { length marks.now ≤ most_pages }
     ensures { result ≡ size_below (length marks.now) (marked marks.now) }
 {
     let mut left = 0;

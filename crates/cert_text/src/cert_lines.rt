@@ -2,6 +2,7 @@
 
 ghost use Rattle.std.specs.Prelude.{◌≡◌, ◌≢◌, ◌≤◌, ℕ, [], ◌++◌, IfOk, OnErr};
 ghost use Rattle.std.specs.Fmt.{decimal};
+ghost use Rattle.migration_types.specs.Limits.{most_pages};
 ghost use Rattle.cert_text.specs.Grammar.{pages_key, SpellsCert};
 
 use crate::entry_lines::{take_entries, take_entry};
@@ -123,8 +124,8 @@ impl LineReader for CertLines {
 
 /// The number of pages that a line announces, 1 to 65,536.
 fn read_pages(line: &[u8]) -> Result<u32, FaultKind>
-    ensures found { IfOk result (λ n. (1 ≤ n) × (n ≤ 65536) × (line.now ≡ pages_key ++ decimal n)) }
-    ensures refused { OnErr result ((n : ℕ) → 1 ≤ n → n ≤ 65536 → line.now ≢ pages_key ++ decimal n) }
+    ensures found { IfOk result (λ n. (1 ≤ n) × (n ≤ most_pages) × (line.now ≡ pages_key ++ decimal n)) }
+    ensures refused { OnErr result ((n : ℕ) → 1 ≤ n → n ≤ most_pages → line.now ≢ pages_key ++ decimal n) }
 {
     let pages = read_keyed(line, PAGES_KEY, MOST_PAGES)?;
     if pages == 0 {

@@ -2,6 +2,7 @@
 
 ghost use Rattle.std.specs.Prelude.{◌≡◌, ◌≤◌, [], ◌∷◌, ◌++◌, length, OnOk};
 ghost use Rattle.text_lines.specs.Text.{ended};
+ghost use Rattle.migration_types.specs.Limits.{most_pages};
 ghost use Rattle.cert_text.specs.Runs.{runs_lines};
 ghost use Rattle.cert_text.specs.Grammar.{first_text, placed_text, entry_text, entry_line, entry_lines};
 
@@ -62,7 +63,7 @@ fn push_entry(out: &mut Vec<u8>, page: u32, entry: Entry) -> Result<(), AllocErr
 
 /// Adds the lines of the pages' entries, page 0 first.
 pub fn push_entries(out: &mut Vec<u8>, entries: &[Entry]) -> Result<(), AllocError>
-    requires { length entries.now ≤ 65536 }
+    requires { length entries.now ≤ most_pages }
     ensures { OnOk result (out.new.items ≡ out.old.items ++ ended (entry_lines 0 entries.now)) }
 {
     for page in 0..entries.len() {

@@ -6,6 +6,7 @@ use Rattle.text_lines.specs.Counted.{Part, part_onto, IsWhole}
 use Rattle.migration_types.specs.declared.records.LogName.{LogName}
 use Rattle.migration_types.specs.declared.cert.Run.{Run}
 use Rattle.migration_types.specs.declared.cert.Entry.{Entry}
+use Rattle.migration_types.specs.Limits.{most_pages, most_runs}
 use Rattle.migration_types.specs.Certs.{RunFits, EntryFits, Alternate}
 use Rattle.cert_text.specs.declared.run_lines.RunStage.{RunStage}
 use Rattle.cert_text.specs.declared.run_lines.RunStage.TheVariants.{Count, Runs, Done}
@@ -36,7 +37,7 @@ runs_held Done d more = runs_onto d (closing ∷ more)
 
 -- the runs so far
 pub record RunsFit (d : Part Run) : Type 0 where
-  pub few : d.count ≤ 4194304
+  pub few : d.count ≤ most_runs
   pub count : length d.items ≤ d.count
   pub each : AllByRecursion RunFits d.items
   pub alternate : Alternate d.items
@@ -82,7 +83,7 @@ pub record IsEmpty (d : Draft) : Type 0 where
 -- the entries so far, and lines of runs after the last
 pub record EntriesFit (d : Draft) : Type 0 where
   pub some_pages : 1 ≤ d.pages
-  pub few_pages : d.pages ≤ 65536
+  pub few_pages : d.pages ≤ most_pages
   pub count : length d.entries ≤ d.pages
   pub each : AllByRecursion EntryFits d.entries
   pub runs : length d.entries < d.pages → d.runs ≡ []
