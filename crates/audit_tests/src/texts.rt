@@ -1,0 +1,322 @@
+//! Sessions, as texts.
+
+/// Page 0 comes when it is missed, and page 1, which was written, after it.
+pub const HANDOVER: &[u8] = b"postcopy-session 1
+pages 2
+cells 1
+init 1
+page 0 0000000000000005
+guest 9
+w 0 1 0 7
+halt
+resume 1
+miss 0 0
+see 5
+r 0 0 0 5
+see 7
+w 0 1 0 9
+r 0 1 0 9
+source 5
+halted 1
+state
+ask 1
+send 0 0000000000000005
+send 1 0000000000000007
+link 4
+down 1
+up 3
+down 3
+down 4
+pager 8
+got 0
+ready
+fault 3
+want 0
+got 2
+place 0 4 0000000000000005
+got 3
+place 1 6 0000000000000007
+end
+";
+
+/// Page 1 is released before the guest moves, and comes back as zeros.
+pub const RELEASED: &[u8] = b"postcopy-session 1
+pages 2
+cells 1
+init 2
+page 0 0000000000000005
+page 1 0000000000000006
+guest 6
+z 0 1
+halt
+resume 1
+miss 0 1
+see 3
+r 0 1 0 0
+source 2
+halted 1
+state
+link 1
+down 1
+pager 4
+got 0
+ready
+fault 3
+zero 1
+end
+";
+
+/// Page 0 comes when it is missed, and once more; page 1 is pushed; pages 2 and 3 were released.
+pub const MIXED: &[u8] = b"postcopy-session 1
+pages 4
+cells 1
+init 1
+page 0 0000000000000005
+guest 12
+w 0 1 0 7
+z 0 2
+z 0 3
+halt
+resume 1
+miss 0 0
+see 5
+r 0 0 0 5
+miss 1 2
+see 9
+r 1 2 0 0
+w 0 1 0 9
+source 7
+halted 3
+state
+ask 1
+send 0 0000000000000005
+send 1 0000000000000007
+again 3
+done
+link 5
+down 1
+up 3
+down 3
+down 4
+down 5
+pager 13
+got 0
+ready
+fault 5
+want 0
+got 2
+place 0 4 0000000000000005
+got 3
+place 1 6 0000000000000007
+fault 8
+zero 2
+zero 3
+got 4
+skip 11
+end
+";
+
+/// The handover with its first look before the miss that leads to it.
+pub const CIRCLE: &[u8] = b"postcopy-session 1
+pages 2
+cells 1
+init 1
+page 0 0000000000000005
+guest 9
+w 0 1 0 7
+halt
+resume 1
+see 5
+miss 0 0
+r 0 0 0 5
+see 7
+w 0 1 0 9
+r 0 1 0 9
+source 5
+halted 1
+state
+ask 1
+send 0 0000000000000005
+send 1 0000000000000007
+link 4
+down 1
+up 3
+down 3
+down 4
+pager 8
+got 0
+ready
+fault 4
+want 0
+got 2
+place 0 4 0000000000000005
+got 3
+place 1 6 0000000000000007
+end
+";
+
+/// The handover without its second look.
+pub const EARLY_ACCESS: &[u8] = b"postcopy-session 1
+pages 2
+cells 1
+init 1
+page 0 0000000000000005
+guest 8
+w 0 1 0 7
+halt
+resume 1
+miss 0 0
+see 5
+r 0 0 0 5
+w 0 1 0 9
+r 0 1 0 9
+source 5
+halted 1
+state
+ask 1
+send 0 0000000000000005
+send 1 0000000000000007
+link 4
+down 1
+up 3
+down 3
+down 4
+pager 8
+got 0
+ready
+fault 3
+want 0
+got 2
+place 0 4 0000000000000005
+got 3
+place 1 6 0000000000000007
+end
+";
+
+/// The handover with zeros sent in place of what was written.
+pub const STALE_PAGE: &[u8] = b"postcopy-session 1
+pages 2
+cells 1
+init 1
+page 0 0000000000000005
+guest 6
+w 0 1 0 7
+halt
+resume 1
+miss 0 0
+see 5
+r 0 0 0 5
+source 5
+halted 1
+state
+ask 1
+send 0 0000000000000005
+send 1 0000000000000000
+link 4
+down 1
+up 3
+down 3
+down 4
+pager 8
+got 0
+ready
+fault 3
+want 0
+got 2
+place 0 4 0000000000000005
+got 3
+place 1 6 0000000000000000
+end
+";
+
+/// A guest that stays at the source.
+pub const AT_HOME: &[u8] = b"postcopy-session 1
+pages 1
+cells 1
+init 0
+guest 4
+w 0 0 0 3
+r 0 0 0 3
+z 0 0
+r 0 0 0 0
+source 0
+link 0
+pager 0
+end
+";
+
+/// Such a guest, which reads what it did not write.
+pub const WRONG_READ: &[u8] = b"postcopy-session 1
+pages 1
+cells 1
+init 0
+guest 4
+w 0 0 0 3
+r 0 0 0 4
+z 0 0
+r 0 0 0 0
+source 0
+link 0
+pager 0
+end
+";
+
+/// A session that is not of the right shape.
+pub const WRONG_SHAPE: &[u8] = b"postcopy-session 1
+pages 2
+cells 1
+init 1
+page 0 0000000000000005
+guest 9
+w 0 1 0 7
+halt
+resume 1
+miss 0 0
+see 5
+r 0 0 0 5
+see 7
+w 0 1 0 9
+r 0 1 0 9
+source 6
+halted 1
+state
+ask 1
+send 0 0000000000000005
+send 1 0000000000000007
+send 0 0000000000000005
+link 4
+down 1
+up 3
+down 3
+down 4
+pager 8
+got 0
+ready
+fault 3
+want 0
+got 2
+place 0 4 0000000000000005
+got 3
+place 1 6 0000000000000007
+end
+";
+
+/// A guest that reads pages as they began.
+pub const INITIAL_MEMORY: &[u8] = b"postcopy-session 1
+pages 3
+cells 2
+init 2
+page 0 00000000000000050000000000000000
+page 2 0000000000000000ffffffffffffffff
+guest 6
+r 0 0 0 5
+r 1 2 1 18446744073709551615
+r 0 1 0 0
+w 63 1 1 7
+z 0 2
+r 0 2 1 0
+source 0
+link 0
+pager 0
+end
+";
