@@ -9,3 +9,5 @@ pub mod numbers;
 pub mod plain;
 #[cfg(test)]
 mod texts;
+#[cfg(test)]
+mod worked;
