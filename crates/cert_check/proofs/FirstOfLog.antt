@@ -17,10 +17,13 @@ use Rattle.audit_model.proofs.Lists.{each_at}
 use Rattle.page_tables.specs.Tables.{Values, pages_of, values, IsWith}
 use Rattle.page_facts.specs.Moved.{SourcePage}
 use Rattle.page_facts.proofs.Moving.{source_page}
+use Rattle.std.specs.Option.{MatchOption}
+use Rattle.log_passes.specs.declared.Found.{Found}
+use Rattle.log_passes.specs.Passes.{HaveNone, IsFirstFrom}
 use Rattle.cert_check.proofs.Reading.{item_at, read_at}
 use Rattle.audit_model.specs.Flat.{changed}
 use Rattle.audit_model.specs.Shape.{keeps, earlier, is_halt, is_resume, is_send_of, in_phase_by, in_phase, guest_named, source_named, source_start, is_first_send, link_named, pager_named, pager_start}
-use Rattle.cert_check.specs.FirstOfLog.{first_reason, is_unmarked, marked_by, sent_before, AreSent, reason_at, IsRightBelow, IsRightLog}
+use Rattle.cert_check.specs.FirstOfLog.{first_reason, is_unmarked, marked_by, sent_before, AreSent, reason_at, IsRightBelow, IsRightLog, IsFirstOfLog}
 
 -- one more record of a log
 pub earlier_more : {A : Type 0} (test : A → Bool) (log : List A) (n : ℕ) (r : A) → slice_get log n ≡ Some r → earlier test log (n + 1) ≡ (test r || earlier test log n)
@@ -74,18 +77,6 @@ to_the_end s log k past below n = go (cases_lt n k)
     go : (n < k) ⊎ (k ≤ n) → reason_at s (log, n) ≡ None
     go (inl l) = below n l
     go (inr l) = past n l
-
-pub guest_right : (s : Recorded) (xs : List GuestRec) (k : ℕ) → xs ≡ s.guest → length xs ≤ k → IsRightBelow s Guest k → IsRightLog s Guest
-guest_right s xs k same whole below = let e = ap (λ (ys : List GuestRec). length ys) same in to_the_end s Guest k (λ n le. guest_past s n (omega arith)) below
-
-pub source_right : (s : Recorded) (xs : List SourceRec) (k : ℕ) → xs ≡ s.source → length xs ≤ k → IsRightBelow s Source k → IsRightLog s Source
-source_right s xs k same whole below = let e = ap (λ (ys : List SourceRec). length ys) same in to_the_end s Source k (λ n le. source_past s n (omega arith)) below
-
-pub link_right : (s : Recorded) (xs : List LinkRec) (k : ℕ) → xs ≡ s.link → length xs ≤ k → IsRightBelow s Link k → IsRightLog s Link
-link_right s xs k same whole below = let e = ap (λ (ys : List LinkRec). length ys) same in to_the_end s Link k (λ n le. link_past s n (omega arith)) below
-
-pub pager_right : (s : Recorded) (xs : List PagerRec) (k : ℕ) → xs ≡ s.pager → length xs ≤ k → IsRightBelow s Pager k → IsRightLog s Pager
-pager_right s xs k same whole below = let e = ap (λ (ys : List PagerRec). length ys) same in to_the_end s Pager k (λ n le. pager_past s n (omega arith)) below
 
 -- a flag that says whether an earlier record passes, at the next record
 pub earlier_turn : {A : Type 0} (test : A → Bool) (ys : List A) (n : ℕ) (x : A) (found after : Bool) → slice_get ys n ≡ Some x → found ≡ earlier test ys n → after ≡ (test x || found) → after ≡ earlier test ys (n + 1)
@@ -144,3 +135,8 @@ link_turn s xs n d named same lt e = link_reason_at s n (get_or xs n d) (item_at
 pub pager_turn : (s : Recorded) (xs : List PagerRec) (n : ℕ) (x : PagerRec) (found : Option ShapeReason) → xs ≡ s.pager → n < length xs → x ≡ get_or xs n x →
     found ≡ first_reason true (pager_named s n x) (pager_start s n x) true → reason_at s (Pager, n) ≡ found
 pager_turn s xs n x found same lt at e = pager_reason_at s n x (read_at xs s.pager n x same lt at) ∙ sym e
+
+-- what a pass over a log found
+pub of_found : (s : Recorded) (log : LogName) (len : ℕ) (o : Option (Found ShapeReason)) → log_length s log ≤ len → MatchOption o (HaveNone (λ n. reason_at s (log, n)) 0 len) (λ f. IsFirstFrom (λ n. reason_at s (log, n)) 0 f.place f.reason) → MatchOption o (IsRightLog s log) (λ f. IsFirstOfLog s log f.place f.reason)
+of_found s log len None whole none = to_the_end s log len (λ n le. past_end s log n (omega arith)) (λ n lt. none n (omega arith) lt)
+of_found s log len (Some f) whole first = record { is_reason = first.is_reason; is_right_below = λ n lt. first.none_before n (omega arith) lt }

@@ -1,3 +1,4 @@
 pub mod FirstOfLog
 pub mod Verdicts
 pub mod Texts
+pub mod Phases

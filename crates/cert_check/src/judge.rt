@@ -7,7 +7,7 @@ ghost use Rattle.audit_model.specs.Laws.{FindsResident, ReadsFlat, PlacedOnce, P
 ghost use Rattle.cert_check.specs.Verdicts.{IsVerdict};
 
 use crate::entries::first_bad_page;
-use crate::faults::shape;
+use crate::shape_fault::shape;
 use crate::verdict::Verdict;
 use audit_model::certified_is_safe;
 use merge_runs::first_bad_run;

@@ -2,14 +2,15 @@
 #![tactic(auto)]
 
 mod entries;
-mod faults;
 mod judge;
+mod passes;
+mod shape_fault;
 #[cfg(test)]
 mod tests;
 mod texts;
 mod verdict;
 
-pub use faults::shape;
 pub use judge::check;
+pub use shape_fault::shape;
 pub use texts::check_texts;
 pub use verdict::{ShapeFault, Verdict};

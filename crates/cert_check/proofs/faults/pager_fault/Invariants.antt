@@ -1,6 +1,0 @@
-use Rattle.migration_types.specs.declared.records.LogName.TheVariants.{Pager}
-use Rattle.cert_check.specs.FirstOfLog.{IsRightBelow}
-use Rattle.cert_check.proofs.faults.pager_fault.Given as goal
-
-abbrev pub invariant-loop-n : goal.invariant-loop-n
-invariant-loop-n l = IsRightBelow l.session Pager l.n

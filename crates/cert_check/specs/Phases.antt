@@ -1,0 +1,16 @@
+-- Whether the guest's log had a halt, and a resume. This serves proofs alone.
+use Rattle.std.specs.Prelude.{◌≡◌, ℕ, ◌||◌}
+use Rattle.migration_types.specs.declared.records.GuestRec.{GuestRec}
+use Rattle.migration_types.specs.Sessions.{Recorded}
+use Rattle.audit_model.specs.Shape.{earlier, is_halt, is_resume}
+use Rattle.cert_check.specs.declared.passes.Phases.{Phases}
+
+-- before guest record n
+pub record ArePhases (s : Recorded) (n : ℕ) (p : Phases) : Type 0 where
+  pub halted : p.halted ≡ earlier is_halt s.guest n
+  pub resumed : p.resumed ≡ earlier is_resume s.guest n
+
+-- one record more
+pub record ArePhasesAfter (r : GuestRec) (old new : Phases) : Type 0 where
+  pub halted : new.halted ≡ (is_halt r || old.halted)
+  pub resumed : new.resumed ≡ (is_resume r || old.resumed)

@@ -1,0 +1,193 @@
+//! How the records of each log are judged for the shape, one after the other.
+
+ghost use Rattle.std.specs.Prelude.{◌≡◌, ◌||◌, true};
+ghost use Rattle.migration_types.specs.declared.records.LogName.TheVariants.{Guest, Source, Link, Pager};
+ghost use Rattle.audit_model.specs.Names.{log_length};
+ghost use Rattle.audit_model.specs.Shape.{in_phase_by, is_halt, is_resume, guest_named, source_named, link_named, pager_named, source_start, pager_start};
+ghost use Rattle.page_tables.specs.Tables.{pages_of, values, IsWith};
+ghost use Rattle.page_facts.specs.Moved.{SourcePage};
+ghost use Rattle.cert_check.specs.FirstOfLog.{first_reason, is_unmarked, marked_by, reason_at, AreSent};
+ghost use Rattle.cert_check.specs.Phases.{ArePhases, ArePhasesAfter};
+
+use audit_model::{
+    ShapeReason, guest_named, in_phase, is_halt, is_resume, link_named, pager_named, pager_start,
+    source_named, source_start,
+};
+use log_passes::Pass;
+use migration_types::{GuestRec, PagerRec, Session, SourceRec};
+use page_tables::Table;
+
+/// Whether the guest's log had a `halt`, and a `resume`.
+#[derive(Clone, Copy)]
+pub(crate) struct Phases {
+    pub halted: bool,
+    pub resumed: bool,
+}
+
+/// The pass over the guest's log.
+pub(crate) struct GuestPass;
+
+/// The pass over the source's log, with a mark for each page that was sent.
+pub(crate) struct SourcePass;
+
+/// The pass over the link's log.
+pub(crate) struct LinkPass;
+
+/// The pass over the pager's log.
+pub(crate) struct PagerPass;
+
+/// Why a guest record is not of the right shape.
+fn guest_reason(session: &Session, rec: &GuestRec, phases: Phases) -> Option<ShapeReason>
+    ensures { result ≡ first_reason (in_phase_by phases.halted phases.resumed rec.now) (guest_named session.now rec.now) true true }
+{
+    if !in_phase(rec, phases.halted, phases.resumed) {
+        return Some(ShapeReason::Phases);
+    }
+    if !guest_named(session, rec) {
+        return Some(ShapeReason::Named);
+    }
+    None
+}
+
+/// The phases once this record is read too.
+fn phases_after(rec: &GuestRec, phases: Phases) -> Phases
+    ensures { ArePhasesAfter rec.now phases result }
+{
+    Phases {
+        halted: is_halt(rec) || phases.halted,
+        resumed: is_resume(rec) || phases.resumed,
+    }
+}
+
+impl Pass for GuestPass {
+    type State = Phases;
+
+    type Reason = ShapeReason;
+
+    ghost count = { λ s. log_length s Guest };
+
+    ghost reason = { λ s n. reason_at s (Guest, n) };
+
+    ghost IsAt = { ArePhases };
+
+    fn judge(session: &Session, phases: &mut Phases, n: usize) -> Option<ShapeReason> {
+        let rec = &session.guest()[n];
+        if let Some(reason) = guest_reason(session, rec, *phases) {
+            return Some(reason);
+        }
+        *phases = phases_after(rec, *phases);
+        None
+    }
+}
+
+/// Whether the page of a `send` is not marked.
+fn is_unmarked(marks: &Table<bool>, rec: &SourceRec) -> bool
+    requires { SourcePage (pages_of marks.now) rec.now }
+    ensures { result ≡ is_unmarked (values marks.now) rec.now }
+{
+    match rec {
+        SourceRec::Send { page, .. } => !marks.at(*page),
+        _ => true,
+    }
+}
+
+/// Marks the page of a `send`.
+fn mark(marks: &mut Table<bool>, rec: &SourceRec)
+    requires { SourcePage (pages_of marks.old) rec.now }
+    ensures { IsWith marks.old marks.new (marked_by rec.now (values marks.old)) }
+{
+    if let SourceRec::Send { page, .. } = rec {
+        marks.set(*page, true);
+    }
+}
+
+/// Why source record n is not of the right shape.
+fn source_reason(
+    session: &Session,
+    n: usize,
+    rec: &SourceRec,
+    marks: &Table<bool>,
+) -> Option<ShapeReason>
+    requires { SourcePage (pages_of marks.now) rec.now }
+    ensures { result ≡ first_reason true (source_named session.now n rec.now) (source_start session.now n rec.now) (is_unmarked (values marks.now) rec.now) }
+{
+    if !source_named(session, n, rec) {
+        return Some(ShapeReason::Named);
+    }
+    if !source_start(session, n, rec) {
+        return Some(ShapeReason::Start);
+    }
+    if !is_unmarked(marks, rec) {
+        return Some(ShapeReason::SecondSend);
+    }
+    None
+}
+
+impl Pass for SourcePass {
+    type State = Table<bool>;
+
+    type Reason = ShapeReason;
+
+    ghost count = { λ s. log_length s Source };
+
+    ghost reason = { λ s n. reason_at s (Source, n) };
+
+    ghost IsAt = { AreSent };
+
+    fn judge(session: &Session, sent: &mut Table<bool>, n: usize) -> Option<ShapeReason> {
+        let rec = &session.source()[n];
+        if let Some(reason) = source_reason(session, n, rec, sent) {
+            return Some(reason);
+        }
+        mark(sent, rec);
+        None
+    }
+}
+
+impl Pass for LinkPass {
+    type State = ();
+
+    type Reason = ShapeReason;
+
+    ghost count = { λ s. log_length s Link };
+
+    ghost reason = { λ s n. reason_at s (Link, n) };
+
+    ghost IsAt = { λ s n u. Unit {0} };
+
+    fn judge(session: &Session, _nothing: &mut (), n: usize) -> Option<ShapeReason> {
+        if !link_named(session, &session.link()[n]) {
+            return Some(ShapeReason::Named);
+        }
+        None
+    }
+}
+
+/// Why pager record n is not of the right shape.
+fn pager_reason(session: &Session, n: usize, rec: &PagerRec) -> Option<ShapeReason>
+    ensures { result ≡ first_reason true (pager_named session.now n rec.now) (pager_start session.now n rec.now) true }
+{
+    if !pager_named(session, n, rec) {
+        return Some(ShapeReason::Named);
+    }
+    if !pager_start(session, n, rec) {
+        return Some(ShapeReason::Start);
+    }
+    None
+}
+
+impl Pass for PagerPass {
+    type State = ();
+
+    type Reason = ShapeReason;
+
+    ghost count = { λ s. log_length s Pager };
+
+    ghost reason = { λ s n. reason_at s (Pager, n) };
+
+    ghost IsAt = { λ s n u. Unit {0} };
+
+    fn judge(session: &Session, _nothing: &mut (), n: usize) -> Option<ShapeReason> {
+        pager_reason(session, n, &session.pager()[n])
+    }
+}
