@@ -18,8 +18,6 @@ mod keys;
 mod run_lines;
 mod runs;
 mod runs_text;
-#[cfg(test)]
-mod tests;
 mod writing;
 
 use cert_lines::CertLines;

@@ -61,7 +61,7 @@ fn kind_of(word: &str) -> Option<FaultKind> {
 }
 
 /// What a row of changes says: a line, a kind, what is changed, and what into.
-fn change_of(row: &str) -> Option<(u32, FaultKind, &str, &str)> {
+pub fn change_of(row: &str) -> Option<(u32, FaultKind, &str, &str)> {
     let (line, rest) = row.split_once(' ')?;
     let (kind, rest) = rest.split_once(' ')?;
     let (old, new) = rest.split_once(" => ")?;

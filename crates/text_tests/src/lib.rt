@@ -4,6 +4,8 @@
 ghost use Rattle.std.specs.Prelude.{◌≡◌, MatchResult};
 
 #[cfg(test)]
+mod certificates;
+#[cfg(test)]
 mod kinds;
 #[cfg(test)]
 mod lines;
@@ -13,6 +15,8 @@ mod records;
 mod sessions;
 #[cfg(test)]
 mod slow;
+#[cfg(test)]
+mod values;
 
 use std::alloc::{AllocError, Global};
 use text_lines::{FaultKind, TextFault};
