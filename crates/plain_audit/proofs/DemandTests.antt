@@ -20,7 +20,7 @@ use Rattle.audit_model.specs.declared.home.Home.TheVariants.{AtSource, Nowhere, 
 use Rattle.audit_model.specs.Flat.{flat}
 use Rattle.audit_model.specs.Shape.{keeps}
 use Rattle.audit_model.specs.World.{World, world_after, memory_at, guest_demand, source_demand, pager_demand, if_record, Demand, IsSafeOrder, IsFirstBroken}
-use Rattle.plain_audit.specs.DemandTests.{finds, value_at, is_source, is_source_page, guest_test, source_test, pager_test, demand_test}
+use Rattle.plain_audit.specs.inner.DemandTests.{finds, value_at, is_source, is_source_page, guest_test, source_test, pager_test, demand_test}
 use Rattle.audit_model.proofs.FirstNames.{stands_here}
 use Rattle.audit_model.proofs.PageFaultTests.{not_true}
 use Rattle.audit_model.proofs.Rearranged.{append_stands}

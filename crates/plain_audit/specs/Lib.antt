@@ -1,2 +1,1 @@
-pub mod Spots
-pub mod DemandTests
+pub mod inner
