@@ -31,16 +31,6 @@ earlier_more test log n r e =
     let one : n + 1 ≡ suc n = omega arith in
     ap (λ m. earlier test log m) one ∙ ap (λ o. changed (λ x found. test x || found) o (earlier test log n)) e
 
-pub below_start : (s : Recorded) (log : LogName) → IsRightBelow s log 0
-below_start s log n lt = absurd (omega arith)
-
-pub below_more : (s : Recorded) (log : LogName) (n : ℕ) → IsRightBelow s log n → reason_at s (log, n) ≡ None → IsRightBelow s log (n + 1)
-below_more s log n below here m lt = go (cases_lt m n)
-  where
-    go : (m < n) ⊎ (n ≤ m) → reason_at s (log, m) ≡ None
-    go (inl l) = below m l
-    go (inr l) = let same : n ≡ m = omega arith in subst (λ k. reason_at s (log, k) ≡ None) same here
-
 guest_past : (s : Recorded) (n : ℕ) → length s.guest ≤ n → reason_at s (Guest, n) ≡ None
 guest_past s n past = ap (λ o. first_reason (keeps (in_phase s n) o) (keeps (guest_named s) o) true true) (slice_get_past s.guest n past)
 
@@ -78,16 +68,6 @@ to_the_end s log k past below n = go (cases_lt n k)
     go (inl l) = below n l
     go (inr l) = past n l
 
--- a flag that says whether an earlier record passes, at the next record
-pub earlier_turn : {A : Type 0} (test : A → Bool) (ys : List A) (n : ℕ) (x : A) (found after : Bool) → slice_get ys n ≡ Some x → found ≡ earlier test ys n → after ≡ (test x || found) → after ≡ earlier test ys (n + 1)
-earlier_turn test ys n x found after is was e =
-    e ∙ ap (λ b. test x || b) was ∙ sym (earlier_more test ys n x is)
-
-pub guest_turn : (s : Recorded) (n : ℕ) (x : GuestRec) (halted resumed : Bool) (found : Option ShapeReason) → slice_get s.guest n ≡ Some x → halted ≡ earlier is_halt s.guest n → resumed ≡ earlier is_resume s.guest n →
-    found ≡ first_reason (in_phase_by halted resumed x) (guest_named s x) true true → reason_at s (Guest, n) ≡ found
-guest_turn s n x halted resumed found is h r e =
-    guest_reason_at s n x is ∙ ap (λ b. first_reason (in_phase_by b (earlier is_resume s.guest n) x) (guest_named s x) true true) (sym h) ∙ ap (λ b. first_reason (in_phase_by halted b x) (guest_named s x) true true) (sym r) ∙ sym e
-
 pub source_turn : (s : Recorded) (marks : Values Bool) (n : ℕ) (x : SourceRec) (found : Option ShapeReason) → slice_get s.source n ≡ Some x → AreSent s n marks →
     found ≡ first_reason true (source_named s n x) (source_start s n x) (is_unmarked (values marks) x) → reason_at s (Source, n) ≡ found
 source_turn s marks n x found is sent e =
@@ -124,17 +104,6 @@ marks_turn s n x old new is was on = record {
 
     next : marked_by x (sent_before s n) ≡ sent_before s (n + 1)
     next = λ i p. at p i
-
--- a record's page is in the table
-pub sent_page : (s : Recorded) (n : ℕ) (x : SourceRec) (marks : Values Bool) → IsSession s → slice_get s.source n ≡ Some x → AreSent s n marks → SourcePage (pages_of marks) x
-sent_page s n x marks limits is sent = subst (λ k. SourcePage k x) (sym sent.pages_are) (source_page s.geometry x (each_at (SourceRecFits s.geometry) s.source n x limits.source is))
-
-pub link_turn : (s : Recorded) (xs : List LinkRec) (n : ℕ) (d : LinkRec) (named : Bool) → xs ≡ s.link → n < length xs → named ≡ link_named s (get_or xs n d) → reason_at s (Link, n) ≡ first_reason true named true true
-link_turn s xs n d named same lt e = link_reason_at s n (get_or xs n d) (item_at xs s.link n d same lt) ∙ ap (λ b. first_reason true b true true) (sym e)
-
-pub pager_turn : (s : Recorded) (xs : List PagerRec) (n : ℕ) (x : PagerRec) (found : Option ShapeReason) → xs ≡ s.pager → n < length xs → x ≡ get_or xs n x →
-    found ≡ first_reason true (pager_named s n x) (pager_start s n x) true → reason_at s (Pager, n) ≡ found
-pager_turn s xs n x found same lt at e = pager_reason_at s n x (read_at xs s.pager n x same lt at) ∙ sym e
 
 -- what a pass over a log found
 pub of_found : (s : Recorded) (log : LogName) (len : ℕ) (o : Option (Found ShapeReason)) → log_length s log ≤ len → MatchOption o (HaveNone (λ n. reason_at s (log, n)) 0 len) (λ f. IsFirstFrom (λ n. reason_at s (log, n)) 0 f.place f.reason) → MatchOption o (IsRightLog s log) (λ f. IsFirstOfLog s log f.place f.reason)

@@ -1,24 +1,26 @@
 //! The first fault of a session's pages.
 
-ghost use Rattle.std.specs.Prelude.{◌≡◌, ◌<◌, ◌≤◌, length, IfOk, MatchOption};
+ghost use Rattle.std.specs.Prelude.{◌≡◌, ◌<◌, ◌^◌, IfOk, MatchOption};
 ghost use Rattle.migration_types.specs.declared.records.LogName.TheVariants.{Guest, Source, Pager};
 ghost use Rattle.migration_types.specs.Sessions.{GuestRecFits, IsSession};
+ghost use Rattle.audit_model.specs.Names.{log_length};
 ghost use Rattle.audit_model.specs.Flat.{at_halt};
 ghost use Rattle.audit_model.specs.Faults.{HasNoPageFault};
 ghost use Rattle.audit_model.specs.FirstFault.{IsFirstPageFault};
 ghost use Rattle.balloon_ledger.specs.Released.{released};
-ghost use Rattle.flat_machine.specs.Machines.{HasFor, IsFlat};
+ghost use Rattle.flat_machine.specs.Machines.{HasFor};
 ghost use Rattle.page_store.specs.Frames.{memory_of};
 ghost use Rattle.residency.specs.Placements.{placements};
 ghost use Rattle.page_facts.specs.Machines.{GuestPage};
 ghost use Rattle.page_facts.specs.Moved.{SourcePage, PagerPage};
-ghost use Rattle.page_facts.specs.FirstOfLog.{reads_wrong, is_unseen, comes_early, guest_reason, source_reason, pager_reason, AreAllPlaced, IsCleanBelow, IsCleanLog, IsFirstOfLog, AreMovedClean, IsFirstMoved, IsWatched, IsWatchedOn};
+ghost use Rattle.page_facts.specs.FirstOfLog.{reads_wrong, is_unseen, comes_early, guest_reason, source_reason, pager_reason, reason_at, AreAllPlaced, AreMovedClean, IsFirstMoved, IsWatched, IsWatchedOn};
 
 use crate::frontier::{is_before, look};
 use crate::machine::{FlatGuest, guest_at_start, halt_place, step};
 use crate::moved::{differs, note_placement};
 use audit_model::PageReason;
 use flat_machine::Machine;
+use log_passes::{Found, Pass, first_found};
 use migration_types::{GuestRec, LogName, PageNo, PagerRec, Session, SourceRec};
 use page_store::Store;
 use residency::Residency;
@@ -116,30 +118,6 @@ fn watch_record(watch: &mut Watch, rec: &GuestRec)
     look(&mut watch.residency, rec);
 }
 
-/// Does the guest's records from one place to another, up to the first that is a fault.
-fn guest_fault(session: &Session, watch: &mut Watch, from: usize, to: usize) -> Option<PageFault>
-    requires limits { IsSession session.now }
-    requires order { from ≤ to }
-    requires within { to ≤ length session.now.guest }
-    requires watched { IsWatched session.now from watch.old }
-    requires clean { IsCleanBelow session.now Guest from }
-    ensures { MatchOption result (IsWatched session.now to watch.new × IsCleanBelow session.now Guest to) (IsFirstOfLog session.now Guest) }
-{
-    let guest = session.guest();
-    for n in from..to {
-        let rec = &guest[n];
-        if let Some(reason) = guest_reason(watch, rec) {
-            return Some(PageFault {
-                log: LogName::Guest,
-                place: n as u32,
-                reason,
-            });
-        }
-        watch_record(watch, rec);
-    }
-    None
-}
-
 /// Why a record of the source is a fault, by the machine at the halt.
 fn source_reason(halted: &Machine, rec: &SourceRec) -> Option<PageReason>
     requires frames { SourcePage halted.now.frames.geometry.pages rec.now }
@@ -154,25 +132,6 @@ fn source_reason(halted: &Machine, rec: &SourceRec) -> Option<PageReason>
     }
     if differs(&halted.frames, *page, contents) {
         return Some(PageReason::Stale);
-    }
-    None
-}
-
-/// The first fault of the source's log.
-fn source_fault(session: &Session, halted: &Machine) -> Option<PageFault>
-    requires limits { IsSession session.now }
-    requires halted { IsFlat session.now (at_halt session.now) halted.now }
-    ensures { MatchOption result (IsCleanLog session.now Source) (IsFirstOfLog session.now Source) }
-{
-    let source = session.source();
-    for n in 0..source.len() {
-        if let Some(reason) = source_reason(halted, &source[n]) {
-            return Some(PageFault {
-                log: LogName::Source,
-                place: n as u32,
-                reason,
-            });
-        }
     }
     None
 }
@@ -212,40 +171,97 @@ fn pager_reason(
     }
 }
 
-/// The first fault of the pager's log.
-fn pager_fault(session: &Session, halted: &Watch) -> Option<PageFault>
-    requires limits { IsSession session.now }
-    requires halted { IsWatched session.now (at_halt session.now) halted.now }
-    ensures { MatchOption result (IsCleanLog session.now Pager) (IsFirstOfLog session.now Pager) }
-{
-    let pager = session.pager();
-    for n in 0..pager.len() {
-        if let Some(reason) = pager_reason(
-            &halted.guest.machine,
-            &halted.residency,
-            &pager[n],
-            n as u32,
-        ) {
-            return Some(PageFault {
-                log: LogName::Pager,
-                place: n as u32,
-                reason,
-            });
+/// The pass over the guest's log.
+struct GuestPass;
+
+/// The pass over the source's log, by what is kept of the guest's at the halt.
+struct SourcePass;
+
+/// The pass over the pager's log, by what is kept of the guest's at the halt.
+struct PagerPass;
+
+impl Pass for GuestPass {
+    type State = Watch;
+
+    type Reason = PageReason;
+
+    ghost count = { λ s. log_length s Guest };
+
+    ghost reason = { λ s n. reason_at s (Guest, n) };
+
+    ghost IsAt = { IsWatched };
+
+    fn judge(session: &Session, watch: &mut Watch, n: usize) -> Option<PageReason> {
+        let rec = &session.guest()[n];
+        if let Some(reason) = guest_reason(watch, rec) {
+            return Some(reason);
         }
+        watch_record(watch, rec);
+        None
     }
-    None
+}
+
+impl Pass for SourcePass {
+    type State = Watch;
+
+    type Reason = PageReason;
+
+    ghost count = { λ s. log_length s Source };
+
+    ghost reason = { λ s n. reason_at s (Source, n) };
+
+    ghost IsAt = { λ s n w. IsWatched s (at_halt s) w };
+
+    fn judge(session: &Session, halted: &mut Watch, n: usize) -> Option<PageReason> {
+        source_reason(&halted.guest.machine, &session.source()[n])
+    }
+}
+
+impl Pass for PagerPass {
+    type State = Watch;
+
+    type Reason = PageReason;
+
+    ghost count = { λ s. log_length s Pager };
+
+    ghost reason = { λ s n. reason_at s (Pager, n) };
+
+    ghost IsAt = { λ s n w. IsWatched s (at_halt s) w };
+
+    fn judge(session: &Session, halted: &mut Watch, n: usize) -> Option<PageReason> {
+        let rec = &session.pager()[n];
+        pager_reason(&halted.guest.machine, &halted.residency, rec, n as u32)
+    }
+}
+
+/// What a pass over a log found, as a fault of a page.
+fn told(log: LogName, found: Found<PageReason>) -> PageFault
+    requires { found.place < 2 ^ 32 }
+    ensures log { result.log ≡ log }
+    ensures place { result.place ≡ found.place }
+    ensures reason { result.reason ≡ found.reason }
+{
+    PageFault {
+        log,
+        place: found.place as u32,
+        reason: found.reason,
+    }
 }
 
 /// The first fault of the source's log, and else of the pager's.
-fn moved_fault(session: &Session, halted: &Watch) -> Option<PageFault>
+fn moved_fault(session: &Session, halted: &mut Watch) -> Option<PageFault>
     requires limits { IsSession session.now }
-    requires halted { IsWatched session.now (at_halt session.now) halted.now }
-    ensures { MatchOption result (AreMovedClean session.now) (IsFirstMoved session.now) }
+    requires halted { IsWatched session.now (at_halt session.now) halted.old }
+    ensures first { MatchOption result (AreMovedClean session.now) (IsFirstMoved session.now) }
+    ensures halted { IsWatched session.now (at_halt session.now) halted.new }
 {
-    if let Some(fault) = source_fault(session, &halted.guest.machine) {
-        return Some(fault);
+    let end = session.source().len();
+    if let Some(found) = first_found::<SourcePass>(session, halted, 0, end) {
+        return Some(told(LogName::Source, found));
     }
-    pager_fault(session, halted)
+    let end = session.pager().len();
+    let found = first_found::<PagerPass>(session, halted, 0, end)?;
+    Some(told(LogName::Pager, found))
 }
 
 /// Before the guest's first record.
@@ -265,13 +281,13 @@ fn fault_of(session: &Session, watch: &mut Watch) -> Option<PageFault>
     ensures { MatchOption result (HasNoPageFault session.now) (λ f. IsFirstPageFault session.now f.reason (f.log, f.place)) }
 {
     let halt = halt_place(session.guest());
-    if let Some(fault) = guest_fault(session, watch, 0, halt) {
-        return Some(fault);
+    if let Some(found) = first_found::<GuestPass>(session, watch, 0, halt) {
+        return Some(told(LogName::Guest, found));
     }
     let moved = moved_fault(session, watch);
     let end = session.guest().len();
-    if let Some(fault) = guest_fault(session, watch, halt, end) {
-        return Some(fault);
+    if let Some(found) = first_found::<GuestPass>(session, watch, halt, end) {
+        return Some(told(LogName::Guest, found));
     }
     moved
 }
