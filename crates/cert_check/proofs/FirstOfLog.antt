@@ -1,5 +1,5 @@
 -- The reason at a record, and what is known below the next one.
-use Rattle.std.proofs.Common.{not, cond, get_or, eqb, ◌≡◌, ℕ, suc, ◌+◌, ◌<◌, ◌≤◌, ◌⊎◌, inl, inr, Bool, true, false, ◌||◌, List, length, Option, Some, None, refl, sym, ap, ◌∙◌, subst, arith}
+use Rattle.std.proofs.Common.{not, cond, eqb, ◌≡◌, ℕ, suc, ◌+◌, ◌<◌, ◌≤◌, ◌⊎◌, inl, inr, Bool, true, false, ◌||◌, List, length, Option, Some, None, refl, sym, ap, ◌∙◌, arith}
 use Rattle.std.specs.Prelude.{slice_get}
 use Rattle.std.proofs.lemmas.Bool.{cases_lt}
 use Rattle.std.proofs.lemmas.Option.{slice_get_past}
@@ -9,20 +9,16 @@ use Rattle.migration_types.specs.declared.records.GuestRec.{GuestRec}
 use Rattle.migration_types.specs.declared.records.SourceRec.{SourceRec}
 use Rattle.migration_types.specs.declared.records.SourceRec.TheVariants.{Halted, State, Send, Again, Ask, Done}
 use Rattle.audit_model.specs.declared.reasons.ShapeReason.{ShapeReason}
-use Rattle.migration_types.specs.Sessions.{Recorded, IsSession, SourceRecFits}
+use Rattle.migration_types.specs.Sessions.{Recorded}
 use Rattle.migration_types.specs.declared.records.LinkRec.{LinkRec}
 use Rattle.migration_types.specs.declared.records.PagerRec.{PagerRec}
 use Rattle.audit_model.specs.Names.{log_length}
-use Rattle.audit_model.proofs.Lists.{each_at}
-use Rattle.page_tables.specs.Tables.{Values, pages_of, values, IsWith}
-use Rattle.page_facts.specs.Moved.{SourcePage}
-use Rattle.page_facts.proofs.Moving.{source_page}
+use Rattle.page_tables.specs.Tables.{Values, values, IsWith}
 use Rattle.std.specs.Option.{MatchOption}
 use Rattle.log_passes.specs.declared.Found.{Found}
 use Rattle.log_passes.specs.Passes.{HaveNone, IsFirstFrom}
-use Rattle.cert_check.proofs.Reading.{item_at, read_at}
 use Rattle.audit_model.specs.Flat.{changed}
-use Rattle.audit_model.specs.Shape.{keeps, earlier, is_halt, is_resume, is_send_of, in_phase_by, in_phase, guest_named, source_named, source_start, is_first_send, link_named, pager_named, pager_start}
+use Rattle.audit_model.specs.Shape.{keeps, earlier, is_send_of, in_phase, guest_named, source_named, source_start, is_first_send, link_named, pager_named, pager_start}
 use Rattle.cert_check.specs.FirstOfLog.{first_reason, is_unmarked, marked_by, sent_before, AreSent, reason_at, IsRightBelow, IsRightLog, IsFirstOfLog}
 
 -- one more record of a log

@@ -6,7 +6,7 @@ ghost use Rattle.audit_model.specs.World.{IsSafe, IsSafeOrder};
 ghost use Rattle.audit_model.specs.Laws.{FindsResident, ReadsFlat, PlacedOnce, PlacedUntouched, ReleasedAsZeros};
 ghost use Rattle.cert_check.specs.Verdicts.{IsVerdict};
 
-use crate::entries::first_bad_page;
+use crate::bad_page::first_bad_page;
 use crate::shape_fault::shape;
 use crate::verdict::Verdict;
 use audit_model::certified_is_safe;

@@ -1,7 +1,7 @@
 //! The checker: the shape of a session, and the verdict on a session and its certificate, as values and as texts.
 #![tactic(auto)]
 
-mod entries;
+mod bad_page;
 mod judge;
 mod passes;
 mod shape_fault;

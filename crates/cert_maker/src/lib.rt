@@ -1,8 +1,8 @@
 //! The maker of certificates: an order of a session's records, and a certificate over an order.
 #![tactic(auto)]
 
-mod entries;
 mod looks;
+mod made_entries;
 mod maker;
 mod order;
 mod ready;

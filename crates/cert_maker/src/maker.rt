@@ -4,7 +4,7 @@ ghost use Rattle.std.specs.Prelude.{MatchResult};
 ghost use Rattle.migration_types.specs.Certs.{AreRuns};
 ghost use Rattle.cert_maker.specs.Made.{IsMade, IsRefused};
 
-use crate::entries::entries_of;
+use crate::made_entries::entries_of;
 use merge_runs::is_merging;
 use migration_types::{Cert, Run, Seq, Session};
 use std::alloc::Global;

@@ -6,17 +6,17 @@
 //! fault of its page.
 #![tactic(auto)]
 
-mod entries;
 mod facts;
 mod frontier;
 mod guest;
 mod machine;
 mod moved;
 mod page_fault;
+mod right_entry;
 #[cfg(test)]
 mod tests;
 
-pub use entries::is_right_entry;
 pub use facts::{PageFacts, PageTables, facts_of, tables_of};
 pub use moved::Placed;
 pub use page_fault::{PageFault, first_page_fault};
+pub use right_entry::is_right_entry;

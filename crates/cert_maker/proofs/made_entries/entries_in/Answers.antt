@@ -3,7 +3,7 @@ use Rattle.migration_types.specs.Extents.{Extent}
 use Rattle.migration_types.specs.declared.cert.Entry.{Entry}
 use Rattle.cert_maker.specs.Entries.{IsMadeEntry, AreMade}
 use Rattle.cert_maker.proofs.Certifying.{each_more, pushed_length}
-use Rattle.cert_maker.proofs.entries.entries_in.Goals as goal
+use Rattle.cert_maker.proofs.made_entries.entries_in.Goals as goal
 
 pub made_entry-requires-clause-look : goal.made_entry-requires-clause-look
 made_entry-requires-clause-look c = c.at.ensures ∙ ap (λ (f : ℕ → Option ℕ). f c.new-number.result) c.requires.looks.values_are

@@ -1,6 +1,6 @@
 use Rattle.std.proofs.Common.{sym, ◌∙◌}
 use Rattle.page_facts.proofs.RightEntry.{right_from, right_test}
-use Rattle.page_facts.proofs.entries.is_right_entry.Goals as goal
+use Rattle.page_facts.proofs.right_entry.is_right_entry.Goals as goal
 
 pub returns : goal.returns
 returns c =

@@ -4,7 +4,7 @@ use Rattle.std.proofs.lemmas.Option.{slice_get-get_or, slice_get_within}
 use Rattle.migration_types.specs.declared.cert.Entry.{Entry}
 use Rattle.migration_types.specs.declared.cert.Entry.TheVariants.{Nothing}
 use Rattle.cert_check.proofs.RightEntries.{right_more}
-use Rattle.cert_check.proofs.entries.first_in.Goals as goal
+use Rattle.cert_check.proofs.bad_page.first_in.Goals as goal
 
 -- what stands in a list's place past its end
 abbrev no_entry : Entry
