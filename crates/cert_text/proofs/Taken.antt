@@ -1,6 +1,6 @@
 -- Entries taken in a row.
-use Rattle.std.proofs.Common.{◌≡◌, ℕ, ◌+◌, List, [], ◌∷◌, ◌++◌, map, length, sym, ap, subst, ◌∙◌, append_assoc, length-append, arith}
-use Rattle.std.proofs.lemmas.List.{map-append, append-nil}
+use Rattle.std.proofs.Common.{◌≡◌, ℕ, ◌+◌, List, [], ◌∷◌, ◌++◌, length, sym, ap, ◌∙◌, append_assoc, length-append, arith}
+use Rattle.std.proofs.lemmas.List.{append-nil}
 use Rattle.text_lines.specs.Text.{ended}
 use Rattle.text_lines.proofs.Cut.{ended-push}
 use Rattle.migration_types.specs.declared.cert.Entry.{Entry}

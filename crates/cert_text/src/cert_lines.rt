@@ -14,7 +14,7 @@ use std::marker::Model;
 use text_lines::{FaultKind, LineReader, is_line, read_keyed};
 
 /// Which line is due.
-#[derive(Clone, Copy, Debug, PartialEq, Eq)]
+#[derive(Clone, Copy)]
 pub enum Stage {
     /// The header.
     Header,

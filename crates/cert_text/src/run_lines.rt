@@ -13,7 +13,7 @@ use std::marker::Model;
 use text_lines::{Counted, FaultKind, is_line};
 
 /// Which line is due.
-#[derive(Clone, Copy, Debug, PartialEq, Eq)]
+#[derive(Clone, Copy)]
 pub enum RunStage {
     /// The number of runs.
     Count,
