@@ -1,17 +1,22 @@
-//! Reading the lines of the pages' entries.
+//! The lines of the pages' entries, read and written.
 
 ghost use Rattle.std.specs.Prelude.{◌≡◌, ◌≢◌, ◌≤◌, ◌<◌, ℕ, List, [], ◌∷◌, ◌++◌, Option, length, MatchOption, IfSome, IsSomeAnd, IfErr, OnOk, OnErr};
 ghost use Rattle.std.specs.Fmt.{decimal};
 ghost use Rattle.migration_types.specs.declared.cert.Entry.{Entry as Said};
 ghost use Rattle.migration_types.specs.declared.cert.First.{First as Used};
+ghost use Rattle.text_lines.specs.Text.{ended};
+ghost use Rattle.migration_types.specs.Limits.{most_pages};
 ghost use Rattle.migration_types.specs.Sessions.{IsNumber};
 ghost use Rattle.migration_types.specs.Certs.{FirstFits, EntryFits};
-ghost use Rattle.cert_text.specs.Grammar.{first_text, placed_text, entry_text, entry_line};
+ghost use Rattle.cert_text.specs.Grammar.{first_text, placed_text, entry_text, entry_line, entry_lines};
 ghost use Rattle.cert_text.specs.inner.Taken.{TakesEntries, TakesEntry};
 
 use crate::keys::{BALLOON_KEY, NO_FIRST, NONE, PAGE_KEY, SOURCE_KEY, after_end};
 use migration_types::{Entry, First, LAST_RECORD};
-use text_lines::{FaultKind, after_key, front_number, number_then};
+use std::alloc::AllocError;
+use text_lines::{
+    FaultKind, after_key, end_line, front_number, number_then, push_number, push_then,
+};
 
 /// A number up to a limit at the front, and what follows the space after it.
 #[inline(always)]
@@ -144,4 +149,64 @@ pub fn take_entries<'a>(entries: &mut Vec<Entry>, pages: u32, bytes: &'a [u8]) -
         rest = after;
     }
     (rest, left)
+}
+
+/// Adds a page's first read or write, and the look before it.
+fn push_first(out: &mut Vec<u8>, first: Option<First>) -> Result<(), AllocError>
+    ensures { OnOk result (out.new.items ≡ out.old.items ++ first_text first) }
+{
+    match first {
+        None => out.extend_from_slice(NO_FIRST),
+        Some(first) => {
+            push_then(out, first.access)?;
+            push_number(out, first.see)
+        }
+    }
+}
+
+/// Adds a page's placement, its first read or write, and the look before it.
+fn push_placed(out: &mut Vec<u8>, place: u32, first: Option<First>) -> Result<(), AllocError>
+    ensures { OnOk result (out.new.items ≡ out.old.items ++ placed_text place first) }
+{
+    push_then(out, place)?;
+    push_first(out, first)
+}
+
+/// Adds what an entry says.
+fn push_said(out: &mut Vec<u8>, entry: Entry) -> Result<(), AllocError>
+    ensures { OnOk result (out.new.items ≡ out.old.items ++ entry_text entry) }
+{
+    match entry {
+        Entry::Nothing => out.extend_from_slice(NONE),
+        Entry::Source { send, place, first } => {
+            out.extend_from_slice(SOURCE_KEY)?;
+            push_then(out, send)?;
+            push_placed(out, place, first)
+        }
+        Entry::Balloon { place, first } => {
+            out.extend_from_slice(BALLOON_KEY)?;
+            push_placed(out, place, first)
+        }
+    }
+}
+
+/// Adds the line of a page's entry.
+fn push_entry(out: &mut Vec<u8>, page: u32, entry: Entry) -> Result<(), AllocError>
+    ensures { OnOk result (out.new.items ≡ out.old.items ++ (entry_line page entry ++ 10 ∷ [])) }
+{
+    out.extend_from_slice(PAGE_KEY)?;
+    push_then(out, page)?;
+    push_said(out, entry)?;
+    end_line(out)
+}
+
+/// Adds the lines of the pages' entries, page 0 first.
+pub fn push_entries(out: &mut Vec<u8>, entries: &[Entry]) -> Result<(), AllocError>
+    requires { length entries.now ≤ most_pages }
+    ensures { OnOk result (out.new.items ≡ out.old.items ++ ended (entry_lines 0 entries.now)) }
+{
+    for page in 0..entries.len() {
+        push_entry(out, page as u32, entries[page])?;
+    }
+    Ok(())
 }

@@ -1,9 +1,11 @@
 //! How the lines of certificates and of runs begin, for their readers and their writers.
 
-ghost use Rattle.std.specs.Prelude.{◌≡◌, [], ◌∷◌, ◌++◌, IfSome};
+ghost use Rattle.std.specs.Prelude.{◌≡◌, ℕ, List, [], ◌∷◌, ◌++◌, IfSome, IsSomeAnd, slice_index};
+ghost use Rattle.migration_types.specs.declared.records.LogName.{LogName as Log};
 ghost use Rattle.cert_text.specs.Runs.{log_word};
 
 use migration_types::LogName;
+use text_lines::after_key;
 
 /// The first line of a certificate.
 pub const CERT_HEADER: &[u8] = b"postcopy-certificate 1";
@@ -60,4 +62,29 @@ pub fn after_end(text: &[u8]) -> Option<&[u8]>
         return None;
     }
     Some(rest)
+}
+
+/// The log whose name begins with this letter.
+#[inline(always)]
+fn log_with_initial(letter: u8) -> LogName
+    ensures { (log : Log) → letter ≡ slice_index (log_word log) 0 → result ≡ log }
+{
+    match letter {
+        b'g' => LogName::Guest,
+        b's' => LogName::Source,
+        b'l' => LogName::Link,
+        _ => LogName::Pager,
+    }
+}
+
+/// The log that is named at the front, and what follows the space after it.
+#[inline(always)]
+pub fn log_then(text: &[u8]) -> Option<(LogName, &[u8])>
+    ensures found { IfSome result (λ found. text.now ≡ log_word found.0 ++ 32 ∷ found.1.now) }
+    ensures whole { (log : Log) (rest : List ℕ) → text.now ≡ log_word log ++ 32 ∷ rest → IsSomeAnd result (λ found. found.1.now ≡ rest) }
+{
+    let letter = *text.first()?;
+    let log = log_with_initial(letter);
+    let rest = after_key(text, log_key(log))?;
+    Some((log, rest))
 }

@@ -18,12 +18,12 @@ mod keys;
 mod run_lines;
 mod runs;
 mod runs_text;
-mod writing;
 
 use cert_lines::CertLines;
+use entry_lines::push_entries;
 use keys::{CERT_HEADER, PAGES_KEY, RUNS_HEADER};
+use runs::push_runs;
 use runs_text::RunsText;
-use writing::{push_entries, push_runs};
 
 /// The certificate that the bytes spell: a header, an entry for each of 1 to 65,536 pages in order, at most 4,194,304
 /// runs of 1 to 1,048,576 records, of which no two neighbours are of one log, and a closing line. An LF ends each line.

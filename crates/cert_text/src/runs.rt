@@ -1,41 +1,18 @@
 //! Lines of runs.
 
-ghost use Rattle.std.specs.Prelude.{◌≡◌, ◌≢◌, ℕ, List, [], ◌∷◌, ◌++◌, ◌↔◌, IsTrue, IfSome, IsSomeAnd, slice_index};
+ghost use Rattle.std.specs.Prelude.{◌≡◌, ◌≢◌, [], ◌++◌, ◌↔◌, IsTrue, IfSome, IsSomeAnd, OnOk};
 ghost use Rattle.migration_types.specs.Certs.{RunFits};
 ghost use Rattle.migration_types.specs.declared.cert.Run.{Run as Told};
-ghost use Rattle.migration_types.specs.declared.records.LogName.{LogName as Log};
-ghost use Rattle.cert_text.specs.Runs.{log_word, run_line};
+ghost use Rattle.text_lines.specs.Text.{ended};
+ghost use Rattle.cert_text.specs.Runs.{run_line, runs_lines};
 ghost use Rattle.cert_text.specs.inner.Held.{MayFollow};
 
-use crate::keys::{RUN_KEY, after_end, log_key};
+use crate::keys::{CLOSING, RUN_KEY, RUNS_KEY, after_end, log_key, log_then};
 use migration_types::{LogName, MOST_RECORDS, Run};
 use std::alloc::AllocError;
-use text_lines::{FaultKind, LineForm, after_key, front_number, push_keyed};
-
-/// The log whose name begins with this letter.
-#[inline(always)]
-fn log_with_initial(letter: u8) -> LogName
-    ensures { (log : Log) → letter ≡ slice_index (log_word log) 0 → result ≡ log }
-{
-    match letter {
-        b'g' => LogName::Guest,
-        b's' => LogName::Source,
-        b'l' => LogName::Link,
-        _ => LogName::Pager,
-    }
-}
-
-/// The log that is named at the front, and what follows the space after it.
-#[inline(always)]
-fn log_then(text: &[u8]) -> Option<(LogName, &[u8])>
-    ensures found { IfSome result (λ found. text.now ≡ log_word found.0 ++ 32 ∷ found.1.now) }
-    ensures whole { (log : Log) (rest : List ℕ) → text.now ≡ log_word log ++ 32 ∷ rest → IsSomeAnd result (λ found. found.1.now ≡ rest) }
-{
-    let letter = *text.first()?;
-    let log = log_with_initial(letter);
-    let rest = after_key(text, log_key(log))?;
-    Some((log, rest))
-}
+use text_lines::{
+    FaultKind, LineForm, after_key, front_number, push_counted, push_keyed, push_line,
+};
 
 /// The run at the front, and what follows. Nothing follows where the text is its line alone.
 #[inline(always)]
@@ -102,4 +79,12 @@ impl LineForm for RunForm {
         out.extend_from_slice(RUN_KEY)?;
         push_keyed(out, log_key(run.log), run.count)
     }
+}
+
+/// Adds the lines of runs: their number, a line for each, and the closing line.
+pub fn push_runs(out: &mut Vec<u8>, runs: &[Run]) -> Result<(), AllocError>
+    ensures { OnOk result (out.new.items ≡ out.old.items ++ ended (runs_lines runs.now)) }
+{
+    push_counted::<RunForm>(out, RUNS_KEY, runs)?;
+    push_line(out, CLOSING)
 }

@@ -2,7 +2,7 @@ use Rattle.std.proofs.Common.{List, ℕ, ◌∷◌, [], ◌++◌, get_or, ap, sy
 use Rattle.migration_types.specs.declared.cert.Entry.TheVariants.{Nothing}
 use Rattle.cert_text.specs.Grammar.{entry_line}
 use Rattle.cert_text.proofs.Written.{entry_written}
-use Rattle.cert_text.proofs.writing.push_entries.Goals as goal
+use Rattle.cert_text.proofs.entry_lines.push_entries.Goals as goal
 
 pub loop-page-preserved : goal.loop-page-preserved
 loop-page-preserved c =

@@ -2,7 +2,7 @@ use Rattle.std.proofs.Common.{◌++◌, length}
 use Rattle.std.specs.Fmt.{decimal}
 use Rattle.cert_text.specs.Runs.{runs_key, closing}
 use Rattle.cert_text.proofs.Written.{closing_written}
-use Rattle.cert_text.proofs.writing.push_runs.Goals as goal
+use Rattle.cert_text.proofs.runs.push_runs.Goals as goal
 
 pub returns : goal.returns
 returns c =

@@ -1,6 +1,6 @@
 use Rattle.std.proofs.Common.{◌∙◌}
 use Rattle.cert_text.proofs.RunLaws.{letter_of, keyed_by}
-use Rattle.cert_text.proofs.runs.log_then.Goals as goal
+use Rattle.cert_text.proofs.keys.log_then.Goals as goal
 
 pub returns-in_err-rest-clause-whole : goal.returns-in_err-rest-clause-whole
 returns-in_err-rest-clause-whole c = λ log rest e.
