@@ -15,7 +15,7 @@ use Rattle.audit_model.specs.Mergings.{Cursors, moved, at_start, run_names, spel
 use Rattle.audit_model.specs.Walks.{cursors_from}
 use Rattle.audit_model.proofs.Cuts.{same_from_test}
 use Rattle.merge_runs.proofs.Walking.{cursors_run, cursors_append, spelled_push, own_moved}
-use Rattle.audit_report.specs.Parts.{ends, total, AreBlocks}
+use Rattle.audit_report.specs.inner.Parts.{ends, total, AreBlocks}
 
 -- ---- logs
 

@@ -14,7 +14,7 @@ use Rattle.audit_model.proofs.Consistent.{start_is_cut, next_is_cut}
 use Rattle.merge_runs.specs.Taken.{cursors_of}
 use Rattle.merge_runs.specs.declared.taken.Taken.{Taken}
 use Rattle.merge_runs.proofs.Walking.{walks_front, spelled_front, walk_back, walks_run, cursors_on, all_at}
-use Rattle.audit_report.specs.Parts.{ends}
+use Rattle.audit_report.specs.inner.Parts.{ends}
 
 -- no log has more than 1,048,576 records
 pub log_small : (s : Recorded) (log : LogName) → IsSession s → log_length s log ≤ 1048576

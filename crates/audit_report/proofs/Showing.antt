@@ -29,7 +29,7 @@ use Rattle.audit_model.proofs.Clean.{false_if_not_true, clash}
 use Rattle.cert_maker.specs.Orders.{AreFoundRuns}
 use Rattle.audit_report.specs.declared.report.Report.{Report}
 use Rattle.audit_report.specs.declared.report.Report.TheVariants.{Clean, Shape, Knot, Faulty}
-use Rattle.audit_report.specs.Cuts.{IsCutFor}
+use Rattle.audit_report.specs.inner.Cuts.{IsCutFor}
 use Rattle.audit_report.specs.Reports.{used_by, HasNoPlacement, IsEarlyFor, IsUndelayed, ShowsFault, IsReport, IsClean}
 
 -- ---- placements

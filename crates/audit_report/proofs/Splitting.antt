@@ -13,7 +13,7 @@ use Rattle.audit_model.specs.Mergings.{Cursors, run_names, spelled}
 use Rattle.audit_model.specs.Delayed.{is_below}
 use Rattle.audit_model.proofs.Cuts.{same_from_test}
 use Rattle.merge_runs.proofs.Walking.{with_it, cursors_on}
-use Rattle.audit_report.specs.Parts.{ends, AreBlocks, IsWithin, AreBelow, AreRearranged}
+use Rattle.audit_report.specs.inner.Parts.{ends, AreBlocks, IsWithin, AreBelow, AreRearranged}
 use Rattle.audit_report.proofs.Blocks.{IsAdded, ends_after, blocks_none}
 
 -- whether the record of this name is above the cut

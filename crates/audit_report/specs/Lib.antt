@@ -1,4 +1,3 @@
 pub mod Reports
 pub mod ReportText
-pub mod Cuts
-pub mod Parts
+pub mod inner

@@ -6,7 +6,7 @@ ghost use Rattle.migration_types.specs.Sessions.{IsSession};
 ghost use Rattle.audit_model.specs.Mergings.{IsMerging, run_names, spelled};
 ghost use Rattle.audit_model.specs.Delayed.{rearranged};
 ghost use Rattle.merge_runs.specs.Taken.{cursors_of};
-ghost use Rattle.audit_report.specs.Parts.{ends, AreBlocks, AreBelow, AreRearranged, IsWithin};
+ghost use Rattle.audit_report.specs.inner.Parts.{ends, AreBlocks, AreBelow, AreRearranged, IsWithin};
 
 use audit_model::mergings_are_walks;
 use merge_runs::Taken;

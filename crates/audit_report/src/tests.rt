@@ -297,7 +297,10 @@ static CASES: [Case; 13] = [
     Case {
         is: "a look at a placement before the miss that it waits for",
         session: CLEAN,
-        changes: &[("miss 0 0\nsee 5", "see 5\nmiss 0 0"), ("fault 3", "fault 4")],
+        changes: &[
+            ("miss 0 0\nsee 5", "see 5\nmiss 0 0"),
+            ("fault 3", "fault 4"),
+        ],
         report: KNOT_REPORT,
     },
     Case {
@@ -309,7 +312,13 @@ static CASES: [Case; 13] = [
     Case {
         is: "the same, with the placement the last but one record of the pager, and seen after the access",
         session: CLEAN,
-        changes: &[("see 7\nw 0 1 0 9\nr 0 1 0 9", "w 0 1 0 9\nr 0 1 0 9\nsee 7"), ("source 5", "source 6"), ("link 4", "ask 4\nlink 5"), ("pager 8", "up 8\npager 9"), ("\nend", "\nall\nend")],
+        changes: &[
+            ("see 7\nw 0 1 0 9\nr 0 1 0 9", "w 0 1 0 9\nr 0 1 0 9\nsee 7"),
+            ("source 5", "source 6"),
+            ("link 4", "ask 4\nlink 5"),
+            ("pager 8", "up 8\npager 9"),
+            ("\nend", "\nall\nend"),
+        ],
         report: SEEN_LATE_REPORT,
     },
     Case {
@@ -327,25 +336,43 @@ static CASES: [Case; 13] = [
     Case {
         is: "a second placement",
         session: CLEAN,
-        changes: &[("pager 8", "pager 9"), ("\nend", "\nplace 0 4 0000000000000005\nend")],
+        changes: &[
+            ("pager 8", "pager 9"),
+            ("\nend", "\nplace 0 4 0000000000000005\nend"),
+        ],
         report: TWICE_REPORT,
     },
     Case {
         is: "a send of other contents than at the halt",
         session: CLEAN,
-        changes: &[("guest 9", "guest 6"), ("see 7\nw 0 1 0 9\nr 0 1 0 9\n", ""), ("send 1 0000000000000007", "send 1 0000000000000000"), ("place 1 6 0000000000000007", "place 1 6 0000000000000000")],
+        changes: &[
+            ("guest 9", "guest 6"),
+            ("see 7\nw 0 1 0 9\nr 0 1 0 9\n", ""),
+            ("send 1 0000000000000007", "send 1 0000000000000000"),
+            ("place 1 6 0000000000000007", "place 1 6 0000000000000000"),
+        ],
         report: STALE_REPORT,
     },
     Case {
         is: "zeros for a page that was written after its release",
         session: LAST,
-        changes: &[("guest 5\nz 0 1", "guest 7\nz 0 1\nw 0 1 0 0"), ("miss 0 1", "miss 0 1\nsee 3"), ("halted 1", "halted 2"), ("fault 3", "fault 4")],
+        changes: &[
+            ("guest 5\nz 0 1", "guest 7\nz 0 1\nw 0 1 0 0"),
+            ("miss 0 1", "miss 0 1\nsee 3"),
+            ("halted 1", "halted 2"),
+            ("fault 3", "fault 4"),
+        ],
         report: UNFIT_REPORT,
     },
     Case {
         is: "a send of a released page",
         session: LAST,
-        changes: &[("guest 5", "guest 6"), ("miss 0 1", "miss 0 1\nsee 3"), ("source 2", "source 3"), ("state", "state\nsend 1 0000000000000000")],
+        changes: &[
+            ("guest 5", "guest 6"),
+            ("miss 0 1", "miss 0 1\nsee 3"),
+            ("source 2", "source 3"),
+            ("state", "state\nsend 1 0000000000000000"),
+        ],
         report: GIVEN_REPORT,
     },
     Case {
@@ -363,11 +390,7 @@ static CASES: [Case; 13] = [
 ];
 
 /// The text with its changes.
-fn changed(
-    alloc: Global,
-    text: &str,
-    changes: &[(&str, &str)],
-) -> Result<String, AllocError> {
+fn changed(alloc: Global, text: &str, changes: &[(&str, &str)]) -> Result<String, AllocError> {
     let mut text = String::from_str(alloc, text)?;
     for (old, new) in changes {
         text = text.as_str().replace(alloc, *old, new)?;

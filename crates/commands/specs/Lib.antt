@@ -2,4 +2,4 @@ pub mod Cutting
 pub mod Answers
 pub mod Replayed
 pub mod Told
-pub mod Pairs
+pub mod inner

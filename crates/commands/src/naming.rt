@@ -2,7 +2,7 @@
 
 ghost use Rattle.std.specs.Prelude.{◌≡◌, false, IfOk};
 ghost use Rattle.commands.specs.Told.{AreNamed, IsNamed, is_dash};
-ghost use Rattle.commands.specs.Pairs.{first_text, second_text, IsPair};
+ghost use Rattle.commands.specs.inner.Pairs.{first_text, second_text, IsPair};
 
 use crate::answer::Fault;
 use crate::cutting::cut_at_end;

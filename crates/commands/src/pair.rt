@@ -13,7 +13,7 @@ pub struct Pair {
 
 impl Pair {
     ghost use Rattle.std.specs.Prelude.{◌≡◌};
-    ghost use Rattle.commands.specs.Pairs.{first_text, second_text, IsPair};
+    ghost use Rattle.commands.specs.inner.Pairs.{first_text, second_text, IsPair};
 
     /// The two texts.
     pub fn texts(&self) -> (&[u8], &[u8])

@@ -221,25 +221,36 @@ fn replays(rt: HostRuntime) {
 #[test]
 fn missing_files(rt: HostRuntime) {
     let alloc = rt.alloc();
-    for (first, second, asked, line) in [
-        ("x", "y", 1, b"file x\n".as_slice()),
-        ("x", "cert", 1, b"file x\n".as_slice()),
-        ("session", "y", 2, b"file y\n".as_slice()),
-        ("-", "y", 1, b"file y\n".as_slice()),
+    for (words, asked, line) in [
+        (
+            ["postcopy", "check", "x", "y"].as_slice(),
+            1,
+            b"file x\n".as_slice(),
+        ),
+        (
+            ["postcopy", "check", "x", "cert"].as_slice(),
+            1,
+            b"file x\n",
+        ),
+        (
+            ["postcopy", "check", "session", "y"].as_slice(),
+            2,
+            b"file y\n",
+        ),
+        (["postcopy", "check", "-", "y"].as_slice(), 1, b"file y\n"),
+        (["postcopy", "certify", "x"].as_slice(), 1, b"file x\n"),
+        (["postcopy", "audit", "x"].as_slice(), 1, b"file x\n"),
+        (
+            ["postcopy", "replay", "handover", "y"].as_slice(),
+            2,
+            b"file y\n",
+        ),
     ] {
-        let found = ran(
-            alloc,
-            ["postcopy", "check", first, second].as_slice(),
-            SESSION,
-        );
-        assert_eq!(rt; found.status, 3, "at {first}, {second}");
-        assert_eq!(rt;
-            found.output.as_slice(),
-            b"".as_slice(),
-            "at {first}, {second}"
-        );
-        assert_eq!(rt; found.errors.as_slice(), line, "at {first}, {second}");
-        assert_eq!(rt; found.asked, asked, "at {first}, {second}");
+        let found = ran(alloc, words, SESSION);
+        assert_eq!(rt; found.status, 3, "at {words:?}");
+        assert_eq!(rt; found.output.as_slice(), b"".as_slice(), "at {words:?}");
+        assert_eq!(rt; found.errors.as_slice(), line, "at {words:?}");
+        assert_eq!(rt; found.asked, asked, "at {words:?}");
     }
 }
 
@@ -331,7 +342,12 @@ fn audits(rt: HostRuntime) {
         ("audit", "session", 0, CLEAN_REPORT),
         ("certify", "cert", 1, EMPTY_SESSION_LINE),
         ("audit", "cert", 1, EMPTY_SESSION_LINE),
-        ("certify", "handover", 1, b"faulty line 13 early\n".as_slice()),
+        (
+            "certify",
+            "handover",
+            1,
+            b"faulty line 13 early\n".as_slice(),
+        ),
     ] {
         let words = ["postcopy", command, session];
         let found = ran(rt.alloc(), words.as_slice(), b"");
@@ -388,7 +404,11 @@ fn want_of_memory(rt: HostRuntime) {
             );
             assert_eq!(rt; status, 4, "at {words:?}");
             assert_eq!(rt; output.as_slice(), b"".as_slice(), "at {words:?}");
-            assert_eq!(rt; errors.as_slice(), b"out of memory\n".as_slice(), "at {words:?}");
+            assert_eq!(rt;
+                errors.as_slice(),
+                b"out of memory\n".as_slice(),
+                "at {words:?}"
+            );
         }
     }
 }

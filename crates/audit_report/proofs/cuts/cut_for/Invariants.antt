@@ -1,6 +1,6 @@
 use Rattle.std.proofs.Common.{◌≡◌, take}
 use Rattle.merge_runs.specs.Taken.{cursors_of}
-use Rattle.audit_report.specs.Parts.{ends}
+use Rattle.audit_report.specs.inner.Parts.{ends}
 use Rattle.audit_report.proofs.Cutting.{IsCutting}
 use Rattle.audit_report.proofs.cuts.cut_for.Given as goal
 

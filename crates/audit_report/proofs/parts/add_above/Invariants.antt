@@ -3,7 +3,7 @@ use Rattle.std.specs.List.{filter}
 use Rattle.audit_model.specs.Mergings.{spelled}
 use Rattle.audit_model.specs.Delayed.{is_below}
 use Rattle.merge_runs.specs.Taken.{cursors_of}
-use Rattle.audit_report.specs.Parts.{ends}
+use Rattle.audit_report.specs.inner.Parts.{ends}
 use Rattle.audit_report.proofs.Splitting.{AreGoing}
 use Rattle.audit_report.proofs.parts.add_above.Given as goal
 

@@ -4,7 +4,7 @@ use Rattle.migration_types.specs.declared.cert.Run.{Run}
 use Rattle.audit_model.specs.Mergings.{Cursors, spelled}
 use Rattle.audit_model.specs.Walks.{IsWholeWalk}
 use Rattle.merge_runs.specs.Taken.{cursors_of}
-use Rattle.audit_report.specs.Parts.{AreBelow}
+use Rattle.audit_report.specs.inner.Parts.{AreBelow}
 use Rattle.audit_report.proofs.Points.{log_small, room_at, moved_on}
 use Rattle.audit_report.proofs.Blocks.{IsAdded}
 use Rattle.audit_report.proofs.Splitting.{below_none, below_on, below_all}

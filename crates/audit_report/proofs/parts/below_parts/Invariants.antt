@@ -1,6 +1,6 @@
 use Rattle.std.proofs.Common.{◌≡◌, take}
 use Rattle.merge_runs.specs.Taken.{cursors_of}
-use Rattle.audit_report.specs.Parts.{ends, AreBelow}
+use Rattle.audit_report.specs.inner.Parts.{ends, AreBelow}
 use Rattle.audit_report.proofs.parts.below_parts.Given as goal
 
 abbrev pub invariant-loop-run : goal.invariant-loop-run
