@@ -181,7 +181,7 @@ fn commands_say_what_the_plain_programs_say(rt: HostRuntime) -> Result<(), Fail>
         WRONG_SHAPE,
         INITIAL_MEMORY,
     ] {
-        let session = read_session(alloc, text)?;
+        let session = read_session(alloc, text.as_bytes())?;
         compare(&rt, alloc, &session, &mut numbers, &mut answers)?;
     }
     Ok(())
@@ -203,7 +203,7 @@ fn commands_say_so_of_random_sessions(rt: HostRuntime) -> Result<(), Fail> {
             1 => RELEASED,
             _ => MIXED,
         };
-        let changed = altered(alloc, text, &mut numbers)?;
+        let changed = altered(alloc, text.as_bytes(), &mut numbers)?;
         if let Ok(session) = read_session(alloc, &changed) {
             compare(&rt, alloc, &session, &mut numbers, &mut answers)?;
         }

@@ -1,13 +1,21 @@
-//! Compares the programs of the commands with the plain programs: over sessions of which it is known what they are, and
-//! over some thousands of small sessions made at random, the same in each run.
+//! Tests of the crates that judge a session: on sessions of which it is known what they are; and beside the plain
+//! programs, over these and over some thousands of small sessions made at random, the same in each run.
 #![tactic(auto)]
 
 pub mod changes;
 #[cfg(test)]
 mod compared;
+#[cfg(test)]
+mod facts;
+#[cfg(test)]
+mod found;
 pub mod numbers;
 pub mod plain;
 #[cfg(test)]
+mod replays;
+#[cfg(test)]
 mod texts;
+#[cfg(test)]
+mod verdicts;
 #[cfg(test)]
 mod worked;

@@ -1,7 +1,12 @@
 //! Sessions, as texts.
 
+use migration_types::Session;
+use session_log::read_session;
+use std::alloc::Global;
+use std::test::Fail;
+
 /// Page 0 comes when it is missed, and page 1, which was written, after it.
-pub const HANDOVER: &[u8] = b"postcopy-session 1
+pub const HANDOVER: &str = "postcopy-session 1
 pages 2
 cells 1
 init 1
@@ -40,7 +45,7 @@ end
 ";
 
 /// Page 1 is released before the guest moves, and comes back as zeros.
-pub const RELEASED: &[u8] = b"postcopy-session 1
+pub const RELEASED: &str = "postcopy-session 1
 pages 2
 cells 1
 init 2
@@ -67,7 +72,7 @@ end
 ";
 
 /// Page 0 comes when it is missed, and once more; page 1 is pushed; pages 2 and 3 were released.
-pub const MIXED: &[u8] = b"postcopy-session 1
+pub const MIXED: &str = "postcopy-session 1
 pages 4
 cells 1
 init 1
@@ -117,7 +122,7 @@ end
 ";
 
 /// The handover with its first look before the miss that leads to it.
-pub const CIRCLE: &[u8] = b"postcopy-session 1
+pub const CIRCLE: &str = "postcopy-session 1
 pages 2
 cells 1
 init 1
@@ -156,7 +161,7 @@ end
 ";
 
 /// The handover without its second look.
-pub const EARLY_ACCESS: &[u8] = b"postcopy-session 1
+pub const EARLY_ACCESS: &str = "postcopy-session 1
 pages 2
 cells 1
 init 1
@@ -194,7 +199,7 @@ end
 ";
 
 /// The handover with zeros sent in place of what was written.
-pub const STALE_PAGE: &[u8] = b"postcopy-session 1
+pub const STALE_PAGE: &str = "postcopy-session 1
 pages 2
 cells 1
 init 1
@@ -230,7 +235,7 @@ end
 ";
 
 /// A guest that stays at the source.
-pub const AT_HOME: &[u8] = b"postcopy-session 1
+pub const AT_HOME: &str = "postcopy-session 1
 pages 1
 cells 1
 init 0
@@ -246,7 +251,7 @@ end
 ";
 
 /// Such a guest, which reads what it did not write.
-pub const WRONG_READ: &[u8] = b"postcopy-session 1
+pub const WRONG_READ: &str = "postcopy-session 1
 pages 1
 cells 1
 init 0
@@ -262,7 +267,7 @@ end
 ";
 
 /// A session that is not of the right shape.
-pub const WRONG_SHAPE: &[u8] = b"postcopy-session 1
+pub const WRONG_SHAPE: &str = "postcopy-session 1
 pages 2
 cells 1
 init 1
@@ -302,7 +307,7 @@ end
 ";
 
 /// A guest that reads pages as they began.
-pub const INITIAL_MEMORY: &[u8] = b"postcopy-session 1
+pub const INITIAL_MEMORY: &str = "postcopy-session 1
 pages 3
 cells 2
 init 2
@@ -320,3 +325,29 @@ link 0
 pager 0
 end
 ";
+
+/// How many lines a text has.
+fn lines_of(text: &str) -> usize {
+    text.as_bytes()
+        .iter()
+        .filter(|byte| **byte == b'\n')
+        .count()
+}
+
+/// The session of two pages of one cell with these logs, in which page 0 begins as 5.
+pub fn session_of(
+    alloc: Global,
+    guest: &str,
+    source: &str,
+    link: &str,
+    pager: &str,
+) -> Result<Session, Fail> {
+    let text = format!(in alloc;
+        "postcopy-session 1\npages 2\ncells 1\ninit 1\npage 0 0000000000000005\nguest {}\n{guest}source {}\n{source}link {}\n{link}pager {}\n{pager}end\n",
+        lines_of(guest),
+        lines_of(source),
+        lines_of(link),
+        lines_of(pager),
+    )?;
+    Ok(read_session(alloc, text.as_bytes())?)
+}

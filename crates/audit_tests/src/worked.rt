@@ -25,7 +25,7 @@ fn finds_faults_of_shape(rt: HostRuntime) -> Result<(), Fail> {
         ),
         (21, b"state".as_slice(), ShapeReason::Start),
     ] {
-        let text = with_line(rt.alloc(), HANDOVER, line, new)?;
+        let text = with_line(rt.alloc(), HANDOVER.as_bytes(), line, new)?;
         let session = read_session(rt.alloc(), &text)?;
         assert_eq!(rt; shape_fault(&session), Some((line as u32, reason)));
     }
@@ -48,11 +48,11 @@ fn finds_faults_of_pages(rt: HostRuntime) -> Result<(), Fail> {
             (35, PageReason::Altered),
         ),
     ] {
-        let text = with_line(rt.alloc(), HANDOVER, line, new)?;
+        let text = with_line(rt.alloc(), HANDOVER.as_bytes(), line, new)?;
         let session = read_session(rt.alloc(), &text)?;
         assert_eq!(rt; page_fault(&session), Some(fault));
     }
-    let text = with_line(rt.alloc(), HANDOVER, 35, b"zero 0")?;
+    let text = with_line(rt.alloc(), HANDOVER.as_bytes(), 35, b"zero 0")?;
     let session = read_session(rt.alloc(), &text)?;
     assert!(rt; is_page_fault(&session, PageReason::Twice, LogName::Pager, 7));
     assert!(rt; !is_page_fault(&session, PageReason::Twice, LogName::Pager, 5));
@@ -61,9 +61,9 @@ fn finds_faults_of_pages(rt: HostRuntime) -> Result<(), Fail> {
 
 #[test]
 fn finds_faults_of_released_pages(rt: HostRuntime) -> Result<(), Fail> {
-    let given = with_line(rt.alloc(), RELEASED, 14, b"source 3")?;
+    let given = with_line(rt.alloc(), RELEASED.as_bytes(), 14, b"source 3")?;
     let given = with_line(rt.alloc(), &given, 16, b"state\nsend 1 0000000000000000")?;
-    let unfit = with_line(rt.alloc(), RELEASED, 8, b"w 0 1 0 0")?;
+    let unfit = with_line(rt.alloc(), RELEASED.as_bytes(), 8, b"w 0 1 0 0")?;
     for (text, fault) in [
         (given.as_slice(), (17, PageReason::Given)),
         (unfit.as_slice(), (23, PageReason::Unfit)),
@@ -78,7 +78,7 @@ fn finds_faults_of_released_pages(rt: HostRuntime) -> Result<(), Fail> {
 #[test]
 fn follows_a_released_page(rt: HostRuntime) -> Result<(), Fail> {
     let page = PageNo::new(1);
-    let session = read_session(rt.alloc(), RELEASED)?;
+    let session = read_session(rt.alloc(), RELEASED.as_bytes())?;
     assert_eq!(rt; halt_place(&session), 1);
     assert!(rt; session.guest().len() >= 3);
     for (place, value, released, home) in [
@@ -135,7 +135,7 @@ fn follows_orders(rt: HostRuntime) -> Result<(), Fail> {
     let found = names_of(alloc, read_runs(alloc, FOUND)?.as_slice())?;
     let delayed = names_of(alloc, read_runs(alloc, DELAYED)?.as_slice())?;
     for (see, is_order) in [(b"see 7", false), (b"see 5", true)] {
-        let text = with_line(alloc, HANDOVER, 13, see)?;
+        let text = with_line(alloc, HANDOVER.as_bytes(), 13, see)?;
         let session = read_session(alloc, &text)?;
         assert!(rt; is_merging(&session, &found));
         assert_eq!(rt; first_broken(&session, &found), None);

@@ -5,8 +5,6 @@ mod bad_page;
 mod judge;
 mod passes;
 mod shape_fault;
-#[cfg(test)]
-mod tests;
 mod texts;
 mod verdict;
 

@@ -6,8 +6,6 @@ mod made_entries;
 mod maker;
 mod order;
 mod ready;
-#[cfg(test)]
-mod tests;
 
 pub use maker::{MakeFault, make};
 pub use order::{Order, find_order};

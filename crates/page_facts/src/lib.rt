@@ -13,8 +13,6 @@ mod machine;
 mod moved;
 mod page_fault;
 mod right_entry;
-#[cfg(test)]
-mod tests;
 
 pub use facts::{PageFacts, PageTables, facts_of, tables_of};
 pub use moved::Placed;

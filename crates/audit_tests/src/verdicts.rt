@@ -1,22 +1,15 @@
 //! Sessions through the checker, with a change at a time.
 
-use super::*;
+use crate::texts::{HANDOVER, RELEASED};
 use audit_model::ShapeReason;
+use cert_check::{ShapeFault, Verdict, check, check_texts, shape};
 use cert_text::read_cert;
 use session_log::read_session;
 use std::alloc::Global;
 use std::test::Fail;
 
-// Two pages: the first is asked for and sent, the second is pushed, and both are used at the target.
-const SESSION: &str =
-    "postcopy-session 1\npages 2\ncells 1\ninit 1\npage 0 0000000000000005\nguest 9\nw 0 1 0 7\nhalt\nresume 1\nmiss 0 0\nsee 5\nr 0 0 0 5\nsee 7\nw 0 1 0 9\nr 0 1 0 9\nsource 5\nhalted 1\nstate\nask 1\nsend 0 0000000000000005\nsend 1 0000000000000007\nlink 4\ndown 1\nup 3\ndown 3\ndown 4\npager 8\ngot 0\nready\nfault 3\nwant 0\ngot 2\nplace 0 4 0000000000000005\ngot 3\nplace 1 6 0000000000000007\nend\n";
-
-const CERT: &str =
+const HANDOVER_CERT: &str =
     "postcopy-certificate 1\npages 2\npage 0 source 3 5 5 4\npage 1 source 4 7 7 6\nruns 11\nrun guest 2\nrun source 2\nrun link 1\nrun pager 2\nrun guest 2\nrun pager 2\nrun link 1\nrun source 3\nrun link 2\nrun pager 4\nrun guest 5\nend\n";
-
-// A page that was released at the halt comes back as zeros.
-const RELEASED: &str =
-    "postcopy-session 1\npages 2\ncells 1\ninit 2\npage 0 0000000000000005\npage 1 0000000000000006\nguest 6\nz 0 1\nhalt\nresume 1\nmiss 0 1\nsee 3\nr 0 1 0 0\nsource 2\nhalted 1\nstate\nlink 1\ndown 1\npager 4\ngot 0\nready\nfault 3\nzero 1\nend\n";
 
 const RELEASED_CERT: &str =
     "postcopy-certificate 1\npages 2\npage 0 none\npage 1 balloon 3 5 4\nruns 7\nrun guest 2\nrun source 2\nrun link 1\nrun pager 2\nrun guest 2\nrun pager 2\nrun guest 2\nend\n";
@@ -29,7 +22,7 @@ fn judged(alloc: Global, session: &str, cert: &str, old: &str, new: &str) -> Res
 
 #[test]
 fn right_certificates(rt: HostRuntime) -> Result<(), Fail> {
-    for (session, cert) in [(SESSION, CERT), (RELEASED, RELEASED_CERT)] {
+    for (session, cert) in [(HANDOVER, HANDOVER_CERT), (RELEASED, RELEASED_CERT)] {
         assert_eq!(rt;
             check_texts(rt.alloc(), session.as_bytes(), cert.as_bytes())?,
             Verdict::Yes
@@ -88,7 +81,7 @@ fn shapes(rt: HostRuntime) -> Result<(), Fail> {
         ),
     ] {
         assert_eq!(rt;
-            judged(rt.alloc(), SESSION, CERT, old, new)?,
+            judged(rt.alloc(), HANDOVER, HANDOVER_CERT, old, new)?,
             Verdict::Shape(ShapeFault { line, reason }),
             "{new}"
         );
@@ -97,7 +90,7 @@ fn shapes(rt: HostRuntime) -> Result<(), Fail> {
     let halted =
         "postcopy-session 1\npages 2\ncells 1\ninit 1\npage 0 0000000000000005\nguest 2\nw 0 1 0 7\nhalt\nsource 1\nhalted 1\nlink 0\npager 0\nend\n";
     assert_eq!(rt;
-        check_texts(rt.alloc(), halted.as_bytes(), CERT.as_bytes())?,
+        check_texts(rt.alloc(), halted.as_bytes(), HANDOVER_CERT.as_bytes())?,
         Verdict::Shape(ShapeFault {
             line: 10,
             reason: ShapeReason::Start
@@ -144,7 +137,7 @@ fn sessions(rt: HostRuntime) -> Result<(), Fail> {
         ),
     ] {
         assert_eq!(rt;
-            judged(rt.alloc(), SESSION, CERT, old, new)?,
+            judged(rt.alloc(), HANDOVER, HANDOVER_CERT, old, new)?,
             verdict,
             "{new}"
         );
@@ -242,9 +235,9 @@ fn certificates(rt: HostRuntime) -> Result<(), Fail> {
             Verdict::Page(4),
         ),
     ] {
-        let changed = CERT.replacen(rt.alloc(), old, new, 1)?;
+        let changed = HANDOVER_CERT.replacen(rt.alloc(), old, new, 1)?;
         assert_eq!(rt;
-            check_texts(rt.alloc(), SESSION.as_bytes(), changed.as_bytes())?,
+            check_texts(rt.alloc(), HANDOVER.as_bytes(), changed.as_bytes())?,
             verdict,
             "{new}"
         );
