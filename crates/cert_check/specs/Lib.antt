@@ -2,3 +2,4 @@ pub mod FirstOfLog
 pub mod Verdicts
 pub mod Texts
 pub mod Phases
+pub mod CertTexts

@@ -1,25 +1,28 @@
 //! The verdict on the texts of a session and a certificate.
 
-ghost use Rattle.std.specs.Prelude.{◌≡◌, ◌≢◌, IfOk, MatchResult};
+ghost use Rattle.std.specs.Prelude.{◌≡◌, IfOk};
 ghost use Rattle.audit_model.specs.Mergings.{HasMerging};
 ghost use Rattle.audit_model.specs.World.{IsSafe};
 ghost use Rattle.audit_model.specs.Laws.{FindsResident, ReadsFlat, PlacedOnce, PlacedUntouched, ReleasedAsZeros};
 ghost use Rattle.cert_check.specs.Texts.{IsTextVerdict, SpellsOneSession, OfSpelled, ReplaysClean};
+ghost use Rattle.cert_check.specs.CertTexts.{IsCertTextVerdict, IsYes};
 
 use crate::judge::check;
 use crate::verdict::Verdict;
 use cert_text::{cert_texts_are_unambiguous, read_cert};
-use migration_types::{FaultKind, TextFault};
+use migration_types::Session;
 use session_log::{read_session, session_texts_are_unambiguous};
 use std::alloc::{AllocError, Global};
 
-/// The verdict on a text that was refused, or want of memory where that is why.
-fn refused(fault: TextFault, verdict: Verdict) -> Result<Verdict, AllocError>
-    ensures { MatchResult result (λ v. (v ≡ verdict) × (fault.kind ≢ FaultKind.Memory)) (λ _. fault.kind ≡ FaultKind.Memory) }
+/// The verdict on a session and the text of its certificate.
+fn judged(alloc: Global, session: &Session, cert: &[u8]) -> Result<Verdict, AllocError>
+    ensures verdict { IfOk result (IsCertTextVerdict session.now cert.now) }
+    ensures yes { result ≡ Ok Verdict.Yes → IsYes session.now cert.now }
 {
-    match fault.kind {
-        FaultKind::Memory => Err(AllocError),
-        _ => Ok(verdict),
+    cert_texts_are_unambiguous();
+    match read_cert(alloc, cert) {
+        Ok(certified) => check(alloc, session, &certified),
+        Err(fault) => Ok(Verdict::CertText(fault.refused_line()?)),
     }
 }
 
@@ -44,14 +47,8 @@ pub fn check_texts(alloc: Global, session: &[u8], cert: &[u8]) -> Result<Verdict
     ensures released_as_zeros { result ≡ Ok Verdict.Yes → OfSpelled session.now ReleasedAsZeros }
 {
     session_texts_are_unambiguous();
-    cert_texts_are_unambiguous();
-    let recorded = match read_session(alloc, session) {
-        Ok(recorded) => recorded,
-        Err(fault) => return refused(fault, Verdict::SessionText(fault.line)),
-    };
-    let certified = match read_cert(alloc, cert) {
-        Ok(certified) => certified,
-        Err(fault) => return refused(fault, Verdict::CertText(fault.line)),
-    };
-    check(alloc, &recorded, &certified)
+    match read_session(alloc, session) {
+        Ok(recorded) => judged(alloc, &recorded, cert),
+        Err(fault) => Ok(Verdict::SessionText(fault.refused_line()?)),
+    }
 }
