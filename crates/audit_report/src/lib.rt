@@ -9,8 +9,6 @@ mod parts;
 mod placements;
 mod printing;
 mod report;
-#[cfg(test)]
-mod tests;
 
 pub use auditing::audit;
 pub use printing::{print_report, push_first_line, push_shape};

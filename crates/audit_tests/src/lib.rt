@@ -14,6 +14,8 @@ pub mod plain;
 #[cfg(test)]
 mod replays;
 #[cfg(test)]
+mod reports;
+#[cfg(test)]
 mod texts;
 #[cfg(test)]
 mod verdicts;

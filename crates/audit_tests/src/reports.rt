@@ -1,48 +1,10 @@
 //! Reports on recorded sessions, against the rules.
 
-use crate::{audit, print_report};
+use crate::texts::HANDOVER;
+use audit_report::{audit, print_report};
 use session_log::read_session;
 use std::alloc::{AllocError, Global};
 use std::test::Fail;
-
-/// A page comes when it is missed, and another one after it.
-const CLEAN: &str = "postcopy-session 1
-pages 2
-cells 1
-init 1
-page 0 0000000000000005
-guest 9
-w 0 1 0 7
-halt
-resume 1
-miss 0 0
-see 5
-r 0 0 0 5
-see 7
-w 0 1 0 9
-r 0 1 0 9
-source 5
-halted 1
-state
-ask 1
-send 0 0000000000000005
-send 1 0000000000000007
-link 4
-down 1
-up 3
-down 3
-down 4
-pager 8
-got 0
-ready
-fault 3
-want 0
-got 2
-place 0 4 0000000000000005
-got 3
-place 1 6 0000000000000007
-end
-";
 
 /// A released page is read with no look at its placement, which the found order has last.
 const LAST: &str = "postcopy-session 1
@@ -284,19 +246,19 @@ struct Case {
 static CASES: [Case; 13] = [
     Case {
         is: "a clean session",
-        session: CLEAN,
+        session: HANDOVER,
         changes: &[],
         report: CLEAN_REPORT,
     },
     Case {
         is: "a fault that names no miss",
-        session: CLEAN,
+        session: HANDOVER,
         changes: &[("fault 3", "fault 4")],
         report: UNNAMED_REPORT,
     },
     Case {
         is: "a look at a placement before the miss that it waits for",
-        session: CLEAN,
+        session: HANDOVER,
         changes: &[
             ("miss 0 0\nsee 5", "see 5\nmiss 0 0"),
             ("fault 3", "fault 4"),
@@ -305,13 +267,13 @@ static CASES: [Case; 13] = [
     },
     Case {
         is: "a page that is used with no look that covers its placement",
-        session: CLEAN,
+        session: HANDOVER,
         changes: &[("guest 9", "guest 8"), ("see 7\n", "")],
         report: UNSEEN_REPORT,
     },
     Case {
         is: "the same, with the placement the last but one record of the pager, and seen after the access",
-        session: CLEAN,
+        session: HANDOVER,
         changes: &[
             ("see 7\nw 0 1 0 9\nr 0 1 0 9", "w 0 1 0 9\nr 0 1 0 9\nsee 7"),
             ("source 5", "source 6"),
@@ -335,7 +297,7 @@ static CASES: [Case; 13] = [
     },
     Case {
         is: "a second placement",
-        session: CLEAN,
+        session: HANDOVER,
         changes: &[
             ("pager 8", "pager 9"),
             ("\nend", "\nplace 0 4 0000000000000005\nend"),
@@ -344,7 +306,7 @@ static CASES: [Case; 13] = [
     },
     Case {
         is: "a send of other contents than at the halt",
-        session: CLEAN,
+        session: HANDOVER,
         changes: &[
             ("guest 9", "guest 6"),
             ("see 7\nw 0 1 0 9\nr 0 1 0 9\n", ""),
@@ -377,13 +339,13 @@ static CASES: [Case; 13] = [
     },
     Case {
         is: "a read of another value than was written",
-        session: CLEAN,
+        session: HANDOVER,
         changes: &[("r 0 1 0 9", "r 0 1 0 8")],
         report: MISREAD_REPORT,
     },
     Case {
         is: "a placement of other contents than were sent",
-        session: CLEAN,
+        session: HANDOVER,
         changes: &[("place 1 6 0000000000000007", "place 1 6 0000000000000008")],
         report: ALTERED_REPORT,
     },
