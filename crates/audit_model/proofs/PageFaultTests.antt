@@ -17,11 +17,11 @@ use Rattle.migration_types.specs.Receipts.{Name}
 use Rattle.migration_types.specs.Sessions.{Recorded}
 use Rattle.audit_model.specs.declared.reasons.PageReason.{PageReason}
 use Rattle.audit_model.specs.declared.reasons.PageReason.TheVariants.{Read as WrongRead, Early, Given, Stale, Twice, Altered, Unfit}
-use Rattle.audit_model.specs.Flat.{flat, in_ledger, Home, AtSource, Nowhere, AtTarget, home, at_halt}
+use Rattle.audit_model.specs.Flat.{flat, in_ledger, Home, AtSource, Nowhere, AtTarget, home, is_target, at_halt}
 use Rattle.audit_model.specs.Shape.{passes}
 use Rattle.audit_model.specs.Certificates.{is_access_of}
 use Rattle.audit_model.specs.Faults.{has_looked, IsEarly, GuestFault, SourceFault, PagerFault, if_fault, IsPageFault}
-use Rattle.audit_model.specs.inner.PageFaultTests.{is_target, is_uncovered, is_wrong_read, is_early, is_given, is_stale, is_second, is_altered, is_unfit, fault_test}
+use Rattle.audit_model.specs.inner.PageFaultTests.{is_uncovered, is_wrong_read, is_early, is_given, is_stale, is_second, is_altered, is_unfit, fault_test}
 
 never : {P : Type 0} → (P → ⊥) → Decides false P
 never f = (λ e. absurd (cc), λ p. absurd (f p))

@@ -16,9 +16,8 @@ use Rattle.migration_types.specs.Sessions.{Recorded}
 use Rattle.audit_model.specs.declared.reasons.ShapeReason.TheVariants.{Phases, Named, Start, SecondSend}
 use Rattle.audit_model.specs.Mergings.{Cursors}
 use Rattle.audit_model.specs.Walks.{next, Walks}
-use Rattle.audit_model.specs.Flat.{flat, in_ledger, home, at_halt}
+use Rattle.audit_model.specs.Flat.{flat, in_ledger, home, is_target, at_halt}
 use Rattle.audit_model.specs.inner.MergingTests.{may}
-use Rattle.audit_model.specs.inner.PageFaultTests.{is_target}
 use Rattle.audit_model.specs.Shape.{IsRightShape, in_phase, guest_named, source_named, link_named, pager_named, source_start, pager_start, is_first_send, keeps, is_placement_of}
 use Rattle.audit_model.specs.Certificates.{is_access_of, IsHonest, IsOnlyPlacement, IsLateAccess}
 use Rattle.audit_model.proofs.FirstNames.{may_Decides}

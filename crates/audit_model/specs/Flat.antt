@@ -51,6 +51,11 @@ home_after _ old = old
 abbrev pub home : Recorded → ℕ → Home
 home s n = before home_after AtSource s.guest n
 
+-- whether the guest is at the target
+abbrev pub is_target : Home → Bool
+is_target AtTarget = true
+is_target _ = false
+
 -- the place of the first halt, or the log's length where there is none
 abbrev pub halt_place : List GuestRec → ℕ
 halt_place [] = 0

@@ -9,7 +9,7 @@ use Rattle.migration_types.specs.Sessions.{Recorded, line_of}
 use Rattle.migration_types.specs.Receipts.{Name}
 use Rattle.audit_model.specs.Names.{log_length}
 use Rattle.audit_model.specs.Shape.{is_right, IsRightShape}
-use Rattle.cert_check.specs.FirstOfLog.{first_reason, reason_at, IsRightLog, IsFirstOfLog}
+use Rattle.cert_check.specs.inner.FirstOfLog.{first_reason, reason_at, IsRightLog, IsFirstOfLog}
 use Rattle.audit_model.specs.Reasons.{rank}
 use Rattle.audit_model.specs.FirstFault.{IsFirstFault}
 use Rattle.cert_check.proofs.FirstOfLog.{past_end}

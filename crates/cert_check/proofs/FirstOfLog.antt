@@ -19,7 +19,7 @@ use Rattle.log_passes.specs.declared.Found.{Found}
 use Rattle.log_passes.specs.Passes.{HaveNone, IsFirstFrom}
 use Rattle.audit_model.specs.Flat.{changed}
 use Rattle.audit_model.specs.Shape.{keeps, earlier, is_send_of, in_phase, guest_named, source_named, source_start, is_first_send, link_named, pager_named, pager_start}
-use Rattle.cert_check.specs.FirstOfLog.{first_reason, is_unmarked, marked_by, sent_before, AreSent, reason_at, IsRightBelow, IsRightLog, IsFirstOfLog}
+use Rattle.cert_check.specs.inner.FirstOfLog.{first_reason, is_unmarked, marked_by, sent_before, AreSent, reason_at, IsRightBelow, IsRightLog, IsFirstOfLog}
 
 -- one more record of a log
 pub earlier_more : {A : Type 0} (test : A → Bool) (log : List A) (n : ℕ) (r : A) → slice_get log n ≡ Some r → earlier test log (n + 1) ≡ (test r || earlier test log n)

@@ -1,5 +1,3 @@
-pub mod FirstOfLog
 pub mod Verdicts
 pub mod Texts
-pub mod Phases
-pub mod CertTexts
+pub mod inner

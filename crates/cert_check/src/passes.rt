@@ -6,8 +6,8 @@ ghost use Rattle.audit_model.specs.Names.{log_length};
 ghost use Rattle.audit_model.specs.Shape.{in_phase_by, is_halt, is_resume, guest_named, source_named, link_named, pager_named, source_start, pager_start};
 ghost use Rattle.page_tables.specs.Tables.{pages_of, values, IsWith};
 ghost use Rattle.page_facts.specs.Moved.{SourcePage};
-ghost use Rattle.cert_check.specs.FirstOfLog.{first_reason, is_unmarked, marked_by, reason_at, AreSent};
-ghost use Rattle.cert_check.specs.Phases.{ArePhases, ArePhasesAfter};
+ghost use Rattle.cert_check.specs.inner.FirstOfLog.{first_reason, is_unmarked, marked_by, reason_at, AreSent};
+ghost use Rattle.cert_check.specs.inner.Phases.{ArePhases, ArePhasesAfter};
 
 use audit_model::{
     ShapeReason, guest_named, in_phase, is_halt, is_resume, link_named, pager_named, pager_start,

@@ -4,7 +4,7 @@ ghost use Rattle.std.specs.Prelude.{◌≡◌, MatchOption, IfOk};
 ghost use Rattle.migration_types.specs.declared.records.LogName.TheVariants.{Guest, Source, Link, Pager};
 ghost use Rattle.migration_types.specs.Sessions.{IsSession, line_of};
 ghost use Rattle.audit_model.specs.Shape.{IsRightShape};
-ghost use Rattle.cert_check.specs.FirstOfLog.{IsRightLog, IsFirstOfLog};
+ghost use Rattle.cert_check.specs.inner.FirstOfLog.{IsRightLog, IsFirstOfLog};
 ghost use Rattle.cert_check.specs.Verdicts.{IsShapeFault};
 
 use crate::passes::{GuestPass, LinkPass, PagerPass, Phases, SourcePass};

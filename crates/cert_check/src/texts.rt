@@ -5,7 +5,7 @@ ghost use Rattle.audit_model.specs.Mergings.{HasMerging};
 ghost use Rattle.audit_model.specs.World.{IsSafe};
 ghost use Rattle.audit_model.specs.Laws.{FindsResident, ReadsFlat, PlacedOnce, PlacedUntouched, ReleasedAsZeros};
 ghost use Rattle.cert_check.specs.Texts.{IsTextVerdict, SpellsOneSession, OfSpelled, ReplaysClean};
-ghost use Rattle.cert_check.specs.CertTexts.{IsCertTextVerdict, IsYes};
+ghost use Rattle.cert_check.specs.inner.CertTexts.{IsCertTextVerdict, IsYes};
 
 use crate::judge::check;
 use crate::verdict::Verdict;

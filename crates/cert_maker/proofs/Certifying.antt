@@ -12,7 +12,7 @@ use Rattle.migration_types.specs.Sessions.{Recorded, IsSession, IsNumber}
 use Rattle.audit_model.specs.Mergings.{IsMerging, spelled}
 use Rattle.audit_model.specs.Certificates.{IsCovered, IsRightEntry, IsRightCertificate}
 use Rattle.cert_maker.specs.Made.{IsMade}
-use Rattle.cert_maker.specs.Entries.{IsMadeEntry, HasBarePage, AreMade}
+use Rattle.cert_maker.specs.inner.Entries.{IsMadeEntry, HasBarePage, AreMade}
 
 -- ---- one entry more
 

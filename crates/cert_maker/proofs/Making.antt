@@ -19,12 +19,12 @@ use Rattle.audit_model.specs.Certificates.{IsRightEntry}
 use Rattle.page_facts.specs.declared.facts.PageFacts.{PageFacts}
 use Rattle.page_facts.specs.Tables.{first_before}
 use Rattle.page_facts.specs.Facts.{IsFacts}
-use Rattle.page_facts.specs.EntryTests.{is_place, is_absent, sees_from, places_from, zeroes, covers, is_once, is_right_of}
+use Rattle.page_facts.specs.inner.EntryTests.{is_place, is_absent, sees_from, places_from, zeroes, covers, is_once, is_right_of}
 use Rattle.page_facts.proofs.Before.{some_true, some_false, first_none, first_some, IsFirstAt}
 use Rattle.page_facts.proofs.RightEntry.{place_some, absent_none, place_at, zero_at, send_at, sees_at, IsPlaceAt, right_from, right_test}
-use Rattle.cert_maker.specs.Looks.{first_look}
+use Rattle.cert_maker.specs.inner.Looks.{first_look}
 use Rattle.cert_maker.specs.Made.{IsEarliest, NamesEarliest}
-use Rattle.cert_maker.specs.Entries.{repeated, send_of, access_and_look, first_of, entry_at, placed_entry, entry_of}
+use Rattle.cert_maker.specs.inner.Entries.{repeated, send_of, access_and_look, first_of, entry_at, placed_entry, entry_of}
 use Rattle.cert_maker.proofs.Looking.{earlier_some}
 
 -- looks and the page's first placement

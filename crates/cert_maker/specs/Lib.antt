@@ -1,5 +1,3 @@
 pub mod Orders
-pub mod Ready
-pub mod Looks
-pub mod Entries
 pub mod Made
+pub mod inner

@@ -5,7 +5,7 @@ ghost use Rattle.std.specs.Prelude.{◌≡◌, ℕ, ◌==◌, ◌↔◌, [], ◌
 ghost use Rattle.std.specs.List.{list_any};
 ghost use Rattle.std.specs.Option.{option_map};
 ghost use Rattle.indexmap.specs.IndexMap.{values};
-ghost use Rattle.fault_queue.specs.Maps.{entries_of};
+ghost use Rattle.fault_queue.specs.inner.Maps.{entries_of};
 ghost use Rattle.fault_queue.specs.Waiting.{is_asked, asked};
 
 use indexmap::IndexMap;
@@ -49,7 +49,7 @@ pub struct FaultQueue {
 impl Model for FaultQueue {
     ghost use Rattle.std.specs.Prelude.{List};
     ghost use Rattle.fault_queue.specs.Waiting.{Waiting, IsQueue};
-    ghost use Rattle.fault_queue.specs.Maps.{entries_of};
+    ghost use Rattle.fault_queue.specs.inner.Maps.{entries_of};
 
     ghost Value = { List Waiting };
 

@@ -18,9 +18,9 @@ use Rattle.page_store.specs.Frames.{Frames, memory_of}
 use Rattle.merge_runs.specs.declared.moving.Moving.{Moving}
 use Rattle.merge_runs.specs.declared.outcome.Replay.{Replay}
 use Rattle.merge_runs.specs.declared.replaying.Replaying.{Replaying}
-use Rattle.merge_runs.specs.Moving.{world_of, frames_at, IsSized}
+use Rattle.merge_runs.specs.inner.Moving.{world_of, frames_at, IsSized}
 use Rattle.merge_runs.specs.Replays.{final_memory, final_memory_at, IsReplay}
-use Rattle.merge_runs.specs.Replaying.{AreSized, IsReplaying, HasRun}
+use Rattle.merge_runs.specs.inner.Replaying.{AreSized, IsReplaying, HasRun}
 use Rattle.merge_runs.proofs.Walking.{walks_front, walk_back, walks_run, spelled_front, with_it, the_run}
 use Rattle.merge_runs.proofs.OneMore.{told}
 

@@ -16,7 +16,7 @@ use Rattle.audit_model.specs.declared.home.Home.{Home}
 use Rattle.audit_model.specs.declared.home.Home.TheVariants.{AtSource, Nowhere, AtTarget}
 use Rattle.audit_model.specs.Flat.{flat}
 use Rattle.audit_model.specs.World.{World, memory_at, guest_demand, source_demand, pager_demand}
-use Rattle.merge_runs.specs.Demands.{finds, has_left, is_open, guest_met, source_met, pager_met}
+use Rattle.merge_runs.specs.inner.Demands.{finds, has_left, is_open, guest_met, source_met, pager_met}
 
 not_true : (b : Bool) → not b ≡ true → b ≡ false
 not_true true e = absurd (cc)

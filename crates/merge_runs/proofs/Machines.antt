@@ -10,7 +10,7 @@ use Rattle.migration_types.specs.Extents.{Extent}
 use Rattle.migration_types.specs.Sessions.{GuestRecFits, SourceRecFits, PagerRecFits}
 use Rattle.audit_model.specs.World.{World}
 use Rattle.merge_runs.specs.declared.moving.Moving.{Moving}
-use Rattle.merge_runs.specs.Moving.{IsSized, HasPage, HasCell, GuestHas, SourceHas, PagerHas, IsMoved}
+use Rattle.merge_runs.specs.inner.Moving.{IsSized, HasPage, HasCell, GuestHas, SourceHas, PagerHas, IsMoved}
 
 -- worlds with the same parts are the same
 pub same_world : (a b : World) → a.home ≡ b.home → a.source ≡ b.source → a.target ≡ b.target → a.resident ≡ b.resident → a.placed ≡ b.placed → a.touched ≡ b.touched → a.ledger ≡ b.ledger → a ≡ b

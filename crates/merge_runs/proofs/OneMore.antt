@@ -22,9 +22,9 @@ use Rattle.flat_machine.specs.Machines.{memory_after}
 use Rattle.flat_machine.proofs.Stepping.{memory_next}
 use Rattle.page_store.specs.Frames.{memory_of}
 use Rattle.merge_runs.specs.declared.replaying.Replaying.{Replaying}
-use Rattle.merge_runs.specs.Moving.{world_of}
-use Rattle.merge_runs.specs.Demands.{guest_met, source_met, pager_met}
-use Rattle.merge_runs.specs.Replaying.{AllMet, Breaks, noted, AreSized, IsReplaying, HasRun, IsGuestStep, IsPagerStep}
+use Rattle.merge_runs.specs.inner.Moving.{world_of}
+use Rattle.merge_runs.specs.inner.Demands.{guest_met, source_met, pager_met}
+use Rattle.merge_runs.specs.inner.Replaying.{AllMet, Breaks, noted, AreSized, IsReplaying, HasRun, IsGuestStep, IsPagerStep}
 use Rattle.merge_runs.proofs.Walking.{cursors_append, cursors_run, own_moved}
 use Rattle.merge_runs.proofs.Demanding.{guest_yes, guest_from, source_yes, source_from, pager_yes, pager_from}
 

@@ -21,7 +21,7 @@ pub(crate) struct Moving {
 
 impl Moving {
     ghost use Rattle.audit_model.specs.World.{start, read_at, write_at, release_at, guest_step, pager_step};
-    ghost use Rattle.merge_runs.specs.Moving.{world_of, frames_at, IsSized, HasPage, HasCell, GuestHas, PagerHas, IsMoved};
+    ghost use Rattle.merge_runs.specs.inner.Moving.{world_of, frames_at, IsSized, HasPage, HasCell, GuestHas, PagerHas, IsMoved};
 
     /// The guest at the source with its initial memory, and nothing at the target.
     pub(crate) fn start(alloc: Global, session: &Session) -> Result<Moving, AllocError>

@@ -6,8 +6,8 @@ ghost use Rattle.migration_types.specs.Sessions.{IsSession};
 ghost use Rattle.audit_model.specs.Names.{log_length};
 ghost use Rattle.audit_model.specs.Mergings.{IsMerging, spelled};
 ghost use Rattle.flat_machine.specs.Machines.{HasFor};
-ghost use Rattle.merge_runs.specs.Moving.{GuestHas, SourceHas, PagerHas};
-ghost use Rattle.merge_runs.specs.Replaying.{noted, AreSized, IsReplaying, HasRun, IsGuestStep, IsPagerStep};
+ghost use Rattle.merge_runs.specs.inner.Moving.{GuestHas, SourceHas, PagerHas};
+ghost use Rattle.merge_runs.specs.inner.Replaying.{noted, AreSized, IsReplaying, HasRun, IsGuestStep, IsPagerStep};
 ghost use Rattle.merge_runs.specs.Replays.{IsReplay, IsMergeFault};
 
 use crate::demands::{guest_met, pager_met, source_met};

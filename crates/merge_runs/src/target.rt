@@ -22,7 +22,7 @@ pub(crate) struct Target {
 }
 
 impl Target {
-    ghost use Rattle.merge_runs.specs.Targets.{HasPage, IsBegun, IsPlaced, IsTouched};
+    ghost use Rattle.merge_runs.specs.inner.Targets.{HasPage, IsBegun, IsPlaced, IsTouched};
 
     /// The machine before the first record: zeros, and no page placed or touched.
     pub(crate) fn start(alloc: Global, geometry: Geometry) -> Result<Target, AllocError>

@@ -21,8 +21,8 @@ use Rattle.flat_machine.specs.Machines.{IsFlat}
 use Rattle.balloon_ledger.specs.Released.{released}
 use Rattle.residency.specs.Placements.{Placements, placements, is_covered}
 use Rattle.page_facts.specs.declared.page_fault.Watch.{Watch}
-use Rattle.page_facts.specs.Frontier.{seen_by, frontier, is_before}
-use Rattle.page_facts.specs.FirstOfLog.{or_else, reason_at, is_unseen, guest_reason, source_reason, pager_reason, IsWatched, IsWatchedOn}
+use Rattle.page_facts.specs.inner.Frontier.{seen_by, frontier, is_before}
+use Rattle.page_facts.specs.inner.FirstOfLog.{or_else, reason_at, is_unseen, guest_reason, source_reason, pager_reason, IsWatched, IsWatchedOn}
 use Rattle.page_facts.proofs.Judging.{machine_more}
 use Rattle.page_facts.proofs.Moving.{differs_is, released_is}
 use Rattle.page_facts.proofs.Looked.{placed_before, frontier_looked}

@@ -18,7 +18,7 @@ use Rattle.audit_model.proofs.PageFaultTests.{fault_Decides}
 use Rattle.log_passes.specs.declared.Found.{Found}
 use Rattle.log_passes.specs.Passes.{HaveNone, IsFirstFrom}
 use Rattle.page_facts.specs.declared.page_fault.PageFault.{PageFault}
-use Rattle.page_facts.specs.FirstOfLog.{or_else, reason_at, IsCleanBelow, IsCleanLog, IsFirstOfLog, AreMovedClean, IsFirstMoved}
+use Rattle.page_facts.specs.inner.FirstOfLog.{or_else, reason_at, IsCleanBelow, IsCleanLog, IsFirstOfLog, AreMovedClean, IsFirstMoved}
 use Rattle.page_facts.proofs.LeastReason.{least_rank, least_is}
 
 -- what the least reason at a record says of its faults

@@ -7,7 +7,7 @@ use Rattle.migration_types.specs.Extents.{Extent}
 use Rattle.migration_types.specs.Memory.{Memory}
 use Rattle.migration_types.specs.Sessions.{Recorded, GuestRecFits}
 use Rattle.audit_model.specs.declared.home.Home.{Home}
-use Rattle.audit_model.specs.Flat.{changed, flat, home_after, home}
+use Rattle.audit_model.specs.Flat.{changed, flat, home_after, home, is_target}
 use Rattle.audit_model.specs.Shape.{passes}
 use Rattle.audit_model.specs.Certificates.{is_access_of}
 use Rattle.flat_machine.proofs.Stepping.{flat_next}
@@ -17,7 +17,7 @@ use Rattle.page_tables.proofs.Noting.{noted_none}
 use Rattle.page_facts.specs.declared.machine.FlatGuest.{FlatGuest}
 use Rattle.page_facts.specs.declared.guest.Judge.{Judge}
 use Rattle.page_facts.specs.Tables.{some_before, first_before, IsTable}
-use Rattle.page_facts.specs.Machines.{GuestPage, is_target, late_after, IsMachine, IsStepped}
+use Rattle.page_facts.specs.Machines.{GuestPage, late_after, IsMachine, IsStepped}
 use Rattle.page_facts.specs.Judged.{is_wrong_read, is_late_access, wrong_by, accessed_by, IsJudged, IsJudgedOn}
 
 pub guest_page : (e : Extent) (r : GuestRec) → GuestRecFits e r → GuestPage e.pages r

@@ -4,7 +4,7 @@ use Rattle.std.proofs.lemmas.Bool.{cases_lt}
 use Rattle.audit_model.specs.declared.reasons.PageReason.{PageReason}
 use Rattle.audit_model.specs.declared.reasons.PageReason.TheVariants.{Read, Early, Given, Stale, Twice, Altered, Unfit}
 use Rattle.audit_model.specs.Reasons.{page_rank}
-use Rattle.page_facts.specs.FirstOfLog.{or_else, least_reason}
+use Rattle.page_facts.specs.inner.FirstOfLog.{or_else, least_reason}
 
 -- reasons with the same number are the same
 abbrev of_rank : ℕ → PageReason

@@ -11,7 +11,7 @@ use Rattle.audit_model.specs.Shape.{passes, earlier, is_placement_of}
 use Rattle.audit_model.specs.Faults.{looks_at, has_looked}
 use Rattle.residency.specs.Placements.{raised, is_covered}
 use Rattle.page_facts.specs.Tables.{some_before, first_before}
-use Rattle.page_facts.specs.Frontier.{seen_by, frontier, is_before}
+use Rattle.page_facts.specs.inner.Frontier.{seen_by, frontier, is_before}
 use Rattle.page_facts.proofs.Before.{some_false, some_true, first_none, first_some, IsFirstAt}
 
 earlier_some : {A : Type 0} (test : A → Bool) (log : List A) (n : ℕ) → earlier test log n ≡ some_before (λ m. test) log n

@@ -1,4 +1,4 @@
--- What the pass over the guest's log keeps: the machine, and a few tables. This serves proofs alone.
+-- What the pass over the guest's log keeps: the machine, and a few tables.
 use Rattle.std.specs.Prelude.{ℕ, Bool, false, not, ◌==◌, ◌&&◌, ◌||◌, Option, if◌then◌else◌}
 use Rattle.std.specs.Str.{bytes_eq}
 use Rattle.migration_types.specs.declared.records.GuestRec.{GuestRec}
@@ -9,12 +9,12 @@ use Rattle.migration_types.specs.declared.records.PagerRec.{PagerRec}
 use Rattle.migration_types.specs.declared.records.PagerRec.TheVariants.{Place, Zero}
 use Rattle.migration_types.specs.Memory.{Memory, page_of}
 use Rattle.migration_types.specs.Sessions.{Recorded}
-use Rattle.audit_model.specs.Flat.{flat, in_ledger, home, at_halt}
+use Rattle.audit_model.specs.Flat.{flat, in_ledger, home, is_target, at_halt}
 use Rattle.audit_model.specs.Certificates.{is_access_of}
 use Rattle.page_store.specs.Frames.{memory_of}
 use Rattle.page_tables.specs.Tables.{values, IsWith}
 use Rattle.page_facts.specs.Tables.{some_before, first_before, noted, marked_if, IsTable}
-use Rattle.page_facts.specs.Machines.{is_target, IsMachine, IsStepped}
+use Rattle.page_facts.specs.Machines.{IsMachine, IsStepped}
 use Rattle.page_facts.specs.declared.guest.Judge.{Judge}
 
 -- a read of the page whose value is not the flat answer

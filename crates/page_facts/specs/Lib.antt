@@ -3,6 +3,4 @@ pub mod Machines
 pub mod Judged
 pub mod Moved
 pub mod Facts
-pub mod EntryTests
-pub mod Frontier
-pub mod FirstOfLog
+pub mod inner

@@ -1,10 +1,9 @@
--- One machine that never moved, along the guest's log. This serves proofs alone.
+-- One machine that never moved, along the guest's log.
 use Rattle.std.specs.Prelude.{◌≡◌, ℕ, ◌<◌, Bool, true, false}
 use Rattle.migration_types.specs.declared.records.GuestRec.{GuestRec}
 use Rattle.migration_types.specs.declared.records.GuestRec.TheVariants.{Read, Write, Release, Halt, Resume}
 use Rattle.migration_types.specs.Sessions.{Recorded}
-use Rattle.audit_model.specs.Flat.{home}
-pub use Rattle.audit_model.specs.inner.PageFaultTests.{is_target}
+use Rattle.audit_model.specs.Flat.{home, is_target}
 use Rattle.flat_machine.specs.Machines.{IsFlat, IsAfter}
 use Rattle.page_facts.specs.declared.machine.FlatGuest.{FlatGuest}
 

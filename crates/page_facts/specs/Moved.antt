@@ -1,5 +1,4 @@
--- What is known of each page's sends and placements, by the memory and the released pages at the halt. This serves
--- proofs alone.
+-- What is known of each page's sends and placements, by the memory and the released pages at the halt.
 use Rattle.std.specs.Prelude.{◌≡◌, ℕ, ◌<◌, Bool, not, ◌&&◌, ◌||◌, List, Option, None, is_some}
 use Rattle.std.specs.Str.{bytes_eq}
 use Rattle.migration_types.specs.declared.records.SourceRec.{SourceRec}

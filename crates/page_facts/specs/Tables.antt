@@ -1,4 +1,4 @@
--- Tables of pages, and what earlier records say. This serves proofs alone.
+-- Tables of pages, and what earlier records say.
 use Rattle.std.specs.Prelude.{◌≡◌, ℕ, zero, suc, Bool, false, ◌||◌, List, Option, None, slice_get}
 use Rattle.audit_model.specs.Shape.{passes}
 pub use Rattle.page_tables.specs.Tables.{or_here, noted, marked_if}

@@ -2,7 +2,7 @@
 
 ghost use Rattle.std.specs.Prelude.{◌≡◌};
 ghost use Rattle.residency.specs.Placements.{placements, IsWith};
-ghost use Rattle.page_facts.specs.Frontier.{seen_by, is_before};
+ghost use Rattle.page_facts.specs.inner.Frontier.{seen_by, is_before};
 
 use migration_types::GuestRec;
 use residency::Residency;

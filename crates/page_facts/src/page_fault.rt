@@ -13,7 +13,7 @@ ghost use Rattle.page_store.specs.Frames.{memory_of};
 ghost use Rattle.residency.specs.Placements.{placements};
 ghost use Rattle.page_facts.specs.Machines.{GuestPage};
 ghost use Rattle.page_facts.specs.Moved.{SourcePage, PagerPage};
-ghost use Rattle.page_facts.specs.FirstOfLog.{reads_wrong, is_unseen, comes_early, guest_reason, source_reason, pager_reason, reason_at, AreAllPlaced, AreMovedClean, IsFirstMoved, IsWatched, IsWatchedOn};
+ghost use Rattle.page_facts.specs.inner.FirstOfLog.{reads_wrong, is_unseen, comes_early, guest_reason, source_reason, pager_reason, reason_at, AreAllPlaced, AreMovedClean, IsFirstMoved, IsWatched, IsWatchedOn};
 
 use crate::frontier::{is_before, look};
 use crate::machine::{FlatGuest, guest_at_start, halt_place, step};

@@ -4,7 +4,7 @@ ghost use Rattle.std.specs.Prelude.{◌≡◌, ◌↔◌, IsTrue, slice_get};
 ghost use Rattle.audit_model.specs.Shape.{passes, is_send_of};
 ghost use Rattle.audit_model.specs.Certificates.{IsRightEntry};
 ghost use Rattle.page_facts.specs.Facts.{IsFacts};
-ghost use Rattle.page_facts.specs.EntryTests.{sees_from, repeats, delivers_from, places_from, zeroes, covers, is_once, is_right_of, is_right_entry};
+ghost use Rattle.page_facts.specs.inner.EntryTests.{sees_from, repeats, delivers_from, places_from, zeroes, covers, is_once, is_right_of, is_right_entry};
 
 use crate::facts::PageFacts;
 use audit_model::{delivery, is_send_of};

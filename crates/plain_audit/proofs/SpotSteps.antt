@@ -14,7 +14,7 @@ use Rattle.audit_model.specs.declared.home.Home.{Home}
 use Rattle.audit_model.specs.declared.home.Home.TheVariants.{AtSource, Nowhere, AtTarget}
 use Rattle.audit_model.specs.Flat.{changed}
 use Rattle.audit_model.specs.World.{World, guest_step, write_at, release_at, read_at, pager_step, step, run_from, world_after}
-use Rattle.plain_audit.specs.inner.Spots.{spot_at, spot_written, spot_released, spot_read, guest_spot, pager_spot, spot_step}
+use Rattle.plain_audit.specs.Spots.{spot_at, spot_written, spot_released, spot_read, guest_spot, pager_spot, spot_step}
 
 picked : (t q r r' : Bool) (x y : ℕ) → (t ≡ true → r ≡ r') → cond r (cond (t && q) x y) y ≡ cond ((t && q) && r') x y
 picked true true true true x y same = refl

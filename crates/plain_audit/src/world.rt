@@ -6,7 +6,7 @@ ghost use Rattle.migration_types.specs.Sessions.{IsSession};
 ghost use Rattle.migration_types.specs.declared.records.LogName.TheVariants.{Guest, Source, Link, Pager};
 ghost use Rattle.audit_model.specs.Shape.{keeps};
 ghost use Rattle.audit_model.specs.World.{world_after, memory_at, Demand, IsSafeOrder, IsFirstBroken};
-ghost use Rattle.plain_audit.specs.inner.Spots.{spot_at, spot_written, spot_released, spot_read, spot_placed, guest_spot, pager_spot, spot_step};
+ghost use Rattle.plain_audit.specs.Spots.{spot_at, spot_written, spot_released, spot_read, spot_placed, guest_spot, pager_spot, spot_step};
 ghost use Rattle.plain_audit.specs.inner.DemandTests.{finds, value_at, is_source_page, guest_test, source_test, pager_test, demand_test};
 
 use crate::flat::{flat_value, initial_value};

@@ -16,9 +16,9 @@ use Rattle.migration_types.specs.Sessions.{Recorded, IsSession, GuestRecFits, So
 use Rattle.session_log.specs.declared.parts.Stage.{Stage}
 use Rattle.session_log.specs.declared.parts.Stage.TheVariants.{Header, Pages, Cells, InitCount, Init, Guest, Source, Link, Pager, Done}
 use Rattle.session_log.specs.Records.{guest_line, source_line, link_line, pager_line}
-use Rattle.session_log.specs.InitPages.{Rise, rise_long, rise_increases}
+use Rattle.session_log.specs.inner.InitPages.{Rise, rise_long, rise_increases}
 use Rattle.session_log.specs.Grammar.{header, pages_key, cells_key, init_key, guest_key, source_key, link_key, pager_key, page_line, closing, session_lines, SpellsSession}
-use Rattle.session_log.specs.Held.{Draft, Part, part_onto, geometry_onto, init_onto, guest_onto, source_onto, link_onto, pager_onto, held_onto, IsWhole, LogFits, GuestFits, SourceFits, LinkFits, PagerFits, Live}
+use Rattle.session_log.specs.inner.Held.{Draft, Part, part_onto, geometry_onto, init_onto, guest_onto, source_onto, link_onto, pager_onto, held_onto, IsWhole, LogFits, GuestFits, SourceFits, LinkFits, PagerFits, Live}
 use Rattle.session_log.proofs.Lists.{all_append, all_replicate}
 use Rattle.session_log.proofs.Sections.{with_items, onto_more, onto_whole, fresh, fresh_fits, missing, filled_whole, filled_fits}
 use Rattle.session_log.proofs.Laws.{held_append, StartFits, guest_part, source_part, link_part, pager_part, pager_lines, link_lines, source_lines, guest_lines, init_agrees, guest_agrees, source_agrees, link_agrees, pager_agrees}

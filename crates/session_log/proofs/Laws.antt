@@ -22,9 +22,9 @@ use Rattle.migration_types.specs.Sessions.{Recorded, IsSession, GuestRecFits, So
 use Rattle.session_log.specs.declared.parts.Stage.{Stage}
 use Rattle.session_log.specs.declared.parts.Stage.TheVariants.{Header, Pages, Cells, InitCount, Init, Guest, Source, Link, Pager, Done}
 use Rattle.session_log.specs.Records.{guest_line, source_line, link_line, pager_line}
-use Rattle.session_log.specs.InitPages.{IsInitContent, Rise, next_from, rise_long, rise_of, few_init}
+use Rattle.session_log.specs.inner.InitPages.{IsInitContent, Rise, next_from, rise_long, rise_of, few_init}
 use Rattle.session_log.specs.Grammar.{pages_key, cells_key, init_key, guest_key, source_key, link_key, pager_key, page_key, page_line, closing, counted, session_lines, SpellsSession}
-use Rattle.session_log.specs.Held.{Draft, Part, part_onto, geometry_onto, init_onto, guest_onto, source_onto, link_onto, pager_onto, held_onto, IsWhole, InitFits, GuestFits, SourceFits, LinkFits, PagerFits, Live}
+use Rattle.session_log.specs.inner.Held.{Draft, Part, part_onto, geometry_onto, init_onto, guest_onto, source_onto, link_onto, pager_onto, held_onto, IsWhole, InitFits, GuestFits, SourceFits, LinkFits, PagerFits, Live}
 use Rattle.session_log.proofs.Lists.{all_at, all_append}
 use Rattle.session_log.proofs.Sections.{part_append, with_items, agrees, item_at, count_at}
 

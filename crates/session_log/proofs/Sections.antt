@@ -5,7 +5,7 @@ use Rattle.std.specs.Fmt.{decimal}
 use Rattle.std.proofs.lemmas.List.{length-replicate, map-append}
 use Rattle.text_lines.proofs.Sections.{CountedAgree, counted_agree, counted_next, section_push}
 use Rattle.session_log.specs.Grammar.{counted}
-use Rattle.session_log.specs.Held.{Part, part_onto, IsWhole, LogFits}
+use Rattle.session_log.specs.inner.Held.{Part, part_onto, IsWhole, LogFits}
 use Rattle.session_log.proofs.Lists.{all_at, all_append, all_replicate}
 
 -- ---- its lines, and more behind them

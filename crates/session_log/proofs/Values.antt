@@ -15,10 +15,10 @@ use Rattle.migration_types.specs.Pages.{InitPageFits}
 use Rattle.migration_types.specs.Sessions.{Recorded, IsSession, GuestRecFits, SourceRecFits, LinkRecFits, PagerRecFits}
 use Rattle.session_log.specs.declared.parts.Stage.TheVariants.{Done}
 use Rattle.session_log.specs.Records.{guest_line, source_line, link_line, pager_line}
-use Rattle.session_log.specs.InitPages.{Rise, rise_of}
+use Rattle.session_log.specs.inner.InitPages.{Rise, rise_of}
 use Rattle.session_log.specs.Grammar.{page_line, closing, session_lines, SpellsSession}
-use Rattle.session_log.specs.Held.{Draft, Part, LogFits, GuestFits, SourceFits, LinkFits, PagerFits}
-use Rattle.session_log.specs.Plain.{plain_session}
+use Rattle.session_log.specs.inner.Held.{Draft, Part, LogFits, GuestFits, SourceFits, LinkFits, PagerFits}
+use Rattle.session_log.specs.inner.Plain.{plain_session}
 use Rattle.session_log.proofs.Lists.{spelled_same}
 use Rattle.session_log.proofs.Laws.{held_append, StartFits, page_same, guest_part, source_part, link_part, pager_part, guest_lines, source_lines, link_lines, pager_lines, init_agrees, guest_agrees, source_agrees, link_agrees, pager_agrees}
 use Rattle.session_log.proofs.Tells.{guest_tells, source_tells, link_tells, pager_tells}

@@ -5,7 +5,7 @@ ghost use Rattle.text_lines.specs.Contents.{contents_text};
 ghost use Rattle.migration_types.specs.Pages.{AreZeros};
 ghost use Rattle.migration_types.specs.declared.pages.InitPage.{InitPage as Page};
 ghost use Rattle.session_log.specs.Grammar.{page_line};
-ghost use Rattle.session_log.specs.InitPages.{IsInitContent, next_from};
+ghost use Rattle.session_log.specs.inner.InitPages.{IsInitContent, next_from};
 
 use crate::fields::read_page_contents;
 use crate::forms::Machine;

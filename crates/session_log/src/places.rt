@@ -8,7 +8,7 @@ use migration_types::{LogName, Session};
 
 /// The line, counted from 1, at which a session's text has a record: the one at a place, counted from 0, of a log.
 /// Takes no memory.
-#[tactic(auto, using(crate::specs::InitPages::few_init, crate::proofs::RecordLines::line_is))]
+#[tactic(auto, using(crate::specs::inner::InitPages::few_init, crate::proofs::RecordLines::line_is))]
 pub fn line_of(session: &Session, log: LogName, place: u32) -> u32
     requires { place < log_length session.now log }
     ensures line { result ≡ line_of session.now (log, place) }

@@ -1,4 +1,4 @@
--- Tests for mergings, which the plain program computes. These serve proofs alone.
+-- Tests for mergings, which the plain program computes.
 use Rattle.std.specs.Prelude.{Bool, ◌==◌, ◌&&◌, nat_lt}
 use Rattle.migration_types.specs.declared.records.LogName.TheVariants.{Guest, Source, Link, Pager}
 use Rattle.migration_types.specs.Receipts.{Name}

@@ -1,4 +1,4 @@
--- Tests for faults of pages, which the plain programs compute. These serve proofs alone.
+-- Tests for faults of pages, which the plain programs compute.
 use Rattle.std.specs.Prelude.{ℕ, Bool, true, false, not, ◌==◌, ◌&&◌, List, slice_get}
 use Rattle.std.specs.Str.{bytes_eq}
 use Rattle.migration_types.specs.declared.records.LogName.TheVariants.{Guest, Source, Pager}
@@ -13,13 +13,9 @@ use Rattle.migration_types.specs.Receipts.{Name}
 use Rattle.migration_types.specs.Sessions.{Recorded}
 use Rattle.audit_model.specs.declared.reasons.PageReason.{PageReason}
 use Rattle.audit_model.specs.declared.reasons.PageReason.TheVariants.{Read as WrongRead, Early, Given, Stale, Twice, Altered, Unfit}
-use Rattle.audit_model.specs.Flat.{flat, in_ledger, Home, AtTarget, home, at_halt}
+use Rattle.audit_model.specs.Flat.{flat, in_ledger, home, is_target, at_halt}
 use Rattle.audit_model.specs.Shape.{passes, is_placement_of, earlier}
 use Rattle.audit_model.specs.Faults.{has_looked}
-
-abbrev pub is_target : Home → Bool
-is_target AtTarget = true
-is_target _ = false
 
 abbrev pub is_uncovered : Recorded → ℕ → ℕ → Bool
 is_uncovered s page n = is_target (home s n) && not (has_looked s page n)

@@ -1,4 +1,4 @@
--- The runs of an order cut in two. This serves proofs alone.
+-- The runs of an order cut in two.
 use Rattle.std.specs.Prelude.{◌≡◌, ℕ, ◌+◌, ◌≤◌, List, length, slice_index_or, min}
 use Rattle.std.specs.List.{AllByRecursion, filter}
 use Rattle.migration_types.specs.declared.records.LogName.{LogName}

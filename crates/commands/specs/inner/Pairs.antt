@@ -1,4 +1,4 @@
--- Two texts in memory. This serves proofs alone.
+-- Two texts in memory.
 use Rattle.std.specs.Prelude.{ℕ, ◌≤◌, List, Option, Some, None, length, take, drop}
 use Rattle.std.specs.Global.{Vec}
 use Rattle.commands.specs.declared.pair.Pair.{Pair}

@@ -1,4 +1,4 @@
--- Tests for demands, which the plain programs compute. These serve proofs alone.
+-- Tests for demands, which the plain programs compute.
 use Rattle.std.specs.Prelude.{ℕ, Bool, true, false, not, ◌==◌, ◌&&◌, List, slice_get}
 use Rattle.std.specs.Str.{bytes_eq}
 use Rattle.migration_types.specs.declared.records.LogName.TheVariants.{Guest, Source, Link, Pager}

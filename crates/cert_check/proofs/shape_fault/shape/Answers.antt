@@ -2,7 +2,7 @@ use Rattle.std.proofs.Common.{sym, subst}
 use Rattle.std.proofs.lemmas.Option.{MatchOption-at_some, MatchOption-at_none}
 use Rattle.migration_types.specs.declared.records.LogName.TheVariants.{Guest, Source, Link, Pager}
 use Rattle.audit_model.specs.declared.reasons.ShapeReason.{ShapeReason}
-use Rattle.cert_check.specs.FirstOfLog.{IsRightLog, IsFirstOfLog}
+use Rattle.cert_check.specs.inner.FirstOfLog.{IsRightLog, IsFirstOfLog}
 use Rattle.audit_model.specs.FirstFault.{IsFirstFault}
 use Rattle.log_passes.specs.declared.Found.{Found}
 use Rattle.cert_check.proofs.FirstOfAll.{guest_first, source_first, link_first, pager_first}

@@ -1,4 +1,4 @@
-use Rattle.cert_maker.specs.Looks.{AreLooks}
+use Rattle.cert_maker.specs.inner.Looks.{AreLooks}
 use Rattle.cert_maker.proofs.looks.first_looks.Given as goal
 
 abbrev pub invariant-loop-n : goal.invariant-loop-n

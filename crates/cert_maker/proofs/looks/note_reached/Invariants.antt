@@ -1,4 +1,4 @@
-use Rattle.cert_maker.specs.Looks.{AreNoted}
+use Rattle.cert_maker.specs.inner.Looks.{AreNoted}
 use Rattle.cert_maker.proofs.looks.note_reached.Given as goal
 
 abbrev pub invariant-loop-place : goal.invariant-loop-place

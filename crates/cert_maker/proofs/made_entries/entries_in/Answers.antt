@@ -1,7 +1,7 @@
 use Rattle.std.proofs.Common.{ℕ, Option, ◌∙◌, List, sym, ap, subst, arith}
 use Rattle.migration_types.specs.Extents.{Extent}
 use Rattle.migration_types.specs.declared.cert.Entry.{Entry}
-use Rattle.cert_maker.specs.Entries.{IsMadeEntry, AreMade}
+use Rattle.cert_maker.specs.inner.Entries.{IsMadeEntry, AreMade}
 use Rattle.cert_maker.proofs.Certifying.{each_more, pushed_length}
 use Rattle.cert_maker.proofs.made_entries.entries_in.Goals as goal
 

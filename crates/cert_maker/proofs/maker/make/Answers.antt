@@ -2,7 +2,7 @@ use Rattle.std.proofs.Common.{List, refl, subst}
 use Rattle.std.proofs.lemmas.Option.{MatchOption-at_some, MatchOption-at_none}
 use Rattle.migration_types.specs.declared.cert.Run.{Run}
 use Rattle.audit_model.specs.Mergings.{IsMerging, spelled}
-use Rattle.cert_maker.specs.Entries.{HasBarePage, AreMade}
+use Rattle.cert_maker.specs.inner.Entries.{HasBarePage, AreMade}
 use Rattle.cert_maker.proofs.Certifying.{made_cert, is_made, bare_refused}
 use Rattle.cert_maker.proofs.maker.make.Goals as goal
 

@@ -2,7 +2,7 @@ use Rattle.std.proofs.Common.{◌≡◌, ◌<◌, false, Result, Ok, Err, OnOk, 
 use Rattle.std.proofs.lemmas.Grind.{common_steps}
 use Rattle.fault_queue.proofs.Queues.{order_asked}
 use Rattle.fault_queue.proofs.Waiters.{waiting_asked}
-use Rattle.fault_queue.specs.Maps.{entries_of}
+use Rattle.fault_queue.specs.inner.Maps.{entries_of}
 use Rattle.fault_queue.specs.Waiting.{is_waiting, waiting_for, asked, IsQueue}
 use Rattle.fault_queue.proofs.FaultQueue.fault.Goals as goal
 

@@ -4,7 +4,7 @@ use Rattle.audit_model.specs.Names.{log_length}
 use Rattle.audit_model.specs.Mergings.{at_start, spelled}
 use Rattle.audit_model.specs.Walks.{cursors_from}
 use Rattle.merge_runs.specs.Taken.{cursors_of}
-use Rattle.merge_runs.specs.Replaying.{AreSized, IsReplaying}
+use Rattle.merge_runs.specs.inner.Replaying.{AreSized, IsReplaying}
 use Rattle.merge_runs.proofs.replaying.run_all.Given as goal
 
 abbrev pub invariant-loop-place : goal.invariant-loop-place

@@ -1,6 +1,6 @@
 use Rattle.std.proofs.Common.{sym, subst}
 use Rattle.migration_types.specs.declared.records.LogName.{LogName}
-use Rattle.merge_runs.specs.Replaying.{HasRun}
+use Rattle.merge_runs.specs.inner.Replaying.{HasRun}
 use Rattle.merge_runs.proofs.OneMore.{link_run}
 use Rattle.merge_runs.proofs.replaying.run_log.Goals as goal
 

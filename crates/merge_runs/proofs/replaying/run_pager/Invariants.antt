@@ -1,5 +1,5 @@
 use Rattle.migration_types.specs.declared.records.LogName.TheVariants.{Pager}
-use Rattle.merge_runs.specs.Replaying.{AreSized, HasRun}
+use Rattle.merge_runs.specs.inner.Replaying.{AreSized, HasRun}
 use Rattle.merge_runs.proofs.replaying.run_pager.Given as goal
 
 abbrev pub invariant-loop-k : goal.invariant-loop-k

@@ -1,7 +1,7 @@
 use Rattle.std.proofs.Common.{◌+◌, ◌∙◌, List, length, refl, ap, arith}
 use Rattle.migration_types.specs.declared.records.LogName.TheVariants.{Source}
 use Rattle.migration_types.specs.declared.records.SourceRec.{SourceRec}
-use Rattle.merge_runs.specs.Replaying.{noted}
+use Rattle.merge_runs.specs.inner.Replaying.{noted}
 use Rattle.merge_runs.proofs.Reading.{read_at}
 use Rattle.merge_runs.proofs.OneMore.{source_more, run_more}
 use Rattle.merge_runs.proofs.replaying.run_source.Goals as goal

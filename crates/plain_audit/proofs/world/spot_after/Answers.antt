@@ -1,6 +1,6 @@
 use Rattle.std.proofs.Common.{ap, ◌∙◌, get_or}
 use Rattle.migration_types.specs.declared.records.LogName.TheVariants.{Guest}
-use Rattle.plain_audit.specs.inner.Spots.{spot_step}
+use Rattle.plain_audit.specs.Spots.{spot_step}
 use Rattle.plain_audit.proofs.SpotSteps.{spot_more}
 use Rattle.plain_audit.proofs.world.spot_after.Goals as goal
 

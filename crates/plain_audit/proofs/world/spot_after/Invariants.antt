@@ -1,6 +1,6 @@
 use Rattle.std.proofs.Common.{◌≡◌, take}
 use Rattle.audit_model.specs.World.{world_after}
-use Rattle.plain_audit.specs.inner.Spots.{spot_at}
+use Rattle.plain_audit.specs.Spots.{spot_at}
 use Rattle.plain_audit.proofs.world.spot_after.Given as goal
 
 abbrev pub invariant-loop-at : goal.invariant-loop-at

@@ -1,4 +1,4 @@
-use Rattle.session_log.specs.Steps.{draft_of}
+use Rattle.session_log.specs.inner.Steps.{draft_of}
 use Rattle.session_log.proofs.Goes.{live_few}
 use Rattle.session_log.proofs.lines.SessionLines.few.Goals as goal
 

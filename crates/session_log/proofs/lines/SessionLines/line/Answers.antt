@@ -1,7 +1,7 @@
 use Rattle.std.proofs.Common.{sym, subst, ◌∙◌}
 use Rattle.text_lines.specs.Text.{Begins}
 use Rattle.session_log.specs.Grammar.{SpellsSession}
-use Rattle.session_log.specs.Steps.{draft_of}
+use Rattle.session_log.specs.inner.Steps.{draft_of}
 use Rattle.session_log.proofs.Laws.{held_line}
 use Rattle.session_log.proofs.lines.SessionLines.line.Goals as goal
 

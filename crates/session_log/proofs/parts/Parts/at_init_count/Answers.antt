@@ -1,6 +1,6 @@
 use Rattle.std.proofs.Common.{refl}
 use Rattle.std.proofs.lemmas.Result.{err_from_is_err_and}
-use Rattle.session_log.specs.Steps.{draft_of}
+use Rattle.session_log.specs.inner.Steps.{draft_of}
 use Rattle.session_log.proofs.Laws.{init_count_refused}
 use Rattle.session_log.proofs.parts.Parts.at_init_count.Goals as goal
 

@@ -1,5 +1,5 @@
 use Rattle.std.proofs.Common.{refl}
-use Rattle.session_log.specs.Steps.{draft_of}
+use Rattle.session_log.specs.inner.Steps.{draft_of}
 use Rattle.session_log.proofs.Laws.{no_pages}
 use Rattle.session_log.proofs.parts.Parts.at_pages.Goals as goal
 

@@ -1,8 +1,8 @@
 use Rattle.std.proofs.Common.{[], ◌∷◌, refl, subst}
 use Rattle.text_lines.specs.Text.{Begins}
 use Rattle.session_log.specs.Grammar.{SpellsSession}
-use Rattle.session_log.specs.Held.{held_onto}
-use Rattle.session_log.specs.Steps.{draft_of}
+use Rattle.session_log.specs.inner.Held.{held_onto}
+use Rattle.session_log.specs.inner.Steps.{draft_of}
 use Rattle.session_log.specs.declared.parts.Stage.{Stage}
 use Rattle.session_log.specs.declared.parts.Stage.TheVariants.{Done}
 use Rattle.session_log.proofs.Laws.{live_at, more_refused}

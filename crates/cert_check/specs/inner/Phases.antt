@@ -1,4 +1,4 @@
--- Whether the guest's log had a halt, and a resume. This serves proofs alone.
+-- Whether the guest's log had a halt, and a resume.
 use Rattle.std.specs.Prelude.{◌≡◌, ℕ, ◌||◌}
 use Rattle.migration_types.specs.declared.records.GuestRec.{GuestRec}
 use Rattle.migration_types.specs.Sessions.{Recorded}

@@ -1,4 +1,4 @@
--- Whether demands are met, as tests. This serves proofs alone.
+-- Whether demands are met, as tests.
 use Rattle.std.specs.Prelude.{ℕ, Bool, true, false, not, ◌==◌, ◌&&◌}
 use Rattle.std.specs.Str.{bytes_eq}
 use Rattle.migration_types.specs.declared.records.GuestRec.{GuestRec}

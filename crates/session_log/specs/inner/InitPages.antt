@@ -1,4 +1,4 @@
--- Contents that are not zeros, and pages whose numbers rise, by recursion. This serves proofs alone.
+-- Contents that are not zeros, and pages whose numbers rise, by recursion.
 use Rattle.std.specs.Prelude.{◌≡◌, ℕ, zero, suc, ◌+◌, ◌<◌, ◌≤◌, List, [], ◌∷◌, length, map, refl, slice_index}
 use Rattle.std.proofs.Common.{arith, subst}
 use Rattle.std.specs.List.{AllByRecursion}

@@ -1,4 +1,4 @@
--- The one entry that can be right for a page, by its facts and its first look. This serves proofs alone.
+-- The one entry that can be right for a page, by its facts and its first look.
 use Rattle.std.specs.Prelude.{◌≡◌, ℕ, ◌<◌, List, length, Option, Some, None, slice_get}
 use Rattle.migration_types.specs.declared.records.SourceRec.{SourceRec}
 use Rattle.migration_types.specs.declared.records.SourceRec.TheVariants.{Again}

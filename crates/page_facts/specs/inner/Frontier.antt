@@ -1,4 +1,4 @@
--- The greatest placement that the guest's looks name. This serves proofs alone.
+-- The greatest placement that the guest's looks name.
 use Rattle.std.specs.Prelude.{ℕ, Bool, false, nat_lt, List, Option, Some, None}
 use Rattle.migration_types.specs.declared.records.GuestRec.{GuestRec}
 use Rattle.migration_types.specs.declared.records.GuestRec.TheVariants.{See}

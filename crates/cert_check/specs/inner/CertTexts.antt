@@ -1,4 +1,4 @@
--- The verdict on a session and the text of its certificate. This serves proofs alone.
+-- The verdict on a session and the text of its certificate.
 use Rattle.std.specs.Prelude.{ℕ, List}
 use Rattle.text_lines.specs.Text.{IsSpelling, IsRefusalLine}
 use Rattle.migration_types.specs.Certs.{Certified}

@@ -1,4 +1,4 @@
--- No line of a record has a line feed. This serves proofs alone.
+-- No line of a record has a line feed.
 use Rattle.std.specs.Prelude.{◌≢◌, ℕ, ◌<◌, ◌≤◌, ◌/◌, ◌%◌, ◌^◌, List, [], ◌∷◌, ◌++◌, refl, zero, suc, slice_index, codes}
 use Rattle.std.proofs.Common.{arith}
 use Rattle.std.specs.Fmt.{decimal}

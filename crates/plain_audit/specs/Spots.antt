@@ -1,4 +1,4 @@
--- The world at one cell of one page, which the plain programs follow. These serve proofs alone.
+-- The world at one cell of one page, which the plain programs follow.
 use Rattle.std.specs.Prelude.{ℕ, Bool, true, false, ◌==◌, ◌&&◌, slice_get, slice_index, if◌then◌else◌}
 use Rattle.migration_types.specs.declared.records.LogName.TheVariants.{Guest, Source, Link, Pager}
 use Rattle.migration_types.specs.declared.records.GuestRec.{GuestRec}

@@ -1,4 +1,4 @@
--- What a replay keeps after some records of an order. This serves proofs alone.
+-- What a replay keeps after some records of an order.
 use Rattle.std.specs.Prelude.{◌≡◌, ℕ, Bool, List, [], ◌∷◌, ◌++◌, Option, Some, None, if◌then◌else◌}
 use Rattle.std.specs.Option.{MatchOption}
 use Rattle.migration_types.specs.declared.records.LogName.{LogName}
@@ -15,8 +15,8 @@ use Rattle.audit_model.specs.World.{World, start, step, run_from, world_after, g
 use Rattle.flat_machine.specs.Machines.{IsSized as IsMachineSized, IsAfter}
 use Rattle.page_store.specs.Frames.{memory_of}
 use Rattle.merge_runs.specs.declared.replaying.Replaying.{Replaying}
-use Rattle.merge_runs.specs.Moving.{world_of, IsSized, IsMoved}
-use Rattle.merge_runs.specs.Demands.{guest_met, pager_met}
+use Rattle.merge_runs.specs.inner.Moving.{world_of, IsSized, IsMoved}
+use Rattle.merge_runs.specs.inner.Demands.{guest_met, pager_met}
 
 -- from a world on, each of these records finds its demand met
 abbrev pub AllMet : Recorded → World → List Name → Type 0

@@ -1,4 +1,4 @@
--- No line of a session's text has a line feed. This serves proofs alone.
+-- No line of a session's text has a line feed.
 use Rattle.std.specs.Prelude.{ℕ, ◌≤◌, List, [], ◌∷◌, ◌++◌, length, refl}
 use Rattle.std.proofs.Common.{arith, subst, sym}
 use Rattle.std.specs.List.{AllByRecursion}
@@ -11,8 +11,8 @@ use Rattle.migration_types.specs.Extents.{Extent}
 use Rattle.migration_types.specs.Pages.{InitPageFits}
 use Rattle.migration_types.specs.Sessions.{Recorded, GuestRecFits, SourceRecFits, LinkRecFits, PagerRecFits}
 use Rattle.session_log.specs.Records.{guest_line, source_line, link_line, pager_line}
-use Rattle.session_log.specs.RecordPlain.{plain_contents, plain_number, plain_keyed, plain_guest_rec, plain_source_rec, plain_link_rec, plain_pager_rec}
-use Rattle.session_log.specs.InitPages.{few_init}
+use Rattle.session_log.specs.inner.RecordPlain.{plain_contents, plain_number, plain_keyed, plain_guest_rec, plain_source_rec, plain_link_rec, plain_pager_rec}
+use Rattle.session_log.specs.inner.InitPages.{few_init}
 use Rattle.session_log.specs.Grammar.{header, pages_key, cells_key, init_key, guest_key, source_key, link_key, pager_key, page_key, page_line, closing, counted, SpellsSession}
 
 plain_page : (e : Extent) → e.pages ≤ 65536 → (p : InitPage) → InitPageFits e p → IsLine (page_line p)

@@ -1,4 +1,4 @@
--- The machines that a replay keeps, as a world. This serves proofs alone.
+-- The machines that a replay keeps, as a world.
 use Rattle.std.specs.Prelude.{◌≡◌, ℕ, ◌<◌, length}
 use Rattle.migration_types.specs.declared.records.GuestRec.{GuestRec}
 use Rattle.migration_types.specs.declared.records.GuestRec.TheVariants.{Read, Write, Release}
@@ -15,7 +15,7 @@ use Rattle.flat_machine.specs.Machines.{IsSized as IsMachineSized}
 use Rattle.page_store.specs.Frames.{Frames, memory_of}
 use Rattle.page_tables.specs.Tables.{pages_of, values}
 use Rattle.merge_runs.specs.declared.moving.Moving.{Moving}
-use Rattle.merge_runs.specs.Targets.{HasPage as TargetHasPage, IsSized as IsTargetSized}
+use Rattle.merge_runs.specs.inner.Targets.{HasPage as TargetHasPage, IsSized as IsTargetSized}
 
 -- the world of these machines
 abbrev pub world_of : Moving → World

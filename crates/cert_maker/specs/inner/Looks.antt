@@ -1,4 +1,4 @@
--- The guest's first look that reaches a placement of each page. This serves proofs alone.
+-- The guest's first look that reaches a placement of each page.
 use Rattle.std.specs.Prelude.{◌≡◌, ℕ, ◌≤◌, Bool, length, Option, Some, None, is_some}
 use Rattle.migration_types.specs.declared.records.GuestRec.{GuestRec}
 use Rattle.migration_types.specs.declared.records.GuestRec.TheVariants.{See}

@@ -1,4 +1,4 @@
--- The first reason of a record, and the first fault of a log. This serves proofs alone.
+-- The first reason of a record, and the first fault of a log.
 use Rattle.std.specs.Prelude.{◌≡◌, ℕ, ◌<◌, ◌⊎◌, Bool, not, ◌==◌, ◌&&◌, false, length, Option, Some, None, if◌then◌else◌}
 use Rattle.migration_types.specs.declared.records.LogName.{LogName}
 use Rattle.migration_types.specs.declared.records.LogName.TheVariants.{Source, Pager}
@@ -19,7 +19,7 @@ use Rattle.page_store.specs.Frames.{Frames}
 use Rattle.residency.specs.Placements.{Places, Placements, placements, is_covered, IsWith as IsResidency}
 use Rattle.page_facts.specs.Machines.{IsMachine, IsStepped}
 use Rattle.page_facts.specs.Moved.{differs, ArePlacements}
-use Rattle.page_facts.specs.Frontier.{seen_by, frontier, is_before}
+use Rattle.page_facts.specs.inner.Frontier.{seen_by, frontier, is_before}
 use Rattle.page_facts.specs.declared.page_fault.PageFault.{PageFault}
 use Rattle.page_facts.specs.declared.page_fault.Watch.{Watch}
 

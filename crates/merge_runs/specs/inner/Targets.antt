@@ -1,4 +1,4 @@
--- The machine at the target, after one step. This serves proofs alone.
+-- The machine at the target, after one step.
 use Rattle.std.specs.Prelude.{◌≡◌, ℕ, ◌<◌}
 use Rattle.migration_types.specs.Extents.{Extent}
 use Rattle.migration_types.specs.Memory.{Memory, zeros}

@@ -1,4 +1,4 @@
--- The first reason at each record of a log. This serves proofs alone.
+-- The first reason at each record of a log.
 use Rattle.std.specs.Prelude.{not, ◌≡◌, ℕ, ◌<◌, Bool, true, Option, Some, None, if◌then◌else◌}
 use Rattle.migration_types.specs.declared.records.LogName.{LogName}
 use Rattle.migration_types.specs.Sessions.{Recorded}

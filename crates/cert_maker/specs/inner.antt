@@ -1,0 +1,4 @@
+-- What serves proofs alone.
+pub mod Entries
+pub mod Looks
+pub mod Ready

@@ -1,0 +1,5 @@
+-- What serves proofs alone.
+pub mod Demands
+pub mod Moving
+pub mod Replaying
+pub mod Targets

@@ -1,0 +1,4 @@
+-- What serves proofs alone.
+pub mod EntryTests
+pub mod FirstOfLog
+pub mod Frontier

@@ -1,0 +1,7 @@
+-- What serves proofs alone.
+pub mod Forms
+pub mod Held
+pub mod InitPages
+pub mod Plain
+pub mod RecordPlain
+pub mod Steps
