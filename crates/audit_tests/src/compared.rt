@@ -9,24 +9,33 @@ use crate::texts::{
 };
 use audit_model::{PageReason, ShapeReason};
 use audit_report::{Report, audit};
-use cert_check::{Verdict, check, shape};
+use cert_check::{ShapeFault, Verdict, check, shape};
 use cert_maker::{Order, find_order};
-use merge_runs::{is_merging, replay};
-use migration_types::{Run, Session};
+use merge_runs::{MergeFault, is_merging, replay};
+use migration_types::{Cert, LogName, Run, Seq, Session};
 use page_facts::first_page_fault;
 use plain_audit::first_broken;
 use session_log::{line_of, read_session};
-use std::alloc::Global;
-use std::process::Abort;
-use std::test::Fail;
+use std::alloc::{AllocError, Global};
 
 /// How many sessions gave each answer.
-#[derive(Debug, Drop)]
+#[derive(Drop)]
 struct Answers {
     shape: [u32; 4],
     page: [u32; 7],
     knots: u32,
     clean: u32,
+}
+
+impl Answers {
+    fn none() -> Answers {
+        Answers {
+            shape: [0; 4],
+            page: [0; 7],
+            knots: 0,
+            clean: 0,
+        }
+    }
 }
 
 /// One answer more of this kind.
@@ -35,7 +44,7 @@ fn count(answers: &mut u32) {
 }
 
 /// The runs in another order: the one of this number after the next.
-fn with_runs_swapped(alloc: Global, runs: &[Run], number: usize) -> Result<Vec<Run>, Fail> {
+fn with_runs_swapped(alloc: Global, runs: &[Run], number: usize) -> Result<Vec<Run>, AllocError> {
     let mut changed = runs.to_vec(alloc)?;
     if number < changed.len() && number + 1 < changed.len() {
         changed.swap(number, number + 1);
@@ -43,114 +52,154 @@ fn with_runs_swapped(alloc: Global, runs: &[Run], number: usize) -> Result<Vec<R
     Ok(changed)
 }
 
-/// Compares what is said of an order: whether it is a merging, and where it breaks.
-fn compare_order(
-    rt: &impl Abort,
+/// Whether the replay of an order says what the plain programs say of the order's names: whether it is a merging, and
+/// where it breaks.
+fn agrees_on_replay(
     alloc: Global,
     session: &Session,
     runs: &[Run],
-) -> Result<(), Fail> {
-    let names = names_of(alloc, runs)?;
-    let is_order = plain_audit::is_merging(session, &names);
-    assert_eq!(rt; is_merging(session, runs), is_order);
+    names: &[(LogName, u32)],
+) -> bool {
+    let is_order = plain_audit::is_merging(session, names);
     match replay(alloc, session, runs) {
-        Ok(replayed) => {
-            assert!(rt; is_order);
-            assert_eq!(rt; replayed.first_broken, first_broken(session, &names));
-        }
-        Err(_) => {
-            assert!(rt; !is_order);
-        }
+        Ok(replayed) => is_order && replayed.first_broken == first_broken(session, names),
+        Err(fault) => !is_order && fault == MergeFault::NoMerging,
     }
-    Ok(())
 }
 
-/// Compares what is said of the found order, and of orders that differ from it by two runs.
-fn compare_orders(
-    rt: &impl Abort,
+/// Whether all programs agree on an order.
+fn agrees_on_order(alloc: Global, session: &Session, runs: &[Run]) -> bool {
+    match names_of(alloc, runs) {
+        Ok(names) => {
+            is_merging(session, runs) == plain_audit::is_merging(session, &names)
+                && agrees_on_replay(alloc, session, runs, &names)
+        }
+        Err(_) => false,
+    }
+}
+
+/// Whether all programs agree on an order that differs from this one by two runs.
+fn agrees_on_swapped(
     alloc: Global,
     session: &Session,
+    runs: &[Run],
     numbers: &mut Numbers,
-) -> Result<(), Fail> {
-    if let Order::Found(runs) = find_order(alloc, session)? {
-        compare_order(rt, alloc, session, runs.as_slice())?;
-        let number = numbers.below(runs.as_slice().len() + 1);
-        let changed = with_runs_swapped(alloc, runs.as_slice(), number)?;
-        compare_order(rt, alloc, session, &changed)?;
+) -> bool {
+    let number = numbers.below(runs.len().saturating_add(1));
+    match with_runs_swapped(alloc, runs, number) {
+        Ok(swapped) => agrees_on_order(alloc, session, &swapped),
+        Err(_) => false,
     }
-    Ok(())
 }
 
-/// Compares the first faults of shape and of pages.
-fn compare_faults(rt: &impl Abort, alloc: Global, session: &Session) -> Result<(), Fail> {
-    let of_shape = shape(alloc, session)?;
-    assert_eq!(rt;
-        of_shape.map(|fault| (fault.line, fault.reason)),
-        shape_fault(session)
-    );
-    let of_page = match first_page_fault(alloc, session)? {
-        Some(fault) => Some((line_of(session, fault.log, fault.place), fault.reason)),
-        None => None,
-    };
-    assert_eq!(rt; of_page, page_fault(session));
-    Ok(())
+/// Whether all programs agree on the found order, if there is one, and on an order that differs from it by two runs.
+fn agrees_on_orders(alloc: Global, session: &Session, numbers: &mut Numbers) -> bool {
+    match find_order(alloc, session) {
+        Ok(Order::Found(runs)) => {
+            agrees_on_order(alloc, session, runs.as_slice())
+                && agrees_on_swapped(alloc, session, runs.as_slice(), numbers)
+        }
+        Ok(Order::Knot(_)) => true,
+        Err(_) => false,
+    }
 }
 
-/// Compares what the audit says of a session, and the check of the certificate that it gives.
-fn compare_report(
-    rt: &impl Abort,
-    alloc: Global,
-    session: &Session,
-    answers: &mut Answers,
-) -> Result<(), Fail> {
-    let (of_shape, of_page) = (shape_fault(session), page_fault(session));
-    match audit(alloc, session)? {
-        Report::Shape(fault) => {
-            assert_eq!(rt; Some((fault.line, fault.reason)), of_shape);
-            count(&mut answers.shape[fault.reason as usize]);
+/// A fault of shape, as the plain programs tell it.
+fn told_shape(fault: Option<ShapeFault>) -> Option<(u32, ShapeReason)> {
+    let fault = fault?;
+    Some((fault.line, fault.reason))
+}
+
+/// Whether all programs agree on the first fault of shape.
+fn agrees_on_shape(alloc: Global, session: &Session) -> bool {
+    match shape(alloc, session) {
+        Ok(fault) => told_shape(fault) == shape_fault(session),
+        Err(_) => false,
+    }
+}
+
+/// Whether all programs agree on the first fault of a page.
+fn agrees_on_page(alloc: Global, session: &Session) -> bool {
+    let plain = page_fault(session);
+    match first_page_fault(alloc, session) {
+        Ok(Some(fault)) => {
+            plain == Some((line_of(session, fault.log, fault.place), fault.reason))
         }
-        Report::Knot(_) => {
-            assert_eq!(rt; of_shape, None);
-            count(&mut answers.knots);
+        Ok(None) => plain == None,
+        Err(_) => false,
+    }
+}
+
+/// Whether the plain programs say that an order is a merging that breaks at the record of this line.
+fn is_broken_at(alloc: Global, session: &Session, order: &[Run], line: u32) -> bool {
+    match names_of(alloc, order) {
+        Ok(names) => {
+            plain_audit::is_merging(session, &names) && breaks_at(session, &names, line)
         }
-        Report::Clean(cert) => {
-            assert_eq!(rt; of_shape, None);
-            assert_eq!(rt; of_page, None);
-            assert_eq!(rt; check(alloc, session, &cert)?, Verdict::Yes);
-            count(&mut answers.clean);
-        }
+        Err(_) => false,
+    }
+}
+
+/// Whether the plain programs say of a session what its report says, and the check what the report's certificate says.
+fn agrees_on_report(alloc: Global, session: &Session, report: &Report) -> bool {
+    match report {
+        Report::Shape(fault) => shape_fault(session) == Some((fault.line, fault.reason)),
+        Report::Knot(_) => shape_fault(session) == None,
+        Report::Clean(cert) => is_clean(alloc, session, cert),
         Report::Faulty {
             line,
             reason,
             order,
-        } => {
-            assert_eq!(rt; of_shape, None);
-            assert_eq!(rt; of_page, Some((line, reason)));
-            let names = names_of(alloc, order.as_slice())?;
-            assert!(rt; plain_audit::is_merging(session, &names));
-            assert!(rt; breaks_at(session, &names, line));
-            count(&mut answers.page[reason as usize]);
-        }
+        } => is_faulty(alloc, session, (*line, *reason), order),
     }
-    Ok(())
 }
 
-/// Compares all that is said of a session.
-fn compare(
-    rt: &impl Abort,
-    alloc: Global,
-    session: &Session,
-    numbers: &mut Numbers,
-    answers: &mut Answers,
-) -> Result<(), Fail> {
-    compare_faults(rt, alloc, session)?;
-    compare_orders(rt, alloc, session, numbers)?;
-    compare_report(rt, alloc, session, answers)
+/// Whether the plain programs find no fault in a session, and a certificate of it is right.
+fn is_clean(alloc: Global, session: &Session, cert: &Cert) -> bool {
+    shape_fault(session) == None
+        && page_fault(session) == None
+        && matches!(check(alloc, session, cert), Ok(Verdict::Yes))
+}
+
+/// Whether the plain programs find this fault in a session of the right shape, and that the order shows it.
+fn is_faulty(alloc: Global, session: &Session, fault: (u32, PageReason), order: &Seq<Run>) -> bool {
+    shape_fault(session) == None
+        && page_fault(session) == Some(fault)
+        && is_broken_at(alloc, session, order.as_slice(), fault.0)
+}
+
+/// Counts the answer of a report.
+fn count_report(report: &Report, answers: &mut Answers) {
+    match report {
+        Report::Shape(fault) => count(&mut answers.shape[fault.reason as usize]),
+        Report::Knot(_) => count(&mut answers.knots),
+        Report::Clean(_) => count(&mut answers.clean),
+        Report::Faulty { reason, .. } => count(&mut answers.page[*reason as usize]),
+    }
+}
+
+/// Whether all programs agree on what the audit says of a session; counts its answer.
+fn agrees_on_audit(alloc: Global, session: &Session, answers: &mut Answers) -> bool {
+    match audit(alloc, session) {
+        Ok(report) => {
+            count_report(&report, answers);
+            agrees_on_report(alloc, session, &report)
+        }
+        Err(_) => false,
+    }
+}
+
+/// Whether all programs agree on a session.
+fn agrees(alloc: Global, session: &Session, numbers: &mut Numbers, answers: &mut Answers) -> bool {
+    agrees_on_shape(alloc, session)
+        && agrees_on_page(alloc, session)
+        && agrees_on_orders(alloc, session, numbers)
+        && agrees_on_audit(alloc, session, answers)
 }
 
 /// The text with up to three changes.
-fn altered(alloc: Global, text: &[u8], numbers: &mut Numbers) -> Result<Vec<u8>, Fail> {
-    let mut altered = text.to_vec(alloc)?;
+fn altered(alloc: Global, text: &str, numbers: &mut Numbers) -> Result<Vec<u8>, AllocError> {
+    let mut altered = text.as_bytes().to_vec(alloc)?;
     for _ in 0..numbers.below(4) {
         if altered.len() > 0 {
             altered = changed(alloc, &altered, numbers)?;
@@ -159,62 +208,83 @@ fn altered(alloc: Global, text: &[u8], numbers: &mut Numbers) -> Result<Vec<u8>,
     Ok(altered)
 }
 
-#[test]
-fn commands_say_what_the_plain_programs_say(rt: HostRuntime) -> Result<(), Fail> {
-    let alloc = rt.alloc();
-    let mut numbers = Numbers::new(1);
-    let mut answers = Answers {
-        shape: [0; 4],
-        page: [0; 7],
-        knots: 0,
-        clean: 0,
-    };
-    for text in [
-        HANDOVER,
-        RELEASED,
-        MIXED,
-        CIRCLE,
-        EARLY_ACCESS,
-        STALE_PAGE,
-        AT_HOME,
-        WRONG_READ,
-        WRONG_SHAPE,
-        INITIAL_MEMORY,
-    ] {
-        let session = read_session(alloc, text.as_bytes())?;
-        compare(&rt, alloc, &session, &mut numbers, &mut answers)?;
+/// Whether all programs agree on the session of this text; none where the text is refused.
+fn agreement_on(
+    alloc: Global,
+    text: &[u8],
+    numbers: &mut Numbers,
+    answers: &mut Answers,
+) -> Option<bool> {
+    match read_session(alloc, text) {
+        Ok(session) => Some(agrees(alloc, &session, numbers, answers)),
+        Err(_) => None,
     }
-    Ok(())
+}
+
+/// Whether all programs agree on the text with up to three changes, if it is a session.
+fn agrees_on_altered(
+    alloc: Global,
+    text: &str,
+    numbers: &mut Numbers,
+    answers: &mut Answers,
+) -> bool {
+    match altered(alloc, text, numbers) {
+        Ok(altered) => agreement_on(alloc, &altered, numbers, answers) != Some(false),
+        Err(_) => false,
+    }
+}
+
+/// The sessions.
+static SESSIONS: [&str; 10] = [
+    HANDOVER,
+    RELEASED,
+    MIXED,
+    CIRCLE,
+    EARLY_ACCESS,
+    STALE_PAGE,
+    AT_HOME,
+    WRONG_READ,
+    WRONG_SHAPE,
+    INITIAL_MEMORY,
+];
+
+#[test]
+fn commands_say_what_the_plain_programs_say(rt: HostRuntime) {
+    let mut numbers = Numbers::new(1);
+    let mut answers = Answers::none();
+    for (place, text) in SESSIONS.iter().enumerate() {
+        let agreement = agreement_on(rt.alloc(), text.as_bytes(), &mut numbers, &mut answers);
+        assert!(rt; agreement == Some(true), "session {place}");
+    }
+}
+
+/// Whether each answer came up.
+fn came_all_up(answers: &Answers) -> bool {
+    answers.clean > 0
+        && answers.knots > 0
+        && !answers.shape.contains(&0)
+        && !answers.page.contains(&0)
+}
+
+/// The session that is changed in this round.
+fn session_of_round(round: usize) -> &'static str {
+    match round % 4 {
+        0 => HANDOVER,
+        1 => RELEASED,
+        _ => MIXED,
+    }
 }
 
 #[test]
-fn commands_say_so_of_random_sessions(rt: HostRuntime) -> Result<(), Fail> {
-    let alloc = rt.alloc();
+fn commands_say_so_of_random_sessions(rt: HostRuntime) {
     let mut numbers = Numbers::new(20_261_122);
-    let mut answers = Answers {
-        shape: [0; 4],
-        page: [0; 7],
-        knots: 0,
-        clean: 0,
-    };
-    for n in 0..6000usize {
-        let text = match n % 4 {
-            0 => HANDOVER,
-            1 => RELEASED,
-            _ => MIXED,
-        };
-        let changed = altered(alloc, text.as_bytes(), &mut numbers)?;
-        if let Ok(session) = read_session(alloc, &changed) {
-            compare(&rt, alloc, &session, &mut numbers, &mut answers)?;
-        }
+    let mut answers = Answers::none();
+    for round in 0..6000usize {
+        let text = session_of_round(round);
+        assert!(rt;
+            agrees_on_altered(rt.alloc(), text, &mut numbers, &mut answers),
+            "round {round}"
+        );
     }
-    assert!(rt; answers.clean > 0, "{answers:?}");
-    assert!(rt; answers.knots > 0, "{answers:?}");
-    for reason in ShapeReason::ALL {
-        assert!(rt; answers.shape[reason as usize] > 0, "{answers:?}");
-    }
-    for reason in PageReason::ALL {
-        assert!(rt; answers.page[reason as usize] > 0, "{answers:?}");
-    }
-    Ok(())
+    assert!(rt; came_all_up(&answers));
 }

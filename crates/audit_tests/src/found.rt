@@ -1,22 +1,18 @@
 //! A session with a page that is sent, placed and read, with its found order and its certificate; and a knot.
 
-use crate::texts::session_of;
+use crate::texts::{Logs, session_of};
 use cert_maker::{MakeFault, Order, find_order, make};
 use cert_text::write_cert;
-use migration_types::{Seq, Session};
+use migration_types::{Cert, Seq, Session};
 use std::alloc::Global;
-use std::test::Fail;
 
 /// Page 1 is written, sent, missed, placed, seen twice and read.
-fn session_with_a_miss(alloc: Global) -> Result<Session, Fail> {
-    session_of(
-        alloc,
-        "w 0 1 0 7\nhalt\nresume 1\nmiss 0 1\nsee 4\nsee 4\nr 0 1 0 7\n",
-        "halted 1\nstate\nsend 1 0000000000000007\n",
-        "down 1\ndown 2\n",
-        "got 0\nready\nfault 3\ngot 1\nplace 1 3 0000000000000007\n",
-    )
-}
+const WITH_A_MISS: Logs = Logs {
+    guest: "w 0 1 0 7\nhalt\nresume 1\nmiss 0 1\nsee 4\nsee 4\nr 0 1 0 7\n",
+    source: "halted 1\nstate\nsend 1 0000000000000007\n",
+    link: "down 1\ndown 2\n",
+    pager: "got 0\nready\nfault 3\ngot 1\nplace 1 3 0000000000000007\n",
+};
 
 /// Its certificate over the found order.
 const CERT: &str = "postcopy-certificate 1
@@ -35,45 +31,106 @@ end
 ";
 
 /// The guest resumes by a record that came with nothing that the source sends.
-fn tied_session(alloc: Global) -> Result<Session, Fail> {
-    session_of(
-        alloc,
-        "halt\nresume 0\n",
-        "halted 1\n",
-        "down 0\n",
-        "got 0\n",
-    )
-}
+const TIED: Logs = Logs {
+    guest: "halt\nresume 0\n",
+    source: "halted 1\n",
+    link: "down 0\n",
+    pager: "got 0\n",
+};
 
-#[test]
-fn finds_and_makes(rt: HostRuntime) -> Result<(), Fail> {
-    let session = session_with_a_miss(rt.alloc())?;
-    let Order::Found(runs) = find_order(rt.alloc(), &session)? else {
-        panic!(rt; "a knot");
-    };
-    let cert = make(rt.alloc(), &session, runs)?;
-    let text = write_cert(rt.alloc(), &cert)?;
-    assert_eq!(rt; text.as_slice(), CERT.as_bytes());
-    Ok(())
-}
-
-#[test]
-fn refuses_runs_that_are_no_merging(rt: HostRuntime) -> Result<(), Fail> {
-    let session = tied_session(rt.alloc())?;
-    let runs = Seq::from_vec(Vec::new(rt.alloc()));
-    match make(rt.alloc(), &session, runs) {
-        Ok(_) => panic!(rt; "a certificate"),
-        Err(fault) => assert_eq!(rt; fault, MakeFault::NoCertificate),
+/// The certificate over the found order; none where there is no such order or certificate, or no memory.
+fn cert_of(alloc: Global, session: &Session) -> Option<Cert> {
+    match find_order(alloc, session) {
+        Ok(Order::Found(runs)) => make(alloc, session, runs).ok(),
+        _ => None,
     }
-    Ok(())
+}
+
+/// Whether this is the text of a certificate.
+fn is_text_of(alloc: Global, cert: &Cert, text: &str) -> bool {
+    match write_cert(alloc, cert) {
+        Ok(written) => written.as_slice() == text.as_bytes(),
+        Err(_) => false,
+    }
+}
+
+/// Whether this is the text of the certificate over a session's found order.
+fn is_certified(alloc: Global, session: &Session, text: &str) -> bool {
+    match cert_of(alloc, session) {
+        Some(cert) => is_text_of(alloc, &cert, text),
+        None => false,
+    }
+}
+
+/// Whether a session's logs are told as a knot, which shows at this line.
+fn is_knot(alloc: Global, session: &Session, line: u32) -> bool {
+    match find_order(alloc, session) {
+        Ok(Order::Knot(told)) => told == line,
+        _ => false,
+    }
+}
+
+/// Whether no certificate of a session is made over no runs at all.
+fn refuses_no_runs(alloc: Global, session: &Session) -> bool {
+    let runs = Seq::from_vec(Vec::new(alloc));
+    matches!(make(alloc, session, runs), Err(MakeFault::NoCertificate))
+}
+
+/// What is said of the logs of a session.
+enum Said {
+    /// There is an order, over which this is the certificate.
+    Certificate(&'static str),
+    /// No certificate is made over no runs at all.
+    NoCertificate,
+    /// There is no order, which shows at this line.
+    Knot(u32),
+}
+
+/// The logs of a session, and what is said of them.
+struct Case {
+    is: &'static str,
+    logs: Logs,
+    said: Said,
+}
+
+static CASES: [Case; 3] = [
+    Case {
+        is: "a page that is missed",
+        logs: WITH_A_MISS,
+        said: Said::Certificate(CERT),
+    },
+    Case {
+        is: "runs that are no merging",
+        logs: TIED,
+        said: Said::NoCertificate,
+    },
+    Case {
+        is: "a knot",
+        logs: TIED,
+        said: Said::Knot(8),
+    },
+];
+
+/// Whether this is said of a session.
+fn is_said(alloc: Global, session: &Session, said: &Said) -> bool {
+    match said {
+        Said::Certificate(text) => is_certified(alloc, session, text),
+        Said::NoCertificate => refuses_no_runs(alloc, session),
+        Said::Knot(line) => is_knot(alloc, session, *line),
+    }
+}
+
+/// Whether that is said of a case's session which the case has.
+fn is_met(alloc: Global, case: &Case) -> bool {
+    match session_of(alloc, &case.logs) {
+        Some(session) => is_said(alloc, &session, &case.said),
+        None => false,
+    }
 }
 
 #[test]
-fn tells_a_knot(rt: HostRuntime) -> Result<(), Fail> {
-    let session = tied_session(rt.alloc())?;
-    match find_order(rt.alloc(), &session)? {
-        Order::Found(_) => panic!(rt; "an order"),
-        Order::Knot(line) => assert_eq!(rt; line, 8),
+fn finds_orders_and_makes_certificates(rt: HostRuntime) {
+    for case in &CASES {
+        assert!(rt; is_met(rt.alloc(), case), "{}", case.is);
     }
-    Ok(())
 }

@@ -1,10 +1,12 @@
 //! Reports on recorded sessions, against the rules.
 
+ghost use Rattle.audit_report.specs.Reports.{ReportFits};
+
 use crate::texts::HANDOVER;
-use audit_report::{audit, print_report};
+use audit_report::{Report, audit, print_report};
+use migration_types::Session;
 use session_log::read_session;
 use std::alloc::{AllocError, Global};
-use std::test::Fail;
 
 /// A released page is read with no look at its placement, which the found order has last.
 const LAST: &str = "postcopy-session 1
@@ -360,19 +362,41 @@ fn changed(alloc: Global, text: &str, changes: &[(&str, &str)]) -> Result<String
     Ok(text)
 }
 
-/// The text of the report on a session.
-fn report_of(alloc: Global, session: &str) -> Result<Vec<u8>, Fail> {
-    let recorded = read_session(alloc, session.as_bytes())?;
-    let report = audit(alloc, &recorded)?;
-    Ok(print_report(alloc, &report)?)
+/// Whether this is the text of a report.
+fn is_text_of(alloc: Global, report: &Report, text: &str) -> bool
+    requires { ReportFits report.now }
+{
+    match print_report(alloc, report) {
+        Ok(printed) => printed.as_slice() == text.as_bytes(),
+        Err(_) => false,
+    }
+}
+
+/// Whether this is the text of the report on a session.
+fn is_report_of(alloc: Global, session: &Session, text: &str) -> bool {
+    match audit(alloc, session) {
+        Ok(report) => is_text_of(alloc, &report, text),
+        Err(_) => false,
+    }
+}
+
+/// The session of a case; none where its text is refused, or there is no memory.
+fn session_in(alloc: Global, case: &Case) -> Option<Session> {
+    let text = changed(alloc, case.session, case.changes).ok()?;
+    read_session(alloc, text.as_bytes()).ok()
+}
+
+/// Whether the report on a case's session is the one that the case has.
+fn is_reported(alloc: Global, case: &Case) -> bool {
+    match session_in(alloc, case) {
+        Some(session) => is_report_of(alloc, &session, case.report),
+        None => false,
+    }
 }
 
 #[test]
-fn reports(rt: HostRuntime) -> Result<(), Fail> {
+fn reports(rt: HostRuntime) {
     for case in &CASES {
-        let session = changed(rt.alloc(), case.session, case.changes)?;
-        let text = report_of(rt.alloc(), session.as_str())?;
-        assert_eq!(rt; text.as_slice(), case.report.as_bytes(), "of {}", case.is);
+        assert!(rt; is_reported(rt.alloc(), case), "{}", case.is);
     }
-    Ok(())
 }

@@ -2,8 +2,7 @@
 
 use migration_types::Session;
 use session_log::read_session;
-use std::alloc::Global;
-use std::test::Fail;
+use std::alloc::{AllocError, Global};
 
 /// Page 0 comes when it is missed, and page 1, which was written, after it.
 pub const HANDOVER: &str = "postcopy-session 1
@@ -334,20 +333,28 @@ fn lines_of(text: &str) -> usize {
         .count()
 }
 
-/// The session of two pages of one cell with these logs, in which page 0 begins as 5.
-pub fn session_of(
-    alloc: Global,
-    guest: &str,
-    source: &str,
-    link: &str,
-    pager: &str,
-) -> Result<Session, Fail> {
-    let text = format!(in alloc;
+/// The logs of a session, as texts.
+pub struct Logs {
+    pub guest: &'static str,
+    pub source: &'static str,
+    pub link: &'static str,
+    pub pager: &'static str,
+}
+
+/// The text of the session of two pages of one cell with these logs, in which page 0 begins as 5.
+fn text_of(alloc: Global, logs: &Logs) -> Result<String, AllocError> {
+    let (guest, source, link, pager) = (logs.guest, logs.source, logs.link, logs.pager);
+    format!(in alloc;
         "postcopy-session 1\npages 2\ncells 1\ninit 1\npage 0 0000000000000005\nguest {}\n{guest}source {}\n{source}link {}\n{link}pager {}\n{pager}end\n",
         lines_of(guest),
         lines_of(source),
         lines_of(link),
         lines_of(pager),
-    )?;
-    Ok(read_session(alloc, text.as_bytes())?)
+    )
+}
+
+/// That session; none where its text is refused, or there is no memory.
+pub fn session_of(alloc: Global, logs: &Logs) -> Option<Session> {
+    let text = text_of(alloc, logs).ok()?;
+    read_session(alloc, text.as_bytes()).ok()
 }

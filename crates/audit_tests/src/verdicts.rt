@@ -4,9 +4,9 @@ use crate::texts::{HANDOVER, RELEASED};
 use audit_model::ShapeReason;
 use cert_check::{ShapeFault, Verdict, check, check_texts, shape};
 use cert_text::read_cert;
+use migration_types::{Cert, Session};
 use session_log::read_session;
 use std::alloc::Global;
-use std::test::Fail;
 
 const HANDOVER_CERT: &str =
     "postcopy-certificate 1\npages 2\npage 0 source 3 5 5 4\npage 1 source 4 7 7 6\nruns 11\nrun guest 2\nrun source 2\nrun link 1\nrun pager 2\nrun guest 2\nrun pager 2\nrun link 1\nrun source 3\nrun link 2\nrun pager 4\nrun guest 5\nend\n";
@@ -14,233 +14,492 @@ const HANDOVER_CERT: &str =
 const RELEASED_CERT: &str =
     "postcopy-certificate 1\npages 2\npage 0 none\npage 1 balloon 3 5 4\nruns 7\nrun guest 2\nrun source 2\nrun link 1\nrun pager 2\nrun guest 2\nrun pager 2\nrun guest 2\nend\n";
 
-/// The verdict on two texts, the first of them with a change.
-fn judged(alloc: Global, session: &str, cert: &str, old: &str, new: &str) -> Result<Verdict, Fail> {
-    let changed = session.replacen(alloc, old, new, 1)?;
-    Ok(check_texts(alloc, changed.as_bytes(), cert.as_bytes())?)
+/// A change of a text, and the verdict that follows it.
+struct Case {
+    old: &'static str,
+    new: &'static str,
+    verdict: Verdict,
 }
 
-#[test]
-fn right_certificates(rt: HostRuntime) -> Result<(), Fail> {
-    for (session, cert) in [(HANDOVER, HANDOVER_CERT), (RELEASED, RELEASED_CERT)] {
-        assert_eq!(rt;
-            check_texts(rt.alloc(), session.as_bytes(), cert.as_bytes())?,
-            Verdict::Yes
-        );
-        let recorded = read_session(rt.alloc(), session.as_bytes())?;
-        let certified = read_cert(rt.alloc(), cert.as_bytes())?;
-        assert_eq!(rt; shape(rt.alloc(), &recorded)?, None);
-        assert_eq!(rt; check(rt.alloc(), &recorded, &certified)?, Verdict::Yes);
-    }
-    Ok(())
+/// The text of which the changes of a table are.
+#[derive(Clone, Copy)]
+enum Changed {
+    Session,
+    Certificate,
 }
 
-#[test]
-fn shapes(rt: HostRuntime) -> Result<(), Fail> {
-    for (old, new, line, reason) in [
-        ("fault 3", "fault 4", 30, ShapeReason::Named),
-        ("resume 1", "resume 0", 9, ShapeReason::Named),
-        ("resume 1", "resume 9", 9, ShapeReason::Named),
-        ("see 5", "see 4", 11, ShapeReason::Named),
-        ("ask 1", "ask 0", 19, ShapeReason::Named),
-        ("ask 1", "again 2", 19, ShapeReason::Named),
-        ("down 3", "down 2", 25, ShapeReason::Named),
-        ("up 3", "up 2", 24, ShapeReason::Named),
-        ("got 2", "got 1", 32, ShapeReason::Named),
-        ("got 3", "join 2", 34, ShapeReason::Named),
-        ("got 3", "skip 6", 34, ShapeReason::Named),
-        ("place 1 6", "place 1 4", 35, ShapeReason::Named),
-        ("halted 1", "halted 0", 17, ShapeReason::Named),
-        ("miss 0 0", "halt", 10, ShapeReason::Phases),
-        ("miss 0 0", "resume 1", 10, ShapeReason::Phases),
-        ("halt\nresume 1", "resume 1\nhalt", 8, ShapeReason::Phases),
-        (
-            "resume 1\nmiss 0 0",
-            "miss 0 0\nresume 1",
-            9,
-            ShapeReason::Phases,
-        ),
-        (
-            "resume 1\nmiss 0 0",
-            "w 0 0 0 3\nresume 1",
-            9,
-            ShapeReason::Phases,
-        ),
-        ("r 0 1 0 9", "z 0 1", 15, ShapeReason::Phases),
-        ("state\nask 1", "ask 1\nstate", 18, ShapeReason::Start),
-        ("ask 1", "state", 19, ShapeReason::Start),
-        ("got 0\nready", "ready\ngot 0", 9, ShapeReason::Named),
-        ("got 0", "got 2", 28, ShapeReason::Start),
-        ("want 0", "ready", 24, ShapeReason::Named),
-        ("got 3", "ready", 34, ShapeReason::Start),
-        (
-            "send 1 0000000000000007",
-            "send 0 0000000000000005",
-            21,
-            ShapeReason::SecondSend,
-        ),
-    ] {
-        assert_eq!(rt;
-            judged(rt.alloc(), HANDOVER, HANDOVER_CERT, old, new)?,
-            Verdict::Shape(ShapeFault { line, reason }),
-            "{new}"
-        );
-    }
-    // A halt that only the source's first record followed.
-    let halted =
-        "postcopy-session 1\npages 2\ncells 1\ninit 1\npage 0 0000000000000005\nguest 2\nw 0 1 0 7\nhalt\nsource 1\nhalted 1\nlink 0\npager 0\nend\n";
-    assert_eq!(rt;
-        check_texts(rt.alloc(), halted.as_bytes(), HANDOVER_CERT.as_bytes())?,
-        Verdict::Shape(ShapeFault {
-            line: 10,
-            reason: ShapeReason::Start
-        })
-    );
-    Ok(())
+/// Changes of one of two texts, and the verdicts on both texts that follow.
+struct Table {
+    session: &'static str,
+    cert: &'static str,
+    changed: Changed,
+    cases: &'static [Case],
 }
 
-#[test]
-fn sessions(rt: HostRuntime) -> Result<(), Fail> {
-    for (old, new, verdict) in [
-        ("pages 2", "pages 02", Verdict::SessionText(2)),
-        ("pages 2", "pages 3", Verdict::Pages),
-        // A look before the placement that it names can be taken.
-        (
-            "miss 0 0\nsee 5",
-            "see 5\nmiss 0 0",
-            Verdict::Shape(ShapeFault {
-                line: 30,
-                reason: ShapeReason::Named,
+/// A change of the handover that spoils its shape, and the first fault.
+struct ShapeCase {
+    old: &'static str,
+    new: &'static str,
+    line: u32,
+    reason: ShapeReason,
+}
+
+static SHAPES: [ShapeCase; 26] = [
+    ShapeCase {
+        old: "fault 3",
+        new: "fault 4",
+        line: 30,
+        reason: ShapeReason::Named,
+    },
+    ShapeCase {
+        old: "resume 1",
+        new: "resume 0",
+        line: 9,
+        reason: ShapeReason::Named,
+    },
+    ShapeCase {
+        old: "resume 1",
+        new: "resume 9",
+        line: 9,
+        reason: ShapeReason::Named,
+    },
+    ShapeCase {
+        old: "see 5",
+        new: "see 4",
+        line: 11,
+        reason: ShapeReason::Named,
+    },
+    ShapeCase {
+        old: "ask 1",
+        new: "ask 0",
+        line: 19,
+        reason: ShapeReason::Named,
+    },
+    ShapeCase {
+        old: "ask 1",
+        new: "again 2",
+        line: 19,
+        reason: ShapeReason::Named,
+    },
+    ShapeCase {
+        old: "down 3",
+        new: "down 2",
+        line: 25,
+        reason: ShapeReason::Named,
+    },
+    ShapeCase {
+        old: "up 3",
+        new: "up 2",
+        line: 24,
+        reason: ShapeReason::Named,
+    },
+    ShapeCase {
+        old: "got 2",
+        new: "got 1",
+        line: 32,
+        reason: ShapeReason::Named,
+    },
+    ShapeCase {
+        old: "got 3",
+        new: "join 2",
+        line: 34,
+        reason: ShapeReason::Named,
+    },
+    ShapeCase {
+        old: "got 3",
+        new: "skip 6",
+        line: 34,
+        reason: ShapeReason::Named,
+    },
+    ShapeCase {
+        old: "place 1 6",
+        new: "place 1 4",
+        line: 35,
+        reason: ShapeReason::Named,
+    },
+    ShapeCase {
+        old: "halted 1",
+        new: "halted 0",
+        line: 17,
+        reason: ShapeReason::Named,
+    },
+    ShapeCase {
+        old: "miss 0 0",
+        new: "halt",
+        line: 10,
+        reason: ShapeReason::Phases,
+    },
+    ShapeCase {
+        old: "miss 0 0",
+        new: "resume 1",
+        line: 10,
+        reason: ShapeReason::Phases,
+    },
+    ShapeCase {
+        old: "halt\nresume 1",
+        new: "resume 1\nhalt",
+        line: 8,
+        reason: ShapeReason::Phases,
+    },
+    ShapeCase {
+        old: "resume 1\nmiss 0 0",
+        new: "miss 0 0\nresume 1",
+        line: 9,
+        reason: ShapeReason::Phases,
+    },
+    ShapeCase {
+        old: "resume 1\nmiss 0 0",
+        new: "w 0 0 0 3\nresume 1",
+        line: 9,
+        reason: ShapeReason::Phases,
+    },
+    ShapeCase {
+        old: "r 0 1 0 9",
+        new: "z 0 1",
+        line: 15,
+        reason: ShapeReason::Phases,
+    },
+    ShapeCase {
+        old: "state\nask 1",
+        new: "ask 1\nstate",
+        line: 18,
+        reason: ShapeReason::Start,
+    },
+    ShapeCase {
+        old: "ask 1",
+        new: "state",
+        line: 19,
+        reason: ShapeReason::Start,
+    },
+    ShapeCase {
+        old: "got 0\nready",
+        new: "ready\ngot 0",
+        line: 9,
+        reason: ShapeReason::Named,
+    },
+    ShapeCase {
+        old: "got 0",
+        new: "got 2",
+        line: 28,
+        reason: ShapeReason::Start,
+    },
+    ShapeCase {
+        old: "want 0",
+        new: "ready",
+        line: 24,
+        reason: ShapeReason::Named,
+    },
+    ShapeCase {
+        old: "got 3",
+        new: "ready",
+        line: 34,
+        reason: ShapeReason::Start,
+    },
+    ShapeCase {
+        old: "send 1 0000000000000007",
+        new: "send 0 0000000000000005",
+        line: 21,
+        reason: ShapeReason::SecondSend,
+    },
+];
+
+/// A halt that only the source's first record followed.
+const HALTED: &str =
+    "postcopy-session 1\npages 2\ncells 1\ninit 1\npage 0 0000000000000005\nguest 2\nw 0 1 0 7\nhalt\nsource 1\nhalted 1\nlink 0\npager 0\nend\n";
+
+static TABLES: [Table; 4] = [
+    Table {
+        session: HANDOVER,
+        cert: HANDOVER_CERT,
+        changed: Changed::Session,
+        cases: &[
+            Case {
+                old: "pages 2",
+                new: "pages 2",
+                verdict: Verdict::Yes,
+            },
+            Case {
+                old: "pages 2",
+                new: "pages 02",
+                verdict: Verdict::SessionText(2),
+            },
+            Case {
+                old: "pages 2",
+                new: "pages 3",
+                verdict: Verdict::Pages,
+            },
+            // A look before the placement that it names can be taken.
+            Case {
+                old: "miss 0 0\nsee 5",
+                new: "see 5\nmiss 0 0",
+                verdict: Verdict::Shape(ShapeFault {
+                    line: 30,
+                    reason: ShapeReason::Named,
+                }),
+            },
+            // A read of another value than a machine that never moved has.
+            Case {
+                old: "r 0 1 0 9",
+                new: "r 0 1 0 8",
+                verdict: Verdict::Page(4),
+            },
+            Case {
+                old: "w 0 1 0 7",
+                new: "r 0 1 0 7",
+                verdict: Verdict::Page(4),
+            },
+            // Stale contents.
+            Case {
+                old: "send 0 0000000000000005",
+                new: "send 0 0000000000000004",
+                verdict: Verdict::Page(3),
+            },
+            Case {
+                old: "place 0 4 0000000000000005",
+                new: "place 0 4 0000000000000004",
+                verdict: Verdict::Page(3),
+            },
+            // No look covers the second page's placement.
+            Case {
+                old: "see 7",
+                new: "see 5",
+                verdict: Verdict::Page(4),
+            },
+            // The page is placed a second time, with equal contents.
+            Case {
+                old: "got 3\nplace 1 6 0000000000000007",
+                new: "want 1\nplace 0 4 0000000000000005",
+                verdict: Verdict::Page(3),
+            },
+        ],
+    },
+    Table {
+        session: RELEASED,
+        cert: RELEASED_CERT,
+        changed: Changed::Session,
+        cases: &[
+            Case {
+                old: "pages 2",
+                new: "pages 2",
+                verdict: Verdict::Yes,
+            },
+            // Written after its release, so no longer zeros; and sent though it was released.
+            Case {
+                old: "guest 6\nz 0 1\nhalt",
+                new: "guest 7\nz 0 1\nw 0 1 0 0\nhalt",
+                verdict: Verdict::Shape(ShapeFault {
+                    line: 16,
+                    reason: ShapeReason::Named,
+                }),
+            },
+            Case {
+                old: "source 2\nhalted 1\nstate",
+                new: "source 3\nhalted 1\nstate\nsend 1 0000000000000000",
+                verdict: Verdict::Runs(13),
+            },
+        ],
+    },
+    Table {
+        session: HALTED,
+        cert: HANDOVER_CERT,
+        changed: Changed::Session,
+        cases: &[Case {
+            old: "halted 1",
+            new: "halted 1",
+            verdict: Verdict::Shape(ShapeFault {
+                line: 10,
+                reason: ShapeReason::Start,
             }),
-        ),
-        // A read of another value than a machine that never moved has.
-        ("r 0 1 0 9", "r 0 1 0 8", Verdict::Page(4)),
-        ("w 0 1 0 7", "r 0 1 0 7", Verdict::Page(4)),
-        // Stale contents.
-        (
-            "send 0 0000000000000005",
-            "send 0 0000000000000004",
-            Verdict::Page(3),
-        ),
-        (
-            "place 0 4 0000000000000005",
-            "place 0 4 0000000000000004",
-            Verdict::Page(3),
-        ),
-        // No look covers the second page's placement.
-        ("see 7", "see 5", Verdict::Page(4)),
-        // The page is placed a second time, with equal contents.
-        (
-            "got 3\nplace 1 6 0000000000000007",
-            "want 1\nplace 0 4 0000000000000005",
-            Verdict::Page(3),
-        ),
-    ] {
-        assert_eq!(rt;
-            judged(rt.alloc(), HANDOVER, HANDOVER_CERT, old, new)?,
-            verdict,
-            "{new}"
-        );
+        }],
+    },
+    Table {
+        session: HANDOVER,
+        cert: HANDOVER_CERT,
+        changed: Changed::Certificate,
+        cases: &[
+            Case {
+                old: "pages 2",
+                new: "pages 02",
+                verdict: Verdict::CertText(2),
+            },
+            Case {
+                old: "run guest 2\nrun source 2",
+                new: "run guest 3\nrun source 2",
+                verdict: Verdict::Runs(6),
+            },
+            Case {
+                old: "run source 2\nrun link 1",
+                new: "run link 1\nrun source 2",
+                verdict: Verdict::Runs(7),
+            },
+            Case {
+                old: "runs 11",
+                new: "runs 10",
+                verdict: Verdict::CertText(16),
+            },
+            Case {
+                old: "runs 11\nrun guest 2\nrun source 2",
+                new: "runs 11\nrun guest 2\nrun source 3",
+                verdict: Verdict::Runs(7),
+            },
+            Case {
+                old: "run guest 5",
+                new: "run guest 4",
+                verdict: Verdict::Runs(17),
+            },
+            Case {
+                old: "page 0 source 3 5 5 4",
+                new: "page 0 none",
+                verdict: Verdict::Page(3),
+            },
+            Case {
+                old: "page 0 source 3 5 5 4",
+                new: "page 0 source 4 5 5 4",
+                verdict: Verdict::Page(3),
+            },
+            Case {
+                old: "page 0 source 3 5 5 4",
+                new: "page 0 source 3 7 5 4",
+                verdict: Verdict::Page(3),
+            },
+            Case {
+                old: "page 0 source 3 5 5 4",
+                new: "page 0 source 3 5 6 4",
+                verdict: Verdict::Page(3),
+            },
+            Case {
+                old: "page 0 source 3 5 5 4",
+                new: "page 0 source 3 5 5 6",
+                verdict: Verdict::Page(3),
+            },
+            Case {
+                old: "page 0 source 3 5 5 4",
+                new: "page 0 source 3 5 5 2",
+                verdict: Verdict::Page(3),
+            },
+            Case {
+                old: "page 0 source 3 5 5 4",
+                new: "page 0 balloon 5 5 4",
+                verdict: Verdict::Page(3),
+            },
+            Case {
+                old: "page 1 source 4 7 7 6",
+                new: "page 1 source 4 7 8 6",
+                verdict: Verdict::Page(4),
+            },
+            Case {
+                old: "page 1 source 4 7 7 6",
+                new: "page 1 source 4 7 7 4",
+                verdict: Verdict::Page(4),
+            },
+            Case {
+                old: "page 1 source 4 7 7 6",
+                new: "page 1 source 4 7 - -",
+                verdict: Verdict::Page(4),
+            },
+        ],
+    },
+];
+
+/// Whether this is the verdict on two texts.
+fn is_judged(alloc: Global, session: &str, cert: &str, verdict: Verdict) -> bool {
+    match check_texts(alloc, session.as_bytes(), cert.as_bytes()) {
+        Ok(told) => told == verdict,
+        Err(_) => false,
     }
-    // Written after its release, so no longer zeros; and sent though it was released.
-    for (old, new, verdict) in [
-        (
-            "guest 6\nz 0 1\nhalt",
-            "guest 7\nz 0 1\nw 0 1 0 0\nhalt",
-            Verdict::Shape(ShapeFault {
-                line: 16,
-                reason: ShapeReason::Named,
-            }),
-        ),
-        (
-            "source 2\nhalted 1\nstate",
-            "source 3\nhalted 1\nstate\nsend 1 0000000000000000",
-            Verdict::Runs(13),
-        ),
-    ] {
-        assert_eq!(rt;
-            judged(rt.alloc(), RELEASED, RELEASED_CERT, old, new)?,
-            verdict,
-            "{new}"
-        );
+}
+
+/// Whether a session with a change gets this verdict beside a certificate.
+fn is_session_judged(
+    alloc: Global,
+    session: &str,
+    cert: &str,
+    change: (&str, &str),
+    verdict: Verdict,
+) -> bool {
+    match session.replacen(alloc, change.0, change.1, 1) {
+        Ok(changed) => is_judged(alloc, changed.as_str(), cert, verdict),
+        Err(_) => false,
     }
-    Ok(())
+}
+
+/// Whether a session gets this verdict beside a certificate with a change.
+fn is_certificate_judged(alloc: Global, session: &str, cert: &str, case: &Case) -> bool {
+    match cert.replacen(alloc, case.old, case.new, 1) {
+        Ok(changed) => is_judged(alloc, session, changed.as_str(), case.verdict),
+        Err(_) => false,
+    }
+}
+
+/// Whether the texts of a table get the verdict of one of its cases.
+fn is_met(alloc: Global, table: &Table, case: &Case) -> bool {
+    match table.changed {
+        Changed::Session => {
+            let change = (case.old, case.new);
+            is_session_judged(alloc, table.session, table.cert, change, case.verdict)
+        },
+        Changed::Certificate => is_certificate_judged(alloc, table.session, table.cert, case),
+    }
+}
+
+/// Whether a session is of the right shape, and this is a right certificate of it.
+fn is_right(alloc: Global, session: &Session, cert: &Cert) -> bool {
+    matches!(shape(alloc, session), Ok(None))
+        && matches!(check(alloc, session, cert), Ok(Verdict::Yes))
+}
+
+/// The same, with the certificate's text.
+fn is_right_text(alloc: Global, session: &Session, cert: &str) -> bool {
+    match read_cert(alloc, cert.as_bytes()) {
+        Ok(certified) => is_right(alloc, session, &certified),
+        Err(_) => false,
+    }
+}
+
+/// The same, with both texts.
+fn are_right_texts(alloc: Global, session: &str, cert: &str) -> bool {
+    match read_session(alloc, session.as_bytes()) {
+        Ok(recorded) => is_right_text(alloc, &recorded, cert),
+        Err(_) => false,
+    }
 }
 
 #[test]
-fn certificates(rt: HostRuntime) -> Result<(), Fail> {
-    for (old, new, verdict) in [
-        ("pages 2", "pages 02", Verdict::CertText(2)),
-        (
-            "run guest 2\nrun source 2",
-            "run guest 3\nrun source 2",
-            Verdict::Runs(6),
-        ),
-        (
-            "run source 2\nrun link 1",
-            "run link 1\nrun source 2",
-            Verdict::Runs(7),
-        ),
-        ("runs 11", "runs 10", Verdict::CertText(16)),
-        (
-            "runs 11\nrun guest 2\nrun source 2",
-            "runs 11\nrun guest 2\nrun source 3",
-            Verdict::Runs(7),
-        ),
-        ("run guest 5", "run guest 4", Verdict::Runs(17)),
-        ("page 0 source 3 5 5 4", "page 0 none", Verdict::Page(3)),
-        (
-            "page 0 source 3 5 5 4",
-            "page 0 source 4 5 5 4",
-            Verdict::Page(3),
-        ),
-        (
-            "page 0 source 3 5 5 4",
-            "page 0 source 3 7 5 4",
-            Verdict::Page(3),
-        ),
-        (
-            "page 0 source 3 5 5 4",
-            "page 0 source 3 5 6 4",
-            Verdict::Page(3),
-        ),
-        (
-            "page 0 source 3 5 5 4",
-            "page 0 source 3 5 5 6",
-            Verdict::Page(3),
-        ),
-        (
-            "page 0 source 3 5 5 4",
-            "page 0 source 3 5 5 2",
-            Verdict::Page(3),
-        ),
-        (
-            "page 0 source 3 5 5 4",
-            "page 0 balloon 5 5 4",
-            Verdict::Page(3),
-        ),
-        (
-            "page 1 source 4 7 7 6",
-            "page 1 source 4 7 8 6",
-            Verdict::Page(4),
-        ),
-        (
-            "page 1 source 4 7 7 6",
-            "page 1 source 4 7 7 4",
-            Verdict::Page(4),
-        ),
-        (
-            "page 1 source 4 7 7 6",
-            "page 1 source 4 7 - -",
-            Verdict::Page(4),
-        ),
-    ] {
-        let changed = HANDOVER_CERT.replacen(rt.alloc(), old, new, 1)?;
-        assert_eq!(rt;
-            check_texts(rt.alloc(), HANDOVER.as_bytes(), changed.as_bytes())?,
-            verdict,
-            "{new}"
-        );
+fn right_certificates(rt: HostRuntime) {
+    let alloc = rt.alloc();
+    let are_right = are_right_texts(alloc, HANDOVER, HANDOVER_CERT)
+        && are_right_texts(alloc, RELEASED, RELEASED_CERT);
+    assert!(rt; are_right);
+}
+
+/// Whether the handover gets the verdict of a case of its shape.
+fn is_shape_told(alloc: Global, case: &ShapeCase) -> bool {
+    let fault = ShapeFault {
+        line: case.line,
+        reason: case.reason,
+    };
+    let change = (case.old, case.new);
+    is_session_judged(
+        alloc,
+        HANDOVER,
+        HANDOVER_CERT,
+        change,
+        Verdict::Shape(fault),
+    )
+}
+
+#[test]
+fn shapes(rt: HostRuntime) {
+    for case in &SHAPES {
+        assert!(rt; is_shape_told(rt.alloc(), case), "{}", case.new);
     }
-    Ok(())
+}
+
+#[test]
+fn verdicts(rt: HostRuntime) {
+    for table in &TABLES {
+        for case in table.cases {
+            assert!(rt; is_met(rt.alloc(), table, case), "{}", case.new);
+        }
+    }
 }
