@@ -153,28 +153,3 @@ pub fn changed(alloc: Global, text: &[u8], numbers: &mut Numbers) -> Result<Vec<
         _ => with_digit(alloc, text, next_number(text, at), numbers.below(10) as u8),
     }
 }
-
-/// The text with its line of this number, counted from 1, written anew. The new text may be of more lines.
-pub fn with_line(
-    alloc: Global,
-    text: &[u8],
-    number: usize,
-    new: &[u8],
-) -> Result<Vec<u8>, AllocError> {
-    let mut changed = Vec::new(alloc);
-    let mut line = 1usize;
-    let mut is_written = false;
-    for byte in text {
-        if line == number && !is_written {
-            changed.extend_from_slice(new)?;
-            is_written = true;
-        }
-        if line != number || *byte == b'\n' {
-            changed.push(*byte)?;
-        }
-        if *byte == b'\n' {
-            line = line.saturating_add(1);
-        }
-    }
-    Ok(changed)
-}

@@ -1,6 +1,9 @@
 //! Facts of pages, right entries and first faults, on sessions of two pages of which page 0 begins as 5. Not all of them
 //! are of the right shape.
 
+ghost use Rattle.std.specs.Prelude.{IfSome};
+ghost use Rattle.page_facts.specs.Facts.{IsFacts};
+
 use crate::texts::{Logs, session_of};
 use audit_model::PageReason;
 use migration_types::{Entry, First, LogName, PageNo, Session};
@@ -23,208 +26,183 @@ const WRONG: Logs = Logs {
     pager: "place 0 0 0000000000000006\nplace 0 0 0000000000000005\n",
 };
 
-/// The facts of a page of a session; none where the session has no such page, or there is no memory.
-fn facts_in(alloc: Global, session: &Session, page: PageNo) -> Option<PageFacts> {
-    if page.index() >= session.geometry().pages() as usize {
-        return None;
-    }
-    let tables = tables_of(alloc, session).ok()?;
-    Some(facts_of(session, &tables, page))
+/// What is said of a session.
+enum Said {
+    /// These are the facts of the page of this number.
+    Facts(u16, PageFacts),
+    /// For the page of this number the entry is right, or not.
+    Entry(u16, Entry, bool),
+    /// The first fault of a page: its log, its number there, and why.
+    FirstFault(Option<PageFault>),
 }
 
-/// A page of a session of these logs, and its facts.
-struct FactsCase {
+/// The logs of a session, and what is said of it.
+struct Case {
     is: &'static str,
     logs: Logs,
-    page: u16,
-    facts: PageFacts,
+    said: Said,
 }
 
-static FACTS: [FactsCase; 3] = [
-    FactsCase {
+static CASES: [Case; 23] = [
+    Case {
         is: "a page that is used",
         logs: RIGHT,
-        page: 0,
-        facts: PageFacts {
-            wrong_read: false,
-            wrong_send: false,
-            placement: Some(3),
-            again: false,
-            altered: false,
-            access: Some(3),
-        },
+        said: Said::Facts(
+            0,
+            PageFacts {
+                wrong_read: false,
+                wrong_send: false,
+                placement: Some(3),
+                again: false,
+                altered: false,
+                access: Some(3),
+            },
+        ),
     },
-    FactsCase {
+    Case {
         is: "a page that is not used",
         logs: RIGHT,
-        page: 1,
-        facts: PageFacts {
-            wrong_read: false,
-            wrong_send: false,
-            placement: None,
-            again: false,
-            altered: false,
-            access: None,
-        },
+        said: Said::Facts(
+            1,
+            PageFacts {
+                wrong_read: false,
+                wrong_send: false,
+                placement: None,
+                again: false,
+                altered: false,
+                access: None,
+            },
+        ),
     },
-    FactsCase {
+    Case {
         is: "a page with which all is wrong",
         logs: WRONG,
-        page: 0,
-        facts: PageFacts {
-            wrong_read: true,
-            wrong_send: true,
-            placement: Some(0),
-            again: true,
-            altered: true,
-            access: Some(3),
-        },
+        said: Said::Facts(
+            0,
+            PageFacts {
+                wrong_read: true,
+                wrong_send: true,
+                placement: Some(0),
+                again: true,
+                altered: true,
+                access: Some(3),
+            },
+        ),
     },
-];
-
-/// Whether the facts of a page are those that the case has.
-fn are_facts(alloc: Global, case: &FactsCase) -> bool {
-    match session_of(alloc, &case.logs) {
-        Some(session) => facts_in(alloc, &session, PageNo::new(case.page)) == Some(case.facts),
-        None => false,
-    }
-}
-
-#[test]
-fn finds_the_facts_of_pages(rt: HostRuntime) {
-    for case in &FACTS {
-        assert!(rt; are_facts(rt.alloc(), case), "{}", case.is);
-    }
-}
-
-/// An entry for a page, and whether it is right in the right session.
-struct EntryCase {
-    page: u16,
-    entry: Entry,
-    is_right: bool,
-}
-
-static ENTRIES: [EntryCase; 10] = [
-    EntryCase {
-        page: 0,
-        entry: Entry::Source {
-            send: 1,
-            place: 3,
-            first: Some(First { access: 3, see: 2 }),
-        },
-        is_right: true,
+    Case {
+        is: "the right entry",
+        logs: RIGHT,
+        said: Said::Entry(
+            0,
+            Entry::Source {
+                send: 1,
+                place: 3,
+                first: Some(First { access: 3, see: 2 }),
+            },
+            true,
+        ),
     },
-    EntryCase {
-        page: 0,
-        entry: Entry::Source {
-            send: 0,
-            place: 3,
-            first: Some(First { access: 3, see: 2 }),
-        },
-        is_right: false,
+    Case {
+        is: "another record of the source",
+        logs: RIGHT,
+        said: Said::Entry(
+            0,
+            Entry::Source {
+                send: 0,
+                place: 3,
+                first: Some(First { access: 3, see: 2 }),
+            },
+            false,
+        ),
     },
-    EntryCase {
-        page: 0,
-        entry: Entry::Source {
-            send: 1,
-            place: 2,
-            first: Some(First { access: 3, see: 2 }),
-        },
-        is_right: false,
+    Case {
+        is: "another placement",
+        logs: RIGHT,
+        said: Said::Entry(
+            0,
+            Entry::Source {
+                send: 1,
+                place: 2,
+                first: Some(First { access: 3, see: 2 }),
+            },
+            false,
+        ),
     },
-    EntryCase {
-        page: 0,
-        entry: Entry::Source {
-            send: 1,
-            place: 3,
-            first: Some(First { access: 2, see: 2 }),
-        },
-        is_right: false,
+    Case {
+        is: "another access",
+        logs: RIGHT,
+        said: Said::Entry(
+            0,
+            Entry::Source {
+                send: 1,
+                place: 3,
+                first: Some(First { access: 2, see: 2 }),
+            },
+            false,
+        ),
     },
-    EntryCase {
-        page: 0,
-        entry: Entry::Source {
-            send: 1,
-            place: 3,
-            first: Some(First { access: 3, see: 4 }),
-        },
-        is_right: false,
+    Case {
+        is: "a later look",
+        logs: RIGHT,
+        said: Said::Entry(
+            0,
+            Entry::Source {
+                send: 1,
+                place: 3,
+                first: Some(First { access: 3, see: 4 }),
+            },
+            false,
+        ),
     },
-    EntryCase {
-        page: 0,
-        entry: Entry::Source {
-            send: 1,
-            place: 3,
-            first: Some(First { access: 3, see: 1 }),
-        },
-        is_right: false,
+    Case {
+        is: "an earlier record that is no look",
+        logs: RIGHT,
+        said: Said::Entry(
+            0,
+            Entry::Source {
+                send: 1,
+                place: 3,
+                first: Some(First { access: 3, see: 1 }),
+            },
+            false,
+        ),
     },
-    EntryCase {
-        page: 0,
-        entry: Entry::Source {
-            send: 1,
-            place: 3,
-            first: None,
-        },
-        is_right: false,
+    Case {
+        is: "no access where there is one",
+        logs: RIGHT,
+        said: Said::Entry(
+            0,
+            Entry::Source {
+                send: 1,
+                place: 3,
+                first: None,
+            },
+            false,
+        ),
     },
-    EntryCase {
-        page: 0,
-        entry: Entry::Balloon {
-            place: 3,
-            first: None,
-        },
-        is_right: false,
+    Case {
+        is: "zeros for a page that was sent",
+        logs: RIGHT,
+        said: Said::Entry(
+            0,
+            Entry::Balloon {
+                place: 3,
+                first: None,
+            },
+            false,
+        ),
     },
-    EntryCase {
-        page: 0,
-        entry: Entry::Nothing,
-        is_right: false,
+    Case {
+        is: "nothing for a page that was sent",
+        logs: RIGHT,
+        said: Said::Entry(0, Entry::Nothing, false),
     },
-    EntryCase {
-        page: 1,
-        entry: Entry::Nothing,
-        is_right: true,
+    Case {
+        is: "nothing for a page that was not used",
+        logs: RIGHT,
+        said: Said::Entry(1, Entry::Nothing, true),
     },
-];
-
-/// Whether an entry is right for a page of a session; none where the session has no such page, or there is no memory.
-fn is_right_in(alloc: Global, session: &Session, page: PageNo, entry: &Entry) -> Option<bool> {
-    if page.index() >= session.geometry().pages() as usize {
-        return None;
-    }
-    let tables = tables_of(alloc, session).ok()?;
-    let facts = facts_of(session, &tables, page);
-    Some(is_right_entry(session, page, &facts, entry))
-}
-
-/// Whether the entry of a case is judged as the case says.
-fn is_entry_judged(alloc: Global, case: &EntryCase) -> bool {
-    match session_of(alloc, &RIGHT) {
-        Some(session) => {
-            let page = PageNo::new(case.page);
-            is_right_in(alloc, &session, page, &case.entry) == Some(case.is_right)
-        }
-        None => false,
-    }
-}
-
-#[test]
-fn passes_right_entries_alone(rt: HostRuntime) {
-    for (place, case) in ENTRIES.iter().enumerate() {
-        assert!(rt; is_entry_judged(rt.alloc(), case), "entry {place}");
-    }
-}
-
-/// A session of which it is known what the first fault of a page is: its log, its number there, and why.
-struct FaultCase {
-    is: &'static str,
-    logs: Logs,
-    fault: Option<PageFault>,
-}
-
-static FAULTS: [FaultCase; 10] = [
-    FaultCase {
+    Case {
         is: "a right session",
         logs: Logs {
             guest: "w 0 1 0 7\nhalt\nresume 1\nsee 1\nr 0 0 0 5\nw 0 0 0 6\nr 0 1 0 7\n",
@@ -232,9 +210,9 @@ static FAULTS: [FaultCase; 10] = [
             link: "",
             pager: "place 1 0 0000000000000007\nplace 0 0 0000000000000005\n",
         },
-        fault: None,
+        said: Said::FirstFault(None),
     },
-    FaultCase {
+    Case {
         is: "a read before an early use",
         logs: Logs {
             guest: "halt\nresume 1\nr 0 0 0 6\n",
@@ -242,13 +220,13 @@ static FAULTS: [FaultCase; 10] = [
             link: "",
             pager: "place 0 0 0000000000000005\n",
         },
-        fault: Some(PageFault {
+        said: Said::FirstFault(Some(PageFault {
             log: LogName::Guest,
             place: 2,
             reason: PageReason::Read,
-        }),
+        })),
     },
-    FaultCase {
+    Case {
         is: "a look that stands before the use",
         logs: Logs {
             guest: "halt\nresume 1\nsee 0\nr 0 0 0 5\nr 0 1 0 0\nsee 1\n",
@@ -256,13 +234,13 @@ static FAULTS: [FaultCase; 10] = [
             link: "",
             pager: "place 0 0 0000000000000005\nplace 1 0 0000000000000000\n",
         },
-        fault: Some(PageFault {
+        said: Said::FirstFault(Some(PageFault {
             log: LogName::Guest,
             place: 4,
             reason: PageReason::Early,
-        }),
+        })),
     },
-    FaultCase {
+    Case {
         is: "given before stale",
         logs: Logs {
             guest: "z 0 0\nhalt\n",
@@ -270,13 +248,13 @@ static FAULTS: [FaultCase; 10] = [
             link: "",
             pager: "",
         },
-        fault: Some(PageFault {
+        said: Said::FirstFault(Some(PageFault {
             log: LogName::Source,
             place: 1,
             reason: PageReason::Given,
-        }),
+        })),
     },
-    FaultCase {
+    Case {
         is: "sends, which are judged at the halt",
         logs: Logs {
             guest: "w 0 0 0 7\nhalt\nz 0 0\n",
@@ -284,13 +262,13 @@ static FAULTS: [FaultCase; 10] = [
             link: "",
             pager: "place 0 0 0000000000000009\n",
         },
-        fault: Some(PageFault {
+        said: Said::FirstFault(Some(PageFault {
             log: LogName::Source,
             place: 1,
             reason: PageReason::Stale,
-        }),
+        })),
     },
-    FaultCase {
+    Case {
         is: "a fault of the guest, which stands at an earlier line",
         logs: Logs {
             guest: "halt\nr 0 0 0 6\n",
@@ -298,13 +276,13 @@ static FAULTS: [FaultCase; 10] = [
             link: "",
             pager: "",
         },
-        fault: Some(PageFault {
+        said: Said::FirstFault(Some(PageFault {
             log: LogName::Guest,
             place: 1,
             reason: PageReason::Read,
-        }),
+        })),
     },
-    FaultCase {
+    Case {
         is: "twice before altered",
         logs: Logs {
             guest: "",
@@ -312,13 +290,13 @@ static FAULTS: [FaultCase; 10] = [
             link: "",
             pager: "place 0 0 0000000000000005\nplace 1 0 0000000000000000\nplace 0 0 0000000000000006\n",
         },
-        fault: Some(PageFault {
+        said: Said::FirstFault(Some(PageFault {
             log: LogName::Pager,
             place: 2,
             reason: PageReason::Twice,
-        }),
+        })),
     },
-    FaultCase {
+    Case {
         is: "altered contents of two pages",
         logs: Logs {
             guest: "",
@@ -326,13 +304,13 @@ static FAULTS: [FaultCase; 10] = [
             link: "",
             pager: "place 1 0 0000000000000008\nplace 0 0 0000000000000006\n",
         },
-        fault: Some(PageFault {
+        said: Said::FirstFault(Some(PageFault {
             log: LogName::Pager,
             place: 0,
             reason: PageReason::Altered,
-        }),
+        })),
     },
-    FaultCase {
+    Case {
         is: "zeros for a released page",
         logs: Logs {
             guest: "z 0 0\nhalt\n",
@@ -340,9 +318,9 @@ static FAULTS: [FaultCase; 10] = [
             link: "",
             pager: "zero 0\n",
         },
-        fault: None,
+        said: Said::FirstFault(None),
     },
-    FaultCase {
+    Case {
         is: "zeros for a released page that was written since",
         logs: Logs {
             guest: "z 0 0\nw 0 0 0 0\nhalt\n",
@@ -350,28 +328,73 @@ static FAULTS: [FaultCase; 10] = [
             link: "",
             pager: "ready\nzero 0\n",
         },
-        fault: Some(PageFault {
+        said: Said::FirstFault(Some(PageFault {
             log: LogName::Pager,
             place: 1,
             reason: PageReason::Unfit,
-        }),
+        })),
     },
 ];
 
-/// Whether the first fault of a session is the one that the case has.
-fn is_first_fault(alloc: Global, case: &FaultCase) -> bool {
+/// The facts of a page of a session; none where the session has no such page, or there is no memory.
+fn facts_in(alloc: Global, session: &Session, page: PageNo) -> Option<PageFacts>
+    ensures { IfSome result (IsFacts session.now page) }
+{
+    if page.index() >= session.geometry().pages() as usize {
+        return None;
+    }
+    let tables = tables_of(alloc, session).ok()?;
+    Some(facts_of(session, &tables, page))
+}
+
+/// Whether an entry of a page of a session is right, or not, as it is said to be.
+fn is_entry_judged(
+    alloc: Global,
+    session: &Session,
+    page: PageNo,
+    entry: &Entry,
+    is_right: bool,
+) -> bool {
+    match facts_in(alloc, session, page) {
+        Some(facts) => is_right_entry(session, page, &facts, entry) == is_right,
+        None => false,
+    }
+}
+
+/// Whether this is the first fault of a session's pages.
+fn is_first_fault(alloc: Global, session: &Session, fault: Option<PageFault>) -> bool {
+    match first_page_fault(alloc, session) {
+        Ok(told) => told == fault,
+        Err(_) => false,
+    }
+}
+
+/// Whether that holds of a session which is said of it.
+fn holds(alloc: Global, session: &Session, said: &Said) -> bool {
+    match said {
+        Said::Facts(page, facts) => facts_in(alloc, session, PageNo::new(*page)) == Some(*facts),
+        Said::Entry(page, entry, is_right) => is_entry_judged(
+            alloc,
+            session,
+            PageNo::new(*page),
+            entry,
+            *is_right,
+        ),
+        Said::FirstFault(fault) => is_first_fault(alloc, session, *fault),
+    }
+}
+
+/// Whether that holds of the case's session which the case says.
+fn is_met(alloc: Global, case: &Case) -> bool {
     match session_of(alloc, &case.logs) {
-        Some(session) => match first_page_fault(alloc, &session) {
-            Ok(fault) => fault == case.fault,
-            Err(_) => false,
-        },
+        Some(session) => holds(alloc, &session, &case.said),
         None => false,
     }
 }
 
 #[test]
-fn tells_the_first_fault(rt: HostRuntime) {
-    for case in &FAULTS {
-        assert!(rt; is_first_fault(rt.alloc(), case), "{}", case.is);
+fn tells_of_pages(rt: HostRuntime) {
+    for case in &CASES {
+        assert!(rt; is_met(rt.alloc(), case), "{}", case.is);
     }
 }

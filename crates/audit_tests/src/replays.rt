@@ -1,66 +1,144 @@
 //! Replays of the handover in several orders, and of a session that ends at its halt.
 
-use crate::texts::{EARLY_ACCESS, HANDOVER, Logs, session_of};
+use crate::texts::{EARLY_ACCESS, HANDOVER};
 use cert_text::read_runs;
 use merge_runs::{MergeFault, first_bad_run, is_merging, replay};
-use migration_types::{LogName, PageNo, Run, Seq, Session};
+use migration_types::{LogName, PageNo, Run, Session};
 use session_log::read_session;
-use std::alloc::{AllocError, Global};
+use std::alloc::Global;
 
-/// The runs with which the orders of the handover begin.
-const BEGIN: &str =
-    "run guest 2\nrun source 2\nrun link 1\nrun pager 2\nrun guest 2\nrun pager 2\nrun link 1\nrun source 3\nrun link 2\n";
+/// A session with a guest that is halted, and never moves.
+const HALTED: &str = "postcopy-session 1
+pages 2
+cells 1
+init 1
+page 0 0000000000000005
+guest 2
+w 0 0 0 3
+halt
+source 0
+link 0
+pager 0
+end
+";
 
-/// A session, the end of an order of it and the number of the order's runs, and what its replay says: the first record
-/// whose demand fails, and the values of the two pages behind the last record.
+/// The order of the handover that stays with a log as long as it can.
+const FOUND: &str = "postcopy-runs 1
+runs 11
+run guest 2
+run source 2
+run link 1
+run pager 2
+run guest 2
+run pager 2
+run link 1
+run source 3
+run link 2
+run pager 4
+run guest 5
+end
+";
+
+/// An order in which the last placement comes behind the guest's records.
+const LATE: &str = "postcopy-runs 1
+runs 12
+run guest 2
+run source 2
+run link 1
+run pager 2
+run guest 2
+run pager 2
+run link 1
+run source 3
+run link 2
+run pager 3
+run guest 4
+run pager 1
+end
+";
+
+/// An order of the same session in which it comes before them.
+const EARLY: &str = "postcopy-runs 1
+runs 11
+run guest 2
+run source 2
+run link 1
+run pager 2
+run guest 2
+run pager 2
+run link 1
+run source 3
+run link 2
+run pager 4
+run guest 4
+end
+";
+
+/// The guest's first three records, of which the last names a record that was not taken.
+const GUEST_ALONE: &str = "postcopy-runs 1
+runs 1
+run guest 3
+end
+";
+
+/// All records of the halted guest.
+const GUEST: &str = "postcopy-runs 1
+runs 1
+run guest 2
+end
+";
+
+/// What is said of runs.
+enum Said {
+    /// They are a merging, whose replay says that this record is the first broken one, and leaves these values in the
+    /// two pages.
+    Replayed(Option<(LogName, u32)>, [u64; 2]),
+    /// They are no merging, and the first run is bad.
+    NoMerging,
+}
+
+/// A session, runs of it, and what is said of them.
 struct Case {
     is: &'static str,
     session: &'static str,
-    count: u32,
-    end: &'static str,
-    first_broken: Option<(LogName, u32)>,
-    values: [u64; 2],
+    runs: &'static str,
+    said: Said,
 }
 
-static CASES: [Case; 3] = [
+static CASES: [Case; 5] = [
     Case {
         is: "a safe merging",
         session: HANDOVER,
-        count: 11,
-        end: "run pager 4\nrun guest 5\n",
-        first_broken: None,
-        values: [5, 9],
+        runs: FOUND,
+        said: Said::Replayed(None, [5, 9]),
     },
     Case {
         is: "a use before the placement, with no look at it",
         session: EARLY_ACCESS,
-        count: 12,
-        end: "run pager 3\nrun guest 4\nrun pager 1\n",
-        first_broken: Some((LogName::Guest, 6)),
-        values: [5, 7],
+        runs: LATE,
+        said: Said::Replayed(Some((LogName::Guest, 6)), [5, 7]),
     },
     Case {
         is: "another order of that session, which is safe",
         session: EARLY_ACCESS,
-        count: 11,
-        end: "run pager 4\nrun guest 4\n",
-        first_broken: None,
-        values: [5, 9],
+        runs: EARLY,
+        said: Said::Replayed(None, [5, 9]),
+    },
+    Case {
+        is: "a resume before the state came",
+        session: EARLY_ACCESS,
+        runs: GUEST_ALONE,
+        said: Said::NoMerging,
+    },
+    Case {
+        is: "the memory at the halt",
+        session: HALTED,
+        runs: GUEST,
+        said: Said::Replayed(None, [3, 0]),
     },
 ];
 
-/// The text of an order of the handover that ends with these runs, of which there are `count` in all.
-fn order_text(alloc: Global, count: u32, end: &str) -> Result<String, AllocError> {
-    format!(in alloc; "postcopy-runs 1\nruns {count}\n{BEGIN}{end}end\n")
-}
-
-/// That order; none where its text is refused, or there is no memory.
-fn order_of(alloc: Global, count: u32, end: &str) -> Option<Seq<Run>> {
-    let text = order_text(alloc, count, end).ok()?;
-    read_runs(alloc, text.as_bytes()).ok()
-}
-
-/// Whether the replay of runs says that this record is the first broken one, and leaves these values in two pages.
+/// Whether runs are a merging, whose replay says that this record is the first broken one, and leaves these values in two pages.
 fn is_replayed(
     alloc: Global,
     session: &Session,
@@ -68,7 +146,7 @@ fn is_replayed(
     first_broken: Option<(LogName, u32)>,
     values: [u64; 2],
 ) -> bool {
-    if session.geometry().pages() != 2 {
+    if !is_merging(session, runs) || session.geometry().pages() != 2 {
         return false;
     }
     match replay(alloc, session, runs) {
@@ -81,38 +159,6 @@ fn is_replayed(
     }
 }
 
-/// Whether the replay of a case's order on its session says what the case says.
-fn is_order_replayed(alloc: Global, session: &Session, case: &Case) -> bool {
-    match order_of(alloc, case.count, case.end) {
-        Some(runs) => {
-            is_merging(session, runs.as_slice())
-                && is_replayed(
-                    alloc,
-                    session,
-                    runs.as_slice(),
-                    case.first_broken,
-                    case.values,
-                )
-        }
-        None => false,
-    }
-}
-
-/// The same, with the session's text.
-fn is_met(alloc: Global, case: &Case) -> bool {
-    match read_session(alloc, case.session.as_bytes()) {
-        Ok(session) => is_order_replayed(alloc, &session, case),
-        Err(_) => false,
-    }
-}
-
-#[test]
-fn replays_mergings(rt: HostRuntime) {
-    for case in &CASES {
-        assert!(rt; is_met(rt.alloc(), case), "{}", case.is);
-    }
-}
-
 /// Whether runs are refused as no merging of a session, of which the first is bad.
 fn is_refused(alloc: Global, session: &Session, runs: &[Run]) -> bool {
     !is_merging(session, runs)
@@ -120,47 +166,39 @@ fn is_refused(alloc: Global, session: &Session, runs: &[Run]) -> bool {
         && matches!(replay(alloc, session, runs), Err(MergeFault::NoMerging))
 }
 
-/// The guest's first three records, of which the last names a record that was not taken.
-static GUEST_ALONE: [Run; 1] = [Run {
-    log: LogName::Guest,
-    count: 3,
-}];
+/// Whether that holds of runs which is said of them.
+fn holds(alloc: Global, session: &Session, runs: &[Run], said: &Said) -> bool {
+    match said {
+        Said::Replayed(first_broken, values) => is_replayed(
+            alloc,
+            session,
+            runs,
+            *first_broken,
+            *values,
+        ),
+        Said::NoMerging => is_refused(alloc, session, runs),
+    }
+}
 
-/// Whether these runs are refused.
-fn is_guest_alone_refused(alloc: Global) -> bool {
-    match read_session(alloc, EARLY_ACCESS.as_bytes()) {
-        Ok(session) => is_refused(alloc, &session, &GUEST_ALONE),
+/// Whether that holds of the case's runs on its session which the case says.
+fn are_runs_told(alloc: Global, session: &Session, case: &Case) -> bool {
+    match read_runs(alloc, case.runs.as_bytes()) {
+        Ok(runs) => holds(alloc, session, runs.as_slice(), &case.said),
+        Err(_) => false,
+    }
+}
+
+/// The same, with the session's text.
+fn is_met(alloc: Global, case: &Case) -> bool {
+    match read_session(alloc, case.session.as_bytes()) {
+        Ok(session) => are_runs_told(alloc, &session, case),
         Err(_) => false,
     }
 }
 
 #[test]
-fn refuses_what_is_no_merging(rt: HostRuntime) {
-    assert!(rt; is_guest_alone_refused(rt.alloc()));
-}
-
-/// A guest that is halted, and never moves.
-const HALTED: Logs = Logs {
-    guest: "w 0 0 0 3\nhalt\n",
-    source: "",
-    link: "",
-    pager: "",
-};
-
-static HALTED_RUNS: [Run; 1] = [Run {
-    log: LogName::Guest,
-    count: 2,
-}];
-
-/// Whether the replay of these runs keeps the memory at the halt.
-fn is_memory_kept(alloc: Global) -> bool {
-    match session_of(alloc, &HALTED) {
-        Some(session) => is_replayed(alloc, &session, &HALTED_RUNS, None, [3, 0]),
-        None => false,
+fn replays_runs(rt: HostRuntime) {
+    for case in &CASES {
+        assert!(rt; is_met(rt.alloc(), case), "{}", case.is);
     }
-}
-
-#[test]
-fn keeps_the_memory_at_the_halt(rt: HostRuntime) {
-    assert!(rt; is_memory_kept(rt.alloc()));
 }

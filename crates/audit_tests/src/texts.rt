@@ -326,11 +326,14 @@ end
 ";
 
 /// How many lines a text has.
-fn lines_of(text: &str) -> usize {
-    text.as_bytes()
-        .iter()
-        .filter(|byte| **byte == b'\n')
-        .count()
+fn lines_of(text: &str) -> u32 {
+    let mut lines = 0u32;
+    for byte in text.as_bytes() {
+        if *byte == b'\n' {
+            lines = lines.saturating_add(1);
+        }
+    }
+    lines
 }
 
 /// The logs of a session, as texts.
@@ -357,4 +360,11 @@ fn text_of(alloc: Global, logs: &Logs) -> Result<String, AllocError> {
 pub fn session_of(alloc: Global, logs: &Logs) -> Option<Session> {
     let text = text_of(alloc, logs).ok()?;
     read_session(alloc, text.as_bytes()).ok()
+}
+
+/// The session of a text with a change: the first `old` in it becomes `new`. None where the changed text is refused, or
+/// there is no memory.
+pub fn changed_session(alloc: Global, text: &str, old: &str, new: &str) -> Option<Session> {
+    let changed = text.replacen(alloc, old, new, 1).ok()?;
+    read_session(alloc, changed.as_bytes()).ok()
 }

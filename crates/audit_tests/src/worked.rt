@@ -1,8 +1,7 @@
 //! The plain programs on the handover, on a session with a released page, and on faulty changes of both.
 
-use crate::changes::with_line;
 use crate::plain::{names_of, page_fault, shape_fault};
-use crate::texts::{HANDOVER, RELEASED};
+use crate::texts::{HANDOVER, RELEASED, changed_session};
 use audit_model::{Home, PageReason, ShapeReason};
 use cert_text::read_runs;
 use migration_types::{LogName, PageNo, Session};
@@ -10,163 +9,138 @@ use plain_audit::{
     Spot, demand_holds, first_broken, flat_value, halt_place, home_before, is_merging,
     is_page_fault, is_released, spot_after,
 };
-use session_log::read_session;
 use std::alloc::Global;
 
-/// The session with a released page, which the source sends.
-const GIVEN: &str = "postcopy-session 1
-pages 2
-cells 1
-init 2
-page 0 0000000000000005
-page 1 0000000000000006
-guest 6
-z 0 1
-halt
-resume 1
-miss 0 1
-see 3
-r 0 1 0 0
-source 3
-halted 1
-state
-send 1 0000000000000000
-link 1
-down 1
-pager 4
-got 0
-ready
-fault 3
-zero 1
-end
-";
-
-/// The first fault of a session, by its line.
-enum Fault {
-    Shape(u32, ShapeReason),
-    /// One of a page, in a session of the right shape.
-    Page(u32, PageReason),
+/// What is said of a session.
+enum Said {
+    /// The line of its first fault of shape, and the reason.
+    ShapeFault(u32, ShapeReason),
+    /// It is of the right shape; the line of its first fault of a page, and the reason.
+    PageFault(u32, PageReason),
+    /// It places page 0 a second time.
+    SecondPlacement,
+    /// Its guest goes through the steps of a released page.
+    Steps,
+    /// The found order is safe, and the delayed one is none.
+    Waits,
+    /// The found order is safe, and the delayed one breaks.
+    Breaks,
 }
 
-/// A session with another line of this number, and its first fault.
+/// A session with a change, and what is said of it.
 struct Case {
+    is: &'static str,
     session: &'static str,
-    line: usize,
+    old: &'static str,
     new: &'static str,
-    fault: Fault,
+    said: Said,
 }
 
-static CASES: [Case; 10] = [
+static CASES: [Case; 14] = [
     Case {
+        is: "a fault that names no miss",
         session: HANDOVER,
-        line: 30,
+        old: "fault 3",
         new: "fault 4",
-        fault: Fault::Shape(30, ShapeReason::Named),
+        said: Said::ShapeFault(30, ShapeReason::Named),
     },
     Case {
+        is: "a release at the target",
         session: HANDOVER,
-        line: 15,
+        old: "r 0 1 0 9",
         new: "z 0 1",
-        fault: Fault::Shape(15, ShapeReason::Phases),
+        said: Said::ShapeFault(15, ShapeReason::Phases),
     },
     Case {
+        is: "a second send of a page",
         session: HANDOVER,
-        line: 21,
+        old: "send 1 0000000000000007",
         new: "send 0 0000000000000005",
-        fault: Fault::Shape(21, ShapeReason::SecondSend),
+        said: Said::ShapeFault(21, ShapeReason::SecondSend),
     },
     Case {
+        is: "a second state",
         session: HANDOVER,
-        line: 21,
+        old: "send 1 0000000000000007",
         new: "state",
-        fault: Fault::Shape(21, ShapeReason::Start),
+        said: Said::ShapeFault(21, ShapeReason::Start),
     },
     Case {
+        is: "an access before the look that covers it",
         session: HANDOVER,
-        line: 13,
+        old: "see 7",
         new: "see 5",
-        fault: Fault::Page(14, PageReason::Early),
+        said: Said::PageFault(14, PageReason::Early),
     },
     Case {
+        is: "a read of another value than was written",
         session: HANDOVER,
-        line: 15,
+        old: "r 0 1 0 9",
         new: "r 0 1 0 8",
-        fault: Fault::Page(15, PageReason::Read),
+        said: Said::PageFault(15, PageReason::Read),
     },
     Case {
+        is: "a send of other contents than at the halt",
         session: HANDOVER,
-        line: 21,
+        old: "send 1 0000000000000007",
         new: "send 1 0000000000000008",
-        fault: Fault::Page(21, PageReason::Stale),
+        said: Said::PageFault(21, PageReason::Stale),
     },
     Case {
+        is: "a placement of other contents than at the halt",
         session: HANDOVER,
-        line: 35,
+        old: "place 1 6 0000000000000007",
         new: "place 1 6 0000000000000008",
-        fault: Fault::Page(35, PageReason::Altered),
+        said: Said::PageFault(35, PageReason::Altered),
     },
     Case {
-        session: GIVEN,
-        line: 17,
-        new: "send 1 0000000000000000",
-        fault: Fault::Page(17, PageReason::Given),
-    },
-    Case {
+        is: "a send of a released page",
         session: RELEASED,
-        line: 8,
+        old: "source 2\nhalted 1\nstate",
+        new: "source 3\nhalted 1\nstate\nsend 1 0000000000000000",
+        said: Said::PageFault(17, PageReason::Given),
+    },
+    Case {
+        is: "zeros for a page that was not released",
+        session: RELEASED,
+        old: "z 0 1",
         new: "w 0 1 0 0",
-        fault: Fault::Page(23, PageReason::Unfit),
+        said: Said::PageFault(23, PageReason::Unfit),
+    },
+    Case {
+        is: "a second placement",
+        session: HANDOVER,
+        old: "place 1 6 0000000000000007",
+        new: "zero 0",
+        said: Said::SecondPlacement,
+    },
+    Case {
+        is: "a page that is released",
+        session: RELEASED,
+        old: "see 3",
+        new: "see 3",
+        said: Said::Steps,
+    },
+    Case {
+        is: "a look that waits for the last placement",
+        session: HANDOVER,
+        old: "see 7",
+        new: "see 7",
+        said: Said::Waits,
+    },
+    Case {
+        is: "a look that does not wait for it",
+        session: HANDOVER,
+        old: "see 7",
+        new: "see 5",
+        said: Said::Breaks,
     },
 ];
-
-/// The session of a text with another line of this number; none where it is refused, or there is no memory.
-fn with_other_line(alloc: Global, text: &str, line: usize, new: &str) -> Option<Session> {
-    let changed = with_line(alloc, text.as_bytes(), line, new.as_bytes()).ok()?;
-    read_session(alloc, &changed).ok()
-}
-
-/// Whether this is the first fault of a session.
-fn is_fault_of(session: &Session, fault: &Fault) -> bool {
-    match fault {
-        Fault::Shape(line, reason) => shape_fault(session) == Some((*line, *reason)),
-        Fault::Page(line, reason) => {
-            shape_fault(session) == None && page_fault(session) == Some((*line, *reason))
-        }
-    }
-}
-
-/// Whether the first fault is found that the case has.
-fn is_found(alloc: Global, case: &Case) -> bool {
-    match with_other_line(alloc, case.session, case.line, case.new) {
-        Some(session) => is_fault_of(&session, &case.fault),
-        None => false,
-    }
-}
-
-#[test]
-fn finds_faults(rt: HostRuntime) {
-    for case in &CASES {
-        assert!(rt; is_found(rt.alloc(), case), "{}", case.new);
-    }
-}
 
 /// Whether zeros for a page that was placed are a second placement, and its first placement is none.
 fn is_second_placement(session: &Session) -> bool {
     is_page_fault(session, PageReason::Twice, LogName::Pager, 7)
         && !is_page_fault(session, PageReason::Twice, LogName::Pager, 5)
-}
-
-/// Whether this is told of the handover with zeros for page 0 as its last placement.
-fn is_second_placement_told(alloc: Global) -> bool {
-    match with_other_line(alloc, HANDOVER, 35, "zero 0") {
-        Some(session) => is_second_placement(&session),
-        None => false,
-    }
-}
-
-#[test]
-fn finds_a_second_placement(rt: HostRuntime) {
-    assert!(rt; is_second_placement_told(rt.alloc()));
 }
 
 /// What the guest has before one of its records: the value in page 1, whether that page is released, and where the guest
@@ -217,19 +191,6 @@ fn is_at_step(session: &Session, step: &Step) -> bool {
 /// Whether a session is halted at its second record, and goes through all steps.
 fn goes_through_steps(session: &Session) -> bool {
     halt_place(session) == 1 && STEPS.iter().all(|step| is_at_step(session, step))
-}
-
-/// Whether the session with a released page does.
-fn is_release_followed(alloc: Global) -> bool {
-    match read_session(alloc, RELEASED.as_bytes()) {
-        Ok(session) => goes_through_steps(&session),
-        Err(_) => false,
-    }
-}
-
-#[test]
-fn follows_a_released_page(rt: HostRuntime) {
-    assert!(rt; is_release_followed(rt.alloc()));
 }
 
 /// The order of the handover that stays with a log as long as it can.
@@ -318,18 +279,36 @@ fn is_delayed_told(alloc: Global, session: &Session, waits: bool) -> bool {
     }
 }
 
-/// Whether both orders are told on the handover with this second look.
-fn are_orders_told(alloc: Global, look: &str, waits: bool) -> bool {
-    match with_other_line(alloc, HANDOVER, 13, look) {
-        Some(session) => {
-            is_found_told(alloc, &session) && is_delayed_told(alloc, &session, waits)
+/// Whether both orders are told: the found one is safe, and the delayed one breaks unless the guest waits.
+fn are_orders_told(alloc: Global, session: &Session, waits: bool) -> bool {
+    is_found_told(alloc, session) && is_delayed_told(alloc, session, waits)
+}
+
+/// Whether that holds of a session which is said of it.
+fn holds(alloc: Global, session: &Session, said: &Said) -> bool {
+    match said {
+        Said::ShapeFault(line, reason) => shape_fault(session) == Some((*line, *reason)),
+        Said::PageFault(line, reason) => {
+            shape_fault(session) == None && page_fault(session) == Some((*line, *reason))
         }
+        Said::SecondPlacement => is_second_placement(session),
+        Said::Steps => goes_through_steps(session),
+        Said::Waits => are_orders_told(alloc, session, true),
+        Said::Breaks => are_orders_told(alloc, session, false),
+    }
+}
+
+/// Whether that holds of the case's session which the case says.
+fn is_met(alloc: Global, case: &Case) -> bool {
+    match changed_session(alloc, case.session, case.old, case.new) {
+        Some(session) => holds(alloc, &session, &case.said),
         None => false,
     }
 }
 
 #[test]
-fn follows_orders(rt: HostRuntime) {
-    assert!(rt; are_orders_told(rt.alloc(), "see 7", true));
-    assert!(rt; are_orders_told(rt.alloc(), "see 5", false));
+fn tells_what_sessions_mean(rt: HostRuntime) {
+    for case in &CASES {
+        assert!(rt; is_met(rt.alloc(), case), "{}", case.is);
+    }
 }
