@@ -1,84 +1,199 @@
-//! Which kind of fault a text has: a line that is not of the grammar's form, a number out of its range, or an end that is
-//! too early or too late.
+//! Which kind of fault a changed text has, and at which line: a line that is not of the grammar's form, a number out of its
+//! range, or an end that is too early or too late.
 
-use crate::sessions::KINDS;
-use crate::{fault_of, spelled_out};
-use session_log::read_session;
-use std::test::Fail;
+use crate::formats::{Format, fault_in, none_is_wrong};
+use crate::texts::{KINDS, RUNS, SENT};
+use FaultKind::{Ended, Form, Range};
+use std::alloc::Global;
 use text_lines::FaultKind;
 
-/// Changes of a session's text: the line at which it is then refused, the kind of the fault, what is changed, and what
-/// into. There `/` stands for a line feed, and `_` for a space.
-const CHANGES: &str = "1 Form session 1 => session 2
-2 Form pages 3 => page 3
-2 Form pages 3 => pages 03
-2 Form pages 3 => pages__3
-2 Range pages 3 => pages 0
-2 Range pages 3 => pages 65537
-3 Form cells 2 => cells two
-3 Range cells 2 => cells 0
-3 Range cells 2 => cells 513
-3 Range pages 3/cells 2 => pages 2049/cells 512
-3 Range pages 3/cells 2 => pages 65536/cells 17
-4 Form init 2 => init 02
-4 Range init 2 => init 4
-7 Form pages 3/cells 2/init 2 => pages 4/cells 2/init 3
-6 Range init 2 => init 3
-6 Form init 2 => init 1
-5 Form page 0_ => page 00_
-5 Range page 0_ => page 2_
-5 Form page 0 0000000000000005 => page 0 0000000000000000
-5 Form page 0 0000000000000005 => page 0 000000000000000A
-5 Form page 0 0000000000000005 => page 0 000000000000005
-6 Range page 2_ => page 0_
-6 Range page 2_ => page 3_
-7 Form guest 7 => guest 07
-7 Range guest 7 => guest 1048577
-15 Form guest 7 => guest 8
-14 Form guest 7 => guest 6
-15 Range source 6 => source 1048577
-22 Form source 6 => source 7
-21 Form source 6 => source 5
-15 Form source 6 => link 6
-22 Range link 2 => link 1048577
-25 Form link 2 => link 3
-24 Form link 2 => link 1
-25 Range pager 9 => pager 1048577
-35 Form pager 9 => pager 10
-34 Form pager 9 => pager 8
-35 Form end/ => END/
-35 Ended end/ => end
-36 Ended end/ => end//
-36 Ended end/ => end/x";
+/// A change of a text: the line at which it is then refused, the kind of the fault, what is changed, and what into.
+struct Change(u32, FaultKind, &'static str, &'static str);
 
-fn kind_of(word: &str) -> Option<FaultKind> {
-    match word {
-        "Form" => Some(FaultKind::Form),
-        "Range" => Some(FaultKind::Range),
-        "Ended" => Some(FaultKind::Ended),
-        _ => None,
+/// Changes of `KINDS`.
+static SESSION_CHANGES: [Change; 41] = [
+    Change(1, Form, "session 1", "session 2"),
+    Change(2, Form, "pages 3", "page 3"),
+    Change(2, Form, "pages 3", "pages 03"),
+    Change(2, Form, "pages 3", "pages  3"),
+    Change(2, Range, "pages 3", "pages 0"),
+    Change(2, Range, "pages 3", "pages 65537"),
+    Change(3, Form, "cells 2", "cells two"),
+    Change(3, Range, "cells 2", "cells 0"),
+    Change(3, Range, "cells 2", "cells 513"),
+    Change(3, Range, "pages 3\ncells 2", "pages 2049\ncells 512"),
+    Change(3, Range, "pages 3\ncells 2", "pages 65536\ncells 17"),
+    Change(4, Form, "init 2", "init 02"),
+    Change(4, Range, "init 2", "init 4"),
+    Change(
+        7,
+        Form,
+        "pages 3\ncells 2\ninit 2",
+        "pages 4\ncells 2\ninit 3",
+    ),
+    Change(6, Range, "init 2", "init 3"),
+    Change(6, Form, "init 2", "init 1"),
+    Change(5, Form, "page 0 ", "page 00 "),
+    Change(5, Range, "page 0 ", "page 2 "),
+    Change(
+        5,
+        Form,
+        "page 0 0000000000000005",
+        "page 0 0000000000000000",
+    ),
+    Change(
+        5,
+        Form,
+        "page 0 0000000000000005",
+        "page 0 000000000000000A",
+    ),
+    Change(5, Form, "page 0 0000000000000005", "page 0 000000000000005"),
+    Change(6, Range, "page 2 ", "page 0 "),
+    Change(6, Range, "page 2 ", "page 3 "),
+    Change(7, Form, "guest 7", "guest 07"),
+    Change(7, Range, "guest 7", "guest 1048577"),
+    Change(15, Form, "guest 7", "guest 8"),
+    Change(14, Form, "guest 7", "guest 6"),
+    Change(15, Range, "source 6", "source 1048577"),
+    Change(22, Form, "source 6", "source 7"),
+    Change(21, Form, "source 6", "source 5"),
+    Change(15, Form, "source 6", "link 6"),
+    Change(22, Range, "link 2", "link 1048577"),
+    Change(25, Form, "link 2", "link 3"),
+    Change(24, Form, "link 2", "link 1"),
+    Change(25, Range, "pager 9", "pager 1048577"),
+    Change(35, Form, "pager 9", "pager 10"),
+    Change(34, Form, "pager 9", "pager 8"),
+    Change(35, Form, "end\n", "END\n"),
+    Change(35, Ended, "end\n", "end"),
+    Change(36, Ended, "end\n", "end\n\n"),
+    Change(36, Ended, "end\n", "end\nx"),
+];
+
+/// Changes of `SENT`.
+static CERT_CHANGES: [Change; 49] = [
+    Change(1, Form, "certificate 1", "certificate 2"),
+    Change(2, Form, "pages 2", "page 2"),
+    Change(2, Form, "pages 2", "pages 02"),
+    Change(2, Range, "pages 2", "pages 0"),
+    Change(2, Range, "pages 2", "pages 65537"),
+    Change(2, Form, "pages 2\n", "pages 2\r\n"),
+    Change(4, Form, "pages 2", "pages 1"),
+    Change(5, Form, "pages 2", "pages 65536"),
+    Change(3, Form, "page 0 source", "page 00 source"),
+    Change(3, Form, "page 0 source", "page 1 source"),
+    Change(3, Form, "page 0 source", "page  0 source"),
+    Change(3, Form, "page 0 source", "page 0 balloon"),
+    Change(3, Form, "page 0 source", "page 0 none"),
+    Change(3, Form, "page 0 source", "page 0 sent"),
+    Change(3, Form, "3 5 5 4\n", "3 5 5 4 \n"),
+    Change(3, Form, "3 5 5 4\n", "3 5 5 4 4\n"),
+    Change(3, Form, "3 5 5 4\n", "3 5 5\n"),
+    Change(3, Form, "3 5 5 4\n", "3 5 - 4\n"),
+    Change(3, Form, "3 5 5 4\n", "3 5 5 -\n"),
+    Change(3, Form, "3 5 5 4\n", "3 5 -\n"),
+    Change(3, Form, "3 5 5 4\n", "3 - 5 4\n"),
+    Change(3, Form, "3 5 5 4\n", "03 5 5 4\n"),
+    Change(3, Form, "3 5 5 4\n", "3 5 5 04\n"),
+    Change(3, Form, "3 5 5 4\n", "3 5 5 1048576\n"),
+    Change(3, Form, "3 5 5 4\n", "3 5 1048576 4\n"),
+    Change(3, Form, "3 5 5 4\n", "3 1048576 5 4\n"),
+    Change(3, Form, "3 5 5 4\n", "1048576 5 5 4\n"),
+    Change(3, Form, "3 5 5 4\n", "18446744073709551619 5 5 4\n"),
+    Change(4, Form, "page 1 source 4 7 7 6\n", ""),
+    Change(5, Form, "runs 11", "runs"),
+    Change(5, Form, "runs 11", "runs 011"),
+    Change(5, Range, "runs 11", "runs 4194305"),
+    Change(16, Form, "runs 11", "runs 10"),
+    Change(17, Form, "runs 11", "runs 12"),
+    Change(17, Form, "runs 11", "runs 4194304"),
+    Change(6, Form, "run guest 2", "guest 2"),
+    Change(6, Form, "guest 2", "guest 02"),
+    Change(6, Form, "guest 2", "guest 0"),
+    Change(6, Form, "guest 2", "guest 1048577"),
+    Change(6, Form, "guest 2", "target 2"),
+    Change(6, Form, "guest 2", "guest  2"),
+    Change(6, Form, "guest 2", "guest 2 "),
+    Change(7, Form, "source 2", "guest 2"),
+    Change(17, Form, "end\n", "END\n"),
+    Change(17, Form, "end\n", "end\r\n"),
+    Change(17, Ended, "end\n", ""),
+    Change(17, Ended, "end\n", "end"),
+    Change(18, Ended, "end\n", "end\nx"),
+    Change(18, Ended, "end\n", "end\n\n"),
+];
+
+/// Changes of `RUNS`.
+static RUN_CHANGES: [Change; 13] = [
+    Change(1, Form, "runs 1", "runs 2"),
+    Change(1, Form, "postcopy-runs 1\n", ""),
+    Change(2, Form, "runs 4", "runs 04"),
+    Change(2, Range, "runs 4", "runs 4194305"),
+    Change(6, Form, "runs 4", "runs 3"),
+    Change(7, Form, "runs 4", "runs 5"),
+    Change(3, Form, "guest 3", "guest 03"),
+    Change(3, Form, "guest 3", "guest 0"),
+    Change(3, Form, "guest 3", "guest 1048577"),
+    Change(4, Form, "source 1", "guest 1"),
+    Change(6, Form, "pager 1", "link 1"),
+    Change(7, Ended, "end\n", "end"),
+    Change(8, Ended, "end\n", "end\nend\n"),
+];
+
+/// Whether a text with a change is refused as the change tells.
+fn is_refused(alloc: Global, format: Format, text: &str, change: &Change) -> bool {
+    let Change(line, kind, old, new) = change;
+    match text.replacen(alloc, *old, new, 1) {
+        Ok(changed) => fault_in(alloc, format, changed.as_bytes()) == Some((*line, *kind)),
+        Err(_) => false,
     }
 }
 
-/// What a row of changes says: a line, a kind, what is changed, and what into.
-pub fn change_of(row: &str) -> Option<(u32, FaultKind, &str, &str)> {
-    let (line, rest) = row.split_once(' ')?;
-    let (kind, rest) = rest.split_once(' ')?;
-    let (old, new) = rest.split_once(" => ")?;
-    Some((line.parse::<u32>().ok()?, kind_of(kind)?, old, new))
+/// What is put in by a change with which the text is not refused as the change tells.
+fn wrong_change(
+    alloc: Global,
+    format: Format,
+    text: &str,
+    changes: &[Change],
+) -> Option<&'static str> {
+    for change in changes {
+        if !is_refused(alloc, format, text, change) {
+            return Some(change.3);
+        }
+    }
+    None
 }
 
 #[test]
-fn faults_have_their_kinds(rt: HostRuntime) -> Result<(), Fail> {
-    for row in CHANGES.lines() {
-        let Some((line, kind, old, new)) = change_of(row) else {
-            return Err(Fail::new("the row is no change"));
-        };
-        let old = spelled_out(rt.alloc(), old)?;
-        let new = spelled_out(rt.alloc(), new)?;
-        let text = KINDS.replacen(rt.alloc(), old.as_str(), new.as_str(), 1)?;
-        let fault = fault_of(&read_session(rt.alloc(), text.as_bytes()));
-        assert_eq!(rt; fault, Some((line, kind)), "{row}");
-    }
-    Ok(())
+fn changed_sessions_are_refused(rt: HostRuntime) {
+    let wrong = wrong_change(
+        rt.alloc(),
+        Format::Session,
+        KINDS,
+        SESSION_CHANGES.as_slice(),
+    );
+    none_is_wrong(&rt, wrong);
+}
+
+#[test]
+fn changed_certificates_are_refused(rt: HostRuntime) {
+    let wrong = wrong_change(rt.alloc(), Format::Cert, SENT, CERT_CHANGES.as_slice());
+    none_is_wrong(&rt, wrong);
+}
+
+#[test]
+fn changed_runs_are_refused(rt: HostRuntime) {
+    let wrong = wrong_change(rt.alloc(), Format::Runs, RUNS, RUN_CHANGES.as_slice());
+    none_is_wrong(&rt, wrong);
+}
+
+/// Whether a text is refused for its first line.
+fn is_of_another_format(alloc: Global, format: Format, text: &str) -> bool {
+    matches!(fault_in(alloc, format, text.as_bytes()), Some((1, Form)))
+}
+
+#[test]
+fn formats_are_told_apart(rt: HostRuntime) {
+    assert!(rt; is_of_another_format(rt.alloc(), Format::Cert, RUNS));
+    assert!(rt; is_of_another_format(rt.alloc(), Format::Runs, SENT));
 }

@@ -6,6 +6,8 @@ ghost use Rattle.std.specs.Prelude.{◌≡◌, MatchResult};
 #[cfg(test)]
 mod certificates;
 #[cfg(test)]
+mod formats;
+#[cfg(test)]
 mod kinds;
 #[cfg(test)]
 mod lines;
@@ -16,9 +18,10 @@ mod sessions;
 #[cfg(test)]
 mod slow;
 #[cfg(test)]
+mod texts;
+#[cfg(test)]
 mod values;
 
-use std::alloc::{AllocError, Global};
 use text_lines::{FaultKind, TextFault};
 
 /// The line at which a text is refused, and 0 where it is read.
@@ -39,10 +42,4 @@ pub fn fault_of<T>(answer: &Result<T, TextFault>) -> Option<(u32, FaultKind)>
         Ok(_) => None,
         Err(fault) => Some((fault.line, fault.kind)),
     }
-}
-
-/// A text with a line feed for each `/` and a space for each `_`.
-pub fn spelled_out(alloc: Global, text: &str) -> Result<String, AllocError> {
-    let lines = text.replacen(alloc, "/", "\n", 99)?;
-    lines.replacen(alloc, "_", " ", 99)
 }

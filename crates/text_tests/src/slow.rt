@@ -13,31 +13,58 @@ enum Field {
 
 use Field::{Cell, Contents, Number, Page, Value, Vcpu};
 
-/// The fields of each kind of record in a log, by its key.
-fn fields(log: &str, kind: &str) -> Option<&'static [Field]> {
-    match (log, kind) {
-        ("guest", "r") | ("guest", "w") => Some(&[Vcpu, Page, Cell, Value]),
-        ("guest", "z") | ("guest", "miss") => Some(&[Vcpu, Page]),
-        ("guest", "halt") => Some(&[]),
-        ("guest", "resume") | ("guest", "see") => Some(&[Number]),
-        ("source", "halted") | ("source", "again") | ("source", "ask") => Some(&[Number]),
-        ("source", "state") | ("source", "done") => Some(&[]),
-        ("source", "send") => Some(&[Page, Contents]),
-        ("link", "down") | ("link", "up") => Some(&[Number]),
-        ("pager", "got") | ("pager", "fault") => Some(&[Number]),
-        ("pager", "join") | ("pager", "skip") => Some(&[Number]),
-        ("pager", "ready") | ("pager", "all") => Some(&[]),
-        ("pager", "want") | ("pager", "zero") => Some(&[Page]),
-        ("pager", "place") => Some(&[Page, Number, Contents]),
-        _ => None,
+/// The kinds of record by their logs and keys, and the fields of each.
+static KINDS: [(&str, &str, &[Field]); 24] = [
+    ("guest", "r", &[Vcpu, Page, Cell, Value]),
+    ("guest", "w", &[Vcpu, Page, Cell, Value]),
+    ("guest", "z", &[Vcpu, Page]),
+    ("guest", "miss", &[Vcpu, Page]),
+    ("guest", "halt", &[]),
+    ("guest", "resume", &[Number]),
+    ("guest", "see", &[Number]),
+    ("source", "halted", &[Number]),
+    ("source", "state", &[]),
+    ("source", "send", &[Page, Contents]),
+    ("source", "again", &[Number]),
+    ("source", "ask", &[Number]),
+    ("source", "done", &[]),
+    ("link", "down", &[Number]),
+    ("link", "up", &[Number]),
+    ("pager", "got", &[Number]),
+    ("pager", "ready", &[]),
+    ("pager", "fault", &[Number]),
+    ("pager", "join", &[Number]),
+    ("pager", "want", &[Page]),
+    ("pager", "place", &[Page, Number, Contents]),
+    ("pager", "zero", &[Page]),
+    ("pager", "skip", &[Number]),
+    ("pager", "all", &[]),
+];
+
+/// The fields of a kind of record in a log, by its key.
+fn fields(log: &str, key: &str) -> Option<&'static [Field]> {
+    for (of, kind, fields) in &KINDS {
+        let (of, kind) = (*of, *kind);
+        if of == log && kind == key {
+            return Some(*fields);
+        }
     }
+    None
+}
+
+/// Whether a word has these bytes alone.
+fn is_made_of(word: &str, bytes: &[u8]) -> bool {
+    for byte in word.as_bytes() {
+        if !bytes.contains(byte) {
+            return false;
+        }
+    }
+    true
 }
 
 /// The number that a word is, up to a limit.
 fn number(word: &str, limit: u64) -> Option<u64> {
-    if !word.bytes().all(|byte| byte.is_ascii_digit())
-        || (word.len() > 1 && word.starts_with('0'))
-    {
+    if !is_made_of(word, b"0123456789") || (word.len() > 1 && word.starts_with('0')) {
         return None;
     }
     let value = word.parse::<u64>().ok()?;
@@ -45,8 +72,7 @@ fn number(word: &str, limit: u64) -> Option<u64> {
 }
 
 fn is_contents(word: &str, cells: u64) -> bool {
-    word.len() as u64 == cells.saturating_mul(16)
-        && word.bytes().all(|byte| byte.is_ascii_digit() || (b'a'..=b'f').contains(&byte))
+    word.len() as u64 == cells.saturating_mul(16) && is_made_of(word, b"0123456789abcdef")
 }
 
 fn is_field(word: &str, field: Field, pages: u64, cells: u64) -> bool {
@@ -104,49 +130,78 @@ impl<'a> Lines<'a> {
     }
 }
 
+/// A number other than 0 in the next line, up to a limit.
+fn positive(lines: &mut Lines, key: &str, limit: u64) -> Option<u64> {
+    match lines.keyed(key, limit) {
+        Some(0) => None,
+        other => other,
+    }
+}
+
+/// The pages and the cells of a machine, with at most 1,048,576 cells in all.
+fn geometry(lines: &mut Lines) -> Option<(u64, u64)> {
+    let pages = positive(lines, "pages", 65_536)?;
+    let cells = positive(lines, "cells", 512)?;
+    if pages.saturating_mul(cells) <= 1_048_576 {
+        Some((pages, cells))
+    } else {
+        None
+    }
+}
+
+/// The page that a line gives contents other than zeros, up to a limit.
+fn initial_page(line: &str, limit: u64, cells: u64) -> Option<u64> {
+    let (page, contents) = line.strip_prefix("page ")?.split_once(' ')?;
+    if is_contents(contents, cells) && !is_made_of(contents, b"0") {
+        number(page, limit)
+    } else {
+        None
+    }
+}
+
+/// Whether the next lines are a count of initial pages, and those, in rising order.
+fn initial_pages(lines: &mut Lines, pages: u64, cells: u64) -> Option<()> {
+    let init = lines.keyed("init", pages)?;
+    let mut low = 0;
+    for to_come in (0..init).rev() {
+        let limit = pages.saturating_sub(to_come.saturating_add(1));
+        let page = initial_page(lines.next()?, limit, cells)?;
+        if page < low {
+            return None;
+        }
+        low = page.saturating_add(1);
+    }
+    Some(())
+}
+
+/// Whether the next lines are those of a log.
+fn records(lines: &mut Lines, log: &str, pages: u64, cells: u64) -> Option<()> {
+    let count = lines.keyed(log, 1_048_576)?;
+    for _ in 0..count {
+        if !is_record(lines.next()?, log, pages, cells) {
+            return None;
+        }
+    }
+    Some(())
+}
+
+static LOGS: [&str; 4] = ["guest", "source", "link", "pager"];
+
 /// Whether the lines are a session's, up to the last that was asked for.
 fn is_session(lines: &mut Lines) -> Option<()> {
     if lines.next()? != "postcopy-session 1" {
         return None;
     }
-    let pages = lines.keyed("pages", 65_536)?;
-    if pages == 0 {
-        return None;
+    let (pages, cells) = geometry(lines)?;
+    initial_pages(lines, pages, cells)?;
+    for log in &LOGS {
+        records(lines, *log, pages, cells)?;
     }
-    let cells = lines.keyed("cells", 512)?;
-    if cells == 0 || pages.saturating_mul(cells) > 1_048_576 {
-        return None;
+    if lines.next()? == "end" {
+        Some(())
+    } else {
+        None
     }
-    let init = lines.keyed("init", pages)?;
-    let mut low = 0;
-    for to_come in (0..init).rev() {
-        let mut words = lines.next()?.split(' ');
-        if words.next()? != "page" {
-            return None;
-        }
-        let page = number(
-            words.next()?,
-            pages.saturating_sub(to_come.saturating_add(1)),
-        )?;
-        let contents = words.next()?;
-        let is_right = low <= page && is_contents(contents, cells) && words.next().is_none();
-        if !is_right || contents.bytes().all(|byte| byte == b'0') {
-            return None;
-        }
-        low = page.saturating_add(1);
-    }
-    for log in ["guest", "source", "link", "pager"] {
-        let count = lines.keyed(log, 1_048_576)?;
-        for _ in 0..count {
-            if !is_record(lines.next()?, log, pages, cells) {
-                return None;
-            }
-        }
-    }
-    if lines.next()? != "end" {
-        return None;
-    }
-    Some(())
 }
 
 /// The line at which a text is refused, and 0 where it is one.

@@ -4,133 +4,223 @@ use migration_types::{
     Cert, Contents, Entry, First, Geometry, GeometryFault, GuestRec, LinkRec, LogName, Logs,
     PageNo, PagerRec, Record, Run, Seq, Session, SourceRec,
 };
-use std::test::Fail;
+use std::alloc::{AllocError, Global};
+
+/// Geometries, by their pages and cells.
+static GEOMETRIES: [(u32, u32); 3] = [(1, 1), (65_536, 16), (2_048, 512)];
+
+fn is_geometry(pages: u32, cells: u32) -> bool {
+    match Geometry::new(pages, cells) {
+        Ok(geometry) => geometry.pages() == pages && geometry.cells() == cells,
+        Err(_) => false,
+    }
+}
+
+/// Pages and cells that are no geometry's, and why.
+static NO_GEOMETRIES: [(u32, u32, GeometryFault); 8] = [
+    (0, 0, GeometryFault::Pages),
+    (65_537, 1, GeometryFault::Pages),
+    (65_537, 513, GeometryFault::Pages),
+    (1, 0, GeometryFault::Cells),
+    (1, 513, GeometryFault::Cells),
+    (65_536, 513, GeometryFault::Cells),
+    (65_536, 17, GeometryFault::TooMany),
+    (2_049, 512, GeometryFault::TooMany),
+];
+
+fn is_refused(pages: u32, cells: u32, fault: GeometryFault) -> bool {
+    match Geometry::new(pages, cells) {
+        Ok(_) => false,
+        Err(found) => found == fault,
+    }
+}
+
+fn are_geometries() -> bool {
+    for (pages, cells) in &GEOMETRIES {
+        if !is_geometry(*pages, *cells) {
+            return false;
+        }
+    }
+    true
+}
+
+fn are_refused() -> bool {
+    for (pages, cells, fault) in &NO_GEOMETRIES {
+        if !is_refused(*pages, *cells, *fault) {
+            return false;
+        }
+    }
+    true
+}
 
 #[test]
-fn tells_geometries(rt: HostRuntime) -> Result<(), Fail> {
-    for (pages, cells) in [(1, 1), (65_536, 16), (2_048, 512)] {
-        let geometry = Geometry::new(pages, cells)?;
-        assert_eq!(rt; geometry.pages(), pages);
-        assert_eq!(rt; geometry.cells(), cells);
-    }
-    for (pages, cells, fault) in [
-        (0, 0, GeometryFault::Pages),
-        (65_537, 1, GeometryFault::Pages),
-        (65_537, 513, GeometryFault::Pages),
-        (1, 0, GeometryFault::Cells),
-        (1, 513, GeometryFault::Cells),
-        (65_536, 513, GeometryFault::Cells),
-        (65_536, 17, GeometryFault::TooMany),
-        (2_049, 512, GeometryFault::TooMany),
-    ] {
-        assert_eq!(rt; Geometry::new(pages, cells), Err(fault));
-    }
-    Ok(())
+fn tells_geometries(rt: HostRuntime) {
+    assert!(rt; are_geometries());
+    assert!(rt; are_refused());
 }
 
 #[test]
 fn numbers_pages(rt: HostRuntime) {
-    assert_eq!(rt; PageNo::new(65_535).number(), 65_535);
-    assert_eq!(rt; PageNo::new(65_535).index(), 65_535);
+    let last = PageNo::new(65_535);
+    assert!(rt; last.number() == 65_535 && last.index() == 65_535);
 }
 
-#[test]
-fn keeps_lists(rt: HostRuntime) -> Result<(), Fail> {
-    let list = Seq::from_vec(vec![in rt.alloc(); 3, 1, 2]?);
-    assert_eq!(rt; list.as_slice(), [3, 1, 2].as_slice());
-    assert_eq!(rt; list.into_vec().as_slice(), [3, 1, 2].as_slice());
-    Ok(())
-}
-
-#[test]
-fn keeps_contents(rt: HostRuntime) -> Result<(), Fail> {
-    assert_eq!(rt; Contents::one(7).as_slice(), [7].as_slice());
-    let two = Contents::from_vec(vec![in rt.alloc(); 3, 1]?);
-    assert_eq!(rt; two.as_slice(), [3, 1].as_slice());
-    for cells in [[7].as_slice(), [3, 1, 2].as_slice()] {
-        assert_eq!(rt; Contents::copied(rt.alloc(), cells)?.as_slice(), cells);
-    }
-    Ok(())
-}
-
-#[test]
-fn names_receipts(rt: HostRuntime) -> Result<(), Fail> {
-    let page = PageNo::new(1);
-    for (record, named) in [
-        (GuestRec::Resume { ready: 1 }, Some((LogName::Pager, 1))),
-        (GuestRec::See { placement: 5 }, Some((LogName::Pager, 5))),
-        (GuestRec::Halt, None),
-        (GuestRec::Miss { vcpu: 0, page }, None),
-    ] {
-        assert_eq!(rt; record.named(), named);
-    }
-    let halted = SourceRec::Halted { halt: 2 };
-    assert_eq!(rt; halted.named(), Some((LogName::Guest, 2)));
-    let ask = SourceRec::Ask { up: 3 };
-    assert_eq!(rt; ask.named(), Some((LogName::Link, 3)));
-    let again = SourceRec::Again { sending: 1 };
-    assert_eq!(rt; again.named(), None);
-    let down = LinkRec::Down { sending: 4 };
-    assert_eq!(rt; down.named(), Some((LogName::Source, 4)));
-    let up = LinkRec::Up { asking: 6 };
-    assert_eq!(rt; up.named(), Some((LogName::Pager, 6)));
-    let got = PagerRec::Got { down: 0 };
-    assert_eq!(rt; got.named(), Some((LogName::Link, 0)));
-    let fault = PagerRec::Fault { miss: 3 };
-    assert_eq!(rt; fault.named(), Some((LogName::Guest, 3)));
-    let skip = PagerRec::Skip { got: 3 };
-    assert_eq!(rt; skip.named(), None);
-    Ok(())
-}
-
-#[test]
-fn keeps_a_session(rt: HostRuntime) -> Result<(), Fail> {
-    let geometry = Geometry::new(2, 1)?;
-    geometry.keeps_limits();
-    let session = Session::new(
-        geometry,
-        Seq::from_vec(Vec::new(rt.alloc())),
-        Logs {
-            guest: Seq::from_vec(Vec::new(rt.alloc())),
-            source: Seq::from_vec(Vec::new(rt.alloc())),
-            link: Seq::from_vec(Vec::new(rt.alloc())),
-            pager: Seq::from_vec(Vec::new(rt.alloc())),
-        },
-    );
-    session.keeps_limits();
-    assert_eq!(rt; session.geometry(), geometry);
-    assert_eq!(rt; session.init().len(), 0);
-    assert_eq!(rt; session.guest().len(), 0);
-    assert_eq!(rt; session.source().len(), 0);
-    assert_eq!(rt; session.link().len(), 0);
-    assert_eq!(rt; session.pager().len(), 0);
-    Ok(())
-}
-
-#[test]
-fn keeps_a_certificate(rt: HostRuntime) -> Result<(), Fail> {
-    let entry = Entry::Source {
-        send: 3,
-        place: 5,
-        first: Some(First { access: 5, see: 4 }),
+fn keeps_list(alloc: Global) -> bool {
+    let Ok(items) = Vec::from_array(alloc, [3, 1, 2]) else {
+        return false;
     };
-    let entries = Seq::from_vec(vec![in rt.alloc(); entry]?);
-    let runs = Seq::from_vec(vec![in rt.alloc();
-        Run {
-            log: LogName::Guest,
-            count: 4
-        },
-    ]?);
-    let cert = Cert::new(entries, runs);
-    cert.keeps_limits();
-    assert_eq!(rt; cert.entries(), [entry].as_slice());
-    assert_eq!(rt;
-        cert.runs(),
-        [Run {
-            log: LogName::Guest,
-            count: 4
-        }]
-        .as_slice()
+    let list = Seq::from_vec(items);
+    let is_kept = list.as_slice() == [3, 1, 2].as_slice();
+    let items = list.into_vec();
+    is_kept && items.as_slice() == [3, 1, 2].as_slice()
+}
+
+#[test]
+fn keeps_lists(rt: HostRuntime) {
+    assert!(rt; keeps_list(rt.alloc()));
+}
+
+fn keeps_two_cells(alloc: Global) -> bool {
+    match Vec::from_array(alloc, [3, 1]) {
+        Ok(cells) => Contents::from_vec(cells).as_slice() == [3, 1].as_slice(),
+        Err(_) => false,
+    }
+}
+
+fn copies_cells(alloc: Global, cells: &[u64]) -> bool {
+    match Contents::copied(alloc, cells) {
+        Ok(contents) => contents.as_slice() == cells,
+        Err(_) => false,
+    }
+}
+
+fn keeps_one_cell() -> bool {
+    Contents::one(7).as_slice() == [7].as_slice()
+}
+
+#[test]
+fn keeps_contents(rt: HostRuntime) {
+    assert!(rt; keeps_one_cell() && keeps_two_cells(rt.alloc()));
+    assert!(rt; copies_cells(rt.alloc(), [7].as_slice()));
+    assert!(rt; copies_cells(rt.alloc(), [3, 1, 2].as_slice()));
+}
+
+/// Whether a record names the one at this place of a log.
+fn names<R: Record>(record: &R, log: LogName, place: u32) -> bool {
+    match record.named() {
+        Some((found, at)) => found == log && at == place,
+        None => false,
+    }
+}
+
+fn guest_names() -> bool {
+    let page = PageNo::new(1);
+    names(&GuestRec::Resume { ready: 1 }, LogName::Pager, 1)
+        && names(&GuestRec::See { placement: 5 }, LogName::Pager, 5)
+        && GuestRec::Halt.named().is_none()
+        && GuestRec::Miss { vcpu: 0, page }.named().is_none()
+}
+
+fn source_names(halted: &SourceRec, ask: &SourceRec, again: &SourceRec) -> bool {
+    names(halted, LogName::Guest, 2) && names(ask, LogName::Link, 3) && again.named().is_none()
+}
+
+fn link_names() -> bool {
+    names(&LinkRec::Down { sending: 4 }, LogName::Source, 4)
+        && names(&LinkRec::Up { asking: 6 }, LogName::Pager, 6)
+}
+
+fn pager_names(got: &PagerRec, fault: &PagerRec, skip: &PagerRec) -> bool {
+    names(got, LogName::Link, 0) && names(fault, LogName::Guest, 3) && skip.named().is_none()
+}
+
+#[test]
+fn names_receipts(rt: HostRuntime) {
+    let source = source_names(
+        &SourceRec::Halted { halt: 2 },
+        &SourceRec::Ask { up: 3 },
+        &SourceRec::Again { sending: 1 },
     );
-    Ok(())
+    let pager = pager_names(
+        &PagerRec::Got { down: 0 },
+        &PagerRec::Fault { miss: 3 },
+        &PagerRec::Skip { got: 3 },
+    );
+    assert!(rt; guest_names() && source && link_names() && pager);
+}
+
+/// A session in which nothing was recorded.
+fn empty_session(alloc: Global, geometry: Geometry) -> Session {
+    geometry.keeps_limits();
+    Session::new(
+        geometry,
+        Seq::from_vec(Vec::new(alloc)),
+        Logs {
+            guest: Seq::from_vec(Vec::new(alloc)),
+            source: Seq::from_vec(Vec::new(alloc)),
+            link: Seq::from_vec(Vec::new(alloc)),
+            pager: Seq::from_vec(Vec::new(alloc)),
+        },
+    )
+}
+
+fn is_empty(session: &Session) -> bool {
+    session.keeps_limits();
+    session.init().is_empty()
+        && session.guest().is_empty()
+        && session.source().is_empty()
+        && session.link().is_empty()
+        && session.pager().is_empty()
+}
+
+fn keeps_parts(alloc: Global, geometry: Geometry) -> bool {
+    let session = empty_session(alloc, geometry);
+    session.geometry() == geometry && is_empty(&session)
+}
+
+fn keeps_session(alloc: Global) -> bool {
+    match Geometry::new(2, 1) {
+        Ok(geometry) => keeps_parts(alloc, geometry),
+        Err(_) => false,
+    }
+}
+
+#[test]
+fn keeps_a_session(rt: HostRuntime) {
+    assert!(rt; keeps_session(rt.alloc()));
+}
+
+const ENTRY: Entry = Entry::Source {
+    send: 3,
+    place: 5,
+    first: Some(First { access: 5, see: 4 }),
+};
+
+const RUN: Run = Run {
+    log: LogName::Guest,
+    count: 4,
+};
+
+/// A certificate of this entry and this run.
+fn cert_of_one(alloc: Global) -> Result<Cert, AllocError> {
+    let entries = Vec::from_array(alloc, [ENTRY])?;
+    let runs = Vec::from_array(alloc, [RUN])?;
+    Ok(Cert::new(Seq::from_vec(entries), Seq::from_vec(runs)))
+}
+
+fn is_of_one(cert: &Cert) -> bool {
+    cert.keeps_limits();
+    cert.entries() == [ENTRY].as_slice() && cert.runs() == [RUN].as_slice()
+}
+
+fn keeps_cert(alloc: Global) -> bool {
+    match cert_of_one(alloc) {
+        Ok(cert) => is_of_one(&cert),
+        Err(_) => false,
+    }
+}
+
+#[test]
+fn keeps_a_certificate(rt: HostRuntime) {
+    assert!(rt; keeps_cert(rt.alloc()));
 }
