@@ -252,9 +252,9 @@ static SESSIONS: [&str; 10] = [
 fn commands_say_what_the_plain_programs_say(rt: HostRuntime) {
     let mut numbers = Numbers::new(1);
     let mut answers = Answers::none();
-    for (place, text) in SESSIONS.iter().enumerate() {
+    for text in &SESSIONS {
         let agreement = agreement_on(rt.alloc(), text.as_bytes(), &mut numbers, &mut answers);
-        assert!(rt; agreement == Some(true), "session {place}");
+        assert!(rt; agreement == Some(true), "{text}");
     }
 }
 

@@ -1,6 +1,6 @@
 //! Replays of the handover in several orders, and of a session that ends at its halt.
 
-use crate::texts::{EARLY_ACCESS, HANDOVER};
+use crate::texts::{EARLY_ACCESS, FOUND, HANDOVER};
 use cert_text::read_runs;
 use merge_runs::{MergeFault, first_bad_run, is_merging, replay};
 use migration_types::{LogName, PageNo, Run, Session};
@@ -19,23 +19,6 @@ halt
 source 0
 link 0
 pager 0
-end
-";
-
-/// The order of the handover that stays with a log as long as it can.
-const FOUND: &str = "postcopy-runs 1
-runs 11
-run guest 2
-run source 2
-run link 1
-run pager 2
-run guest 2
-run pager 2
-run link 1
-run source 3
-run link 2
-run pager 4
-run guest 5
 end
 ";
 

@@ -1,4 +1,4 @@
-//! Sessions, as texts.
+//! Sessions, and an order of one of them, as texts.
 
 use migration_types::Session;
 use session_log::read_session;
@@ -40,6 +40,23 @@ got 2
 place 0 4 0000000000000005
 got 3
 place 1 6 0000000000000007
+end
+";
+
+/// The order of the handover that stays with a log as long as it can.
+pub const FOUND: &str = "postcopy-runs 1
+runs 11
+run guest 2
+run source 2
+run link 1
+run pager 2
+run guest 2
+run pager 2
+run link 1
+run source 3
+run link 2
+run pager 4
+run guest 5
 end
 ";
 

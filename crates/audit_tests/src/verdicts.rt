@@ -36,178 +36,227 @@ struct Table {
     cases: &'static [Case],
 }
 
-/// A change of the handover that spoils its shape, and the first fault.
-struct ShapeCase {
-    old: &'static str,
-    new: &'static str,
-    line: u32,
-    reason: ShapeReason,
-}
-
-static SHAPES: [ShapeCase; 26] = [
-    ShapeCase {
-        old: "fault 3",
-        new: "fault 4",
-        line: 30,
-        reason: ShapeReason::Named,
-    },
-    ShapeCase {
-        old: "resume 1",
-        new: "resume 0",
-        line: 9,
-        reason: ShapeReason::Named,
-    },
-    ShapeCase {
-        old: "resume 1",
-        new: "resume 9",
-        line: 9,
-        reason: ShapeReason::Named,
-    },
-    ShapeCase {
-        old: "see 5",
-        new: "see 4",
-        line: 11,
-        reason: ShapeReason::Named,
-    },
-    ShapeCase {
-        old: "ask 1",
-        new: "ask 0",
-        line: 19,
-        reason: ShapeReason::Named,
-    },
-    ShapeCase {
-        old: "ask 1",
-        new: "again 2",
-        line: 19,
-        reason: ShapeReason::Named,
-    },
-    ShapeCase {
-        old: "down 3",
-        new: "down 2",
-        line: 25,
-        reason: ShapeReason::Named,
-    },
-    ShapeCase {
-        old: "up 3",
-        new: "up 2",
-        line: 24,
-        reason: ShapeReason::Named,
-    },
-    ShapeCase {
-        old: "got 2",
-        new: "got 1",
-        line: 32,
-        reason: ShapeReason::Named,
-    },
-    ShapeCase {
-        old: "got 3",
-        new: "join 2",
-        line: 34,
-        reason: ShapeReason::Named,
-    },
-    ShapeCase {
-        old: "got 3",
-        new: "skip 6",
-        line: 34,
-        reason: ShapeReason::Named,
-    },
-    ShapeCase {
-        old: "place 1 6",
-        new: "place 1 4",
-        line: 35,
-        reason: ShapeReason::Named,
-    },
-    ShapeCase {
-        old: "halted 1",
-        new: "halted 0",
-        line: 17,
-        reason: ShapeReason::Named,
-    },
-    ShapeCase {
-        old: "miss 0 0",
-        new: "halt",
-        line: 10,
-        reason: ShapeReason::Phases,
-    },
-    ShapeCase {
-        old: "miss 0 0",
-        new: "resume 1",
-        line: 10,
-        reason: ShapeReason::Phases,
-    },
-    ShapeCase {
-        old: "halt\nresume 1",
-        new: "resume 1\nhalt",
-        line: 8,
-        reason: ShapeReason::Phases,
-    },
-    ShapeCase {
-        old: "resume 1\nmiss 0 0",
-        new: "miss 0 0\nresume 1",
-        line: 9,
-        reason: ShapeReason::Phases,
-    },
-    ShapeCase {
-        old: "resume 1\nmiss 0 0",
-        new: "w 0 0 0 3\nresume 1",
-        line: 9,
-        reason: ShapeReason::Phases,
-    },
-    ShapeCase {
-        old: "r 0 1 0 9",
-        new: "z 0 1",
-        line: 15,
-        reason: ShapeReason::Phases,
-    },
-    ShapeCase {
-        old: "state\nask 1",
-        new: "ask 1\nstate",
-        line: 18,
-        reason: ShapeReason::Start,
-    },
-    ShapeCase {
-        old: "ask 1",
-        new: "state",
-        line: 19,
-        reason: ShapeReason::Start,
-    },
-    ShapeCase {
-        old: "got 0\nready",
-        new: "ready\ngot 0",
-        line: 9,
-        reason: ShapeReason::Named,
-    },
-    ShapeCase {
-        old: "got 0",
-        new: "got 2",
-        line: 28,
-        reason: ShapeReason::Start,
-    },
-    ShapeCase {
-        old: "want 0",
-        new: "ready",
-        line: 24,
-        reason: ShapeReason::Named,
-    },
-    ShapeCase {
-        old: "got 3",
-        new: "ready",
-        line: 34,
-        reason: ShapeReason::Start,
-    },
-    ShapeCase {
-        old: "send 1 0000000000000007",
-        new: "send 0 0000000000000005",
-        line: 21,
-        reason: ShapeReason::SecondSend,
-    },
-];
-
 /// A halt that only the source's first record followed.
 const HALTED: &str =
     "postcopy-session 1\npages 2\ncells 1\ninit 1\npage 0 0000000000000005\nguest 2\nw 0 1 0 7\nhalt\nsource 1\nhalted 1\nlink 0\npager 0\nend\n";
 
-static TABLES: [Table; 4] = [
+static TABLES: [Table; 5] = [
+    // The shape of the handover.
+    Table {
+        session: HANDOVER,
+        cert: HANDOVER_CERT,
+        changed: Changed::Session,
+        cases: &[
+            Case {
+                old: "fault 3",
+                new: "fault 4",
+                verdict: Verdict::Shape(ShapeFault {
+                    line: 30,
+                    reason: ShapeReason::Named,
+                }),
+            },
+            Case {
+                old: "resume 1",
+                new: "resume 0",
+                verdict: Verdict::Shape(ShapeFault {
+                    line: 9,
+                    reason: ShapeReason::Named,
+                }),
+            },
+            Case {
+                old: "resume 1",
+                new: "resume 9",
+                verdict: Verdict::Shape(ShapeFault {
+                    line: 9,
+                    reason: ShapeReason::Named,
+                }),
+            },
+            Case {
+                old: "see 5",
+                new: "see 4",
+                verdict: Verdict::Shape(ShapeFault {
+                    line: 11,
+                    reason: ShapeReason::Named,
+                }),
+            },
+            Case {
+                old: "ask 1",
+                new: "ask 0",
+                verdict: Verdict::Shape(ShapeFault {
+                    line: 19,
+                    reason: ShapeReason::Named,
+                }),
+            },
+            Case {
+                old: "ask 1",
+                new: "again 2",
+                verdict: Verdict::Shape(ShapeFault {
+                    line: 19,
+                    reason: ShapeReason::Named,
+                }),
+            },
+            Case {
+                old: "down 3",
+                new: "down 2",
+                verdict: Verdict::Shape(ShapeFault {
+                    line: 25,
+                    reason: ShapeReason::Named,
+                }),
+            },
+            Case {
+                old: "up 3",
+                new: "up 2",
+                verdict: Verdict::Shape(ShapeFault {
+                    line: 24,
+                    reason: ShapeReason::Named,
+                }),
+            },
+            Case {
+                old: "got 2",
+                new: "got 1",
+                verdict: Verdict::Shape(ShapeFault {
+                    line: 32,
+                    reason: ShapeReason::Named,
+                }),
+            },
+            Case {
+                old: "got 3",
+                new: "join 2",
+                verdict: Verdict::Shape(ShapeFault {
+                    line: 34,
+                    reason: ShapeReason::Named,
+                }),
+            },
+            Case {
+                old: "got 3",
+                new: "skip 6",
+                verdict: Verdict::Shape(ShapeFault {
+                    line: 34,
+                    reason: ShapeReason::Named,
+                }),
+            },
+            Case {
+                old: "place 1 6",
+                new: "place 1 4",
+                verdict: Verdict::Shape(ShapeFault {
+                    line: 35,
+                    reason: ShapeReason::Named,
+                }),
+            },
+            Case {
+                old: "halted 1",
+                new: "halted 0",
+                verdict: Verdict::Shape(ShapeFault {
+                    line: 17,
+                    reason: ShapeReason::Named,
+                }),
+            },
+            Case {
+                old: "miss 0 0",
+                new: "halt",
+                verdict: Verdict::Shape(ShapeFault {
+                    line: 10,
+                    reason: ShapeReason::Phases,
+                }),
+            },
+            Case {
+                old: "miss 0 0",
+                new: "resume 1",
+                verdict: Verdict::Shape(ShapeFault {
+                    line: 10,
+                    reason: ShapeReason::Phases,
+                }),
+            },
+            Case {
+                old: "halt\nresume 1",
+                new: "resume 1\nhalt",
+                verdict: Verdict::Shape(ShapeFault {
+                    line: 8,
+                    reason: ShapeReason::Phases,
+                }),
+            },
+            Case {
+                old: "resume 1\nmiss 0 0",
+                new: "miss 0 0\nresume 1",
+                verdict: Verdict::Shape(ShapeFault {
+                    line: 9,
+                    reason: ShapeReason::Phases,
+                }),
+            },
+            Case {
+                old: "resume 1\nmiss 0 0",
+                new: "w 0 0 0 3\nresume 1",
+                verdict: Verdict::Shape(ShapeFault {
+                    line: 9,
+                    reason: ShapeReason::Phases,
+                }),
+            },
+            Case {
+                old: "r 0 1 0 9",
+                new: "z 0 1",
+                verdict: Verdict::Shape(ShapeFault {
+                    line: 15,
+                    reason: ShapeReason::Phases,
+                }),
+            },
+            Case {
+                old: "state\nask 1",
+                new: "ask 1\nstate",
+                verdict: Verdict::Shape(ShapeFault {
+                    line: 18,
+                    reason: ShapeReason::Start,
+                }),
+            },
+            Case {
+                old: "ask 1",
+                new: "state",
+                verdict: Verdict::Shape(ShapeFault {
+                    line: 19,
+                    reason: ShapeReason::Start,
+                }),
+            },
+            Case {
+                old: "got 0\nready",
+                new: "ready\ngot 0",
+                verdict: Verdict::Shape(ShapeFault {
+                    line: 9,
+                    reason: ShapeReason::Named,
+                }),
+            },
+            Case {
+                old: "got 0",
+                new: "got 2",
+                verdict: Verdict::Shape(ShapeFault {
+                    line: 28,
+                    reason: ShapeReason::Start,
+                }),
+            },
+            Case {
+                old: "want 0",
+                new: "ready",
+                verdict: Verdict::Shape(ShapeFault {
+                    line: 24,
+                    reason: ShapeReason::Named,
+                }),
+            },
+            Case {
+                old: "got 3",
+                new: "ready",
+                verdict: Verdict::Shape(ShapeFault {
+                    line: 34,
+                    reason: ShapeReason::Start,
+                }),
+            },
+            Case {
+                old: "send 1 0000000000000007",
+                new: "send 0 0000000000000005",
+                verdict: Verdict::Shape(ShapeFault {
+                    line: 21,
+                    reason: ShapeReason::SecondSend,
+                }),
+            },
+        ],
+    },
     Table {
         session: HANDOVER,
         cert: HANDOVER_CERT,
@@ -409,21 +458,15 @@ fn is_judged(alloc: Global, session: &str, cert: &str, verdict: Verdict) -> bool
     }
 }
 
-/// Whether a session with a change gets this verdict beside a certificate.
-fn is_session_judged(
-    alloc: Global,
-    session: &str,
-    cert: &str,
-    change: (&str, &str),
-    verdict: Verdict,
-) -> bool {
-    match session.replacen(alloc, change.0, change.1, 1) {
-        Ok(changed) => is_judged(alloc, changed.as_str(), cert, verdict),
+/// Whether a session with a change gets a verdict beside a certificate.
+fn is_session_judged(alloc: Global, session: &str, cert: &str, case: &Case) -> bool {
+    match session.replacen(alloc, case.old, case.new, 1) {
+        Ok(changed) => is_judged(alloc, changed.as_str(), cert, case.verdict),
         Err(_) => false,
     }
 }
 
-/// Whether a session gets this verdict beside a certificate with a change.
+/// Whether a session gets a verdict beside a certificate with a change.
 fn is_certificate_judged(alloc: Global, session: &str, cert: &str, case: &Case) -> bool {
     match cert.replacen(alloc, case.old, case.new, 1) {
         Ok(changed) => is_judged(alloc, session, changed.as_str(), case.verdict),
@@ -434,10 +477,7 @@ fn is_certificate_judged(alloc: Global, session: &str, cert: &str, case: &Case) 
 /// Whether the texts of a table get the verdict of one of its cases.
 fn is_met(alloc: Global, table: &Table, case: &Case) -> bool {
     match table.changed {
-        Changed::Session => {
-            let change = (case.old, case.new);
-            is_session_judged(alloc, table.session, table.cert, change, case.verdict)
-        },
+        Changed::Session => is_session_judged(alloc, table.session, table.cert, case),
         Changed::Certificate => is_certificate_judged(alloc, table.session, table.cert, case),
     }
 }
@@ -470,29 +510,6 @@ fn right_certificates(rt: HostRuntime) {
     let are_right = are_right_texts(alloc, HANDOVER, HANDOVER_CERT)
         && are_right_texts(alloc, RELEASED, RELEASED_CERT);
     assert!(rt; are_right);
-}
-
-/// Whether the handover gets the verdict of a case of its shape.
-fn is_shape_told(alloc: Global, case: &ShapeCase) -> bool {
-    let fault = ShapeFault {
-        line: case.line,
-        reason: case.reason,
-    };
-    let change = (case.old, case.new);
-    is_session_judged(
-        alloc,
-        HANDOVER,
-        HANDOVER_CERT,
-        change,
-        Verdict::Shape(fault),
-    )
-}
-
-#[test]
-fn shapes(rt: HostRuntime) {
-    for case in &SHAPES {
-        assert!(rt; is_shape_told(rt.alloc(), case), "{}", case.new);
-    }
 }
 
 #[test]

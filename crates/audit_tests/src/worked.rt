@@ -1,7 +1,7 @@
 //! The plain programs on the handover, on a session with a released page, and on faulty changes of both.
 
 use crate::plain::{names_of, page_fault, shape_fault};
-use crate::texts::{HANDOVER, RELEASED, changed_session};
+use crate::texts::{FOUND, HANDOVER, RELEASED, changed_session};
 use audit_model::{Home, PageReason, ShapeReason};
 use cert_text::read_runs;
 use migration_types::{LogName, PageNo, Session};
@@ -192,23 +192,6 @@ fn is_at_step(session: &Session, step: &Step) -> bool {
 fn goes_through_steps(session: &Session) -> bool {
     halt_place(session) == 1 && STEPS.iter().all(|step| is_at_step(session, step))
 }
-
-/// The order of the handover that stays with a log as long as it can.
-const FOUND: &str = "postcopy-runs 1
-runs 11
-run guest 2
-run source 2
-run link 1
-run pager 2
-run guest 2
-run pager 2
-run link 1
-run source 3
-run link 2
-run pager 4
-run guest 5
-end
-";
 
 /// This order with the last placement as late as it can be.
 const DELAYED: &str = "postcopy-runs 1
