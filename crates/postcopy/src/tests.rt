@@ -9,7 +9,7 @@ use std::alloc::Global;
 use std::cell::Cell;
 use std::io;
 use std::io::{ErrorKind, Read, Write};
-use std::test::Fail;
+use std::process::Abort;
 
 // One page that is written, read, released and read again.
 const SESSION: &[u8] =
@@ -141,219 +141,408 @@ fn ran(alloc: Global, words: &[&str], input: &[u8]) -> Outcome {
     ran_over(alloc, words, &mut input)
 }
 
-#[test]
-fn verdicts(rt: HostRuntime) {
-    let alloc = rt.alloc();
-    let check = ["postcopy", "check", "session", "cert"];
-    let first_dash = ["postcopy", "check", "-", "cert"];
-    let second_dash = ["postcopy", "check", "session", "-"];
-    let dashes = ["postcopy", "check", "-", "-"];
-    let bare = ["postcopy"];
-    for (words, input, status, line) in [
-        (check.as_slice(), b"".as_slice(), 0, ACCEPTED_LINE),
-        (first_dash.as_slice(), SESSION, 0, ACCEPTED_LINE),
-        (first_dash.as_slice(), b"".as_slice(), 1, EMPTY_SESSION_LINE),
-        (second_dash.as_slice(), CERT, 0, ACCEPTED_LINE),
-        (second_dash.as_slice(), b"".as_slice(), 1, EMPTY_CERT_LINE),
-        (dashes.as_slice(), BOTH, 0, ACCEPTED_LINE),
-        (dashes.as_slice(), SESSION, 1, EMPTY_CERT_LINE),
-        (bare.as_slice(), BOTH, 0, ACCEPTED_LINE),
-        (bare.as_slice(), SESSION, 1, EMPTY_CERT_LINE),
-        ([].as_slice(), BOTH, 0, ACCEPTED_LINE),
-    ] {
-        let found = ran(alloc, words, input);
-        assert_eq!(rt; found.status, status, "at {words:?}");
-        assert_eq!(rt; found.output.as_slice(), line, "at {words:?}");
-        assert_eq!(rt; found.errors.as_slice(), b"".as_slice(), "at {words:?}");
+// Whether a run ended with this status, and wrote this.
+fn is_outcome(found: &Outcome, status: u8, output: &[u8], errors: &[u8]) -> bool {
+    found.status == status && found.output.as_slice() == output && found.errors.as_slice() == errors
+}
+
+// Fails the test where a run on some words is wrong, and names them.
+fn none_is_wrong(rt: &impl Abort, wrong: Option<&[&str]>) {
+    if let Some(words) = wrong {
+        panic!(rt; "at {words:?}");
     }
 }
+
+// Words, an input, the status, what is written to the output and to the errors, and where it is told how often a text is
+// asked for.
+struct Case(
+    &'static [&'static str],
+    &'static [u8],
+    u8,
+    &'static [u8],
+    &'static [u8],
+    Option<u32>,
+);
+
+// Whether a run is the case's.
+fn is_right(alloc: Global, case: &Case) -> bool {
+    let found = ran(alloc, case.0, case.1);
+    let is_asked_so = match case.5 {
+        Some(asked) => found.asked == asked,
+        None => true,
+    };
+    is_asked_so && is_outcome(&found, case.2, case.3, case.4)
+}
+
+// The words of a case that is wrong.
+fn wrong_case(alloc: Global, cases: &[Case]) -> Option<&'static [&'static str]> {
+    for case in cases {
+        if !is_right(alloc, case) {
+            return Some(case.0);
+        }
+    }
+    None
+}
+
+// Each pair of texts, of which one or both may be the input.
+static VERDICTS: [Case; 10] = [
+    Case(
+        &["postcopy", "check", "session", "cert"],
+        b"",
+        0,
+        ACCEPTED_LINE,
+        b"",
+        None,
+    ),
+    Case(
+        &["postcopy", "check", "-", "cert"],
+        SESSION,
+        0,
+        ACCEPTED_LINE,
+        b"",
+        None,
+    ),
+    Case(
+        &["postcopy", "check", "-", "cert"],
+        b"",
+        1,
+        EMPTY_SESSION_LINE,
+        b"",
+        None,
+    ),
+    Case(
+        &["postcopy", "check", "session", "-"],
+        CERT,
+        0,
+        ACCEPTED_LINE,
+        b"",
+        None,
+    ),
+    Case(
+        &["postcopy", "check", "session", "-"],
+        b"",
+        1,
+        EMPTY_CERT_LINE,
+        b"",
+        None,
+    ),
+    Case(
+        &["postcopy", "check", "-", "-"],
+        BOTH,
+        0,
+        ACCEPTED_LINE,
+        b"",
+        None,
+    ),
+    Case(
+        &["postcopy", "check", "-", "-"],
+        SESSION,
+        1,
+        EMPTY_CERT_LINE,
+        b"",
+        None,
+    ),
+    Case(&["postcopy"], BOTH, 0, ACCEPTED_LINE, b"", None),
+    Case(&["postcopy"], SESSION, 1, EMPTY_CERT_LINE, b"", None),
+    Case(&[], BOTH, 0, ACCEPTED_LINE, b"", None),
+];
+
+#[test]
+fn verdicts(rt: HostRuntime) {
+    none_is_wrong(&rt, wrong_case(rt.alloc(), VERDICTS.as_slice()));
+}
+
+// Mergings of sessions.
+static REPLAYS: [Case; 7] = [
+    Case(
+        &["postcopy", "replay", "handover", "broken-runs"],
+        b"",
+        1,
+        b"broken line 13\n",
+        b"",
+        None,
+    ),
+    Case(
+        &["postcopy", "replay", "handover", "safe-runs"],
+        b"",
+        0,
+        b"safe\n",
+        b"",
+        None,
+    ),
+    Case(
+        &["postcopy", "replay", "handover", "few-runs"],
+        b"",
+        1,
+        b"no-merging\n",
+        b"",
+        None,
+    ),
+    Case(
+        &["postcopy", "replay", "handover", "-"],
+        SAFE_RUNS,
+        0,
+        b"safe\n",
+        b"",
+        None,
+    ),
+    Case(
+        &["postcopy", "replay", "-", "-"],
+        HANDOVER,
+        1,
+        b"runs-text line 1\n",
+        b"",
+        None,
+    ),
+    Case(
+        &["postcopy", "replay", "cert", "safe-runs"],
+        b"",
+        1,
+        b"session-text line 1\n",
+        b"",
+        None,
+    ),
+    Case(
+        &["postcopy", "replay", "handover", "cert"],
+        b"",
+        1,
+        b"runs-text line 1\n",
+        b"",
+        None,
+    ),
+];
 
 #[test]
 fn replays(rt: HostRuntime) {
-    let alloc = rt.alloc();
-    for (session, runs, input, status, line) in [
-        (
-            "handover",
-            "broken-runs",
-            b"".as_slice(),
-            1,
-            b"broken line 13\n".as_slice(),
-        ),
-        (
-            "handover",
-            "safe-runs",
-            b"".as_slice(),
-            0,
-            b"safe\n".as_slice(),
-        ),
-        (
-            "handover",
-            "few-runs",
-            b"".as_slice(),
-            1,
-            b"no-merging\n".as_slice(),
-        ),
-        ("handover", "-", SAFE_RUNS, 0, b"safe\n".as_slice()),
-        ("-", "-", HANDOVER, 1, b"runs-text line 1\n".as_slice()),
-        (
-            "cert",
-            "safe-runs",
-            b"".as_slice(),
-            1,
-            b"session-text line 1\n".as_slice(),
-        ),
-        (
-            "handover",
-            "cert",
-            b"".as_slice(),
-            1,
-            b"runs-text line 1\n".as_slice(),
-        ),
-    ] {
-        let words = ["postcopy", "replay", session, runs];
-        let found = ran(alloc, words.as_slice(), input);
-        assert_eq!(rt; found.status, status, "at {words:?}");
-        assert_eq!(rt; found.output.as_slice(), line, "at {words:?}");
-        assert_eq!(rt; found.errors.as_slice(), b"".as_slice(), "at {words:?}");
-    }
+    none_is_wrong(&rt, wrong_case(rt.alloc(), REPLAYS.as_slice()));
 }
+
+// Files that are not there: none is asked for behind one.
+static MISSING: [Case; 7] = [
+    Case(
+        &["postcopy", "check", "x", "y"],
+        SESSION,
+        3,
+        b"",
+        b"file x\n",
+        Some(1),
+    ),
+    Case(
+        &["postcopy", "check", "x", "cert"],
+        SESSION,
+        3,
+        b"",
+        b"file x\n",
+        Some(1),
+    ),
+    Case(
+        &["postcopy", "check", "session", "y"],
+        SESSION,
+        3,
+        b"",
+        b"file y\n",
+        Some(2),
+    ),
+    Case(
+        &["postcopy", "check", "-", "y"],
+        SESSION,
+        3,
+        b"",
+        b"file y\n",
+        Some(1),
+    ),
+    Case(
+        &["postcopy", "certify", "x"],
+        SESSION,
+        3,
+        b"",
+        b"file x\n",
+        Some(1),
+    ),
+    Case(
+        &["postcopy", "audit", "x"],
+        SESSION,
+        3,
+        b"",
+        b"file x\n",
+        Some(1),
+    ),
+    Case(
+        &["postcopy", "replay", "handover", "y"],
+        SESSION,
+        3,
+        b"",
+        b"file y\n",
+        Some(2),
+    ),
+];
 
 #[test]
 fn missing_files(rt: HostRuntime) {
-    let alloc = rt.alloc();
-    for (words, asked, line) in [
-        (
-            ["postcopy", "check", "x", "y"].as_slice(),
-            1,
-            b"file x\n".as_slice(),
-        ),
-        (
-            ["postcopy", "check", "x", "cert"].as_slice(),
-            1,
-            b"file x\n",
-        ),
-        (
-            ["postcopy", "check", "session", "y"].as_slice(),
-            2,
-            b"file y\n",
-        ),
-        (["postcopy", "check", "-", "y"].as_slice(), 1, b"file y\n"),
-        (["postcopy", "certify", "x"].as_slice(), 1, b"file x\n"),
-        (["postcopy", "audit", "x"].as_slice(), 1, b"file x\n"),
-        (
-            ["postcopy", "replay", "handover", "y"].as_slice(),
-            2,
-            b"file y\n",
-        ),
-    ] {
-        let found = ran(alloc, words, SESSION);
-        assert_eq!(rt; found.status, 3, "at {words:?}");
-        assert_eq!(rt; found.output.as_slice(), b"".as_slice(), "at {words:?}");
-        assert_eq!(rt; found.errors.as_slice(), line, "at {words:?}");
-        assert_eq!(rt; found.asked, asked, "at {words:?}");
+    none_is_wrong(&rt, wrong_case(rt.alloc(), MISSING.as_slice()));
+}
+
+// Sessions and what is no session.
+static AUDITS: [Case; 5] = [
+    Case(&["postcopy", "certify", "session"], b"", 0, CERT, b"", None),
+    Case(
+        &["postcopy", "audit", "session"],
+        b"",
+        0,
+        CLEAN_REPORT,
+        b"",
+        None,
+    ),
+    Case(
+        &["postcopy", "certify", "cert"],
+        b"",
+        1,
+        EMPTY_SESSION_LINE,
+        b"",
+        None,
+    ),
+    Case(
+        &["postcopy", "audit", "cert"],
+        b"",
+        1,
+        EMPTY_SESSION_LINE,
+        b"",
+        None,
+    ),
+    Case(
+        &["postcopy", "certify", "handover"],
+        b"",
+        1,
+        b"faulty line 13 early\n",
+        b"",
+        None,
+    ),
+];
+
+#[test]
+fn audits(rt: HostRuntime) {
+    none_is_wrong(&rt, wrong_case(rt.alloc(), AUDITS.as_slice()));
+}
+
+// Both words that ask for the version.
+static VERSIONS: [Case; 2] = [
+    Case(
+        &["postcopy", "--version"],
+        BOTH,
+        0,
+        b"postcopy 1.0.0\n",
+        b"",
+        Some(0),
+    ),
+    Case(
+        &["postcopy", "-V"],
+        BOTH,
+        0,
+        b"postcopy 1.0.0\n",
+        b"",
+        Some(0),
+    ),
+];
+
+#[test]
+fn version(rt: HostRuntime) {
+    none_is_wrong(&rt, wrong_case(rt.alloc(), VERSIONS.as_slice()));
+}
+
+// Words that are no command.
+static NO_COMMANDS: [&[&str]; 5] = [
+    &["postcopy", "check", "session"],
+    &["postcopy", "check", "session", "cert", "cert"],
+    &["postcopy", "send", "session", "cert"],
+    &["postcopy", "--"],
+    &["postcopy", "check", "--fast", "session", "cert"],
+];
+
+fn is_refused(alloc: Global, words: &[&str]) -> bool {
+    let found = ran(alloc, words, BOTH);
+    found.status == 2
+        && found.output.is_empty()
+        && found.errors.as_slice().starts_with(b"error: ")
+        && found.asked == 0
+}
+
+fn wrong_usage(alloc: Global) -> Option<&'static [&'static str]> {
+    for words in &NO_COMMANDS {
+        if !is_refused(alloc, *words) {
+            return Some(*words);
+        }
     }
+    None
 }
 
 #[test]
 fn usage(rt: HostRuntime) {
-    let alloc = rt.alloc();
-    let one_name = ["postcopy", "check", "session"];
-    let three_names = ["postcopy", "check", "session", "cert", "cert"];
-    let unknown = ["postcopy", "send", "session", "cert"];
-    let no_command = ["postcopy", "--"];
-    let option = ["postcopy", "check", "--fast", "session", "cert"];
-    for words in [
-        one_name.as_slice(),
-        three_names.as_slice(),
-        unknown.as_slice(),
-        no_command.as_slice(),
-        option.as_slice(),
-    ] {
-        let found = ran(alloc, words, BOTH);
-        assert_eq!(rt; found.status, 2, "at {words:?}");
-        assert_eq!(rt; found.output.as_slice(), b"".as_slice(), "at {words:?}");
-        assert!(rt;
-            found.errors.as_slice().starts_with(b"error: "),
-            "at {words:?}"
-        );
-        assert_eq!(rt; found.asked, 0, "at {words:?}");
+    none_is_wrong(&rt, wrong_usage(rt.alloc()));
+}
+
+// Words that ask for help.
+static HELPS: [&[&str]; 4] = [
+    &["postcopy", "--help"],
+    &["postcopy", "-h"],
+    &["postcopy", "help"],
+    &["postcopy", "check", "--help"],
+];
+
+fn is_helped(alloc: Global, words: &[&str]) -> bool {
+    let found = ran(alloc, words, BOTH);
+    found.status == 0 && !found.output.is_empty() && found.errors.is_empty() && found.asked == 0
+}
+
+fn wrong_help(alloc: Global) -> Option<&'static [&'static str]> {
+    for words in &HELPS {
+        if !is_helped(alloc, *words) {
+            return Some(*words);
+        }
     }
+    None
 }
 
 #[test]
 fn help(rt: HostRuntime) {
-    let alloc = rt.alloc();
-    let long = ["postcopy", "--help"];
-    let short = ["postcopy", "-h"];
-    let command = ["postcopy", "help"];
-    let of_check = ["postcopy", "check", "--help"];
-    for words in [
-        long.as_slice(),
-        short.as_slice(),
-        command.as_slice(),
-        of_check.as_slice(),
-    ] {
-        let found = ran(alloc, words, BOTH);
-        assert_eq!(rt; found.status, 0, "at {words:?}");
-        assert!(rt; !found.output.is_empty(), "at {words:?}");
-        assert_eq!(rt; found.errors.as_slice(), b"".as_slice(), "at {words:?}");
-        assert_eq!(rt; found.asked, 0, "at {words:?}");
+    none_is_wrong(&rt, wrong_help(rt.alloc()));
+}
+
+// What the help tells.
+static TOLD: [&str; 10] = [
+    "0  all is well",
+    "1  another answer",
+    "2  words that are no command",
+    "3  a file or an output that failed",
+    "4  want of memory",
+    "A file named - is standard input",
+    "postcopy check session cert",
+    "postcopy certify session",
+    "postcopy audit session",
+    "postcopy replay session runs",
+];
+
+// What a help does not tell.
+fn untold_in(help: &[u8]) -> Option<&'static str> {
+    let Ok(text) = str::from_utf8(help) else {
+        return Some("a text");
+    };
+    for told in &TOLD {
+        if !text.contains(*told) {
+            return Some(*told);
+        }
     }
+    None
+}
+
+fn untold(alloc: Global) -> Option<&'static str> {
+    let found = ran(alloc, HELPS[0], BOTH);
+    untold_in(found.output.as_slice())
 }
 
 #[test]
 fn help_tells(rt: HostRuntime) {
-    let found = ran(rt.alloc(), ["postcopy", "--help"].as_slice(), BOTH);
-    let Ok(text) = str::from_utf8(found.output.as_slice()) else {
-        assert!(rt; false, "the help is no text");
-        return;
-    };
-    for told in [
-        "0  all is well",
-        "1  another answer",
-        "2  words that are no command",
-        "3  a file or an output that failed",
-        "4  want of memory",
-        "A file named - is standard input",
-        "postcopy check session cert",
-        "postcopy certify session",
-        "postcopy audit session",
-        "postcopy replay session runs",
-    ] {
-        assert!(rt; text.contains(told), "without {told}");
-    }
-}
-
-#[test]
-fn version(rt: HostRuntime) {
-    for option in ["--version", "-V"] {
-        let found = ran(rt.alloc(), ["postcopy", option].as_slice(), BOTH);
-        assert_eq!(rt; found.status, 0, "at {option}");
-        assert_eq!(rt; found.output.as_slice(), b"postcopy 1.0.0\n".as_slice());
-        assert_eq!(rt; found.errors.as_slice(), b"".as_slice(), "at {option}");
-        assert_eq!(rt; found.asked, 0, "at {option}");
-    }
-}
-
-#[test]
-fn audits(rt: HostRuntime) {
-    for (command, session, status, text) in [
-        ("certify", "session", 0, CERT),
-        ("audit", "session", 0, CLEAN_REPORT),
-        ("certify", "cert", 1, EMPTY_SESSION_LINE),
-        ("audit", "cert", 1, EMPTY_SESSION_LINE),
-        (
-            "certify",
-            "handover",
-            1,
-            b"faulty line 13 early\n".as_slice(),
-        ),
-    ] {
-        let words = ["postcopy", command, session];
-        let found = ran(rt.alloc(), words.as_slice(), b"");
-        assert_eq!(rt; found.status, status, "at {words:?}");
-        assert_eq!(rt; found.output.as_slice(), text, "at {words:?}");
-        assert_eq!(rt; found.errors.as_slice(), b"".as_slice(), "at {words:?}");
+    if let Some(told) = untold(rt.alloc()) {
+        panic!(rt; "without {told}");
     }
 }
 
@@ -381,99 +570,124 @@ impl TextSource for Starved {
     }
 }
 
-#[test]
-fn want_of_memory(rt: HostRuntime) {
-    let alloc = rt.alloc();
-    for words in [
-        ["postcopy"].as_slice(),
-        ["postcopy", "check", "session", "cert"].as_slice(),
-        ["postcopy", "certify", "session"].as_slice(),
-        ["postcopy", "audit", "-"].as_slice(),
-        ["postcopy", "replay", "-", "-"].as_slice(),
-    ] {
-        for opens in [false, true] {
-            let mut output = Vec::new(alloc);
-            let mut errors = Vec::new(alloc);
-            let status = run(
-                alloc,
-                words,
-                &Starved { opens },
-                &mut Starved { opens },
-                &mut output,
-                &mut errors,
-            );
-            assert_eq!(rt; status, 4, "at {words:?}");
-            assert_eq!(rt; output.as_slice(), b"".as_slice(), "at {words:?}");
-            assert_eq!(rt;
-                errors.as_slice(),
-                b"out of memory\n".as_slice(),
-                "at {words:?}"
-            );
+// Words of each command.
+static COMMANDS: [&[&str]; 5] = [
+    &["postcopy"],
+    &["postcopy", "check", "session", "cert"],
+    &["postcopy", "certify", "session"],
+    &["postcopy", "audit", "-"],
+    &["postcopy", "replay", "-", "-"],
+];
+
+fn wants_memory(alloc: Global, words: &[&str], opens: bool) -> bool {
+    let mut output = Vec::new(alloc);
+    let mut errors = Vec::new(alloc);
+    let status = run(
+        alloc,
+        words,
+        &Starved { opens },
+        &mut Starved { opens },
+        &mut output,
+        &mut errors,
+    );
+    status == 4 && output.is_empty() && errors.as_slice() == b"out of memory\n".as_slice()
+}
+
+fn wrong_starved(alloc: Global) -> Option<&'static [&'static str]> {
+    for words in &COMMANDS {
+        if !wants_memory(alloc, *words, false) || !wants_memory(alloc, *words, true) {
+            return Some(*words);
         }
     }
+    None
+}
+
+#[test]
+fn want_of_memory(rt: HostRuntime) {
+    none_is_wrong(&rt, wrong_starved(rt.alloc()));
+}
+
+// Words for which something is written to the output.
+static WRITING: [&[&str]; 6] = [
+    &["postcopy", "check", "session", "cert"],
+    &["postcopy", "certify", "session"],
+    &["postcopy", "audit", "session"],
+    &["postcopy", "replay", "handover", "safe-runs"],
+    &["postcopy", "--help"],
+    &["postcopy", "--version"],
+];
+
+fn tells_of_output(alloc: Global, words: &[&str]) -> bool {
+    let shelf = Shelf {
+        texts: TEXTS.as_slice(),
+        asked: Cell::new(0),
+    };
+    let mut input = b"".as_slice();
+    let mut errors = Vec::new(alloc);
+    let status = run(alloc, words, &shelf, &mut input, &mut Full, &mut errors);
+    status == 3 && errors.as_slice() == b"output\n".as_slice()
+}
+
+fn wrong_output(alloc: Global) -> Option<&'static [&'static str]> {
+    for words in &WRITING {
+        if !tells_of_output(alloc, *words) {
+            return Some(*words);
+        }
+    }
+    None
 }
 
 #[test]
 fn an_output_that_fails(rt: HostRuntime) {
-    let alloc = rt.alloc();
-    for words in [
-        ["postcopy", "check", "session", "cert"].as_slice(),
-        ["postcopy", "certify", "session"].as_slice(),
-        ["postcopy", "audit", "session"].as_slice(),
-        ["postcopy", "replay", "handover", "safe-runs"].as_slice(),
-        ["postcopy", "--help"].as_slice(),
-        ["postcopy", "--version"].as_slice(),
-    ] {
-        let shelf = Shelf {
-            texts: TEXTS.as_slice(),
-            asked: Cell::new(0),
-        };
-        let mut input = b"".as_slice();
-        let mut errors = Vec::new(alloc);
-        let status = run(alloc, words, &shelf, &mut input, &mut Full, &mut errors);
-        assert_eq!(rt; status, 3, "at {words:?}");
-        assert_eq!(rt; errors.as_slice(), b"output\n".as_slice(), "at {words:?}");
-    }
+    none_is_wrong(&rt, wrong_output(rt.alloc()));
 }
+
+// Whether a run whose errors are not told has this status, and no output.
+fn ends_untold(alloc: Global, words: &[&str], wanted: u8) -> bool {
+    let shelf = Shelf {
+        texts: TEXTS.as_slice(),
+        asked: Cell::new(0),
+    };
+    let mut input = b"".as_slice();
+    let mut output = Vec::new(alloc);
+    let status = run(alloc, words, &shelf, &mut input, &mut output, &mut Full);
+    status == wanted && output.is_empty()
+}
+
+static NO_FILE: [&str; 4] = ["postcopy", "check", "session", "x"];
+
+static NO_NAME: [&str; 3] = ["postcopy", "check", "session"];
 
 #[test]
 fn errors_that_are_not_told(rt: HostRuntime) {
-    let alloc = rt.alloc();
-    for (words, wanted) in [
-        (["postcopy", "check", "session", "x"].as_slice(), 3),
-        (["postcopy", "check", "session"].as_slice(), 2),
-    ] {
-        let shelf = Shelf {
-            texts: TEXTS.as_slice(),
-            asked: Cell::new(0),
-        };
-        let mut input = b"".as_slice();
-        let mut output = Vec::new(alloc);
-        let status = run(alloc, words, &shelf, &mut input, &mut output, &mut Full);
-        assert_eq!(rt; status, wanted, "at {words:?}");
-        assert_eq!(rt; output.as_slice(), b"".as_slice(), "at {words:?}");
+    assert!(rt; ends_untold(rt.alloc(), NO_FILE.as_slice(), 3));
+    assert!(rt; ends_untold(rt.alloc(), NO_NAME.as_slice(), 2));
+}
+
+// Words for which the input is read.
+static READING: [&[&str]; 2] = [&["postcopy"], &["postcopy", "check", "session", "-"]];
+
+fn tells_of_input(alloc: Global, words: &[&str]) -> bool {
+    let mut input = Slow {
+        text: BOTH,
+        fails: true,
+    };
+    let found = ran_over(alloc, words, &mut input);
+    is_outcome(&found, 3, b"", b"file -\n")
+}
+
+fn wrong_input(alloc: Global) -> Option<&'static [&'static str]> {
+    for words in &READING {
+        if !tells_of_input(alloc, *words) {
+            return Some(*words);
+        }
     }
+    None
 }
 
 #[test]
 fn an_input_that_fails(rt: HostRuntime) {
-    for words in [
-        ["postcopy"].as_slice(),
-        ["postcopy", "check", "session", "-"].as_slice(),
-    ] {
-        let mut input = Slow {
-            text: BOTH,
-            fails: true,
-        };
-        let found = ran_over(rt.alloc(), words, &mut input);
-        assert_eq!(rt; found.status, 3, "at {words:?}");
-        assert_eq!(rt; found.output.as_slice(), b"".as_slice(), "at {words:?}");
-        assert_eq!(rt;
-            found.errors.as_slice(),
-            b"file -\n".as_slice(),
-            "at {words:?}"
-        );
-    }
+    none_is_wrong(&rt, wrong_input(rt.alloc()));
 }
 
 // Gives so many bytes, of which the first is LF, each time as many as are asked for or one. It leaves the others as they are.
@@ -495,66 +709,82 @@ impl Read for Plenty {
     }
 }
 
-// An input of 268,435,456 bytes is read, and one in 1,048,576 reads, the last of which finds its end; no greater one is.
-#[test]
-fn limits_of_an_input(rt: HostRuntime) {
-    for (left, one_by_one, fits) in [
-        (268_435_456, false, true),
-        (268_435_457, false, false),
-        (1_048_575, true, true),
-        (1_048_576, true, false),
-    ] {
-        let mut input = Plenty { left, one_by_one };
-        let found = ran_over(
-            rt.alloc(),
-            ["postcopy", "audit", "-"].as_slice(),
-            &mut input,
-        );
-        let (status, output, errors) = if fits {
-            (1, EMPTY_SESSION_LINE, b"".as_slice())
-        } else {
-            (3, b"".as_slice(), b"file -\n".as_slice())
-        };
-        assert_eq!(rt; found.status, status, "at {left}");
-        assert_eq!(rt; found.output.as_slice(), output, "at {left}");
-        assert_eq!(rt; found.errors.as_slice(), errors, "at {left}");
+static AUDIT: [&str; 3] = ["postcopy", "audit", "-"];
+
+// Inputs: how many bytes, whether one by one, and whether they are read.
+static LIMITS: [(usize, bool, bool); 4] = [
+    (268_435_456, false, true),
+    (268_435_457, false, false),
+    (1_048_575, true, true),
+    (1_048_576, true, false),
+];
+
+// Whether an input of so many bytes is read, or refused.
+fn is_limit_kept(alloc: Global, left: usize, one_by_one: bool, fits: bool) -> bool {
+    let mut input = Plenty { left, one_by_one };
+    let found = ran_over(alloc, AUDIT.as_slice(), &mut input);
+    if fits {
+        is_outcome(&found, 1, EMPTY_SESSION_LINE, b"")
+    } else {
+        is_outcome(&found, 3, b"", b"file -\n")
     }
 }
 
-#[test]
-fn lines(rt: HostRuntime) -> Result<(), Fail> {
-    for (verdict, wanted, wanted_status) in [
-        (
-            Verdict::SessionText(7),
-            b"session-text line 7\n".as_slice(),
-            1,
-        ),
-        (
-            Verdict::CertText(12),
-            b"certificate-text line 12\n".as_slice(),
-            1,
-        ),
-        (
-            Verdict::Shape(ShapeFault {
-                line: 9,
-                reason: ShapeReason::SecondSend,
-            }),
-            b"shape line 9 second-send\n".as_slice(),
-            1,
-        ),
-        (Verdict::Pages, b"pages\n".as_slice(), 1),
-        (Verdict::Runs(3), b"runs line 3\n".as_slice(), 1),
-        (
-            Verdict::Page(4_294_967_295),
-            b"page line 4294967295\n".as_slice(),
-            1,
-        ),
-        (Verdict::Yes, b"yes\n".as_slice(), 0),
-    ] {
-        let mut text = Vec::new(rt.alloc());
-        push_verdict(&mut text, verdict)?;
-        assert_eq!(rt; text.as_slice(), wanted);
-        assert_eq!(rt; status_of(verdict), wanted_status, "at {verdict:?}");
+// A count of bytes that is not read, or refused, as it is to be.
+fn wrong_limit(alloc: Global) -> Option<usize> {
+    for (left, one_by_one, fits) in &LIMITS {
+        if !is_limit_kept(alloc, *left, *one_by_one, *fits) {
+            return Some(*left);
+        }
     }
-    Ok(())
+    None
+}
+
+// An input of 268,435,456 bytes is read, and one in 1,048,576 reads, the last of which finds its end; no greater one is.
+#[test]
+fn limits_of_an_input(rt: HostRuntime) {
+    if let Some(left) = wrong_limit(rt.alloc()) {
+        panic!(rt; "at {left}");
+    }
+}
+
+// Each verdict, its line and its status.
+static LINES: [(Verdict, &[u8], u8); 7] = [
+    (Verdict::SessionText(7), b"session-text line 7\n", 1),
+    (Verdict::CertText(12), b"certificate-text line 12\n", 1),
+    (
+        Verdict::Shape(ShapeFault {
+            line: 9,
+            reason: ShapeReason::SecondSend,
+        }),
+        b"shape line 9 second-send\n",
+        1,
+    ),
+    (Verdict::Pages, b"pages\n", 1),
+    (Verdict::Runs(3), b"runs line 3\n", 1),
+    (Verdict::Page(4_294_967_295), b"page line 4294967295\n", 1),
+    (Verdict::Yes, b"yes\n", 0),
+];
+
+fn has_line(alloc: Global, verdict: Verdict, line: &[u8]) -> bool {
+    let mut text = Vec::new(alloc);
+    let pushed = push_verdict(&mut text, verdict);
+    pushed.is_ok() && text.as_slice() == line
+}
+
+// The number of a verdict that has another line or status.
+fn wrong_verdict(alloc: Global) -> Option<usize> {
+    for (at, (verdict, line, status)) in LINES.iter().enumerate() {
+        if !has_line(alloc, *verdict, *line) || status_of(*verdict) != *status {
+            return Some(at);
+        }
+    }
+    None
+}
+
+#[test]
+fn lines(rt: HostRuntime) {
+    if let Some(at) = wrong_verdict(rt.alloc()) {
+        panic!(rt; "verdict {at}");
+    }
 }
