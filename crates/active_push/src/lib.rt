@@ -1,0 +1,2 @@
+//! The source's book.
+#![tactic(auto)]

@@ -1,0 +1,2 @@
+//! The guest's book, until its halt.
+#![tactic(auto)]
