@@ -1,0 +1,50 @@
+-- What is promised of a recording.
+use Rattle.std.specs.Prelude.{◌≡◌, ℕ, ◌<◌, true, false, List, Some, None, slice_get}
+use Rattle.std.specs.List.{range_with_len}
+use Rattle.migration_types.specs.declared.records.SourceRec.TheVariants.{Done}
+use Rattle.migration_types.specs.PageSets.{Pages}
+use Rattle.migration_types.specs.Receipts.{Name}
+use Rattle.migration_types.specs.Sessions.{Recorded}
+use Rattle.audit_model.specs.Mergings.{IsMerging}
+use Rattle.audit_model.specs.Flat.{in_ledger, at_halt}
+use Rattle.audit_model.specs.World.{world_after, IsSafe}
+use Rattle.audit_model.specs.Laws.{IsFaultless}
+use Rattle.bubbling.specs.Bubbling.{IsNextPushed}
+use Rattle.active_push.specs.SourcePart.{nearest}
+use Rattle.session_core.specs.Machine.{Machine, session_of, Scripted, IsScript}
+use Rattle.session_core.specs.Events.{start, run}
+use Rattle.migration_events.specs.declared.events.Event.{Event}
+
+-- each page that was not released at the halt is resident after these records
+abbrev pub HasEachOwed : Recorded → List Name → Type 0
+HasEachOwed s order = (page : ℕ) → page < s.geometry.pages → in_ledger s (at_halt s) page ≡ false → (world_after s order).resident page ≡ true
+
+-- what was recorded, and the order in which it was
+pub record IsFaultlessSession (s : Recorded) (order : List Name) : Type 0 where
+  pub faultless : IsFaultless s
+  pub merging : IsMerging s order
+  pub safe : IsSafe s
+  pub done : (n : ℕ) → slice_get s.source n ≡ Some Done → HasEachOwed s order
+
+abbrev pub IsFaultlessRecording : Machine → Type 0
+IsFaultlessRecording core = IsFaultlessSession (session_of core.books) core.order
+
+-- a core that events lead to, none of them refused, from a script's start
+pub record IsReached (core : Machine) : Type 0 where
+  pub script : Scripted
+  pub fits : IsScript script
+  pub events : List Event
+  pub runs : run events (start script) ≡ Some core
+
+-- what bubbling chooses is what the source's book pushes, and there is no other such page
+pub record IsChoice (pages pivot : ℕ) (set : Pages) : Type 0 where
+  pub is_next : (page : ℕ) → nearest pivot set (range_with_len 0 pages) ≡ Some page → IsNextPushed set pivot page
+  pub is_the : (page : ℕ) → IsNextPushed set pivot page → nearest pivot set (range_with_len 0 pages) ≡ Some page
+  pub is_none : nearest pivot set (range_with_len 0 pages) ≡ None → (page : ℕ) → set page ≡ false
+
+-- a core that is reached, whose source was told that all is there
+pub record SomeRunIsDone : Type 0 where
+  pub core : Machine
+  pub is_reached : IsReached core
+  pub place : ℕ
+  pub done : slice_get (session_of core.books).source place ≡ Some Done

@@ -1,0 +1,35 @@
+//! The events of a migration on all books, and the law on what they record.
+#![tactic(auto)]
+
+ghost use Rattle.std.specs.Prelude.{◌≡◌, ℕ, ◌<◌, true, List, Some};
+ghost use Rattle.migration_types.specs.PageSets.{Pages};
+ghost use Rattle.session_core.specs.Machine.{Machine, Scripted, IsScript};
+ghost use Rattle.session_core.specs.Events.{start, step, run};
+ghost use Rattle.session_core.specs.Promise.{IsFaultlessRecording, IsReached, IsChoice, SomeRunIsDone};
+
+use migration_events::Event;
+
+/// Whatever a script says and whatever events come: where each event had room in the logs, what was recorded is a
+/// session in its limits, of the right shape and with no fault of a page, its recorded order is a merging, so it is
+/// safe; and where the source was told that all is there, each owed page is resident at the end of the order.
+pub fn recordings_are_faultless()
+    ensures faultless { (script : Scripted) (events : List Event) (core : Machine) → IsScript script → run events (start script) ≡ Some core → IsFaultlessRecording core }
+{}
+
+/// A core is reached at a script's start, and after each event that is not refused; and what a reached core has
+/// recorded is faultless. So a type that keeps that its value is reached keeps that its recording is faultless.
+pub fn reached_cores_are_faultless()
+    ensures start { (script : Scripted) → IsScript script → IsReached (start script) }
+    ensures step { (e : Event) (core next : Machine) → IsReached core → step e core ≡ Some next → IsReached next }
+    ensures faultless { (core : Machine) → IsReached core → IsFaultlessRecording core }
+{}
+
+/// The page that is pushed is the next one of bubbling.
+pub fn pushes_are_next()
+    ensures { (pages pivot : ℕ) (set : Pages) → ((p : ℕ) → set p ≡ true → p < pages) → IsChoice pages pivot set }
+{}
+
+/// There is a script with events that the law speaks of, and in which all comes to its end.
+pub fn premises_can_be_met()
+    ensures { SomeRunIsDone }
+{}
