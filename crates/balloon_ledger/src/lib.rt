@@ -7,9 +7,6 @@ use migration_types::{Geometry, PageNo};
 use std::alloc::{AllocError, Global};
 use std::marker::Model;
 
-#[cfg(test)]
-mod tests;
-
 /// The pages of a machine that its guest released and has not written since. Only `new` and `released_list` take
 /// memory: a byte for each page of the machine, and two for each page of the list.
 #[derive(Drop)]

@@ -14,9 +14,6 @@ use std::alloc::{AllocError, Global};
 use std::marker::Model;
 use thiserror::Error;
 
-#[cfg(test)]
-mod tests;
-
 /// What a fault did to the queue.
 #[derive(Clone, Copy, Debug, PartialEq, Eq)]
 pub enum Asked {

@@ -5,7 +5,4 @@
 #![tactic(auto)]
 
 mod machine;
-#[cfg(test)]
-mod tests;
-
 pub use machine::Machine;

@@ -8,9 +8,6 @@ use migration_types::{Geometry, InitPage, PageNo};
 use std::alloc::{AllocError, Global};
 use std::marker::Model;
 
-#[cfg(test)]
-mod tests;
-
 /// A value for each cell of each page of a machine. Only the constructors take memory, one block for all frames.
 #[derive(Drop)]
 pub struct Store {

@@ -7,9 +7,6 @@ use migration_types::PageNo;
 use std::alloc::{AllocError, Global};
 use std::marker::Model;
 
-#[cfg(test)]
-mod tests;
-
 /// A value for each page of a machine. Only the constructors take memory, one block for all values.
 #[derive(Drop)]
 pub struct Table<T> {

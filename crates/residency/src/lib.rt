@@ -7,9 +7,6 @@ use migration_types::{Geometry, PageNo};
 use std::alloc::{AllocError, Global};
 use std::marker::Model;
 
-#[cfg(test)]
-mod tests;
-
 /// The pages that were placed at the target, each with the number of the pager's record that placed it, and the
 /// frontier: the highest number of a record that the target has seen. Only `new` takes memory, one block.
 #[derive(Drop)]
