@@ -1,7 +1,7 @@
 //! What a command is asked with.
 
 /// A command on one text.
-#[derive(Clone, Copy, Debug)]
+#[derive(Clone, Copy)]
 pub enum OneText {
     /// The certificate of a session, or the first line of the report on it.
     Certify,
@@ -10,7 +10,7 @@ pub enum OneText {
 }
 
 /// A command on two texts.
-#[derive(Clone, Copy, Debug)]
+#[derive(Clone, Copy)]
 pub enum TwoTexts {
     /// The verdict on a session and its certificate.
     Check,
@@ -19,7 +19,7 @@ pub enum TwoTexts {
 }
 
 /// A command, with a word for each of its texts.
-#[derive(Clone, Copy, Debug)]
+#[derive(Clone, Copy)]
 pub enum Asked<W> {
     One(OneText, W),
     Two(TwoTexts, W, W),

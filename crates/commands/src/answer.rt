@@ -29,7 +29,7 @@ pub struct Answer {
 }
 
 /// Why there is no answer.
-#[derive(Clone, Copy, Debug)]
+#[derive(Clone, Copy)]
 pub enum Fault<'a> {
     /// The text under this name was not read whole.
     File(&'a str),

@@ -15,7 +15,7 @@ use std::alloc::{AllocError, Global};
 use text_lines::push_keyed;
 
 /// What of an audit is written.
-#[derive(Clone, Copy, Debug)]
+#[derive(Clone, Copy)]
 pub enum Wanted {
     /// The report.
     Report,

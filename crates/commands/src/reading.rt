@@ -21,7 +21,7 @@ pub trait TextSource {
 }
 
 /// Why a text was not read whole.
-#[derive(Clone, Copy, Debug, PartialEq, Eq)]
+#[derive(Clone, Copy)]
 pub enum ReadFault {
     /// It was not opened or not read, or it is too long or takes too many reads.
     File,

@@ -15,7 +15,7 @@ use std::alloc::{AllocError, Global};
 use text_lines::{push_keyed, push_line};
 
 /// What becomes of a replay: the first that applies.
-#[derive(Clone, Copy, Debug)]
+#[derive(Clone, Copy)]
 pub enum Outcome {
     /// The session's text is refused at this line.
     SessionText(u32),
