@@ -4,8 +4,8 @@ use Rattle.audit_model.proofs.Consistent.{there}
 use Rattle.audit_model.specs.Flat.{flat, home}
 use Rattle.audit_model.specs.Mergings.{IsMerging}
 use Rattle.audit_model.specs.Shape.{earlier, is_first_send, is_halt, is_placement_of, is_resume, is_send_of, link_named, pager_named, source_named}
-use Rattle.audit_model.specs.declared.flat.Home.{Home as Seat}
-use Rattle.audit_model.specs.declared.flat.Home.TheVariants.{AtTarget, Nowhere}
+use Rattle.audit_model.specs.declared.home.Home.{Home as Seat}
+use Rattle.audit_model.specs.declared.home.Home.TheVariants.{AtTarget, Nowhere}
 use Rattle.balloon_ledger.specs.Released.{pages_below, released}
 use Rattle.bubbling.specs.Bubbling.{Ring}
 use Rattle.fault_queue.specs.Waiting.{Waiting}

@@ -3,7 +3,7 @@ use Rattle.active_push.specs.SourcePart.{sends}
 use Rattle.audit_model.specs.Flat.{cell_after, flat, halt_place, home, home_after, in_ledger, released_after}
 use Rattle.audit_model.specs.Mergings.{IsMerging}
 use Rattle.audit_model.specs.Shape.{earlier, guest_named, in_phase_by, is_halt, is_resume, source_start}
-use Rattle.audit_model.specs.declared.flat.Home.TheVariants.{AtSource, AtTarget}
+use Rattle.audit_model.specs.declared.home.Home.TheVariants.{AtSource, AtTarget}
 use Rattle.migration_types.specs.Extents.{Extent}
 use Rattle.migration_types.specs.Memory.{Memory, with_cell, with_zeros}
 use Rattle.migration_types.specs.PageSets.{Pages, with_page, without_page}

@@ -5,7 +5,7 @@ use Rattle.audit_model.proofs.History.{earlier_true}
 use Rattle.audit_model.specs.Faults.{has_looked, looks_at}
 use Rattle.audit_model.specs.Flat.{cell_after, flat, home, home_after}
 use Rattle.audit_model.specs.Shape.{earlier, guest_named, in_phase_by, is_halt, is_placement, is_placement_of, is_ready, is_resume, is_right, pager_named}
-use Rattle.audit_model.specs.declared.flat.Home.TheVariants.{AtSource}
+use Rattle.audit_model.specs.declared.home.Home.TheVariants.{AtSource}
 use Rattle.fault_queue.specs.Waiting.{Waiting}
 use Rattle.migration_types.specs.Memory.{Memory, with_cell}
 use Rattle.migration_types.specs.PageSets.{Pages, others, with_page}

@@ -6,8 +6,8 @@ use Rattle.audit_model.specs.Flat.{changed}
 use Rattle.audit_model.specs.Mergings.{IsMerging}
 use Rattle.audit_model.specs.Shape.{is_placement_of}
 use Rattle.audit_model.specs.World.{World, guest_step_at, pager_step, run_from, start as first_world, step as world_step, world_after}
-use Rattle.audit_model.specs.declared.flat.Home.{Home as Seat}
-use Rattle.audit_model.specs.declared.flat.Home.TheVariants.{AtSource, AtTarget, Nowhere}
+use Rattle.audit_model.specs.declared.home.Home.{Home as Seat}
+use Rattle.audit_model.specs.declared.home.Home.TheVariants.{AtSource, AtTarget, Nowhere}
 use Rattle.migration_types.specs.Receipts.{Name}
 use Rattle.migration_types.specs.Sessions.{Recorded}
 use Rattle.migration_types.specs.declared.records.GuestRec.{GuestRec}
