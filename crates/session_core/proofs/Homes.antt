@@ -1,5 +1,4 @@
 -- The guest at home, and the halt.
-use Rattle.active_push.specs.SourcePart.{sends}
 use Rattle.audit_model.specs.Flat.{cell_after, flat, halt_place, home, home_after, in_ledger, released_after}
 use Rattle.audit_model.specs.Mergings.{IsMerging}
 use Rattle.audit_model.specs.Shape.{earlier, guest_named, in_phase_by, is_halt, is_resume, source_start}
@@ -33,8 +32,6 @@ use Rattle.std.proofs.lemmas.Option.{slice_get_within}
 use Rattle.std.specs.List.{AllByRecursion, range_with_len}
 use Rattle.std.specs.Prelude.{slice_get, slice_set}
 use Rattle.guest_book.specs.GuestPart.{guest_access, new_guest}
-use Rattle.target_side.specs.PagerPart.{places}
-use Rattle.target_book.specs.TargetPart.{resumes}
 use Rattle.migration_events.specs.declared.ops.Op.{Op}
 use Rattle.migration_events.specs.declared.ops.Op.TheVariants.{Read as ReadCell, Release as ReleasePage, Write as WriteCell}
 

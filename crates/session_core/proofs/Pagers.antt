@@ -1,13 +1,10 @@
 -- The events of the pager but PagerFlush.
-use Rattle.active_push.specs.SourcePart.{sends}
 use Rattle.audit_model.proofs.Consistent.{there}
-use Rattle.audit_model.proofs.Entries.{itself}
 use Rattle.audit_model.proofs.Touched.{released_zero}
 use Rattle.audit_model.proofs.Worlds.{content_at}
 use Rattle.audit_model.specs.Flat.{at_halt, in_ledger}
 use Rattle.audit_model.specs.Names.{if_there}
 use Rattle.audit_model.specs.Shape.{delivers, delivery, down_sending, got_down, is_down, is_got, is_miss, is_or_repeats, is_placement_of, is_send_of, is_state, is_want, pager_start, passes}
-use Rattle.audit_model.specs.World.{start}
 use Rattle.balloon_ledger.specs.Released.{released}
 use Rattle.fault_queue.specs.Waiting.{Waiting, entry, is_asked, is_waiting, joined, with_waiter, without}
 use Rattle.link_book.specs.declared.Arrival.{Arrival}
@@ -31,7 +28,7 @@ use Rattle.session_core.proofs.Limits.{content_fits, pager_limits, wide_content,
 use Rattle.session_core.proofs.Lists.{all_push, and_both, each_kept, each_mapped, each_push, each_weaker, get_new, get_old, index_other, length_suc, passes_at}
 use Rattle.session_core.proofs.Pushes.{put_pushed, resume_pushed}
 use Rattle.session_core.proofs.Shapes.{pager_shapes}
-use Rattle.session_core.specs.Events.{halted, paged, popped, sent_up}
+use Rattle.session_core.specs.Events.{paged, popped, sent_up}
 use Rattle.session_core.specs.Machine.{Away, away_session}
 use Rattle.std.proofs.Common.{Bool, List, None, Option, Some, [], ap, arith, cond, false, inl, inr, length, not, refl, subst, suc, sym, true, zero, ℕ, ◌++◌, ◌<◌, ◌||◌, ◌∙◌, ◌∷◌, ◌≡◌, ◌≤◌, ◌⊎◌}
 use Rattle.std.proofs.lemmas.Bool.{cases_lt, eq-eqb, eqb-true, lt-ltb}

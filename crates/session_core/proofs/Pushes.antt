@@ -1,10 +1,9 @@
 -- Records of the guest at the target, and placements.
-use Rattle.active_push.specs.SourcePart.{sends}
 use Rattle.audit_model.proofs.Consistent.{there}
 use Rattle.audit_model.proofs.History.{earlier_true}
 use Rattle.audit_model.specs.Faults.{has_looked, looks_at}
 use Rattle.audit_model.specs.Flat.{cell_after, flat, home, home_after}
-use Rattle.audit_model.specs.Shape.{earlier, guest_named, in_phase_by, is_halt, is_placement, is_placement_of, is_ready, is_resume, is_right, pager_named}
+use Rattle.audit_model.specs.Shape.{earlier, guest_named, in_phase_by, is_halt, is_placement, is_placement_of, is_ready, is_resume, pager_named}
 use Rattle.audit_model.specs.declared.home.Home.TheVariants.{AtSource}
 use Rattle.fault_queue.specs.Waiting.{Waiting}
 use Rattle.migration_types.specs.Memory.{Memory, with_cell}
@@ -23,7 +22,6 @@ use Rattle.session_core.proofs.Grows.{IsThere, guest_extends, guest_merges, gues
 use Rattle.session_core.proofs.Limits.{GuestWithin, IsWide, PagerWithin, guest_limits, pager_limits, wide_cell}
 use Rattle.session_core.proofs.Lists.{Index, before_end, each_push, get_new, index_key, passes_at}
 use Rattle.session_core.proofs.Shapes.{guest_shapes, guest_starts, pager_goes_on, pager_shapes, pager_starts}
-use Rattle.session_core.specs.Events.{halted}
 use Rattle.session_core.specs.Machine.{Away, Vcpu, away_session}
 use Rattle.migration_events.specs.Ops.{OpFits}
 use Rattle.std.proofs.Common.{Bool, List, None, Option, Some, [], ap, arith, cond, false, length, refl, subst, suc, sym, true, ℕ, ◌&&◌, ◌++◌, ◌<◌, ◌||◌, ◌∙◌, ◌∷◌, ◌≡◌, ◌≤◌}
@@ -31,8 +29,7 @@ use Rattle.std.proofs.lemmas.Bool.{eqb-true, leb-true}
 use Rattle.std.proofs.lemmas.Option.{slice_get_within}
 use Rattle.std.specs.List.{AllByRecursion}
 use Rattle.std.specs.Prelude.{is_some, map, ◌==◌}
-use Rattle.target_side.specs.PagerPart.{places}
-use Rattle.target_book.specs.TargetPart.{TargetPart, resumes}
+use Rattle.target_book.specs.TargetPart.{TargetPart}
 use Rattle.target_book.specs.declared.Missing.{Missing}
 use Rattle.migration_events.specs.declared.ops.Op.TheVariants.{Read as ReadCell, Write as WriteCell}
 

@@ -1,16 +1,12 @@
 -- What is promised of a recording.
-use Rattle.std.specs.Prelude.{◌≡◌, ℕ, ◌<◌, true, false, List, Some, None, slice_get}
-use Rattle.std.specs.List.{range_with_len}
+use Rattle.std.specs.Prelude.{◌≡◌, ℕ, ◌<◌, true, false, List, Some, slice_get}
 use Rattle.migration_types.specs.declared.records.SourceRec.TheVariants.{Done}
-use Rattle.migration_types.specs.PageSets.{Pages}
 use Rattle.migration_types.specs.Receipts.{Name}
 use Rattle.migration_types.specs.Sessions.{Recorded}
 use Rattle.audit_model.specs.Mergings.{IsMerging}
 use Rattle.audit_model.specs.Flat.{in_ledger, at_halt}
 use Rattle.audit_model.specs.World.{world_after, IsSafe}
 use Rattle.audit_model.specs.Laws.{IsFaultless}
-use Rattle.bubbling.specs.Bubbling.{IsNextPushed}
-use Rattle.active_push.specs.SourcePart.{nearest}
 use Rattle.session_core.specs.Machine.{Machine, session_of, Scripted, IsScript}
 use Rattle.session_core.specs.Events.{start, run}
 use Rattle.migration_events.specs.declared.events.Event.{Event}
@@ -35,12 +31,6 @@ pub record IsReached (core : Machine) : Type 0 where
   pub fits : IsScript script
   pub events : List Event
   pub runs : run events (start script) ≡ Some core
-
--- what bubbling chooses is what the source's book pushes, and there is no other such page
-pub record IsChoice (pages pivot : ℕ) (set : Pages) : Type 0 where
-  pub is_next : (page : ℕ) → nearest pivot set (range_with_len 0 pages) ≡ Some page → IsNextPushed set pivot page
-  pub is_the : (page : ℕ) → IsNextPushed set pivot page → nearest pivot set (range_with_len 0 pages) ≡ Some page
-  pub is_none : nearest pivot set (range_with_len 0 pages) ≡ None → (page : ℕ) → set page ≡ false
 
 -- a core that is reached, whose source was told that all is there
 pub record SomeRunIsDone : Type 0 where

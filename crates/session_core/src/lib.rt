@@ -1,11 +1,11 @@
 //! The events of a migration on all books, and the law on what they record.
 #![tactic(auto)]
 
-ghost use Rattle.std.specs.Prelude.{◌≡◌, ℕ, ◌<◌, true, List, Some};
-ghost use Rattle.migration_types.specs.PageSets.{Pages};
+ghost use Rattle.std.specs.Prelude.{◌≡◌, ℕ, ◌<◌, true, List, [], ◌∷◌, Some, take};
 ghost use Rattle.session_core.specs.Machine.{Machine, Scripted, IsScript};
 ghost use Rattle.session_core.specs.Events.{start, step, run};
-ghost use Rattle.session_core.specs.Promise.{IsFaultlessRecording, IsReached, IsChoice, SomeRunIsDone};
+ghost use Rattle.session_core.specs.Worked.{Records, script_of_two, events_of_two, session_of_two, order_of_two, script_of_one, events_of_one, session_of_one, order_of_one, woken_next, offers, source_calls, small_source, source_offers, source_records, IsRefusedWhenFull};
+ghost use Rattle.session_core.specs.Promise.{IsFaultlessRecording, IsReached, SomeRunIsDone};
 
 use migration_events::Event;
 
@@ -24,12 +24,17 @@ pub fn reached_cores_are_faultless()
     ensures faultless { (core : Machine) → IsReached core → IsFaultlessRecording core }
 {}
 
-/// The page that is pushed is the next one of bubbling.
-pub fn pushes_are_next()
-    ensures { (pages pivot : ℕ) (set : Pages) → ((p : ℕ) → set p ≡ true → p < pages) → IsChoice pages pivot set }
-{}
-
 /// There is a script with events that the law speaks of, and in which all comes to its end.
 pub fn premises_can_be_met()
     ensures { SomeRunIsDone }
+{}
+
+/// Worked runs: what two scripts with their events record, and in which order, and whom the last delivery of the first
+/// wakes; what a source offers and records; and that a record for which there is no room is refused, and none but such.
+pub fn worked_runs_come_out_so()
+    ensures two { Records script_of_two events_of_two session_of_two order_of_two }
+    ensures woken { woken_next (run (take 17 events_of_two) (start script_of_two)) ≡ 0 ∷ 1 ∷ [] }
+    ensures one { Records script_of_one events_of_one session_of_one order_of_one }
+    ensures source { offers source_calls small_source ≡ (source_offers, source_records) }
+    ensures full { IsRefusedWhenFull }
 {}
