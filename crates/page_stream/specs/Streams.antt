@@ -1,0 +1,62 @@
+-- What a stream of packets stands for.
+use Rattle.std.specs.Prelude.{◌≡◌, ℕ, ◌+◌, ◌<◌, ◌≤◌, Bool, true, false, List, [], ◌++◌, take, drop, length, slice_index}
+use Rattle.std.specs.List.{flat_map, AllByRecursion}
+use Rattle.std.specs.Int.{w32, from_be_bytes}
+use Rattle.migration_types.specs.Extents.{Extent}
+use Rattle.page_stream.specs.Bytes.{packet_bytes, Fits, IsNoBody}
+use Rattle.page_stream.specs.declared.Packet.{Packet}
+use Rattle.page_stream.specs.declared.stream.StreamFaultKind.{StreamFaultKind}
+use Rattle.page_stream.specs.declared.stream.StreamFaultKind.TheVariants.{Length, Kind, Fields, Memory, Broken}
+
+-- the bytes are these packets, and then the rest
+pub record StandsFor (e : Extent) (bytes : List ℕ) (packets : List Packet) (rest : List ℕ) : Type 0 where
+  pub whole : bytes ≡ flat_map packet_bytes packets ++ rest
+  pub each : AllByRecursion (Fits e) packets
+
+-- the length that the first four bytes say
+abbrev pub said_length : List ℕ → ℕ
+said_length rest = from_be_bytes w32 (take 4 rest)
+
+-- what the length of a state with 65,536 released pages is, which is the longest
+abbrev pub most_length : ℕ
+most_length = 262153
+
+-- a packet may have such a length
+abbrev pub IsLength : ℕ → Type 0
+IsLength n = (1 ≤ n) × (n ≤ most_length)
+
+-- a packet may have such a kind byte
+abbrev pub IsKind : ℕ → Type 0
+IsKind kind = (1 ≤ kind) × (kind ≤ 4)
+
+-- The fault that a rest shows: the length once 4 bytes are there, the kind once it is, the fields once the packet is
+-- whole.
+abbrev pub HasFault : Extent → List ℕ → StreamFaultKind → Type 0
+HasFault e rest Length = (4 ≤ length rest) × (IsLength (said_length rest) → ⊥)
+HasFault e rest Kind = (5 ≤ length rest) × IsLength (said_length rest) × (IsKind (slice_index rest 4) → ⊥)
+HasFault e rest Fields = (4 + said_length rest ≤ length rest) × IsLength (said_length rest) × IsKind (slice_index rest 4) × IsNoBody e (take (said_length rest) (drop 4 rest))
+HasFault e rest Memory = ⊥
+HasFault e rest Broken = ⊥
+
+-- less than a whole packet, and no fault yet
+pub record IsPartial (rest : List ℕ) : Type 0 where
+  pub long : 4 ≤ length rest → IsLength (said_length rest) × (length rest < 4 + said_length rest)
+  pub kind : 5 ≤ length rest → IsKind (slice_index rest 4)
+
+-- a stream between two pieces: the bytes of no whole packet yet, and whether a fault came
+pub record Flow : Type 0 where
+  pub geometry : Extent
+  pub rest : List ℕ
+  pub is_broken : Bool
+
+-- a stream that had no fault took a piece, of which these packets are whole
+pub record Takes (old new : Flow) (piece : List ℕ) (packets : List Packet) : Type 0 where
+  pub going : old.is_broken ≡ false
+  pub geometry : new.geometry ≡ old.geometry
+  pub stands : StandsFor old.geometry (old.rest ++ piece) packets new.rest
+
+-- what a fault says of the stream and the piece
+abbrev pub Refuses : Flow → Flow → List ℕ → List Packet → StreamFaultKind → Type 0
+Refuses old new piece before Memory = (old.is_broken ≡ false) × (new ≡ old) × (before ≡ [])
+Refuses old new piece before Broken = (old.is_broken ≡ true) × (new ≡ old) × (before ≡ [])
+Refuses old new piece before kind = (new.is_broken ≡ true) × Takes old new piece before × HasFault old.geometry new.rest kind

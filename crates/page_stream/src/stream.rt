@@ -1,0 +1,211 @@
+//! A stream of packets that comes in pieces.
+
+ghost use Rattle.std.specs.Prelude.{◌≡◌, ◌≤◌, drop, length, false, [], IfOk, IfErr, MatchBool};
+ghost use Rattle.page_stream.specs.Streams.{StandsFor, IsPartial, HasFault, Takes, Refuses};
+ghost use Rattle.page_stream.specs.inner.Fronts.{IsFront, IsEnd};
+
+use crate::Packet;
+use crate::decoding::{decode, number_at};
+use bytes::BytesMut;
+use migration_types::{Geometry, Seq};
+use std::alloc::{AllocError, Global};
+use std::marker::Model;
+use thiserror::Error;
+
+/// What is wrong with a stream.
+#[derive(Clone, Copy, Debug, PartialEq, Eq, Error)]
+pub enum StreamFaultKind {
+    /// A packet's length is not 1 to 262,153. It is told once 4 bytes of a packet are there.
+    #[error("a packet of a length that none has")]
+    Length,
+    /// A packet's kind byte is not 1 to 4. It is told once that byte is there.
+    #[error("a packet of a kind that none has")]
+    Kind,
+    /// The bytes are not exactly the fields of their kind, within the geometry. It is told once the packet is whole.
+    #[error("a packet whose fields are none of its kind's")]
+    Fields,
+    /// Memory was refused. The stream is as it was.
+    #[error("out of memory")]
+    Memory,
+    /// A fault of the first three kinds came before.
+    #[error("a stream that had a fault")]
+    Broken,
+}
+
+/// Why a stream does not go on, and the whole packets of that piece ahead of the fault: none where memory was refused
+/// or a fault came before.
+#[derive(Drop)]
+pub struct StreamFault {
+    pub kind: StreamFaultKind,
+    pub before: Seq<Packet>,
+}
+
+/// What stands at the front of some bytes.
+#[derive(Drop)]
+enum Front<'a> {
+    Packet(Packet, &'a [u8]),
+    Partial,
+    Fault(StreamFaultKind),
+}
+
+/// The whole packets at the front of some bytes, how many bytes these are, and the fault that follows them.
+#[derive(Drop)]
+struct Taken {
+    packets: Vec<Packet>,
+    used: usize,
+    fault: Option<StreamFaultKind>,
+}
+
+/// The length of a packet is at most this.
+const MOST_LENGTH: u32 = 262_153;
+
+/// The packet at the front of some bytes, and what follows it, or why there is none.
+fn front_of(alloc: Global, geometry: Geometry, bytes: &[u8]) -> Result<Front<'_>, AllocError>
+    ensures { IfOk result (IsFront geometry bytes.now) }
+{
+    match number_at(bytes) {
+        None => Ok(Front::Partial),
+        Some((length, rest)) => {
+            if length == 0 || length > MOST_LENGTH {
+                return Ok(Front::Fault(StreamFaultKind::Length));
+            }
+            let length = length as usize;
+            if rest.is_empty() {
+                return Ok(Front::Partial);
+            }
+            if rest[0] == 0 || rest[0] > 4 {
+                return Ok(Front::Fault(StreamFaultKind::Kind));
+            }
+            if rest.len() < length {
+                return Ok(Front::Partial);
+            }
+            let (body, after) = rest.split_at(length);
+            match decode(alloc, geometry, body)? {
+                None => Ok(Front::Fault(StreamFaultKind::Fields)),
+                Some(packet) => Ok(Front::Packet(packet, after)),
+            }
+        }
+    }
+}
+
+/// Reads the packets at the front of some bytes, until one is not whole or has a fault.
+fn take_packets(
+    alloc: Global,
+    geometry: Geometry,
+    bytes: &[u8],
+) -> Result<Taken, AllocError>
+    ensures used { IfOk result (λ t. t.used ≤ length bytes.now) }
+    ensures stands { IfOk result (λ t. StandsFor geometry bytes.now t.packets.items (drop t.used bytes.now)) }
+    ensures end { IfOk result (λ t. IsEnd geometry (drop t.used bytes.now) t.fault) }
+{
+    let mut packets = Vec::new(alloc);
+    let mut rest = bytes;
+    loop {
+        match front_of(alloc, geometry, rest)? {
+            Front::Packet(packet, after) => {
+                packets.push(packet)?;
+                rest = after;
+            }
+            Front::Partial => {
+                return Ok(Taken {
+                    packets,
+                    used: bytes.len() - rest.len(),
+                    fault: None,
+                });
+            }
+            Front::Fault(kind) => {
+                return Ok(Taken {
+                    packets,
+                    used: bytes.len() - rest.len(),
+                    fault: Some(kind),
+                });
+            }
+        }
+    }
+}
+
+/// Reads packets from a stream that comes in pieces. It holds the bytes of a packet that is not whole yet, and after a
+/// fault those from the fault on.
+#[derive(Drop)]
+pub struct Stream {
+    alloc: Global,
+    geometry: Geometry,
+    held: BytesMut,
+    is_broken: bool,
+}
+
+impl Model for Stream {
+    ghost use Rattle.page_stream.specs.Streams.{Flow};
+
+    ghost Value = { Flow };
+
+    ghost view = { λ a. record { geometry = a.geometry; rest = a.held.items; is_broken = a.is_broken } };
+}
+
+impl Stream {
+    /// A stream of a machine's packets, of which nothing came yet. Takes no memory.
+    pub fn new(alloc: Global, geometry: Geometry) -> Self
+        ensures { result ≡ record { geometry = geometry; rest = []; is_broken = false } }
+    {
+        Stream {
+            alloc,
+            geometry,
+            held: BytesMut::new(alloc),
+            is_broken: false,
+        }
+    }
+
+    /// Whether all that came is whole packets.
+    pub(crate) fn is_between_packets(&self) -> bool
+        ensures { MatchBool result (self.now.rest ≡ []) (self.now.rest ≡ [] → ⊥) }
+    {
+        self.held.is_empty()
+    }
+
+    /// Takes the next piece, of any length, and answers the packets that are whole now. What was left and the piece are
+    /// the packets and what is left now. The piece is copied once, and a packet's fields are read once it is whole.
+    /// After a fault of the first three kinds every later call answers `Broken`; want of memory leaves the stream as it
+    /// was.
+    pub fn feed(&mut self, piece: &[u8]) -> Result<Seq<Packet>, StreamFault>
+        ensures taken { IfOk result (λ packets. Takes self.old self.new piece.now packets) }
+        ensures going { IfOk result (λ packets. self.new.is_broken ≡ false) }
+        ensures partial { IfOk result (λ packets. IsPartial self.new.rest) }
+        ensures refused { IfErr result (λ f. Refuses self.old self.new piece.now f.before f.kind) }
+    {
+        if self.is_broken {
+            return Err(self.refusal(StreamFaultKind::Broken));
+        }
+        let before = self.held.len();
+        if self.held.extend_from_slice(piece).is_err() {
+            return Err(self.refusal(StreamFaultKind::Memory));
+        }
+        let Ok(taken) = take_packets(self.alloc, self.geometry, self.held.as_slice()) else {
+            self.held.truncate(before);
+            return Err(self.refusal(StreamFaultKind::Memory));
+        };
+        let fault = taken.fault;
+        let packets = Seq::from_vec(taken.packets);
+        self.held.advance(taken.used);
+        match fault {
+            None => Ok(packets),
+            Some(kind) => {
+                self.is_broken = true;
+                Err(StreamFault {
+                    kind,
+                    before: packets,
+                })
+            }
+        }
+    }
+
+    /// A fault ahead of which no packet came.
+    fn refusal(&self, kind: StreamFaultKind) -> StreamFault
+        ensures kind { result.kind ≡ kind }
+        ensures before { result.before ≡ [] }
+    {
+        StreamFault {
+            kind,
+            before: Seq::from_vec(Vec::new(self.alloc)),
+        }
+    }
+}
