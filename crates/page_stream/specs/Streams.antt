@@ -1,5 +1,5 @@
 -- What a stream of packets stands for.
-use Rattle.std.specs.Prelude.{◌≡◌, ℕ, ◌+◌, ◌<◌, ◌≤◌, Bool, true, false, List, [], ◌++◌, take, drop, length, slice_index}
+use Rattle.std.specs.Prelude.{◌≡◌, ℕ, ◌+◌, ◌<◌, ◌≤◌, ◌⊎◌, Bool, true, false, List, [], ◌∷◌, ◌++◌, take, drop, length, slice_index}
 use Rattle.std.specs.List.{flat_map, AllByRecursion}
 use Rattle.std.specs.Int.{w32, from_be_bytes}
 use Rattle.migration_types.specs.Extents.{Extent}
@@ -43,6 +43,15 @@ pub record IsPartial (rest : List ℕ) : Type 0 where
   pub long : 4 ≤ length rest → IsLength (said_length rest) × (length rest < 4 + said_length rest)
   pub kind : 5 ≤ length rest → IsKind (slice_index rest 4)
 
+-- a rest that goes no further: it is partial, or shows a fault
+abbrev pub IsRest : Extent → List ℕ → Type 0
+IsRest e rest = IsPartial rest ⊎ ((kind : StreamFaultKind) × HasFault e rest kind)
+
+-- a reading of bytes, however they came: the packets at the front, as many as are whole and have no fault, and a rest
+pub record IsReading (e : Extent) (bytes : List ℕ) (packets : List Packet) (rest : List ℕ) : Type 0 where
+  pub stands : StandsFor e bytes packets rest
+  pub end : IsRest e rest
+
 -- a stream between two pieces: the bytes of no whole packet yet, and whether a fault came
 pub record Flow : Type 0 where
   pub geometry : Extent
@@ -60,3 +69,8 @@ abbrev pub Refuses : Flow → Flow → List ℕ → List Packet → StreamFaultK
 Refuses old new piece before Memory = (old.is_broken ≡ false) × (new ≡ old) × (before ≡ [])
 Refuses old new piece before Broken = (old.is_broken ≡ true) × (new ≡ old) × (before ≡ [])
 Refuses old new piece before kind = (new.is_broken ≡ true) × Takes old new piece before × HasFault old.geometry new.rest kind
+
+-- these pieces came in turn, each of them taken, with these packets in all
+abbrev pub TakesAll : Flow → List (List ℕ) → List Packet → Flow → Type 0
+TakesAll old [] packets new = (new ≡ old) × (packets ≡ [])
+TakesAll old (piece ∷ pieces) packets new = (mid : Flow) × (first : List Packet) × (later : List Packet) × Takes old mid piece first × TakesAll mid pieces later new × (packets ≡ first ++ later)

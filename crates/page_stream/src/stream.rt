@@ -1,7 +1,9 @@
 //! A stream of packets that comes in pieces.
 
-ghost use Rattle.std.specs.Prelude.{◌≡◌, ◌≤◌, drop, length, false, [], IfOk, IfErr, MatchBool};
-ghost use Rattle.page_stream.specs.Streams.{StandsFor, IsPartial, HasFault, Takes, Refuses};
+ghost use Rattle.std.specs.Prelude.{◌≡◌, ◌≤◌, ℕ, List, [], ◌++◌, drop, length, false, IfOk, IfErr, MatchBool};
+ghost use Rattle.std.specs.List.{concat};
+ghost use Rattle.migration_types.specs.Extents.{Extent, IsExtent};
+ghost use Rattle.page_stream.specs.Streams.{StandsFor, IsReading, IsPartial, HasFault, Flow, Takes, TakesAll, Refuses};
 ghost use Rattle.page_stream.specs.inner.Fronts.{IsFront, IsEnd};
 
 use crate::Packet;
@@ -209,3 +211,11 @@ impl Stream {
         }
     }
 }
+
+/// However bytes come, they are read in one way only: two readings of the same bytes have the same packets and the same
+/// rest. What calls of `feed` answer in turn, with what is left at last, stands for all their pieces together, so it
+/// does not matter where these were cut.
+pub fn one_reading()
+    ensures same { (e : Extent) (bytes : List ℕ) (packets others : List Packet) (rest other : List ℕ) → IsExtent e → IsReading e bytes packets rest → IsReading e bytes others other → (packets ≡ others) × (rest ≡ other) }
+    ensures together { (start end : Flow) (pieces : List (List ℕ)) (packets : List Packet) → TakesAll start pieces packets end → StandsFor start.geometry (start.rest ++ concat pieces) packets end.rest }
+{}
