@@ -1,11 +1,223 @@
 //! The lines of packets under way, those that have arrived, and the link's log.
 #![tactic(auto)]
 
-use page_stream::Packet;
+ghost use Rattle.std.specs.Prelude.{◌≡◌, ◌<◌, true, false, None, length, slice_get, drop, if◌then◌else◌, IfSome, IsTrue, OnOk, OnErr, IsErrOf};
+ghost use Rattle.std.specs.Option.{option_map};
 
-/// A packet that has arrived, with the number of the link's record.
+mod arrivals;
+#[cfg(test)]
+mod tests;
+mod turns;
+
+use migration_events::{Direction, Fate};
+use migration_types::LinkRec;
+use page_stream::Packet;
+use std::alloc::{AllocError, Global};
+use std::collections::VecDeque;
+use std::marker::Model;
+use thiserror::Error;
+
+/// A packet that has arrived, with the number of the link's record that says so.
 #[derive(Drop)]
 pub struct Arrival {
     pub number: u32,
     pub packet: Packet,
+}
+
+/// Why the link refused a turn. The book is then as it was.
+#[derive(Clone, Copy, Debug, PartialEq, Eq, Error)]
+pub enum LinkFault {
+    /// The log has no room for the record that the packet has arrived.
+    #[error("the link's log is full")]
+    LogFull,
+    /// Memory was refused.
+    #[error("out of memory")]
+    Memory,
+}
+
+/// The link's book: for each direction a line of packets under way, oldest first, and those that have arrived, oldest
+/// first; and the log of arrivals, of at most 1,048,576 records.
+/// The number of each arrival is that of the record that it came. An offer needs room that was made for it before, and
+/// uses it up. Contracts see the lists, and whether there is such room.
+#[derive(Drop)]
+pub struct LinkBook {
+    alloc: Global,
+    log: Vec<LinkRec>,
+    down: VecDeque<Packet>,
+    up: VecDeque<Packet>,
+    down_arrivals: VecDeque<Arrival>,
+    up_arrivals: VecDeque<Arrival>,
+    /// Whether each line has a place to spare, which no offer has used.
+    has_room: bool,
+}
+
+impl Model for LinkBook {
+    ghost use Rattle.std.specs.Prelude.{◌<◌, IsTrue};
+    ghost use Rattle.std.specs.VecDeque.{deque_len, deque_capacity};
+    ghost use Rattle.link_book.specs.Links.{Linked, IsLink};
+
+    ghost Value = { Linked };
+
+    ghost view = { λ b. record { part = record { log = b.log.items; down = b.down.items; up = b.up.items; down_arrivals = b.down_arrivals.items; up_arrivals = b.up_arrivals.items }; has_room = b.has_room } };
+
+    ghost invariant = { λ b. IsLink (record { log = b.log.items; down = b.down.items; up = b.up.items; down_arrivals = b.down_arrivals.items; up_arrivals = b.up_arrivals.items })
+        × (IsTrue b.has_room → (deque_len b.down < deque_capacity b.down) × (deque_len b.up < deque_capacity b.up)) };
+}
+
+impl LinkBook {
+    ghost use Rattle.link_book.specs.LinkPart.{new_link, with_back, with_front, with_up, lane_of, turned};
+    ghost use Rattle.link_book.specs.Links.{IsLink, arrival, is_quiet};
+
+    /// Nothing was sent, and no room was made. Takes no memory.
+    pub fn new(alloc: Global) -> LinkBook
+        ensures { result ≡ record { part = new_link; has_room = false } }
+    {
+        LinkBook {
+            alloc,
+            log: Vec::new(alloc),
+            down: VecDeque::new(alloc),
+            up: VecDeque::new(alloc),
+            down_arrivals: VecDeque::new(alloc),
+            up_arrivals: VecDeque::new(alloc),
+            has_room: false,
+        }
+    }
+
+    /// Makes room for one offer. On an error nothing changes.
+    pub fn room(&mut self) -> Result<(), AllocError>
+        ensures ok { OnOk result (self.new ≡ record self.old { has_room = true }) }
+        ensures err { OnErr result (self.new ≡ self.old) }
+    {
+        self.down.reserve(1)?;
+        self.up.reserve(1)?;
+        self.has_room = true;
+        Ok(())
+    }
+
+    /// Puts a packet before the others that are under way down, or behind them. The room is used up; all else stays.
+    /// Takes no memory.
+    pub fn offer_down(&mut self, packet: Packet, front: bool)
+        requires { IsTrue self.old.has_room }
+        ensures { self.new ≡ record { part = if front then with_front packet self.old.part else with_back packet self.old.part; has_room = false } }
+    {
+        if front {
+            self.down.push_front_reserved(packet);
+        } else {
+            self.down.push_back_reserved(packet);
+        }
+        self.has_room = false;
+    }
+
+    /// Puts a packet behind the others that are under way up. The room is used up; all else stays. Takes no memory.
+    pub fn offer_up(&mut self, packet: Packet)
+        requires { IsTrue self.old.has_room }
+        ensures { self.new ≡ record { part = with_up packet self.old.part; has_room = false } }
+    {
+        self.up.push_back_reserved(packet);
+        self.has_room = false;
+    }
+
+    /// The packet at the head of a line meets its fate; one that does not go this way is dropped, and where the line is
+    /// empty nothing changes. Room that was made stays. `LogFull` where it arrives and the log has 1,048,576 records,
+    /// which is looked at before memory is asked for. On an error nothing changes.
+    pub fn turn(&mut self, direction: Direction, fate: Fate) -> Result<(), LinkFault>
+        ensures ok { OnOk result (self.new ≡ record self.old { part = turned direction fate self.old.part }) }
+        ensures full { IsErrOf result LinkFault.LogFull → 1048576 < length (turned direction fate self.old.part).log }
+        ensures err { OnErr result (self.new ≡ self.old) }
+    {
+        match direction {
+            Direction::Down => turns::turn_line(
+                self.alloc,
+                &mut self.log,
+                &mut self.down,
+                &mut self.down_arrivals,
+                Direction::Down,
+                fate,
+            ),
+            Direction::Up => turns::turn_line(
+                self.alloc,
+                &mut self.log,
+                &mut self.up,
+                &mut self.up_arrivals,
+                Direction::Up,
+                fate,
+            ),
+        }
+    }
+
+    /// The packet at the head of a line, whose turn is next. `None`: none is under way there.
+    pub fn head(&self, direction: Direction) -> Option<&Packet>
+        ensures { option_map (λ p. p.now) result ≡ slice_get (lane_of direction self.now.part).line 0 }
+    {
+        match direction {
+            Direction::Down => self.down.front(),
+            Direction::Up => self.up.front(),
+        }
+    }
+
+    /// The oldest arrival at the target, with the number of the link's record. `None`: there is none.
+    #[tactic(auto, using(crate::proofs::Links::oldest_within))]
+    pub fn peek_down(&self) -> Option<(u32, &Packet)>
+        ensures oldest { option_map (λ a. arrival a.0 a.1.now) result ≡ slice_get self.now.part.down_arrivals 0 }
+        ensures within { IfSome result (λ a. a.0 < length self.now.part.log) }
+    {
+        arrivals::oldest(&self.down_arrivals)
+    }
+
+    /// The oldest arrival at the source, with the number of the link's record. `None`: there is none.
+    #[tactic(auto, using(crate::proofs::Links::oldest_within))]
+    pub fn peek_up(&self) -> Option<(u32, &Packet)>
+        ensures oldest { option_map (λ a. arrival a.0 a.1.now) result ≡ slice_get self.now.part.up_arrivals 0 }
+        ensures within { IfSome result (λ a. a.0 < length self.now.part.log) }
+    {
+        arrivals::oldest(&self.up_arrivals)
+    }
+
+    /// Takes out the oldest arrival at the target. `None`: there is none, and nothing changes. Takes no memory.
+    pub fn pop_down(&mut self) -> Option<(u32, Packet)>
+        ensures oldest { option_map (λ a. arrival a.0 a.1) result ≡ slice_get self.old.part.down_arrivals 0 }
+        ensures rest { self.new ≡ record self.old { part = record self.old.part { down_arrivals = drop 1 self.old.part.down_arrivals } } }
+    {
+        arrivals::take(&mut self.down_arrivals)
+    }
+
+    /// Takes out the oldest arrival at the source. `None`: there is none, and nothing changes. Takes no memory.
+    pub fn pop_up(&mut self) -> Option<(u32, Packet)>
+        ensures oldest { option_map (λ a. arrival a.0 a.1) result ≡ slice_get self.old.part.up_arrivals 0 }
+        ensures rest { self.new ≡ record self.old { part = record self.old.part { up_arrivals = drop 1 self.old.part.up_arrivals } } }
+    {
+        arrivals::take(&mut self.up_arrivals)
+    }
+
+    /// How many packets are under way down.
+    pub fn down_len(&self) -> usize
+        ensures { result ≡ length self.now.part.down }
+    {
+        self.down.len()
+    }
+
+    /// Whether nothing is under way and no arrival waits.
+    pub fn quiet(&self) -> bool
+        ensures { result ≡ is_quiet self.now.part }
+    {
+        self.down.is_empty()
+            && self.up.is_empty()
+            && self.down_arrivals.is_empty()
+            && self.up_arrivals.is_empty()
+    }
+
+    /// The link's log.
+    pub fn link_log(&self) -> &[LinkRec]
+        ensures { result.now ≡ self.now.part.log }
+    {
+        self.log.as_slice()
+    }
+
+    /// Tells callers that the log has at most 1,048,576 records, and that each arrival's number is that of the record
+    /// that it came.
+    pub fn keeps_limits(&self)
+        ensures { IsLink self.now.part }
+    {
+        let _log = &self.log;
+    }
 }

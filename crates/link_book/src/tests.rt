@@ -1,0 +1,125 @@
+//! Packets on their way: their order, each fate, and a full log.
+
+use super::*;
+use migration_types::{PageNo, Seq};
+use std::test::Fail;
+
+fn want(number: u32) -> Packet {
+    Packet::Want {
+        number,
+        page: PageNo::new(0),
+    }
+}
+
+fn offer_down(book: &mut LinkBook, packet: Packet, front: bool) -> Result<(), AllocError> {
+    book.room()?;
+    book.offer_down(packet, front);
+    Ok(())
+}
+
+fn offer_up(book: &mut LinkBook, number: u32) -> Result<(), AllocError> {
+    book.room()?;
+    book.offer_up(want(number));
+    Ok(())
+}
+
+/// The oldest arrival at the target, taken out: its number, and its packet's.
+fn come_down(book: &mut LinkBook) -> Option<(u32, u32)> {
+    let seen = number_of(book.peek_down());
+    let (number, packet) = book.pop_down()?;
+    (seen == Some(number)).then_some((number, packet.number()))
+}
+
+/// The oldest arrival at the source, taken out: its number, and its packet's.
+fn come_up(book: &mut LinkBook) -> Option<(u32, u32)> {
+    let seen = number_of(book.peek_up());
+    let (number, packet) = book.pop_up()?;
+    (seen == Some(number)).then_some((number, packet.number()))
+}
+
+fn number_of(arrival: Option<(u32, &Packet)>) -> Option<u32> {
+    let Some((number, _)) = arrival else {
+        return None;
+    };
+    Some(number)
+}
+
+fn head_is(book: &LinkBook, direction: Direction, number: u32) -> bool {
+    book.head(direction).is_some_and(|p| p.number() == number)
+}
+
+fn recorded(log: &[LinkRec], at: usize, asking: u32) -> bool {
+    log.get(at).is_some_and(|record| matches!(record, LinkRec::Up { asking: n } if *n == asking))
+}
+
+#[test]
+fn keeps_the_order_of_a_line(rt: HostRuntime) -> Result<(), Fail> {
+    let mut book = LinkBook::new(rt.alloc());
+    assert!(rt; book.quiet());
+    for number in [2, 3] {
+        let released = Seq::from_vec(Vec::new(rt.alloc()));
+        offer_down(&mut book, Packet::State { number, released }, false)?;
+    }
+    let released = Seq::from_vec(Vec::new(rt.alloc()));
+    offer_down(
+        &mut book,
+        Packet::State {
+            number: 4,
+            released,
+        },
+        true,
+    )?;
+    assert_eq!(rt; book.down_len(), 3);
+    for _ in 0..3 {
+        book.turn(Direction::Down, Fate::Deliver)?;
+    }
+    for arrival in [(0, 4), (1, 2), (2, 3)] {
+        assert_eq!(rt; come_down(&mut book), Some(arrival));
+    }
+    assert!(rt; book.quiet());
+    Ok(())
+}
+
+#[test]
+fn a_packet_meets_each_fate(rt: HostRuntime) -> Result<(), Fail> {
+    let mut book = LinkBook::new(rt.alloc());
+    offer_up(&mut book, 3)?;
+    offer_up(&mut book, 5)?;
+    assert!(rt; head_is(&book, Direction::Up, 3));
+    book.turn(Direction::Up, Fate::Back)?;
+    book.turn(Direction::Up, Fate::Repeat)?;
+    assert!(rt; head_is(&book, Direction::Up, 3));
+    book.turn(Direction::Up, Fate::Lose)?;
+    book.turn(Direction::Up, Fate::Deliver)?;
+    assert!(rt; book.head(Direction::Up).is_none());
+    assert_eq!(rt; come_up(&mut book), Some((0, 5)));
+    assert!(rt; !book.quiet());
+    assert_eq!(rt; come_up(&mut book), Some((1, 5)));
+    assert!(rt; recorded(book.link_log(), 0, 5) && recorded(book.link_log(), 1, 5));
+    Ok(())
+}
+
+#[test]
+fn drops_what_goes_the_other_way(rt: HostRuntime) -> Result<(), Fail> {
+    let mut book = LinkBook::new(rt.alloc());
+    offer_down(&mut book, want(3), false)?;
+    book.turn(Direction::Down, Fate::Repeat)?;
+    assert!(rt; book.quiet() && book.link_log().is_empty());
+    Ok(())
+}
+
+#[test]
+fn refuses_a_record_past_the_limit(rt: HostRuntime) -> Result<(), Fail> {
+    let mut book = LinkBook::new(rt.alloc());
+    offer_up(&mut book, 7)?;
+    for _ in 0..1_048_576 {
+        book.turn(Direction::Up, Fate::Repeat)?;
+        book.pop_up();
+    }
+    for fate in [Fate::Deliver, Fate::Repeat] {
+        assert_eq!(rt; book.turn(Direction::Up, fate), Err(LinkFault::LogFull));
+    }
+    book.turn(Direction::Up, Fate::Back)?;
+    assert!(rt; head_is(&book, Direction::Up, 7));
+    Ok(())
+}
