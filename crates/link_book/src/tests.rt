@@ -48,34 +48,39 @@ fn head_is(book: &LinkBook, direction: Direction, number: u32) -> bool {
     book.head(direction).is_some_and(|p| p.number() == number)
 }
 
+fn turns(book: &mut LinkBook, direction: Direction, fates: &[Fate]) -> Result<(), LinkFault> {
+    for fate in fates {
+        book.turn(direction, *fate)?;
+    }
+    Ok(())
+}
+
 fn recorded(log: &[LinkRec], at: usize, asking: u32) -> bool {
     log.get(at).is_some_and(|record| matches!(record, LinkRec::Up { asking: n } if *n == asking))
+}
+
+/// States with the numbers 2 and 3 behind one another, and 4 before them.
+fn offer_three(alloc: Global, book: &mut LinkBook) -> Result<(), AllocError> {
+    for (number, front) in [(2, false), (3, false), (4, true)] {
+        let released = Seq::from_vec(Vec::new(alloc));
+        offer_down(book, Packet::State { number, released }, front)?;
+    }
+    Ok(())
 }
 
 #[test]
 fn keeps_the_order_of_a_line(rt: HostRuntime) -> Result<(), Fail> {
     let mut book = LinkBook::new(rt.alloc());
-    assert!(rt; book.quiet());
-    for number in [2, 3] {
-        let released = Seq::from_vec(Vec::new(rt.alloc()));
-        offer_down(&mut book, Packet::State { number, released }, false)?;
-    }
-    let released = Seq::from_vec(Vec::new(rt.alloc()));
-    offer_down(
+    offer_three(rt.alloc(), &mut book)?;
+    assert!(rt; book.down_len() == 3);
+    turns(
         &mut book,
-        Packet::State {
-            number: 4,
-            released,
-        },
-        true,
+        Direction::Down,
+        &[Fate::Deliver, Fate::Deliver, Fate::Deliver],
     )?;
-    assert_eq!(rt; book.down_len(), 3);
-    for _ in 0..3 {
-        book.turn(Direction::Down, Fate::Deliver)?;
-    }
-    for arrival in [(0, 4), (1, 2), (2, 3)] {
-        assert_eq!(rt; come_down(&mut book), Some(arrival));
-    }
+    assert!(rt; come_down(&mut book) == Some((0, 4)));
+    assert!(rt; come_down(&mut book) == Some((1, 2)));
+    assert!(rt; come_down(&mut book) == Some((2, 3)));
     assert!(rt; book.quiet());
     Ok(())
 }
@@ -85,16 +90,11 @@ fn a_packet_meets_each_fate(rt: HostRuntime) -> Result<(), Fail> {
     let mut book = LinkBook::new(rt.alloc());
     offer_up(&mut book, 3)?;
     offer_up(&mut book, 5)?;
+    turns(&mut book, Direction::Up, &[Fate::Back, Fate::Repeat])?;
     assert!(rt; head_is(&book, Direction::Up, 3));
-    book.turn(Direction::Up, Fate::Back)?;
-    book.turn(Direction::Up, Fate::Repeat)?;
-    assert!(rt; head_is(&book, Direction::Up, 3));
-    book.turn(Direction::Up, Fate::Lose)?;
-    book.turn(Direction::Up, Fate::Deliver)?;
-    assert!(rt; book.head(Direction::Up).is_none());
-    assert_eq!(rt; come_up(&mut book), Some((0, 5)));
-    assert!(rt; !book.quiet());
-    assert_eq!(rt; come_up(&mut book), Some((1, 5)));
+    turns(&mut book, Direction::Up, &[Fate::Lose, Fate::Deliver])?;
+    assert!(rt; come_up(&mut book) == Some((0, 5)) && !book.quiet());
+    assert!(rt; come_up(&mut book) == Some((1, 5)) && book.quiet());
     assert!(rt; recorded(book.link_log(), 0, 5) && recorded(book.link_log(), 1, 5));
     Ok(())
 }
@@ -103,8 +103,24 @@ fn a_packet_meets_each_fate(rt: HostRuntime) -> Result<(), Fail> {
 fn drops_what_goes_the_other_way(rt: HostRuntime) -> Result<(), Fail> {
     let mut book = LinkBook::new(rt.alloc());
     offer_down(&mut book, want(3), false)?;
-    book.turn(Direction::Down, Fate::Repeat)?;
+    turns(&mut book, Direction::Down, &[Fate::Repeat])?;
     assert!(rt; book.quiet() && book.link_log().is_empty());
+    Ok(())
+}
+
+/// The record after the last: refused where it would arrive, and the packet stays.
+fn is_full(book: &mut LinkBook) -> bool {
+    book.turn(Direction::Up, Fate::Deliver) == Err(LinkFault::LogFull)
+        && book.turn(Direction::Up, Fate::Repeat) == Err(LinkFault::LogFull)
+        && book.turn(Direction::Up, Fate::Back).is_ok()
+        && head_is(book, Direction::Up, 7)
+}
+
+fn fill(book: &mut LinkBook) -> Result<(), LinkFault> {
+    for _ in 0..1_048_576 {
+        book.turn(Direction::Up, Fate::Repeat)?;
+        book.pop_up();
+    }
     Ok(())
 }
 
@@ -112,14 +128,7 @@ fn drops_what_goes_the_other_way(rt: HostRuntime) -> Result<(), Fail> {
 fn refuses_a_record_past_the_limit(rt: HostRuntime) -> Result<(), Fail> {
     let mut book = LinkBook::new(rt.alloc());
     offer_up(&mut book, 7)?;
-    for _ in 0..1_048_576 {
-        book.turn(Direction::Up, Fate::Repeat)?;
-        book.pop_up();
-    }
-    for fate in [Fate::Deliver, Fate::Repeat] {
-        assert_eq!(rt; book.turn(Direction::Up, fate), Err(LinkFault::LogFull));
-    }
-    book.turn(Direction::Up, Fate::Back)?;
-    assert!(rt; head_is(&book, Direction::Up, 7));
+    fill(&mut book)?;
+    assert!(rt; is_full(&mut book));
     Ok(())
 }
