@@ -1,1 +1,4 @@
 pub mod Nearest
+pub mod Logs
+pub mod Keeping
+pub mod Calls

@@ -5,6 +5,25 @@ ghost use Rattle.std.specs.Prelude.{◌≡◌, ℕ, ◌<◌, true};
 ghost use Rattle.migration_types.specs.PageSets.{Pages};
 ghost use Rattle.active_push.specs.Choice.{IsChoice};
 
+mod book;
+mod records;
+#[cfg(test)]
+mod tests;
+
+pub use book::SourceBook;
+use thiserror::Error;
+
+/// Why a call of the source's book did nothing. The book is then as it was.
+#[derive(Clone, Copy, Debug, PartialEq, Eq, Error)]
+pub enum SourceFault {
+    /// The log has no room for what the call would append.
+    #[error("the source's log is full")]
+    LogFull,
+    /// Memory was refused.
+    #[error("out of memory")]
+    Memory,
+}
+
 /// The page that is pushed is the next one of bubbling.
 pub fn pushes_are_next()
     ensures { (pages pivot : ℕ) (set : Pages) → ((p : ℕ) → set p ≡ true → p < pages) → IsChoice pages pivot set }

@@ -1,0 +1,26 @@
+-- Logs that grow at their end.
+use Rattle.std.proofs.Common.{◌≡◌, ℕ, zero, suc, ◌⊎◌, inl, inr, List, [], ◌∷◌, ◌++◌, length, Some, refl, ap}
+use Rattle.std.specs.Prelude.{slice_get}
+
+pub length_suc : {A : Type 0} (xs : List A) (x : A) → length (xs ++ x ∷ []) ≡ suc (length xs)
+length_suc [] x = refl
+length_suc (y ∷ xs) x = ap suc (length_suc xs x)
+
+pub get_old : {A : Type 0} (xs ys : List A) (n : ℕ) (y : A) → slice_get xs n ≡ Some y → slice_get (xs ++ ys) n ≡ Some y
+get_old [] ys n y e = absurd (cc)
+get_old (x ∷ xs) ys zero y e = e
+get_old (x ∷ xs) ys (suc n) y e = get_old xs ys n y e
+
+pub get_new : {A : Type 0} (xs : List A) (x : A) → slice_get (xs ++ x ∷ []) (length xs) ≡ Some x
+get_new [] x = refl
+get_new (y ∷ xs) x = get_new xs x
+
+pub get_push : {A : Type 0} (xs : List A) (x : A) (n : ℕ) (y : A) → slice_get (xs ++ x ∷ []) n ≡ Some y → (slice_get xs n ≡ Some y) ⊎ ((n ≡ length xs) × (x ≡ y))
+get_push [] x zero y e = inr (refl, (let e = e in cc))
+get_push [] x (suc n) y e = absurd (cc)
+get_push (z ∷ xs) x zero y e = inl e
+get_push {A} (z ∷ xs) x (suc n) y e = up (get_push xs x n y e)
+  where
+    up : (slice_get xs n ≡ Some y) ⊎ ((n ≡ length xs) × (x ≡ y)) → (slice_get xs n ≡ Some y) ⊎ ((suc n ≡ suc (length xs)) × (x ≡ y))
+    up (inl h) = inl h
+    up (inr h) = inr (ap suc h.0, h.1)
