@@ -1,1 +1,4 @@
 pub mod TargetPart
+pub mod History
+pub mod Kept
+pub mod inner

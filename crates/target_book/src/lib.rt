@@ -1,6 +1,10 @@
-//! The target's book.
+//! The target's book: the guest's log from the halt on, the frames, and the history of what was done to them.
 #![tactic(auto)]
 
+mod book;
+mod state;
+
+pub use book::TargetBook;
 use migration_types::PageNo;
 
 /// What an operation at the target comes to.

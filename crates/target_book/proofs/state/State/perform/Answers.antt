@@ -1,0 +1,36 @@
+use Rattle.std.proofs.Common.{rules, ◌≡◌, true, false, Some, arith}
+use Rattle.residency.specs.Placements.{is_covered}
+use Rattle.target_book.specs.Kept.{part_held}
+use Rattle.target_book.specs.inner.States.{held}
+use Rattle.target_book.proofs.Parts.{seen_length, unseen_length}
+use Rattle.target_book.proofs.state.State.perform.Goals.{then-covers+in_ok-room, else-covers+in_ok-room-2}
+use Rattle.target_book.proofs.state.State.perform.Goals as goal
+
+pub returns-in_err-room-clause-full : goal.returns-in_err-room-clause-full
+returns-in_err-room-clause-full c =
+    let s = c.args.self.now in
+    let covers = c.covers.ensures in
+    let test = c.if-covers.true in
+    let page = c.page.ensures in
+    let placed = c.requires.placed in
+    let seen : is_covered (Some c.args.number) s.places.frontier ≡ true = cc in
+    rw (seen_length s.frames.geometry c.args.vcpu c.args.op.now c.args.number (part_held (held s)) c.requires.fits seen) (search rules)
+
+pub returns-in_err-room-2-clause-full : goal.returns-in_err-room-2-clause-full
+returns-in_err-room-2-clause-full c =
+    let s = c.args.self.now in
+    let covers = c.covers.ensures in
+    let test = c.if-covers.false in
+    let page = c.page.ensures in
+    let placed = c.requires.placed in
+    let unseen : is_covered (Some c.args.number) s.places.frontier ≡ false = cc in
+    rw (unseen_length s.frames.geometry c.args.vcpu c.args.op.now c.args.number (part_held (held s)) c.requires.fits unseen) (search rules)
+
+pub returns-clause-sized : goal.returns-clause-sized
+returns-clause-sized c = elim c.if-covers.branch [
+  | then-covers+in_ok-room w ↦ λ e sized. c.act.ensures.sized e (rw (w.self-is, w.room.ensures.items) sized)
+  | else-covers+in_ok-room-2 w ↦ λ e sized.
+      let few = w.in_ok-room-2.ensures.fits in
+      let items = w.room-else-covers.ensures.items in
+      c.act.ensures.sized e (rw w.self-is (w.look.ensures.sized e (rw items (omega arith)) (rw items sized)))
+]

@@ -1,0 +1,13 @@
+-- What a state of the code holds.
+use Rattle.target_book.specs.Kept.{Held}
+use Rattle.target_book.specs.declared.state.State.{State}
+
+abbrev pub held : State → Held
+held s = record {
+  log = s.log.items;
+  is_resumed = s.is_resumed;
+  frames = s.frames;
+  places = s.places;
+  misses = s.misses.items;
+  standing = s.standing.items;
+}

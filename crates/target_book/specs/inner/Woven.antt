@@ -1,0 +1,15 @@
+-- The history that is stored as two lists.
+use Rattle.std.specs.Prelude.{ℕ, suc, ◌==◌, List, [], ◌∷◌, ◌++◌, if◌then◌else◌}
+use Rattle.migration_types.specs.declared.records.GuestRec.{GuestRec}
+use Rattle.target_book.specs.declared.book.Placement.{Placement}
+use Rattle.target_book.specs.History.{Happening, Did, Placed}
+
+-- the placements that were made after so many records of the guest
+abbrev pub placed_after : ℕ → List Placement → List Happening
+placed_after n [] = []
+placed_after n (p ∷ rest) = if p.after == n then Placed p.page p.number p.contents ∷ placed_after n rest else placed_after n rest
+
+-- the guest's records, the first of which is number n, and the placements between them
+abbrev pub woven : ℕ → List GuestRec → List Placement → List Happening
+woven n [] placements = placed_after n placements
+woven n (r ∷ log) placements = placed_after n placements ++ Did r ∷ woven (suc n) log placements
