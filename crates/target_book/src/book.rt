@@ -1,17 +1,18 @@
 //! The book, with its history.
 
-ghost use Rattle.std.specs.Prelude.{◌≡◌, ◌<◌, ◌≤◌, [], ◌∷◌, ◌++◌, length, map, IfOk, IfErr, OnOk, OnErr, IsErrOf};
+ghost use Rattle.std.specs.Prelude.{◌≡◌, ◌<◌, ◌≤◌, [], ◌∷◌, ◌++◌, length, map, drop, slice_get, None, false, IfOk, IfErr, OnOk, OnErr, IsErrOf};
 ghost use Rattle.std.specs.List.{AllByRecursion};
 ghost use Rattle.migration_types.specs.Limits.{most_records};
-ghost use Rattle.target_book.specs.TargetPart.{halted_target, target_access};
+ghost use Rattle.target_book.specs.TargetPart.{halted_target, target_access, resumes, with_placed, with_zeroed, with_misses};
 ghost use Rattle.target_book.specs.History.{Did, IsBeforeHalt, IsAccess};
 ghost use Rattle.target_book.specs.Kept.{part_of, geometry_of};
 
 use crate::state::State;
-use crate::{Access, TargetFault};
+use crate::{Access, Missing, TargetFault};
 use migration_events::Op;
 use migration_types::{Contents, Geometry, GuestRec, PageNo};
-use std::alloc::Global;
+use page_store::Store;
+use std::alloc::{AllocError, Global};
 use std::marker::Model;
 
 /// A page that the pager placed.
@@ -36,16 +37,16 @@ pub struct TargetBook {
 }
 
 impl Model for TargetBook {
-    ghost use Rattle.target_book.specs.Kept.{Kept, IsSized};
+    ghost use Rattle.target_book.specs.Kept.{Kept};
 
     ghost Value = { Kept };
 
     ghost use Rattle.target_book.specs.inner.States.{held};
-    ghost use Rattle.target_book.specs.inner.Woven.{woven};
+    ghost use Rattle.target_book.specs.inner.Woven.{woven, IsBook};
 
     ghost view = { λ b. record { held = held b.state; history = woven 0 b.state.log.items b.placements.items } };
 
-    ghost invariant = { λ b. IsSized b.state.frames.geometry (held b.state) };
+    ghost invariant = { λ b. IsBook (held b.state) b.placements.items };
 }
 
 impl TargetBook {
@@ -85,5 +86,116 @@ impl TargetBook {
         ensures err { OnErr result (self.new ≡ self.old) }
     {
         self.state.access(vcpu, &op)
+    }
+
+    /// The guest resumes at the target, which is recorded. `TargetFault::LogFull` where the log has no room for the
+    /// record. On an error nothing changes.
+    pub fn resume(&mut self) -> Result<(), TargetFault>
+        requires { (part_of self.old).is_resumed ≡ false }
+        ensures part { OnOk result (part_of self.new ≡ resumes (part_of self.old)) }
+        ensures geometry { geometry_of self.new ≡ geometry_of self.old }
+        ensures full { IsErrOf result TargetFault.LogFull → most_records < length (resumes (part_of self.old)).log }
+        ensures err { OnErr result (self.new ≡ self.old) }
+    {
+        self.state.resume()
+    }
+
+    /// Places a page that was not placed, with these values in its cells, by the pager's record of this number. The
+    /// history gains the placement. An error: there is no memory for it, and then nothing changes.
+    pub fn place(&mut self, page: PageNo, number: u32, contents: &[u64]) -> Result<(), AllocError>
+        requires page { page < (geometry_of self.old).pages }
+        requires contents { length contents.now ≡ (geometry_of self.old).cells }
+        requires absent { (part_of self.old).placed page ≡ None }
+        ensures part { OnOk result (part_of self.new ≡ with_placed page number contents.now (part_of self.old)) }
+        ensures geometry { geometry_of self.new ≡ geometry_of self.old }
+        ensures err { OnErr result (self.new ≡ self.old) }
+    {
+        self.placements.reserve(1)?;
+        let after = self.state.log.len() as u32;
+        let stored = Contents::copied(self.alloc, contents)?;
+        self.state.place(page, number, contents);
+        self.placements.push_reserved(Placement {
+            after,
+            page,
+            number,
+            contents: stored,
+        });
+        Ok(())
+    }
+
+    /// Places a page that was not placed, as zeros, by the pager's record of this number. The history gains the
+    /// placement. An error: there is no memory for it, and then nothing changes.
+    pub fn zero(&mut self, page: PageNo, number: u32) -> Result<(), AllocError>
+        requires page { page < (geometry_of self.old).pages }
+        requires absent { (part_of self.old).placed page ≡ None }
+        ensures part { OnOk result (part_of self.new ≡ with_zeroed page number (part_of self.old)) }
+        ensures geometry { geometry_of self.new ≡ geometry_of self.old }
+        ensures err { OnErr result (self.new ≡ self.old) }
+    {
+        self.placements.reserve(1)?;
+        let after = self.state.log.len() as u32;
+        self.state.zero(page, number);
+        self.placements.push_reserved(Placement {
+            after,
+            page,
+            number,
+            contents: Contents::from_vec(Vec::new(self.alloc)),
+        });
+        Ok(())
+    }
+
+    /// The oldest miss that was not taken. None: all were taken.
+    pub fn next_miss(&self) -> Option<Missing>
+        ensures { result ≡ slice_get (part_of self.now).misses 0 }
+    {
+        self.state.misses.front().copied()
+    }
+
+    /// Takes the oldest miss that was not taken, if there is one. Nothing else changes.
+    pub fn take_miss(&mut self)
+        ensures part { part_of self.new ≡ with_misses (drop 1 (part_of self.old).misses) (part_of self.old) }
+        ensures history { self.new.history ≡ self.old.history }
+        ensures geometry { geometry_of self.new ≡ geometry_of self.old }
+    {
+        self.state.misses.pop_front();
+    }
+
+    /// Whether the guest has resumed at the target.
+    pub fn is_resumed(&self) -> bool
+        ensures { result ≡ (part_of self.now).is_resumed }
+    {
+        self.state.is_resumed
+    }
+
+    /// The number of the pager's record that placed a page. None: the page was not placed.
+    pub fn placed_at(&self, page: PageNo) -> Option<u32>
+        requires { page < (geometry_of self.now).pages }
+        ensures { result ≡ (part_of self.now).placed page }
+    {
+        self.state.places.placed_at(page)
+    }
+
+    /// The guest's log.
+    pub fn guest_log(&self) -> &[GuestRec]
+        ensures { result.now ≡ (part_of self.now).log }
+    {
+        &self.state.log
+    }
+
+    /// The machine's geometry.
+    pub fn geometry(&self) -> Geometry
+        ensures { result ≡ geometry_of self.now }
+    {
+        self.state.frames.geometry()
+    }
+
+    /// The guest's log and the frames.
+    pub fn into_parts(self) -> (Vec<GuestRec>, Store)
+        ensures log { result.0.items ≡ self.held.log }
+        ensures frames { result.1 ≡ self.held.frames }
+    {
+        let TargetBook { state, .. } = self;
+        let State { log, frames, .. } = state;
+        (log, frames)
     }
 }

@@ -9,7 +9,7 @@ ghost use Rattle.page_store.specs.Frames.{memory_of};
 ghost use Rattle.residency.specs.Placements.{placements, no_placement, is_covered};
 ghost use Rattle.migration_types.specs.Memory.{zeros};
 ghost use Rattle.migration_types.specs.PageSets.{without_page};
-ghost use Rattle.target_book.specs.TargetPart.{halted_target, target_access, accesses, misses_page, does};
+ghost use Rattle.target_book.specs.TargetPart.{halted_target, target_access, accesses, misses_page, does, resumes, with_placed, with_zeroed};
 ghost use Rattle.target_book.specs.Kept.{IsSized, part_held, marked};
 ghost use Rattle.target_book.specs.inner.States.{held};
 
@@ -178,6 +178,47 @@ impl State {
             }
             Op::Release { .. } => 0,
         }
+    }
+
+    /// The guest runs at the target from now on.
+    pub(crate) fn resume(&mut self) -> Result<(), TargetFault>
+        requires { length self.old.log.items ≤ most_records }
+        ensures part { OnOk result (part_held (held self.new) ≡ resumes (part_held (held self.old))) }
+        ensures full { IsErrOf result TargetFault.LogFull → most_records < length (resumes (part_held (held self.old))).log }
+        ensures sized { (e : Extent) → IsSized e (held self.old) → IsSized e (held self.new) }
+        ensures err { OnErr result (held self.new ≡ held self.old) }
+    {
+        room(&mut self.log, 1)?;
+        self.log.push_reserved(GuestRec::Resume { ready: 1 });
+        self.is_resumed = true;
+        Ok(())
+    }
+
+    /// A page is placed with these cells.
+    pub(crate) fn place(&mut self, page: PageNo, number: u32, cells: &[u64])
+        requires frames { page < (held self.old).frames.geometry.pages }
+        requires places { page < (held self.old).places.geometry.pages }
+        requires cells { length cells.now ≡ (held self.old).frames.geometry.cells }
+        requires absent { placements self.old.places page ≡ None }
+        ensures part { part_held (held self.new) ≡ with_placed page number cells.now (part_held (held self.old)) }
+        ensures log { self.new.log ≡ self.old.log }
+        ensures sized { (e : Extent) → IsSized e (held self.old) → IsSized e (held self.new) }
+    {
+        self.frames.install(page, cells);
+        self.places.mark(page, number);
+    }
+
+    /// A page is placed as zeros.
+    pub(crate) fn zero(&mut self, page: PageNo, number: u32)
+        requires frames { page < (held self.old).frames.geometry.pages }
+        requires places { page < (held self.old).places.geometry.pages }
+        requires absent { placements self.old.places page ≡ None }
+        ensures part { part_held (held self.new) ≡ with_zeroed page number (part_held (held self.old)) }
+        ensures log { self.new.log ≡ self.old.log }
+        ensures sized { (e : Extent) → IsSized e (held self.old) → IsSized e (held self.new) }
+    {
+        self.frames.release(page);
+        self.places.mark(page, number);
     }
 }
 

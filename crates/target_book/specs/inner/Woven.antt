@@ -1,8 +1,9 @@
 -- The history that is stored as two lists.
-use Rattle.std.specs.Prelude.{ℕ, suc, ◌==◌, List, [], ◌∷◌, ◌++◌, if◌then◌else◌}
+use Rattle.std.specs.Prelude.{ℕ, suc, ◌==◌, ◌≤◌, List, [], ◌∷◌, ◌++◌, if◌then◌else◌}
 use Rattle.migration_types.specs.declared.records.GuestRec.{GuestRec}
 use Rattle.target_book.specs.declared.book.Placement.{Placement}
 use Rattle.target_book.specs.History.{Happening, Did, Placed}
+use Rattle.target_book.specs.Kept.{Held, IsSized}
 
 -- the placements that were made after so many records of the guest
 abbrev pub placed_after : ℕ → List Placement → List Happening
@@ -13,3 +14,11 @@ placed_after n (p ∷ rest) = if p.after == n then Placed p.page p.number p.cont
 abbrev pub woven : ℕ → List GuestRec → List Placement → List Happening
 woven n [] placements = placed_after n placements
 woven n (r ∷ log) placements = placed_after n placements ++ Did r ∷ woven (suc n) log placements
+
+-- a placement was made after no more records than these
+abbrev pub IsWithin : ℕ → Placement → Type 0
+IsWithin n p = p.after ≤ n
+
+-- what a book keeps
+pub record IsBook (h : Held) (placements : List Placement) : Type 0 where
+  pub sized : IsSized h.frames.geometry h
