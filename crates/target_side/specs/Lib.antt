@@ -1,1 +1,3 @@
 pub mod PagerPart
+pub mod PagerLists
+pub mod inner
