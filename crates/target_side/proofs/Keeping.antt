@@ -2,7 +2,7 @@
 use Rattle.std.proofs.Common.{◌≡◌, ℕ, ◌<◌, ◌≤◌, Bool, true, false, cond, ◌||◌, List, [], ◌∷◌, ◌++◌, length, Option, Some, None, refl, sym, ap, ◌∙◌, subst, arith}
 use Rattle.std.proofs.lemmas.Bool.{eqb-true}
 use Rattle.std.proofs.lemmas.List.Folds.{list_any-append}
-use Rattle.std.specs.Prelude.{slice_get, ◌==◌}
+use Rattle.std.specs.Prelude.{is_some, slice_get, ◌==◌}
 use Rattle.std.specs.List.{AllByRecursion, list_any}
 use Rattle.migration_types.specs.declared.records.PagerRec.{PagerRec}
 use Rattle.migration_types.specs.declared.records.PagerRec.TheVariants.{Got, Ready, Fault, Join, Want, Place, Zero, Skip, All}
@@ -62,22 +62,26 @@ tied_placed page r b places t = record {
     either false true = refl
     either false false = refl
 
-begun_more : (released : Option (List ℕ)) (log : List PagerRec) (r : PagerRec) (list : List ℕ) → released ≡ Some list → HasBegun released log → HasBegun released (log ++ r ∷ [])
-begun_more None log r list is h = absurd (cc)
-begun_more (Some xs) log r list is h = ((h.0.0, get_old log r 0 (Got h.0.0) h.0.1), get_old log r 1 Ready h.1)
+begun_more : (released : Option (List ℕ)) (log : List PagerRec) (r : PagerRec) → is_some released ≡ true → HasBegun released log → HasBegun released (log ++ r ∷ [])
+begun_more None log r is h = absurd (cc)
+begun_more (Some xs) log r is h = ((h.0.0, get_old log r 0 (Got h.0.0) h.0.1), get_old log r 1 Ready h.1)
 
 -- a record more, once the state has come
-pub kept_more : (r : PagerRec) (b : PagerPart) (list : List ℕ) → b.released ≡ Some list → ((p : ℕ) → is_placement_of p r ≡ false) → length (b.log ++ r ∷ []) ≤ most_records → IsKept b → IsKept (with_record r b)
-kept_more r b list is other few k = record { few = few; begun = begun_more b.released b.log r list is k.begun; tied = tied_more r b other k.tied }
+pub kept_more : (r : PagerRec) (b : PagerPart) → is_some b.released ≡ true → ((p : ℕ) → is_placement_of p r ≡ false) → length (b.log ++ r ∷ []) ≤ most_records → IsKept b → IsKept (with_record r b)
+kept_more r b is other few k = record { few = few; begun = begun_more b.released b.log r is k.begun; tied = tied_more r b other k.tied }
 
-pub kept_placed : (page : ℕ) (r : PagerRec) (b : PagerPart) (list : List ℕ) → b.released ≡ Some list → ((p : ℕ) → is_placement_of p r ≡ (page == p)) → length (b.log ++ r ∷ []) ≤ most_records → IsKept b → IsKept (record b { log = b.log ++ r ∷ []; placed = with_page page b.placed })
-kept_placed page r b list is places few k = record { few = few; begun = begun_more b.released b.log r list is k.begun; tied = tied_placed page r b places k.tied }
+pub kept_placed : (page : ℕ) (r : PagerRec) (b : PagerPart) → is_some b.released ≡ true → ((p : ℕ) → is_placement_of p r ≡ (page == p)) → length (b.log ++ r ∷ []) ≤ most_records → IsKept b → IsKept (record b { log = b.log ++ r ∷ []; placed = with_page page b.placed })
+kept_placed page r b is places few k = record { few = few; begun = begun_more b.released b.log r is k.begun; tied = tied_placed page r b places k.tied }
 
 -- the state comes first
-pub kept_first : (down : ℕ) (list : List ℕ) (b : PagerPart) → b.released ≡ None → IsKept b → IsKept (record b { log = (b.log ++ Got down ∷ []) ++ Ready ∷ []; released = Some list })
+unbegun : (released : Option (List ℕ)) (log : List PagerRec) → is_some released ≡ false → HasBegun released log → log ≡ []
+unbegun None log is h = h
+unbegun (Some xs) log is h = absurd (cc)
+
+pub kept_first : (down : ℕ) (list : List ℕ) (b : PagerPart) → is_some b.released ≡ false → IsKept b → IsKept (record b { log = (b.log ++ Got down ∷ []) ++ Ready ∷ []; released = Some list })
 kept_first down list b is k =
     let t : IsTied (with_record Ready (with_record (Got down) b)) = tied_more Ready (with_record (Got down) b) (λ p. refl) (tied_more (Got down) b (λ p. refl) k.tied) in
-    let none : b.log ≡ [] = subst (λ o. HasBegun o b.log) is k.begun in
+    let none : b.log ≡ [] = unbegun b.released b.log is k.begun in
     record {
       few = subst (λ (xs : List PagerRec). length ((xs ++ Got down ∷ []) ++ Ready ∷ []) ≤ most_records) (sym none) (omega arith);
       begun = subst (λ (xs : List PagerRec). HasBegun (Some list) ((xs ++ Got down ∷ []) ++ Ready ∷ [])) (sym none) ((down, refl), refl);
@@ -120,12 +124,12 @@ wanted_still e page n wants x h = (h.0, go (page == x.page))
     go true = (n, refl)
     go false = h.1
 
-pub kept_wanting : (page : ℕ) (b : PagerPart) (list : List ℕ) → b.released ≡ Some list → page < b.geometry.pages → length (b.log ++ Want page ∷ []) ≤ most_records → IsKept b → IsKept (wants_page page b)
-kept_wanting page b list is fits few k =
+pub kept_wanting : (page : ℕ) (b : PagerPart) → is_some b.released ≡ true → page < b.geometry.pages → length (b.log ++ Want page ∷ []) ≤ most_records → IsKept b → IsKept (wants_page page b)
+kept_wanting page b is fits few k =
     let t : IsTied (with_record (Want page) b) = tied_more (Want page) b (λ p. refl) k.tied in
     record {
       few = few;
-      begun = begun_more b.released b.log (Want page) list is k.begun;
+      begun = begun_more b.released b.log (Want page) is k.begun;
       tied = record {
         inbox = t.inbox;
         outbox = t.outbox;

@@ -1,2 +1,5 @@
 mod Lists
 mod Keeping
+mod Listed
+mod Sounds
+mod Ticking
