@@ -27,13 +27,12 @@ none_absent k (suc n) list there all =
 
 least_absent : (k n p : ℕ) (list : List ℕ) (there : Pages) → k ≤ p → p < k + n → ((q : ℕ) → k ≤ q → q < p → (is_listed q list || there q) ≡ true) → (is_listed p list || there p) ≡ false → first_absent (range_with_len k n) list there ≡ Some p
 least_absent k zero p list there ge lt all here = absurd (omega arith)
-least_absent k (suc n) p list there ge lt all here = go (cases_lt k p)
+least_absent k (suc n) p list there ge lt all here =
+    go (λ below. least_absent (k + 1) n p list there (omega arith) (omega arith) (λ q qge qlt. all q (omega arith) qlt) here) (cases_lt k p)
   where
-    go : (k < p) ⊎ (p ≤ k) → first_absent (range_with_len k (suc n)) list there ≡ Some p
-    go (inl below) =
-        ap (λ b. cond b (first_absent (range_with_len (k + 1) n) list there) (Some k)) (all k (omega arith) below)
-        ∙ least_absent (k + 1) n p list there (omega arith) (omega arith) (λ q qge qlt. all q (omega arith) qlt) here
-    go (inr above) =
+    go : (k < p → first_absent (range_with_len (k + 1) n) list there ≡ Some p) → (k < p) ⊎ (p ≤ k) → first_absent (range_with_len k (suc n)) list there ≡ Some p
+    go rest (inl below) = ap (λ b. cond b (first_absent (range_with_len (k + 1) n) list there) (Some k)) (all k (omega arith) below) ∙ rest below
+    go rest (inr above) =
         let same : k ≡ p = omega arith in
         let none : (is_listed k list || there k) ≡ false = subst (λ q. (is_listed q list || there q) ≡ false) (sym same) here in
         ap (λ b. cond b (first_absent (range_with_len (k + 1) n) list there) (Some k)) none ∙ ap (λ q. Some q) same

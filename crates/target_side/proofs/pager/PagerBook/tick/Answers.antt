@@ -30,3 +30,36 @@ returns-then-absent-pages-clause-ok c =
       (c.append-number.ensures.number ∙ ap length c.make_room.ensures.same)
     ∙ sym (ticks_done c.self.inside.released _ there all)
     ∙ ap (λ (v : PagerLists). pager_tick (part_of v)) c.self.view_is
+
+-- what the page and its record are
+page_fits : (c : goal.After-want_page-number) → c.oldest_or-page.result < c.self.inside.geometry.pages
+page_fits c =
+    let below : c.first_unmarked-absent.result < c.self.inside.geometry.pages = omega (arith, c.first_unmarked-absent.ensures.ends, c.pages-pages.ensures, c.if-absent-pages.false) in
+    subst (λ (n : ℕ). n < c.self.inside.geometry.pages) (sym (c.oldest_or-page.ensures ∙ ap (oldest c.self.inside.waiting) c.new.ensures))
+    (oldest_fits c.self.inside.geometry _ c.self.inside.waiting c.first_unmarked-absent.result c.self.invariant.kept.tied.waiting below)
+
+log_is : (c : goal.After-want_page-number) → c.want_page-number.new.log.items ≡ c.self.inside.log.items ++ Want c.oldest_or-page.result ∷ []
+log_is c = c.want_page-number.ensures.items ∙ ap (λ l. l ++ Want c.oldest_or-page.result ∷ []) c.make_room.ensures.same
+
+wants_are : (c : goal.After-want_page-number) → values c.want_page-number.new.wants ≡ with_value c.oldest_or-page.result (Some (length c.self.inside.log.items)) (values c.self.inside.wants)
+wants_are c = c.want_page-number.ensures.wants.values_are ∙ ap (λ (l : List PagerRec). with_value c.oldest_or-page.result (Some (length l)) (values c.self.inside.wants)) c.make_room.ensures.same
+
+pub invariant_of-self-2 : goal.invariant_of-self-2
+invariant_of-self-2 c =
+    let there : is_some c.self.inside.released ≡ true = grind (arith, common_steps) in
+    let up = sound_up c.first_unmarked-absent.result c.self.invariant (omega (arith, c.first_unmarked-absent.ensures.ends, c.pages-pages.ensures)) c.first_unmarked-absent.ensures.marked in
+    sound_wanting _ _ _ _ up c.want_page-number.ensures.wants.pages
+    (kept_wants _ c.oldest_or-page.result c.want_page-number.new.log.items (values c.want_page-number.new.wants) there (page_fits c) c.in_ok-make_room.ensures.fits (log_is c) (wants_are c) up.kept)
+
+pub returns-clause-ok : goal.returns-clause-ok
+returns-clause-ok c =
+    let there : is_some c.self.inside.released ≡ true = grind (arith, common_steps) in
+    let below : c.first_unmarked-absent.result < c.self.inside.geometry.pages = omega (arith, c.first_unmarked-absent.ensures.ends, c.pages-pages.ensures, c.if-absent-pages.false) in
+    let up = sound_up c.first_unmarked-absent.result c.self.invariant (omega (arith, c.first_unmarked-absent.ensures.ends, c.pages-pages.ensures)) c.first_unmarked-absent.ensures.marked in
+    let here = unsettled c.first_unmarked-absent.result c.self.invariant (c.first_unmarked-absent.ensures.unmarked (omega (arith, c.first_unmarked-absent.ensures.ends, c.if-absent-pages.false))) in
+    said_want _ c.want_page-number.new.log.items (values c.want_page-number.new.wants) c.want_page-number.result c.oldest_or-page.result c.first_unmarked-absent.result
+      (log_is c) (wants_are c)
+      (c.want_page-number.ensures.number ∙ ap length c.make_room.ensures.same)
+      (c.oldest_or-page.ensures ∙ ap (oldest c.self.inside.waiting) c.new.ensures)
+    ∙ sym (ticks_wanting c.self.inside.released _ c.first_unmarked-absent.result there below up.settled here)
+    ∙ ap (λ (v : PagerLists). pager_tick (part_of v)) c.self.view_is
