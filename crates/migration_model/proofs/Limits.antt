@@ -1,0 +1,191 @@
+-- The numbers of a session that grows stay within its limits.
+use Rattle.std.proofs.lemmas.List.FromFn.{length-map-range_with_len}
+use Rattle.audit_model.specs.Shape.{goes_down, goes_up, is_down, is_halt, is_miss, is_placement, is_ready, is_up, passes}
+use Rattle.migration_types.specs.Extents.{Extent, IsExtent}
+use Rattle.migration_types.specs.Memory.{Memory, initial, page_of, with_cell, with_content, with_zeros}
+use Rattle.migration_types.specs.PageSets.{Pages}
+use Rattle.migration_types.specs.Pages.{AreInitPages, InitPageFits}
+use Rattle.migration_types.specs.Sessions.{GuestRecFits, IsNumber, IsSession, LinkRecFits, PagerRecFits, Recorded, SourceRecFits}
+use Rattle.migration_types.specs.declared.pages.InitPage.{InitPage}
+use Rattle.migration_types.specs.declared.records.GuestRec.{GuestRec}
+use Rattle.migration_types.specs.declared.records.GuestRec.TheVariants.{Halt, Miss, Read, Release, Resume, See, Write}
+use Rattle.migration_types.specs.declared.records.LinkRec.{LinkRec}
+use Rattle.migration_types.specs.declared.records.LinkRec.TheVariants.{Down, Up}
+use Rattle.migration_types.specs.declared.records.PagerRec.{PagerRec}
+use Rattle.migration_types.specs.declared.records.PagerRec.TheVariants.{All, Fault, Got, Join, Place, Ready, Skip, Want, Zero}
+use Rattle.migration_types.specs.declared.records.SourceRec.{SourceRec}
+use Rattle.migration_types.specs.declared.records.SourceRec.TheVariants.{Again, Ask, Done, Halted, Send, State}
+use Rattle.migration_model.proofs.Cleans.{IsClean}
+use Rattle.migration_model.proofs.Grows.{guest_more, link_more, pager_more, source_more}
+use Rattle.migration_model.proofs.Lists.{AllAt, all_each, all_push, and_left}
+use Rattle.migration_model.proofs.Shapes.{IsNamed}
+use Rattle.std.proofs.Common.{Bool, List, None, Option, Some, [], arith, cond, false, length, refl, subst, suc, sym, true, zero, ℕ, ◌&&◌, ◌<◌, ◌∷◌, ◌≡◌, ◌≤◌}
+use Rattle.std.proofs.lemmas.Bool.{ltb-true}
+use Rattle.std.proofs.lemmas.Option.{slice_get_within}
+use Rattle.std.specs.List.{AllByRecursion, range_with_len}
+use Rattle.std.specs.Prelude.{map, nat_lt, slice_get, slice_index, ◌==◌, ◌^◌}
+use Rattle.text_lines.specs.Contents.{IsContent}
+
+-- what must be seen of a record when it is made: its own numbers, and not those of other records
+abbrev pub GuestWithin : Extent → GuestRec → Type 0
+GuestWithin e (Resume k) = Unit {0}
+GuestWithin e (See k) = Unit {0}
+GuestWithin e r = GuestRecFits e r
+
+abbrev pub SourceWithin : Extent → SourceRec → Type 0
+SourceWithin e (Send p content) = p < e.pages
+SourceWithin e _ = Unit {0}
+
+abbrev pub PagerWithin : Extent → PagerRec → Type 0
+PagerWithin e (Want p) = p < e.pages
+PagerWithin e (Place p got content) = p < e.pages
+PagerWithin e (Zero p) = p < e.pages
+PagerWithin e _ = Unit {0}
+
+pub record IsLimited (s : Recorded) : Type 0 where
+  pub extent : IsExtent s.geometry
+  pub init : AreInitPages s.geometry s.init
+  pub guest : AllAt (λ n r. GuestWithin s.geometry r) s.guest
+  pub source : AllAt (λ n r. SourceWithin s.geometry r) s.source
+  pub pager : AllAt (λ n r. PagerWithin s.geometry r) s.pager
+
+-- each cell has 64 bits
+abbrev pub IsWide : Memory → Type 0
+IsWide memory = (p c : ℕ) → memory p c < 2 ^ 64
+
+pub guest_limits : (r : GuestRec) (s : Recorded) → GuestWithin s.geometry r → IsLimited s → IsLimited (guest_more r s)
+guest_limits r s here k = record {
+  extent = k.extent;
+  init = k.init;
+  guest = all_push (λ n y. GuestWithin s.geometry y) (λ n y. GuestWithin s.geometry y) s.guest r k.guest (λ n y is h. h) here;
+  source = k.source;
+  pager = k.pager;
+}
+
+pub source_limits : (r : SourceRec) (s : Recorded) → SourceWithin s.geometry r → IsLimited s → IsLimited (source_more r s)
+source_limits r s here k = record {
+  extent = k.extent;
+  init = k.init;
+  guest = k.guest;
+  source = all_push (λ n y. SourceWithin s.geometry y) (λ n y. SourceWithin s.geometry y) s.source r k.source (λ n y is h. h) here;
+  pager = k.pager;
+}
+
+pub link_limits : (r : LinkRec) (s : Recorded) → IsLimited s → IsLimited (link_more r s)
+link_limits r s k = record { extent = k.extent; init = k.init; guest = k.guest; source = k.source; pager = k.pager }
+
+pub pager_limits : (r : PagerRec) (s : Recorded) → PagerWithin s.geometry r → IsLimited s → IsLimited (pager_more r s)
+pager_limits r s here k = record {
+  extent = k.extent;
+  init = k.init;
+  guest = k.guest;
+  source = k.source;
+  pager = all_push (λ n y. PagerWithin s.geometry y) (λ n y. PagerWithin s.geometry y) s.pager r k.pager (λ n y is h. h) here;
+}
+
+-- memories
+pub wide_cell : (p c x : ℕ) (memory : Memory) → x < 2 ^ 64 → IsWide memory → IsWide (with_cell p c x memory)
+wide_cell p c x memory lt wide q d = go ((p == q) && (c == d))
+  where
+    go : (b : Bool) → cond b x (memory q d) < 2 ^ 64
+    go true = lt
+    go false = wide q d
+
+pub wide_zeros : (p : ℕ) (memory : Memory) → IsWide memory → IsWide (with_zeros p memory)
+wide_zeros p memory wide q d = go (p == q)
+  where
+    go : (b : Bool) → cond b 0 (memory q d) < 2 ^ 64
+    go true = omega arith
+    go false = wide q d
+
+index_wide : (xs : List ℕ) (c : ℕ) → AllByRecursion (λ x. x < 2 ^ 64) xs → slice_index xs c < 2 ^ 64
+index_wide [] c all = omega arith
+index_wide (x ∷ xs) zero all = all.0
+index_wide (x ∷ xs) (suc c) all = index_wide xs c all.1
+
+pub wide_content : (p : ℕ) (content : List ℕ) (memory : Memory) → AllByRecursion (λ x. x < 2 ^ 64) content → IsWide memory → IsWide (with_content p content memory)
+wide_content p content memory all wide q d = go (p == q)
+  where
+    go : (b : Bool) → cond b (slice_index content d) (memory q d) < 2 ^ 64
+    go true = index_wide content d all
+    go false = wide q d
+
+pub wide_initial : (e : Extent) (init : List InitPage) → AllByRecursion (InitPageFits e) init → IsWide (initial init)
+wide_initial e [] all p c = omega arith
+wide_initial e (x ∷ xs) all p c = wide_content x.page x.cells (initial xs) all.0.content.each (wide_initial e xs all.1) p c
+
+page_wide : (f : ℕ → ℕ) (xs : List ℕ) → ((c : ℕ) → f c < 2 ^ 64) → AllByRecursion (λ x. x < 2 ^ 64) (map f xs)
+page_wide f [] wide = tt
+page_wide f (c ∷ xs) wide = (wide c, page_wide f xs wide)
+
+pub content_fits : (cells : ℕ) (memory : Memory) (p : ℕ) → IsWide memory → IsContent cells (page_of cells memory p)
+content_fits cells memory p wide = record { count = length-map-range_with_len (memory p) 0 cells; each = page_wide (memory p) (range_with_len 0 cells) (wide p) }
+
+-- what a record names is a number of a record
+passes_there : {A : Type 0} (test : A → Bool) (xs : List A) (n : ℕ) → length xs ≤ 1048576 → passes test (slice_get xs n) ≡ true → IsNumber n
+passes_there {A} test xs n few e = go (slice_get xs n) refl e
+  where
+    go : (o : Option A) → slice_get xs n ≡ o → passes test o ≡ true → IsNumber n
+    go None is e = absurd (cc)
+    go (Some x) is e = let lt = slice_get_within xs n x is in omega (arith, lt, few)
+
+there_number : {A : Type 0} (xs : List A) (n m : ℕ) (x : A) → length xs ≤ 1048576 → slice_get xs n ≡ Some x → nat_lt m n ≡ true → IsNumber m
+there_number xs n m x few is e = let lt = slice_get_within xs n x is in let low : m < n = ltb-true m n e in omega (arith, lt, few, low)
+
+pub record HasRoom (s : Recorded) : Type 0 where
+  pub guest : length s.guest ≤ 1048576
+  pub source : length s.source ≤ 1048576
+  pub link : length s.link ≤ 1048576
+  pub pager : length s.pager ≤ 1048576
+
+module _ (s : Recorded) (room : HasRoom s) (named : IsNamed s) (k : IsLimited s) where
+  guest_fit : (n : ℕ) (r : GuestRec) → slice_get s.guest n ≡ Some r → GuestRecFits s.geometry r
+  guest_fit n (Read v p c x) is = k.guest n (Read v p c x) is
+  guest_fit n (Write v p c x) is = k.guest n (Write v p c x) is
+  guest_fit n (Release v p) is = k.guest n (Release v p) is
+  guest_fit n (Miss v p) is = k.guest n (Miss v p) is
+  guest_fit n Halt is = tt
+  guest_fit n (Resume i) is = passes_there is_ready s.pager i room.pager (named.guest n (Resume i) is)
+  guest_fit n (See i) is = passes_there is_placement s.pager i room.pager (named.guest n (See i) is)
+
+  link_fit : (n : ℕ) (r : LinkRec) → slice_get s.link n ≡ Some r → LinkRecFits r
+  link_fit n (Down i) is = passes_there goes_down s.source i room.source (named.link n (Down i) is)
+  link_fit n (Up i) is = passes_there goes_up s.pager i room.pager (named.link n (Up i) is)
+
+  module _ (memory : Memory) (ledger : Pages) (wide : IsWide memory) (clean : IsClean s memory ledger) where
+    source_fit : (n : ℕ) (r : SourceRec) → slice_get s.source n ≡ Some r → SourceRecFits s.geometry r
+    source_fit n (Halted i) is = passes_there is_halt s.guest i room.guest (named.source n (Halted i) is)
+    source_fit n State is = tt
+    source_fit n (Send p content) is = (k.source n (Send p content) is, subst (λ c. IsContent s.geometry.cells c) (sym (clean.source n (Send p content) is).1) (content_fits s.geometry.cells memory p wide))
+    source_fit n (Again i) is = there_number s.source n i (Again i) room.source is (and_left _ _ (named.source n (Again i) is))
+    source_fit n (Ask i) is = passes_there is_up s.link i room.link (named.source n (Ask i) is)
+    source_fit n Done is = tt
+
+    pager_fit : (n : ℕ) (r : PagerRec) → slice_get s.pager n ≡ Some r → PagerRecFits s.geometry r
+    pager_fit n (Got i) is = passes_there is_down s.link i room.link (named.pager n (Got i) is)
+    pager_fit n Ready is = tt
+    pager_fit n (Fault i) is = passes_there is_miss s.guest i room.guest (named.pager n (Fault i) is)
+    pager_fit n (Join i) is = there_number s.pager n i (Join i) room.pager is (and_left _ _ (named.pager n (Join i) is))
+    pager_fit n (Want p) is = k.pager n (Want p) is
+    pager_fit n (Place p i content) is = (
+      k.pager n (Place p i content) is,
+      there_number s.pager n i (Place p i content) room.pager is (and_left _ _ (named.pager n (Place p i content) is)),
+      subst (λ c. IsContent s.geometry.cells c) (sym (clean.pager n (Place p i content) is).1) (content_fits s.geometry.cells memory p wide),
+    )
+    pager_fit n (Zero p) is = k.pager n (Zero p) is
+    pager_fit n (Skip i) is = there_number s.pager n i (Skip i) room.pager is (and_left _ _ (named.pager n (Skip i) is))
+    pager_fit n All is = tt
+
+    pub is_session : IsSession s
+    is_session = record {
+      geometry = k.extent;
+      init = k.init;
+      few_guest = room.guest;
+      few_source = room.source;
+      few_link = room.link;
+      few_pager = room.pager;
+      guest = all_each (GuestRecFits s.geometry) s.guest guest_fit;
+      source = all_each (SourceRecFits s.geometry) s.source source_fit;
+      link = all_each LinkRecFits s.link link_fit;
+      pager = all_each (PagerRecFits s.geometry) s.pager pager_fit;
+    }

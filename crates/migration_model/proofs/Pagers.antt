@@ -1,0 +1,450 @@
+-- The events of the pager but PagerFlush.
+use Rattle.audit_model.proofs.Consistent.{there}
+use Rattle.audit_model.proofs.Touched.{released_zero}
+use Rattle.audit_model.proofs.Worlds.{content_at}
+use Rattle.audit_model.specs.Flat.{at_halt, in_ledger}
+use Rattle.audit_model.specs.Names.{if_there}
+use Rattle.audit_model.specs.Shape.{delivers, delivery, down_sending, got_down, is_down, is_got, is_miss, is_or_repeats, is_placement_of, is_send_of, is_state, is_want, pager_start, passes}
+use Rattle.balloon_ledger.specs.Released.{released}
+use Rattle.fault_queue.specs.Waiting.{Waiting, entry, is_asked, is_waiting, joined, with_waiter, without}
+use Rattle.link_book.specs.declared.Arrival.{Arrival}
+use Rattle.migration_types.specs.Extents.{Extent}
+use Rattle.migration_types.specs.Memory.{page_of, with_content, with_zeros}
+use Rattle.migration_types.specs.PageSets.{Pages}
+use Rattle.migration_types.specs.Receipts.{Name}
+use Rattle.migration_types.specs.Sessions.{Recorded}
+use Rattle.migration_types.specs.declared.records.GuestRec.TheVariants.{Miss, Resume}
+use Rattle.migration_types.specs.declared.records.LinkRec.TheVariants.{Down}
+use Rattle.migration_types.specs.declared.records.LogName.TheVariants.{Guest, Link, Pager}
+use Rattle.migration_types.specs.declared.records.PagerRec.{PagerRec}
+use Rattle.migration_types.specs.declared.records.PagerRec.TheVariants.{All, Fault, Got, Join, Place, Ready, Skip, Want, Zero}
+use Rattle.migration_types.specs.declared.records.SourceRec.TheVariants.{Again, Send, State}
+use Rattle.page_stream.specs.declared.Packet.{Packet}
+use Rattle.page_stream.specs.declared.Packet.TheVariants.{All as AllPacket, Page as PagePacket, State as StatePacket, Want as WantPacket}
+use Rattle.migration_model.proofs.Cleans.{pager_cleans}
+use Rattle.migration_model.proofs.Facts.{Arrives, AwayKept, DownArrived, HasCome, HasMissed, IsReady, IsStateNumber, IsWaitedFor, UpFact, close_guest, close_none, close_pager, close_pager_two, down_fact_stays, has_come_stays, link_stays, misses_stay, not_new, pager_pushed, released_of, up_fact_stays, up_keeps, with_link, with_pager}
+use Rattle.migration_model.proofs.Grows.{Extends, names, names_none, pager_extends, pager_merges, pager_more}
+use Rattle.migration_model.proofs.Limits.{content_fits, pager_limits, wide_content, wide_zeros}
+use Rattle.migration_model.proofs.Lists.{all_push, and_both, each_kept, each_mapped, each_push, each_weaker, get_new, get_old, index_other, length_suc, passes_at}
+use Rattle.migration_model.proofs.Pushes.{put_pushed, resume_pushed}
+use Rattle.migration_model.proofs.Shapes.{pager_shapes}
+use Rattle.migration_model.specs.Events.{paged, popped, sent_up}
+use Rattle.migration_model.specs.Machine.{Away, away_session}
+use Rattle.std.proofs.Common.{Bool, List, None, Option, Some, [], ap, arith, cond, false, inl, inr, length, not, refl, subst, suc, sym, true, zero, ℕ, ◌++◌, ◌<◌, ◌||◌, ◌∙◌, ◌∷◌, ◌≡◌, ◌≤◌, ◌⊎◌}
+use Rattle.std.proofs.lemmas.Bool.{cases_lt, eq-eqb, eqb-true, lt-ltb}
+use Rattle.std.proofs.lemmas.Option.{slice_get_within}
+use Rattle.std.specs.List.{AllByRecursion, filter, range_with_len}
+use Rattle.std.specs.Prelude.{is_some, slice_get, slice_index, ◌+◌, ◌==◌}
+use Rattle.target_side.specs.PagerPart.{delivers_at, delivers_by, delivers_next, fault_absent, fault_at, fault_join, fault_new, faults, first_absent, is_listed, is_released, oldest, places, pops_by, pops_first, pops_later, ticks, ticks_at, wants_page, zeroes}
+use Rattle.target_book.specs.TargetPart.{resumes}
+use Rattle.target_side.specs.declared.Incoming.{Incoming}
+use Rattle.target_book.specs.declared.Missing.{Missing}
+use Rattle.text_lines.specs.Contents.{IsContent}
+
+listed_released : (ledger : Pages) (xs : List ℕ) (p : ℕ) → is_listed p (filter ledger xs) ≡ true → ledger p ≡ true
+listed_released ledger [] p e = absurd (cc)
+listed_released ledger (x ∷ xs) p e = go (λ f. listed_released ledger xs p f) (ledger x) refl e
+  where
+    here : (is_listed p (filter ledger xs) ≡ true → ledger p ≡ true) → (b : Bool) → (x == p) ≡ b → ledger x ≡ true → (b || is_listed p (filter ledger xs)) ≡ true → ledger p ≡ true
+    here rec true is at e = subst (λ k. ledger k ≡ true) (eqb-true x p is) at
+    here rec false is at e = rec e
+
+    go : (is_listed p (filter ledger xs) ≡ true → ledger p ≡ true) → (b : Bool) → ledger x ≡ b → is_listed p (cond b (x ∷ filter ledger xs) (filter ledger xs)) ≡ true → ledger p ≡ true
+    go rec true at e = here rec (x == p) refl at e
+    go rec false at e = rec e
+
+unlisted : (ledger : Pages) (xs : List ℕ) (p : ℕ) → ledger p ≡ false → is_listed p (filter ledger xs) ≡ false
+unlisted ledger xs p e = go (is_listed p (filter ledger xs)) refl
+  where
+    go : (b : Bool) → is_listed p (filter ledger xs) ≡ b → b ≡ false
+    go true is = let h = listed_released ledger xs p is in absurd (cc)
+    go false is = refl
+
+-- no owed page is absent
+none_absent : (n a : ℕ) (released : List ℕ) (there : Pages) → first_absent (range_with_len a n) released there ≡ None → (p : ℕ) → a ≤ p → p < a + n → (is_listed p released || there p) ≡ true
+none_absent zero a released there e p low high = absurd (omega arith)
+none_absent (suc n) a released there e p low high = go (λ f lo hi. none_absent n (a + 1) released there f p lo hi) (is_listed a released || there a) refl e (cases_lt a p)
+  where
+    go : (first_absent (range_with_len (a + 1) n) released there ≡ None → a + 1 ≤ p → p < a + 1 + n → (is_listed p released || there p) ≡ true) → (b : Bool) → (is_listed a released || there a) ≡ b → cond b (first_absent (range_with_len (a + 1) n) released there) (Some a) ≡ None → (a < p) ⊎ (p ≤ a) → (is_listed p released || there p) ≡ true
+    go rec true is e (inl lt) = rec e (omega arith) (omega arith)
+    go rec true is e (inr le) = let same : a ≡ p = omega arith in subst (λ k. (is_listed k released || there k) ≡ true) same is
+    go rec false is e c = absurd (cc)
+
+-- the least absent page is a page
+absent_there : (n a : ℕ) (released : List ℕ) (there : Pages) (p : ℕ) → first_absent (range_with_len a n) released there ≡ Some p → p < a + n
+absent_there zero a released there p e = absurd (cc)
+absent_there (suc n) a released there p e = go (λ f. absent_there n (a + 1) released there p f) (is_listed a released || there a) e
+  where
+    go : (first_absent (range_with_len (a + 1) n) released there ≡ Some p → p < a + 1 + n) → (b : Bool) → cond b (first_absent (range_with_len (a + 1) n) released there) (Some a) ≡ Some p → p < a + suc n
+    go rec true e = omega (arith, rec e)
+    go rec false e = let same : a ≡ p = cc in omega arith
+
+or_false : (x y : Bool) → x ≡ false → (x || y) ≡ true → y ≡ true
+or_false true y e f = absurd (cc)
+or_false false y e f = f
+
+-- `want p` is recorded
+want_keeps : {o : List Name} (p : ℕ) (a : Away) → AwayKept o a → IsReady (away_session a) → p < a.source.geometry.pages →
+    AwayKept (o ++ (Pager, length a.pager.log) ∷ []) (record a { pager = wants_page p a.pager })
+want_keeps p a k ready lt =
+    let s = away_session a in
+    let t = pager_more (Want p) s in
+    let new = pager_pushed (Want p) a k ready refl (names_none s) refl (λ q. refl) tt lt (λ e. absurd (cc)) in
+    with_pager (wants_page p a.pager) (record a { pager = record a.pager { log = a.pager.log ++ Want p ∷ [] } }) new
+    (record { geometry = new.pager.geometry; unready = new.pager.unready; ready = new.pager.ready; inbox = new.pager.inbox; outbox = new.pager.outbox; waiting = new.pager.waiting; wants = λ q n e. at q n (p == q) refl e (new.pager.wants q n) })
+    k.placed
+  where
+    at : (q n : ℕ) (b : Bool) → (p == q) ≡ b → cond b (Some (length a.pager.log)) (a.pager.wants q) ≡ Some n → (a.pager.wants q ≡ Some n → slice_get (a.pager.log ++ Want p ∷ []) n ≡ Some (Want q)) → slice_get (a.pager.log ++ Want p ∷ []) n ≡ Some (Want q)
+    at q n true is e old =
+        let same : length a.pager.log ≡ n = cc in
+        subst (λ m. slice_get (a.pager.log ++ Want p ∷ []) m ≡ Some (Want q)) same (get_new a.pager.log (Want p) ∙ ap (λ j. Some (Want j)) (eqb-true p q is))
+    at q n false is e old = old e
+
+-- PagerTick
+asked_again_keeps : (o : List Name) (p : ℕ) (a : Away) → AwayKept o a → IsReady (away_session a) → p < a.source.geometry.pages →
+    Arrives o a (sent_up (record { book = wants_page p a.pager; packet = Some (WantPacket (length a.pager.log) p) }) a)
+asked_again_keeps o p a k ready lt =
+    close_pager o (away_session a) (Want p) _
+    (up_keeps (WantPacket (length a.pager.log) p) (record a { pager = wants_page p a.pager }) (want_keeps p a k ready lt) (get_new a.pager.log (Want p)))
+
+all_keeps : (o : List Name) (rel : List ℕ) (a : Away) → AwayKept o a → IsReady (away_session a) → rel ≡ released_of a → first_absent (range_with_len 0 a.pager.geometry.pages) rel a.pager.placed ≡ None → Arrives o a (sent_up (ticks_at None a.pager) a)
+all_keeps o rel a k ready same none =
+    let s = away_session a in
+    close_pager o s All _
+    (up_keeps (AllPacket (length s.pager)) (record a { pager = record a.pager { log = a.pager.log ++ All ∷ [] } })
+    (pager_pushed All a k ready refl (names_none s) refl (λ q. refl) tt tt (λ e p lt owed. complete p lt owed))
+    (get_new s.pager All))
+  where
+    complete : (p : ℕ) → p < a.source.geometry.pages → a.source.ledger p ≡ false → is_some (a.target.placed p) ≡ true
+    complete p lt owed =
+        let pages = a.source.geometry.pages in
+        let there = none_absent a.pager.geometry.pages 0 rel a.pager.placed none p (omega arith) (omega (arith, lt, ap (λ (e : Extent). e.pages) k.pager.geometry)) in
+        let out : is_listed p rel ≡ false = ap (λ r. is_listed p r) same ∙ unlisted a.source.ledger (range_with_len 0 pages) p owed in
+        sym (k.placed p) ∙ or_false (is_listed p rel) (a.pager.placed p) out there
+
+oldest_there : (xs : List Waiting) (s : Recorded) (p : ℕ) → AllByRecursion (IsWaitedFor s) xs → p < s.geometry.pages → oldest xs p < s.geometry.pages
+oldest_there [] s p all lt = lt
+oldest_there (x ∷ xs) s p all lt = all.0
+
+pub pager_ticked_keeps : (o : List Name) (rel : Option (List ℕ)) (a : Away) → AwayKept o a → a.pager.released ≡ rel → Arrives o a (sent_up (ticks rel a.pager) a)
+pager_ticked_keeps o None a k e = close_none o (away_session a) a k
+pager_ticked_keeps o (Some rel) a k e = go (first_absent (range_with_len 0 a.pager.geometry.pages) rel a.pager.placed) refl
+  where
+    go : (q : Option ℕ) → first_absent (range_with_len 0 a.pager.geometry.pages) rel a.pager.placed ≡ q → Arrives o a (sent_up (ticks_at q a.pager) a)
+    go None is = all_keeps o rel a k (k.pager.ready rel e).1 (k.pager.ready rel e).0 is
+    go (Some p) is =
+        let lt : p < a.source.geometry.pages = omega (arith, absent_there a.pager.geometry.pages 0 rel a.pager.placed p is, ap (λ (e : Extent). e.pages) k.pager.geometry) in
+        asked_again_keeps o (oldest a.pager.waiting p) a k (k.pager.ready rel e).1 (oldest_there a.pager.waiting (away_session a) p k.pager.waiting lt)
+
+-- PagerPop
+got_keeps : {o : List Name} (i n : ℕ) (a : Away) → AwayKept o a → IsReady (away_session a) → slice_get a.link.log i ≡ Some (Down n) →
+    AwayKept (o ++ (Pager, length a.pager.log) ∷ []) (record a { pager = record a.pager { log = a.pager.log ++ Got i ∷ [] } })
+got_keeps i n a k ready is =
+    let s = away_session a in
+    pager_pushed (Got i) a k ready (passes_at is_down s.link i (Down n) is refl) (names s (Link, i) (slice_get_within s.link i (Down n) is)) refl (λ q. refl) tt tt (λ e. absurd (cc))
+
+skip_keeps : {o : List Name} (g i : ℕ) (a : Away) → AwayKept o a → IsReady (away_session a) → slice_get a.pager.log g ≡ Some (Got i) →
+    AwayKept (o ++ (Pager, length a.pager.log) ∷ []) (record a { pager = record a.pager { log = a.pager.log ++ Skip g ∷ [] } })
+skip_keeps g i a k ready is =
+    let s = away_session a in
+    pager_pushed (Skip g) a k ready
+    (and_both _ _ (lt-ltb g (length s.pager) (slice_get_within s.pager g (Got i) is)) (passes_at is_got s.pager g (Got i) is refl))
+    (names_none s) refl (λ q. refl) tt tt (λ e. absurd (cc))
+
+popped_later_keeps : (o : List Name) (i : ℕ) (packet : Packet) (a : Away) → AwayKept o a → IsReady (away_session a) → DownArrived (away_session a) (released_of a) (record { number = i; packet = packet }) → Arrives o a (record a { pager = pops_later i packet a.pager })
+popped_later_keeps o i (StatePacket n rel) a k ready fact =
+    let s = away_session a in
+    close_pager_two o s (Got i) (Skip (length s.pager)) _
+    (skip_keeps (length s.pager) i (record a { pager = record a.pager { log = a.pager.log ++ Got i ∷ [] } }) (got_keeps i n a k ready fact.0)
+    (get_old s.pager (Got i ∷ []) 1 Ready ready) (get_new s.pager (Got i)))
+popped_later_keeps o i (PagePacket n p content) a k ready fact =
+    let s = away_session a in
+    let t = pager_more (Got i) s in
+    let x = pager_extends (Got i) s in
+    let new = got_keeps i n a k ready fact.0 in
+    let come : Incoming = record { got = length s.pager; page = p; contents = content } in
+    close_pager o s (Got i) _
+    (with_pager (pops_later i (PagePacket n p content) a.pager) (record a { pager = record a.pager { log = a.pager.log ++ Got i ∷ [] } }) new
+    (record {
+      geometry = new.pager.geometry;
+      unready = new.pager.unready;
+      ready = new.pager.ready;
+      inbox = each_push (HasCome t) a.pager.inbox come new.pager.inbox (record { down = i; number = n; got = get_new s.pager (Got i); came = fact.0; is_page = down_fact_stays s t x (released_of a) (PagePacket n p content) fact.1 });
+      outbox = new.pager.outbox;
+      waiting = new.pager.waiting;
+      wants = new.pager.wants;
+    })
+    k.placed)
+popped_later_keeps o i (WantPacket n p) a k ready fact = close_none o (away_session a) a k
+popped_later_keeps o i (AllPacket n) a k ready fact = close_none o (away_session a) a k
+
+-- the first pop of a state, which makes the pager ready
+first_keeps : (o : List Name) (i n : ℕ) (rel : List ℕ) (a : Away) → AwayKept o a → a.pager.released ≡ None → DownArrived (away_session a) (released_of a) (record { number = i; packet = StatePacket n rel }) →
+    AwayKept ((o ++ (Pager, length a.pager.log) ∷ []) ++ (Pager, length (a.pager.log ++ Got i ∷ [])) ∷ []) (record a { pager = pops_first i (StatePacket n rel) a.pager })
+first_keeps o i n rel a k unready fact = record {
+  named = pager_shapes Ready s1 (pager_shapes (Got i) s0 k.named (passes_at is_down s0.link i (Down n) fact.0 refl)) refl;
+  started = record {
+    source = k.started.source;
+    pager = all_push start start (s0.pager ++ Got i ∷ []) Ready
+        (all_push start start s0.pager (Got i) (λ m y is. no_record s0.pager blank m y is) (λ m y is h. h) (subst (λ m. start m (Got i)) (sym none) delivers_state))
+        (λ m y is h. h) (subst (λ m. start m Ready) (sym one) refl);
+  };
+  merges = pager_merges Ready s1 (o ++ (Pager, length s0.pager) ∷ []) (names_none s1) (pager_merges (Got i) s0 o (names s0 (Link, i) (slice_get_within s0.link i (Down n) fact.0)) k.merges);
+  clean = pager_cleans Ready s1 a.source.memory a.source.ledger tt (pager_cleans (Got i) s0 a.source.memory a.source.ledger tt k.clean);
+  frozen = record { memory_is = k.frozen.memory_is; ledger_is = k.frozen.ledger_is; halt_stands = k.frozen.halt_stands };
+  limits = pager_limits Ready s1 tt (pager_limits (Got i) s0 tt k.limits);
+  phase = record { halted = k.phase.halted; resumes = k.phase.resumes; home_is = k.phase.home_is };
+  resumed_ready = λ e. ready;
+  source = record { sends = k.source.sends; state = k.source.state; wide = k.source.wide };
+  link = link_stays s1 s2 x2 (released_of a) a.link (link_stays s0 s1 x1 (released_of a) a.link k.link);
+  pager = record {
+    geometry = k.pager.geometry;
+    unready = λ e. absurd (let f : Some rel ≡ None = e in cc);
+    ready = λ other e. ((let f : Some rel ≡ Some other = e in let g : rel ≡ released_of a = fact.1.0 in cc), ready);
+    inbox = each_weaker (HasCome s1) (HasCome s2) (has_come_stays s1 s2 x2) a.pager.inbox (each_weaker (HasCome s0) (HasCome s1) (has_come_stays s0 s1 x1) a.pager.inbox k.pager.inbox);
+    outbox = each_weaker (UpFact s1) (UpFact s2) (up_fact_stays s1 s2 x2) a.pager.outbox (each_weaker (UpFact s0) (UpFact s1) (up_fact_stays s0 s1 x1) a.pager.outbox k.pager.outbox);
+    waiting = k.pager.waiting;
+    wants = λ p m e. x2.pager m _ (x1.pager m _ (k.pager.wants p m e));
+  };
+  placed = k.placed;
+  target = record {
+    places = index_other is_placement_of a.target.placed s1.pager Ready (λ q. refl) (index_other is_placement_of a.target.placed s0.pager (Got i) (λ q. refl) k.target.places);
+    frontier = k.target.frontier;
+    frames = k.target.frames;
+    untouched = k.target.untouched;
+    misses = misses_stay s1 s2 x2 a.target.misses (misses_stay s0 s1 x1 a.target.misses k.target.misses);
+    wide = k.target.wide;
+  };
+  ends = record { all = not_new s1.pager Ready All (not_new s0.pager (Got i) All k.ends.all (λ e. absurd (cc))) (λ e. absurd (cc)); done = k.ends.done };
+  vcpus = k.vcpus;
+}
+  where
+    s0 : Recorded
+    s0 = away_session a
+
+    s1 : Recorded
+    s1 = pager_more (Got i) (away_session a)
+
+    s2 : Recorded
+    s2 = pager_more Ready (pager_more (Got i) (away_session a))
+
+    x1 : Extends (away_session a) (pager_more (Got i) (away_session a))
+    x1 = pager_extends (Got i) (away_session a)
+
+    x2 : Extends (pager_more (Got i) (away_session a)) (pager_more Ready (pager_more (Got i) (away_session a)))
+    x2 = pager_extends Ready (pager_more (Got i) (away_session a))
+
+    start : ℕ → PagerRec → Type 0
+    start m y = pager_start (pager_more Ready (pager_more (Got i) (away_session a))) m y ≡ true
+
+    blank : a.pager.log ≡ []
+    blank = k.pager.unready unready
+
+    none : length a.pager.log ≡ 0
+    none = ap (λ (l : List PagerRec). length l) (k.pager.unready unready)
+
+    one : length (a.pager.log ++ Got i ∷ []) ≡ 1
+    one = length_suc a.pager.log (Got i) ∙ ap suc (ap (λ (l : List PagerRec). length l) (k.pager.unready unready))
+
+    no_record : (log : List PagerRec) → log ≡ [] → (m : ℕ) (y : PagerRec) → slice_get log m ≡ Some y → {B : Type 0} → B
+    no_record log e m y is = absurd (let f : slice_get log m ≡ None = ap (λ l. slice_get l m) e in cc)
+
+    got : slice_get ((a.pager.log ++ Got i ∷ []) ++ Ready ∷ []) 0 ≡ Some (Got i)
+    got = get_old (a.pager.log ++ Got i ∷ []) (Ready ∷ []) 0 (Got i) (subst (λ m. slice_get (a.pager.log ++ Got i ∷ []) m ≡ Some (Got i)) (ap (λ (l : List PagerRec). length l) (k.pager.unready unready)) (get_new a.pager.log (Got i)))
+
+    ready : slice_get ((a.pager.log ++ Got i ∷ []) ++ Ready ∷ []) 1 ≡ Some Ready
+    ready = subst (λ m. slice_get ((a.pager.log ++ Got i ∷ []) ++ Ready ∷ []) m ≡ Some Ready) (length_suc a.pager.log (Got i) ∙ ap suc (ap (λ (l : List PagerRec). length l) (k.pager.unready unready))) (get_new (a.pager.log ++ Got i ∷ []) Ready)
+
+    state_there : IsStateNumber (away_session a) n → passes (is_or_repeats (pager_more Ready (pager_more (Got i) (away_session a))) is_state) (slice_get a.source.log n) ≡ true
+    state_there (inl e) = passes_at (is_or_repeats (pager_more Ready (pager_more (Got i) (away_session a))) is_state) a.source.log n State e refl
+    state_there (inr h) = passes_at (is_or_repeats (pager_more Ready (pager_more (Got i) (away_session a))) is_state) a.source.log n (Again h.0) h.1 (passes_at is_state a.source.log h.0 State h.2 refl)
+
+    delivers_state : delivers (pager_more Ready (pager_more (Got i) (away_session a))) is_state 0 ≡ true
+    delivers_state =
+        ap (λ o. passes (λ m. passes (is_or_repeats (pager_more Ready (pager_more (Got i) (away_session a))) is_state) (slice_get a.source.log m)) o)
+        (ap (λ o. if_there (λ down. if_there down_sending (slice_get a.link.log down)) (if_there got_down o)) got ∙ ap (λ o. if_there down_sending o) fact.0)
+        ∙ state_there fact.1.1
+
+first_packet_keeps : (o : List Name) (i : ℕ) (packet : Packet) (a : Away) → AwayKept o a → a.pager.released ≡ None → DownArrived (away_session a) (released_of a) (record { number = i; packet = packet }) → Arrives o a (record a { pager = pops_first i packet a.pager })
+first_packet_keeps o i (StatePacket n rel) a k unready fact = close_pager_two o (away_session a) (Got i) Ready _ (first_keeps o i n rel a k unready fact)
+first_packet_keeps o i (PagePacket n p content) a k unready fact = close_none o (away_session a) a k
+first_packet_keeps o i (WantPacket n p) a k unready fact = close_none o (away_session a) a k
+first_packet_keeps o i (AllPacket n) a k unready fact = close_none o (away_session a) a k
+
+pub popped_keeps : (o : List Name) (xs : List Arrival) (a : Away) → AwayKept o a → a.link.down_arrivals ≡ xs → Arrives o a (popped xs a)
+popped_keeps o [] a k e = close_none o (away_session a) a k
+popped_keeps o (x ∷ rest) a k e = go a.pager.released refl
+  where
+    facts : AllByRecursion (DownArrived (away_session a) (released_of a)) (x ∷ rest)
+    facts = subst (λ ys. AllByRecursion (DownArrived (away_session a) (released_of a)) ys) e k.link.down_arrivals
+
+    new : AwayKept o (record a { link = record a.link { down_arrivals = rest } })
+    new = with_link (record a.link { down_arrivals = rest }) a k (record { down = k.link.down; up = k.link.up; down_arrivals = facts.1; up_arrivals = k.link.up_arrivals })
+
+    go : (q : Option (List ℕ)) → a.pager.released ≡ q → Arrives o a (record a { link = record a.link { down_arrivals = rest }; pager = pops_by q x.number x.packet a.pager })
+    go None is = first_packet_keeps o x.number x.packet (record a { link = record a.link { down_arrivals = rest } }) new is facts.0
+    go (Some rel) is = popped_later_keeps o x.number x.packet (record a { link = record a.link { down_arrivals = rest } }) new (k.pager.ready rel is).1 facts.0
+
+-- PagerDeliver
+delivers_page : (s : Recorded) (x : Incoming) → HasCome s x → delivers s (is_send_of x.page) x.got ≡ true
+delivers_page s x h = ap (λ o. passes (λ n. passes (is_or_repeats s (is_send_of x.page)) (slice_get s.source n)) o) delivery_is ∙ at h.is_page.is_it
+  where
+    delivery_is : delivery s x.got ≡ Some h.number
+    delivery_is = ap (λ o. if_there (λ down. if_there down_sending (slice_get s.link down)) (if_there got_down o)) h.got ∙ ap (λ o. if_there down_sending o) h.came
+
+    itself : is_or_repeats s (is_send_of x.page) (Send x.page x.contents) ≡ true
+    itself = eq-eqb x.page x.page refl
+
+    at : (h.number ≡ h.is_page.send) ⊎ (slice_get s.source h.number ≡ Some (Again h.is_page.send)) → passes (is_or_repeats s (is_send_of x.page)) (slice_get s.source h.number) ≡ true
+    at (inl e) = ap (λ n. passes (is_or_repeats s (is_send_of x.page)) (slice_get s.source n)) e ∙ passes_at (is_or_repeats s (is_send_of x.page)) s.source h.is_page.send _ h.is_page.sent itself
+    at (inr e) = passes_at (is_or_repeats s (is_send_of x.page)) s.source h.number _ e (passes_at (is_send_of x.page) s.source h.is_page.send _ h.is_page.sent (eq-eqb x.page x.page refl))
+
+placed_keeps : (o : List Name) (x : Incoming) (a : Away) → AwayKept o a → IsReady (away_session a) → HasCome (away_session a) x → a.target.placed x.page ≡ None → Arrives o a (paged (places x a.pager a.target) a)
+placed_keeps o x a k ready h none =
+    let s = away_session a in
+    let p = x.page in
+    let sent = k.clean.source h.is_page.send (Send p x.contents) h.is_page.sent in
+    let lt = lt-ltb x.got (length s.pager) (slice_get_within s.pager x.got (Got h.down) h.got) in
+    let content : IsContent s.geometry.cells x.contents = subst (λ c. IsContent s.geometry.cells c) (sym sent.1) (content_fits s.geometry.cells a.source.memory p k.source.wide) in
+    close_pager o s (Place p x.got x.contents) _
+    (put_pushed (Place p x.got x.contents) p (with_content p x.contents a.target.memory) (without p a.pager.waiting) a k ready
+    (and_both _ _ lt (delivers_page s x h)) (names_none s) refl none (λ q. refl)
+    (k.target.places.none p none, sent.1) (k.limits.source h.is_page.send (Send p x.contents) h.is_page.sent) (λ e. cc)
+    (λ c lt. here c lt (p == p) (eq-eqb p p refl) sent.1)
+    (λ q c e. ap (λ b. cond b (slice_index x.contents c) (a.target.memory q c)) e)
+    (wide_content p x.contents a.target.memory content.each k.target.wide)
+    (each_kept (IsWaitedFor s) (λ e. not (p == e.page)) a.pager.waiting k.pager.waiting))
+  where
+    here : (c : ℕ) → c < a.source.geometry.cells → (b : Bool) → b ≡ true → x.contents ≡ page_of a.source.geometry.cells a.source.memory x.page → cond b (slice_index x.contents c) (a.target.memory x.page c) ≡ a.source.memory x.page c
+    here c lt true e is = ap (λ l. slice_index l c) is ∙ content_at a.source.memory a.source.geometry.cells x.page c lt
+    here c lt false e is = absurd (cc)
+
+delivered_at_keeps : (o : List Name) (x : Incoming) (q : Option ℕ) (a : Away) → AwayKept o a → IsReady (away_session a) → HasCome (away_session a) x → a.target.placed x.page ≡ q → Arrives o a (paged (delivers_at x q a.pager a.target) a)
+delivered_at_keeps o x (Some n) a k ready h e = close_pager o (away_session a) (Skip x.got) _ (skip_keeps x.got h.down a k ready h.got)
+delivered_at_keeps o x None a k ready h e = placed_keeps o x a k ready h e
+
+delivered_next_keeps : (o : List Name) (xs : List Incoming) (a : Away) → AwayKept o a → IsReady (away_session a) → a.pager.inbox ≡ xs → Arrives o a (paged (delivers_next xs a.pager a.target) a)
+delivered_next_keeps o [] a k ready e = close_none o (away_session a) a k
+delivered_next_keeps o (x ∷ rest) a k ready e =
+    let P = HasCome (away_session a) in
+    let facts : AllByRecursion P (x ∷ rest) = subst (λ ys. AllByRecursion P ys) e k.pager.inbox in
+    delivered_at_keeps o x (a.target.placed x.page) (record a { pager = record a.pager { inbox = rest } })
+    (with_pager (record a.pager { inbox = rest }) a k (record { geometry = k.pager.geometry; unready = k.pager.unready; ready = k.pager.ready; inbox = facts.1; outbox = k.pager.outbox; waiting = k.pager.waiting; wants = k.pager.wants }) k.placed)
+    ready facts.0 refl
+
+pub delivered_keeps : (o : List Name) (q : Option (List ℕ)) (a : Away) → AwayKept o a → a.pager.released ≡ q → Arrives o a (paged (delivers_by q a.pager a.target) a)
+delivered_keeps o None a k e = close_none o (away_session a) a k
+delivered_keeps o (Some rel) a k e = go a.target.is_resumed refl
+  where
+    go : (b : Bool) → a.target.is_resumed ≡ b → Arrives o a (paged (cond b (delivers_next a.pager.inbox a.pager a.target) (record { pager = a.pager; target = resumes a.target; woken = [] })) a)
+    go true is = delivered_next_keeps o a.pager.inbox a k (k.pager.ready rel e).1 refl
+    go false is = close_guest o (away_session a) (Resume 1) _ (resume_pushed a k is (k.pager.ready rel e).1)
+
+-- PagerFault
+zeroed_keeps : {o : List Name} (p : ℕ) (rel : List ℕ) (a : Away) → AwayKept o a → IsReady (away_session a) → p < a.source.geometry.pages → a.target.placed p ≡ None → rel ≡ released_of a → is_listed p rel ≡ true →
+    AwayKept (o ++ (Pager, length a.pager.log) ∷ []) (paged (zeroes p a.pager a.target) a)
+zeroed_keeps p rel a k ready low none same listed =
+    let s = away_session a in
+    let out : a.source.ledger p ≡ true = listed_released a.source.ledger (range_with_len 0 s.geometry.pages) p (ap (λ r. is_listed p r) (sym same) ∙ listed) in
+    let released : in_ledger s (at_halt s) p ≡ true = sym (k.frozen.ledger_is p) ∙ out in
+    put_pushed (Zero p) p (with_zeros p a.target.memory) a.pager.waiting a k ready refl (names_none s) refl none (λ q. refl)
+    (k.target.places.none p none, out) low (λ e. cc)
+    (λ c lt. here c (p == p) (eq-eqb p p refl) (k.frozen.memory_is p c ∙ released_zero s (at_halt s) p c released))
+    (λ q c e. ap (λ b. cond b 0 (a.target.memory q c)) e)
+    (wide_zeros p a.target.memory k.target.wide) k.pager.waiting
+  where
+    here : (c : ℕ) (b : Bool) → b ≡ true → a.source.memory p c ≡ 0 → cond b 0 (a.target.memory p c) ≡ a.source.memory p c
+    here c true e z = sym z
+    here c false e z = absurd (cc)
+
+joined_there : (p v : ℕ) (s : Recorded) (xs : List Waiting) → AllByRecursion (IsWaitedFor s) xs → AllByRecursion (IsWaitedFor s) (joined p v xs)
+joined_there p v s xs all = each_mapped (IsWaitedFor s) (λ e. cond (p == e.page) (with_waiter v e) e) (λ e h. go e (p == e.page) h) xs all
+  where
+    go : (e : Waiting) (b : Bool) → IsWaitedFor s e → IsWaitedFor s (cond b (with_waiter v e) e)
+    go e true h = h
+    go e false h = h
+
+join_keeps : {o : List Name} (p v w : ℕ) (a : Away) → AwayKept o a → IsReady (away_session a) → a.pager.wants p ≡ Some w →
+    AwayKept (o ++ (Pager, length a.pager.log) ∷ []) (record a { pager = fault_join p v (Some w) a.pager })
+join_keeps p v w a k ready e =
+    let s = away_session a in
+    let is = k.pager.wants p w e in
+    let new = pager_pushed (Join w) a k ready (and_both _ _ (lt-ltb w (length s.pager) (slice_get_within s.pager w (Want p) is)) (passes_at is_want s.pager w (Want p) is refl)) (names_none s) refl (λ q. refl) tt tt (λ e. absurd (cc)) in
+    with_pager (fault_join p v (Some w) a.pager) (record a { pager = record a.pager { log = a.pager.log ++ Join w ∷ [] } }) new
+    (record { geometry = new.pager.geometry; unready = new.pager.unready; ready = new.pager.ready; inbox = new.pager.inbox; outbox = new.pager.outbox; waiting = joined_there p v s a.pager.waiting k.pager.waiting; wants = new.pager.wants })
+    k.placed
+
+new_keeps : {o : List Name} (p v : ℕ) (a : Away) → AwayKept o a → IsReady (away_session a) → p < a.source.geometry.pages →
+    AwayKept (o ++ (Pager, length a.pager.log) ∷ []) (record a { pager = fault_new p v a.pager })
+new_keeps p v a k ready lt =
+    let s = away_session a in
+    let t = pager_more (Want p) s in
+    let new = want_keeps p a k ready lt in
+    with_pager (fault_new p v a.pager) (record a { pager = wants_page p a.pager }) new
+    (record {
+      geometry = new.pager.geometry;
+      unready = new.pager.unready;
+      ready = new.pager.ready;
+      inbox = new.pager.inbox;
+      outbox = each_push (UpFact t) a.pager.outbox (WantPacket (length a.pager.log) p) new.pager.outbox (get_new a.pager.log (Want p));
+      waiting = each_push (IsWaitedFor t) a.pager.waiting (entry p v) new.pager.waiting lt;
+      wants = new.pager.wants;
+    })
+    k.placed
+
+-- the books after `fault m`
+abbrev faulted : ℕ → Away → Away
+faulted m a = record a { pager = record a.pager { log = a.pager.log ++ Fault m ∷ [] } }
+
+module _ (o : List Name) (m : ℕ) (a : Away) (k : AwayKept (o ++ (Pager, length a.pager.log) ∷ []) (faulted m a)) (ready : IsReady (away_session (faulted m a))) where
+  fault_join_keeps : (p v : ℕ) (q : Option ℕ) → a.pager.wants p ≡ q → Arrives o a (record a { pager = fault_join p v q (faulted m a).pager })
+  fault_join_keeps p v None e = close_pager o (away_session a) (Fault m) _ k
+  fault_join_keeps p v (Some w) e = close_pager_two o (away_session a) (Fault m) (Join w) _ (join_keeps p v w (faulted m a) k ready e)
+
+  fault_absent_keeps : (p v : ℕ) → p < a.source.geometry.pages → a.target.placed p ≡ None → Arrives o a (paged (fault_absent p v (faulted m a).pager a.target) a)
+  fault_absent_keeps p v lt none = go (is_waiting v a.pager.waiting) (is_released a.pager.released p) refl (is_asked p a.pager.waiting)
+    where
+      zero_at : (q : Option (List ℕ)) → a.pager.released ≡ q → is_released q p ≡ true → Arrives o a (paged (zeroes p (faulted m a).pager a.target) a)
+      zero_at None e is = absurd (cc)
+      zero_at (Some rel) e is = close_pager_two o (away_session a) (Fault m) (Zero p) _ (zeroed_keeps p rel (faulted m a) k ready lt none (k.pager.ready rel e).0 is)
+
+      go : (x y : Bool) → is_released a.pager.released p ≡ y → (z : Bool) → Arrives o a (paged (cond x (record { pager = (faulted m a).pager; target = a.target; woken = [] }) (cond y (zeroes p (faulted m a).pager a.target) (cond z (record { pager = fault_join p v (a.pager.wants p) (faulted m a).pager; target = a.target; woken = [] }) (record { pager = fault_new p v (faulted m a).pager; target = a.target; woken = [] })))) a)
+      go true y e z = close_pager o (away_session a) (Fault m) _ k
+      go false true e z = zero_at a.pager.released refl e
+      go false false e true = fault_join_keeps p v (a.pager.wants p) refl
+      go false false e false = close_pager_two o (away_session a) (Fault m) (Want p) _ (new_keeps p v (faulted m a) k ready lt)
+
+  fault_at_keeps : (p v : ℕ) (q : Option ℕ) → p < a.source.geometry.pages → a.target.placed p ≡ q → Arrives o a (paged (fault_at p v q (faulted m a).pager a.target) a)
+  fault_at_keeps p v (Some n) lt e = close_pager o (away_session a) (Fault m) _ k
+  fault_at_keeps p v None lt e = fault_absent_keeps p v lt e
+
+with_misses : {o : List Name} (misses : List Missing) (a : Away) → AwayKept o a → AllByRecursion (HasMissed (away_session a)) misses → AwayKept o (record a { target = record a.target { misses = misses } })
+with_misses misses a k new = record {
+  named = k.named;
+  started = k.started;
+  merges = k.merges;
+  clean = k.clean;
+  frozen = k.frozen;
+  limits = k.limits;
+  phase = k.phase;
+  resumed_ready = k.resumed_ready;
+  source = k.source;
+  link = k.link;
+  pager = k.pager;
+  placed = k.placed;
+  target = record { places = k.target.places; frontier = k.target.frontier; frames = k.target.frames; untouched = k.target.untouched; misses = new; wide = k.target.wide };
+  ends = k.ends;
+  vcpus = k.vcpus;
+}
+
+pub faulted_keeps : (o : List Name) (xs : List Missing) (a : Away) → AwayKept o a → a.target.misses ≡ xs → Arrives o a (paged (faults xs a.pager a.target) a)
+faulted_keeps o [] a k e = close_none o (away_session a) a k
+faulted_keeps o (x ∷ rest) a k e =
+    let s = away_session a in
+    let facts : AllByRecursion (HasMissed s) (x ∷ rest) = subst (λ ys. AllByRecursion (HasMissed s) ys) e k.target.misses in
+    let miss = facts.0.0 in
+    let ready : IsReady s = facts.0.1 in
+    let r = Miss x.vcpu x.page in
+    let b = record a { target = record a.target { misses = rest } } in
+    let new = pager_pushed (Fault x.number) b (with_misses rest a k facts.1) ready (passes_at is_miss s.guest x.number r miss refl) (names s (Guest, x.number) (slice_get_within s.guest x.number r miss)) refl (λ q. refl) tt tt (λ e. absurd (cc)) in
+    fault_at_keeps o x.number b new (get_old s.pager (Fault x.number ∷ []) 1 Ready ready) x.page x.vcpu (a.target.placed x.page) (k.limits.guest x.number r miss).1 refl

@@ -1,0 +1,303 @@
+-- Records of the guest at the target, and placements.
+use Rattle.audit_model.proofs.Consistent.{there}
+use Rattle.audit_model.proofs.History.{earlier_true}
+use Rattle.audit_model.specs.Faults.{has_looked, looks_at}
+use Rattle.audit_model.specs.Flat.{cell_after, flat, home, home_after}
+use Rattle.audit_model.specs.Shape.{earlier, guest_named, in_phase_by, is_halt, is_placement, is_placement_of, is_ready, is_resume, pager_named}
+use Rattle.audit_model.specs.declared.home.Home.TheVariants.{AtSource}
+use Rattle.fault_queue.specs.Waiting.{Waiting}
+use Rattle.migration_types.specs.Memory.{Memory, with_cell}
+use Rattle.migration_types.specs.PageSets.{Pages, others, with_page}
+use Rattle.migration_types.specs.Receipts.{Name, guest_receipt, pager_receipt}
+use Rattle.migration_types.specs.Sessions.{Recorded}
+use Rattle.migration_types.specs.declared.records.GuestRec.{GuestRec}
+use Rattle.migration_types.specs.declared.records.GuestRec.TheVariants.{Miss, Read, Resume, See, Write}
+use Rattle.migration_types.specs.declared.records.LogName.TheVariants.{Guest, Pager}
+use Rattle.migration_types.specs.declared.records.PagerRec.{PagerRec}
+use Rattle.migration_types.specs.declared.records.PagerRec.TheVariants.{All, Fault, Got, Join, Place, Ready, Skip, Want, Zero}
+use Rattle.residency.specs.Placements.{is_covered, with_placement}
+use Rattle.migration_model.proofs.Cleans.{GuestClean, PagerClean, guest_cleans, guest_frozen, pager_cleans}
+use Rattle.migration_model.proofs.Facts.{AwayKept, HasMissed, IsReady, IsWaitedFor, PhaseKept, TargetKept, VcpusKept, away_home, frontier_stays, link_stays, misses_stay, not_new, pager_stays, ready_stays, released_of, unready_goes}
+use Rattle.migration_model.proofs.Grows.{IsThere, guest_extends, guest_merges, guest_more, names, names_none, pager_extends, pager_merges, pager_more}
+use Rattle.migration_model.proofs.Limits.{GuestWithin, IsWide, PagerWithin, guest_limits, pager_limits, wide_cell}
+use Rattle.migration_model.proofs.Lists.{Index, before_end, each_push, get_new, index_key, passes_at}
+use Rattle.migration_model.proofs.Shapes.{guest_shapes, guest_starts, pager_goes_on, pager_shapes, pager_starts}
+use Rattle.migration_model.specs.Machine.{Away, Vcpu, away_session}
+use Rattle.migration_events.specs.Ops.{OpFits}
+use Rattle.std.proofs.Common.{Bool, List, None, Option, Some, [], ap, arith, cond, false, length, refl, subst, suc, sym, true, ℕ, ◌&&◌, ◌++◌, ◌<◌, ◌||◌, ◌∙◌, ◌∷◌, ◌≡◌, ◌≤◌}
+use Rattle.std.proofs.lemmas.Bool.{eqb-true, leb-true}
+use Rattle.std.proofs.lemmas.Option.{slice_get_within}
+use Rattle.std.specs.List.{AllByRecursion}
+use Rattle.std.specs.Prelude.{is_some, map, ◌==◌}
+use Rattle.target_book.specs.TargetPart.{TargetPart}
+use Rattle.target_book.specs.declared.Missing.{Missing}
+use Rattle.migration_events.specs.declared.ops.Op.TheVariants.{Read as ReadCell, Write as WriteCell}
+
+pub with_vcpus : {o : List Name} (vcpus : List Vcpu) (a : Away) → AwayKept o a → VcpusKept a.source.geometry vcpus → AwayKept o (record a { vcpus = vcpus })
+with_vcpus vcpus a k new = record {
+  named = k.named;
+  started = k.started;
+  merges = k.merges;
+  clean = k.clean;
+  frozen = k.frozen;
+  limits = k.limits;
+  phase = k.phase;
+  resumed_ready = k.resumed_ready;
+  source = k.source;
+  link = k.link;
+  pager = k.pager;
+  placed = k.placed;
+  target = k.target;
+  ends = k.ends;
+  vcpus = new;
+}
+
+pub with_standing : {o : List Name} (standing : Pages) (a : Away) → AwayKept o a → AwayKept o (record a { target = record a.target { standing = standing } })
+with_standing standing a k = record {
+  named = k.named;
+  started = k.started;
+  merges = k.merges;
+  clean = k.clean;
+  frozen = k.frozen;
+  limits = k.limits;
+  phase = k.phase;
+  resumed_ready = k.resumed_ready;
+  source = k.source;
+  link = k.link;
+  pager = k.pager;
+  placed = k.placed;
+  target = record { places = k.target.places; frontier = k.target.frontier; frames = k.target.frames; untouched = k.target.untouched; misses = k.target.misses; wide = k.target.wide };
+  ends = k.ends;
+  vcpus = k.vcpus;
+}
+
+or_true : (b : Bool) → (b || true) ≡ true
+or_true true = refl
+or_true false = refl
+
+phase_kept : (r : GuestRec) (s : Recorded) (old new : Bool) → PhaseKept s old → home_after r (away_home old) ≡ away_home new → (is_resume r || old) ≡ new → PhaseKept (guest_more r s) new
+phase_kept r s old new k home resume = record {
+  halted = before_end (λ y found. is_halt y || found) false s.guest r ∙ ap (λ b. is_halt r || b) k.halted ∙ or_true (is_halt r);
+  resumes = before_end (λ y found. is_resume y || found) false s.guest r ∙ ap (λ b. is_resume r || b) k.resumes ∙ resume;
+  home_is = before_end home_after AtSource s.guest r ∙ ap (λ h. home_after r h) k.home_is ∙ home;
+}
+
+-- the flat machine after one more record
+pub flat_end : (r : GuestRec) (s : Recorded) (p c : ℕ) → flat (guest_more r s) (length (guest_more r s).guest) p c ≡ cell_after p c r (flat s (length s.guest) p c)
+flat_end r s p c = before_end (cell_after p c) _ s.guest r
+
+-- a record of the guest, and what the target's book keeps of it
+pub guest_pushed : {o : List Name} (r : GuestRec) (resumed : Bool) (target : TargetPart) (a : Away) → AwayKept o a →
+    in_phase_by true a.target.is_resumed r ≡ true → guest_named (away_session a) r ≡ true →
+    IsThere (away_session a) (guest_receipt r) → GuestClean (away_session a) (length a.target.log) r → GuestWithin a.source.geometry r →
+    home_after r (away_home a.target.is_resumed) ≡ away_home resumed → (is_resume r || a.target.is_resumed) ≡ resumed → (resumed ≡ true → IsReady (away_session a)) →
+    TargetKept (guest_more r (away_session a)) a.source.memory target → ((p : ℕ) → target.placed p ≡ a.target.placed p) →
+    AwayKept (o ++ (Guest, length a.target.log) ∷ []) (record a { target = record target { log = a.target.log ++ r ∷ []; is_resumed = resumed } })
+guest_pushed {o} r resumed target a k phase named there clean within home resume ready new same =
+    let s = away_session a in
+    let t = guest_more r s in
+    let x = guest_extends r s in
+    let n = length s.guest in
+    let is_right : in_phase_by (earlier is_halt s.guest n) (earlier is_resume s.guest n) r ≡ true =
+    ap (λ b. in_phase_by b (earlier is_resume s.guest n) r) k.phase.halted ∙ ap (λ b. in_phase_by true b r) k.phase.resumes ∙ phase in
+    record {
+      named = guest_shapes r s k.named is_right named;
+      started = guest_starts r s k.started;
+      merges = guest_merges r s o there k.merges;
+      clean = guest_cleans r s a.source.memory a.source.ledger clean k.clean;
+      frozen = guest_frozen r s a.source.memory a.source.ledger k.frozen;
+      limits = guest_limits r s within k.limits;
+      phase = phase_kept r s a.target.is_resumed resumed k.phase home resume;
+      resumed_ready = ready;
+      source = record { sends = k.source.sends; state = k.source.state; wide = k.source.wide };
+      link = link_stays s t x (released_of a) a.link k.link;
+      pager = pager_stays s t x (released_of a) a.pager k.pager.unready refl k.pager;
+      placed = λ p. k.placed p ∙ sym (ap is_some (same p));
+      target = record { places = new.places; frontier = new.frontier; frames = new.frames; untouched = new.untouched; misses = new.misses; wide = new.wide };
+      ends = record { all = λ m e p lt owed. ap is_some (same p) ∙ k.ends.all m e p lt owed; done = λ m e p lt owed. ap is_some (same p) ∙ k.ends.done m e p lt owed };
+      vcpus = k.vcpus;
+    }
+
+-- a record that writes no cell leaves what the target's book keeps
+target_idle : {o : List Name} (r : GuestRec) (a : Away) → AwayKept o a → ((p c x : ℕ) → cell_after p c r x ≡ x) → TargetKept (guest_more r (away_session a)) a.source.memory a.target
+target_idle r a k idle =
+    let s = away_session a in
+    let t = guest_more r s in
+    let x = guest_extends r s in
+    record {
+      places = k.target.places;
+      frontier = frontier_stays s t x a.target.frontier k.target.frontier;
+      frames = λ p n c e lt. k.target.frames p n c e lt ∙ sym (flat_end r s p c ∙ idle p c _);
+      untouched = λ p c e. flat_end r s p c ∙ idle p c _ ∙ k.target.untouched p c e;
+      misses = misses_stay s t x a.target.misses k.target.misses;
+      wide = k.target.wide;
+    }
+
+-- record k, or an earlier one, places the page
+pub placement_there : (s : Recorded) (map : ℕ → Option ℕ) (p k : ℕ) → Index is_placement_of map s.pager → map p ≡ Some k → k < length s.pager
+placement_there s map p k i e = let w = i.found p k e in slice_get_within s.pager k w.0 w.1
+
+is_a_placement : (p : ℕ) (r : PagerRec) → is_placement_of p r ≡ true → is_placement r ≡ true
+is_a_placement p (Place q g c) e = refl
+is_a_placement p (Zero q) e = refl
+is_a_placement p (Got k) e = absurd (cc)
+is_a_placement p Ready e = absurd (cc)
+is_a_placement p (Fault k) e = absurd (cc)
+is_a_placement p (Join k) e = absurd (cc)
+is_a_placement p (Want q) e = absurd (cc)
+is_a_placement p (Skip k) e = absurd (cc)
+is_a_placement p All e = absurd (cc)
+
+-- the frontier covers the page that is placed at k
+abbrev pub Covers : Away → ℕ → Type 0
+Covers a k = (seen : ℕ) × (a.target.frontier ≡ Some seen) × (k ≤ seen)
+
+pub covered_by : (frontier : Option ℕ) (k : ℕ) → is_covered (Some k) frontier ≡ true → (seen : ℕ) × (frontier ≡ Some seen) × (k ≤ seen)
+covered_by None k e = absurd (cc)
+covered_by (Some seen) k e = (seen, refl, leb-true k seen e)
+
+-- the books after a look
+abbrev pub seen : ℕ → Away → Away
+seen k a = record a { target = record a.target { log = a.target.log ++ See k ∷ []; frontier = Some k } }
+
+pub see_pushed : {o : List Name} (p k : ℕ) (a : Away) → AwayKept o a → a.target.is_resumed ≡ true → a.target.placed p ≡ Some k →
+    AwayKept (o ++ (Guest, length a.target.log) ∷ []) (seen k a)
+see_pushed p k a kept on at =
+    let s = away_session a in
+    let w = kept.target.places.found p k at in
+    let base = target_idle (See k) a kept (λ p c x. refl) in
+    guest_pushed (See k) a.target.is_resumed (record a.target { frontier = Some k }) a kept on
+    (passes_at is_placement s.pager k w.0 w.1 (is_a_placement p w.0 w.2))
+    (names s (Pager, k) (slice_get_within s.pager k w.0 w.1)) tt tt refl refl kept.resumed_ready
+    (record { places = base.places; frontier = λ n e. (length s.guest, get_new s.guest (See k) ∙ ap (λ j. Some (See j)) (let f : Some k ≡ Some n = e in cc)); frames = base.frames; untouched = base.untouched; misses = base.misses; wide = base.wide })
+    (λ q. refl)
+
+covered_access : {o : List Name} (p k : ℕ) (a : Away) → AwayKept o a → a.target.placed p ≡ Some k → Covers a k → has_looked (away_session a) p (length a.target.log) ≡ true
+covered_access p k a kept at covers =
+    let s = away_session a in
+    let w = kept.target.places.found p k at in
+    let see = kept.target.frontier covers.0 covers.1 in
+    earlier_true (looks_at s p) s.guest see.0 (length s.guest) (See covers.0) see.1
+    (earlier_true (is_placement_of p) s.pager k (suc covers.0) w.0 w.1 w.2 (omega (arith, covers.2)))
+    (slice_get_within s.guest see.0 (See covers.0) see.1)
+
+-- a read at the target
+pub read_pushed : {o : List Name} (v p c k : ℕ) (a : Away) → AwayKept o a → a.target.is_resumed ≡ true → a.target.placed p ≡ Some k → Covers a k → v < 64 → OpFits a.source.geometry (ReadCell p c) →
+    AwayKept (o ++ (Guest, length a.target.log) ∷ []) (record a { target = record a.target { log = a.target.log ++ Read v p c (a.target.memory p c) ∷ [] } })
+read_pushed v p c k a kept on at covers low fits =
+    guest_pushed (Read v p c (a.target.memory p c)) a.target.is_resumed a.target a kept on refl (names_none (away_session a))
+    (kept.target.frames p k c at fits.1, λ late. covered_access p k a kept at covers) (low, fits.0, fits.1, kept.target.wide p c) refl refl kept.resumed_ready
+    (target_idle (Read v p c (a.target.memory p c)) a kept (λ p c x. refl)) (λ q. refl)
+
+-- a write at the target
+pub write_pushed : {o : List Name} (v p c x k : ℕ) (a : Away) → AwayKept o a → a.target.is_resumed ≡ true → a.target.placed p ≡ Some k → Covers a k → v < 64 → OpFits a.source.geometry (WriteCell p c x) →
+    AwayKept (o ++ (Guest, length a.target.log) ∷ []) (record a { target = record a.target { log = a.target.log ++ Write v p c x ∷ []; memory = with_cell p c x a.target.memory } })
+write_pushed v p c x k a kept on at covers low fits =
+    let s = away_session a in
+    let t = guest_more (Write v p c x) s in
+    let e = guest_extends (Write v p c x) s in
+    guest_pushed (Write v p c x) a.target.is_resumed (record a.target { memory = with_cell p c x a.target.memory }) a kept on refl (names_none s)
+    (λ late. covered_access p k a kept at covers) (low, fits.0, fits.1, fits.2) refl refl kept.resumed_ready
+    (record {
+      places = kept.target.places;
+      frontier = frontier_stays s t e a.target.frontier kept.target.frontier;
+      frames = λ q n y is lt. ap (λ z. cond ((p == q) && (c == y)) x z) (kept.target.frames q n y is lt) ∙ sym (flat_end (Write v p c x) s q y);
+      untouched = λ q y is. flat_end (Write v p c x) s q y ∙ free q y is (p == q) refl ∙ kept.target.untouched q y is;
+      misses = misses_stay s t e a.target.misses kept.target.misses;
+      wide = wide_cell p c x a.target.memory fits.2 kept.target.wide;
+    })
+    (λ q. refl)
+  where
+    free : (q y : ℕ) → a.target.placed q ≡ None → (b : Bool) → (p == q) ≡ b → cond (b && (c == y)) x (flat (away_session a) (length a.target.log) q y) ≡ flat (away_session a) (length a.target.log) q y
+    free q y none true is = let same : a.target.placed p ≡ a.target.placed q = ap a.target.placed (eqb-true p q is) in absurd (cc)
+    free q y none false is = refl
+
+-- a miss
+pub miss_pushed : {o : List Name} (v p : ℕ) (a : Away) → AwayKept o a → a.target.is_resumed ≡ true → v < 64 → p < a.source.geometry.pages →
+    AwayKept (o ++ (Guest, length a.target.log) ∷ []) (record a { target = record a.target { log = a.target.log ++ Miss v p ∷ []; misses = a.target.misses ++ (record { number = length a.target.log; vcpu = v; page = p }) ∷ [] } })
+miss_pushed v p a kept on low fits =
+    let s = away_session a in
+    let t = guest_more (Miss v p) s in
+    let base = target_idle (Miss v p) a kept (λ p c x. refl) in
+    let new : Missing = record { number = length s.guest; vcpu = v; page = p } in
+    guest_pushed (Miss v p) a.target.is_resumed (record a.target { misses = a.target.misses ++ new ∷ [] }) a kept on refl (names_none s) tt (low, fits) refl refl kept.resumed_ready
+    (record { places = base.places; frontier = base.frontier; frames = base.frames; untouched = base.untouched; misses = each_push (HasMissed t) a.target.misses new base.misses (get_new s.guest (Miss v p), kept.resumed_ready on); wide = base.wide })
+    (λ q. refl)
+
+-- the resume
+pub resume_pushed : {o : List Name} (a : Away) → AwayKept o a → a.target.is_resumed ≡ false → IsReady (away_session a) →
+    AwayKept (o ++ (Guest, length a.target.log) ∷ []) (record a { target = record a.target { log = a.target.log ++ Resume 1 ∷ []; is_resumed = true } })
+resume_pushed a kept off ready =
+    let s = away_session a in
+    guest_pushed (Resume 1) true a.target a kept
+    (ap (λ b. in_phase_by true b (Resume 1)) off)
+    (passes_at is_ready s.pager 1 Ready ready refl)
+    (names s (Pager, 1) (slice_get_within s.pager 1 Ready ready)) tt tt refl refl (λ e. ready)
+    (target_idle (Resume 1) a kept (λ p c x. refl)) (λ q. refl)
+
+-- a placement
+pub put_pushed : {o : List Name} (r : PagerRec) (q : ℕ) (memory : Memory) (waiting : List Waiting) (a : Away) → AwayKept o a → IsReady (away_session a) →
+    pager_named (away_session a) (length a.pager.log) r ≡ true → IsThere (away_session a) (pager_receipt r) → pager_goes_on r ≡ true →
+    a.target.placed q ≡ None → ((p : ℕ) → is_placement_of p r ≡ (q == p)) →
+    PagerClean a.source.geometry.cells a.source.memory a.source.ledger a.pager.log (length a.pager.log) r →
+    PagerWithin a.source.geometry r →
+    (r ≡ All → ⊥) →
+    ((c : ℕ) → c < a.source.geometry.cells → memory q c ≡ a.source.memory q c) →
+    ((p c : ℕ) → (q == p) ≡ false → memory p c ≡ a.target.memory p c) →
+    IsWide memory → AllByRecursion (IsWaitedFor (away_session a)) waiting →
+    AwayKept (o ++ (Pager, length a.pager.log) ∷ []) (record a {
+      pager = record a.pager { log = a.pager.log ++ r ∷ []; placed = with_page q a.pager.placed; waiting = waiting };
+      target = record a.target { placed = with_placement q (length a.pager.log) a.target.placed; memory = memory };
+    })
+put_pushed {o} r q memory waiting a k ready named there on none key clean within not_all here others wide waits =
+    let s = away_session a in
+    let t = pager_more r s in
+    let x = pager_extends r s in
+    let two : 1 < length s.pager = slice_get_within s.pager 1 Ready ready in
+    let pager = pager_stays s t x (released_of a) a.pager (unready_goes s (released_of a) a.pager k.pager ready) refl k.pager in
+    record {
+      named = pager_shapes r s k.named named;
+      started = pager_starts r s two on k.started;
+      merges = pager_merges r s o there k.merges;
+      clean = pager_cleans r s a.source.memory a.source.ledger clean k.clean;
+      frozen = record { memory_is = k.frozen.memory_is; ledger_is = k.frozen.ledger_is; halt_stands = k.frozen.halt_stands };
+      limits = pager_limits r s within k.limits;
+      phase = record { halted = k.phase.halted; resumes = k.phase.resumes; home_is = k.phase.home_is };
+      resumed_ready = λ e. ready_stays s t x ready;
+      source = record { sends = k.source.sends; state = k.source.state; wide = k.source.wide };
+      link = link_stays s t x (released_of a) a.link k.link;
+      pager = record { geometry = pager.geometry; unready = pager.unready; ready = pager.ready; inbox = pager.inbox; outbox = pager.outbox; waiting = waits; wants = pager.wants };
+      placed = λ p. placed_is p (q == p);
+      target = record {
+        places = index_key is_placement_of a.target.placed s.pager r q key k.target.places;
+        frontier = k.target.frontier;
+        frames = λ p n c e lt. frames p n c (q == p) refl e lt;
+        untouched = λ p c e. untouched p c (q == p) e;
+        misses = misses_stay s t x a.target.misses k.target.misses;
+        wide = wide;
+      };
+      ends = record {
+        all = not_new s.pager r All (λ n e p lt owed. more p (q == p) (k.ends.all n e p lt owed)) (λ e. absurd (not_all e));
+        done = λ n e p lt owed. more p (q == p) (k.ends.done n e p lt owed);
+      };
+      vcpus = k.vcpus;
+    }
+  where
+    number : ℕ
+    number = length a.pager.log
+
+    placed_is : (p : ℕ) (b : Bool) → cond b true (a.pager.placed p) ≡ is_some (cond b (Some number) (a.target.placed p))
+    placed_is p true = refl
+    placed_is p false = k.placed p
+
+    more : (p : ℕ) (b : Bool) → is_some (a.target.placed p) ≡ true → is_some (cond b (Some number) (a.target.placed p)) ≡ true
+    more p true e = refl
+    more p false e = e
+
+    frames : (p n c : ℕ) (b : Bool) → (q == p) ≡ b → cond b (Some number) (a.target.placed p) ≡ Some n → c < a.source.geometry.cells → memory p c ≡ flat (away_session a) (length a.target.log) p c
+    frames p n c true is e lt = subst (λ j. memory j c ≡ flat (away_session a) (length a.target.log) j c) (eqb-true q p is) (here c lt ∙ sym (k.target.untouched q c none))
+    frames p n c false is e lt = others p c is ∙ k.target.frames p n c e lt
+
+    untouched : (p c : ℕ) (b : Bool) → cond b (Some number) (a.target.placed p) ≡ None → flat (away_session a) (length a.target.log) p c ≡ a.source.memory p c
+    untouched p c true e = absurd (cc)
+    untouched p c false e = k.target.untouched p c e

@@ -1,0 +1,49 @@
+-- Worked runs, computed.
+use Rattle.std.proofs.Common.{◌≡◌, [], ◌∷◌, Option, Some, None, refl, arith}
+use Rattle.std.specs.Prelude.{take}
+use Rattle.migration_model.specs.Events.{run, start}
+use Rattle.migration_model.specs.Machine.{IsScript, Machine}
+use Rattle.migration_model.specs.Promise.{SomeRunIsDone}
+use Rattle.migration_model.specs.Worked.{Records, events_of_one, events_of_two, offers, order_of_one, order_of_two, script_of_one, script_of_two, session_of_one, session_of_two, small_source, source_calls, source_offers, source_records, woken_next}
+
+pub run_of_two : Records script_of_two events_of_two session_of_two order_of_two
+run_of_two = refl
+
+pub run_of_one : Records script_of_one events_of_one session_of_one order_of_one
+run_of_one = refl
+
+pub woken_of_two : woken_next (run (take 17 events_of_two) (start script_of_two)) ≡ 0 ∷ 1 ∷ []
+woken_of_two = refl
+
+pub source_worked : offers source_calls small_source ≡ (source_offers, source_records)
+source_worked = refl
+
+-- the scripts are within their limits, so these runs are faultless
+pub fits_of_two : IsScript script_of_two
+fits_of_two = record {
+  geometry = record { some_pages = omega arith; few_pages = omega arith; some_cells = omega arith; few_cells = omega arith; few_in_all = omega arith };
+  init = record { each = (record { page = omega arith; content = record { count = refl; each = (omega arith, tt) }; not_zeros = λ all. let e : 7 ≡ 0 = all.0 in absurd (omega (arith, e)) }, tt); rising = λ k lt. absurd (omega (arith, lt)) };
+  few_vcpus = omega arith;
+  vcpus = (record { before_move = tt; after_move = ((omega arith, omega arith), tt) }, (record { before_move = tt; after_move = ((omega arith, omega arith), tt) }, tt));
+}
+
+pub fits_of_one : IsScript script_of_one
+fits_of_one = record {
+  geometry = record { some_pages = omega arith; few_pages = omega arith; some_cells = omega arith; few_cells = omega arith; few_in_all = omega arith };
+  init = record { each = tt; rising = λ k lt. absurd (omega (arith, lt)) };
+  few_vcpus = omega arith;
+  vcpus = (record { before_move = (omega arith, tt); after_move = ((omega arith, omega arith), tt) }, tt);
+}
+
+-- the machine that a run leads to
+abbrev reached : Option Machine → Machine
+reached None = start script_of_one
+reached (Some m) = m
+
+pub some_run_is_done : SomeRunIsDone
+some_run_is_done = record {
+  core = reached (run events_of_one (start script_of_one));
+  is_reached = record { script = script_of_one; fits = fits_of_one; events = events_of_one; runs = refl };
+  place = 7;
+  done = refl;
+}

@@ -1,0 +1,157 @@
+-- Worked runs: which events of a script record what, in which order, and what one book makes of a list of calls.
+use Rattle.std.specs.Prelude.{◌≡◌, ℕ, List, [], ◌∷◌, length, ◌<◌, Option, Some, None}
+use Rattle.migration_types.specs.Memory.{initial}
+use Rattle.migration_types.specs.PageSets.{no_page}
+use Rattle.migration_types.specs.Receipts.{Name}
+use Rattle.migration_types.specs.Sessions.{Recorded}
+use Rattle.migration_types.specs.declared.records.GuestRec.{GuestRec}
+use Rattle.migration_types.specs.declared.records.GuestRec.TheVariants.{Halt, Miss, Read, Release, Resume, See}
+use Rattle.migration_types.specs.declared.records.LinkRec.TheVariants.{Down, Up}
+use Rattle.migration_types.specs.declared.records.LogName.TheVariants.{Guest, Link, Pager, Source as FromSource}
+use Rattle.migration_types.specs.declared.records.PagerRec.TheVariants.{All, Fault, Got, Join, Place, Ready, Skip, Want, Zero}
+use Rattle.migration_types.specs.declared.records.SourceRec.{SourceRec}
+use Rattle.migration_types.specs.declared.records.SourceRec.TheVariants.{Again, Ask, Done, Halted, Send, State}
+use Rattle.migration_events.specs.declared.events.Direction.TheVariants.{Down as Downward, Up as Upward}
+use Rattle.migration_events.specs.declared.events.Event.{Event}
+use Rattle.migration_events.specs.declared.events.Event.TheVariants.{GuestStep, Halt as HaltGuest, LinkTurn, PagerDeliver, PagerFault, PagerFlush, PagerPop, PagerTick, Push, Serve, SourceTick}
+use Rattle.migration_events.specs.declared.events.Fate.TheVariants.{Back, Deliver, Lose, Repeat}
+use Rattle.migration_events.specs.declared.ops.Op.TheVariants.{Read as ReadCell, Release as ReleasePage}
+use Rattle.page_stream.specs.declared.Packet.{Packet}
+use Rattle.page_stream.specs.declared.Packet.TheVariants.{All as AllPacket, Page as PagePacket, Want as WantPacket}
+use Rattle.active_push.specs.SourcePart.{Offer, SourcePart, halted_source, source_push, source_serve, source_tick}
+use Rattle.guest_book.specs.GuestPart.{new_guest}
+use Rattle.target_side.specs.PagerPart.{deliver}
+use Rattle.migration_model.specs.Events.{run, start, step}
+use Rattle.migration_model.specs.Machine.{After, Before, Books, Machine, Scripted, session_of}
+
+-- what a run recorded, and in which order
+abbrev pub recording : Option Machine → Option (Recorded × List Name)
+recording None = None
+recording (Some core) = Some (session_of core.books, core.order)
+
+-- these events of this script record this session, in this order
+abbrev pub Records : Scripted → List Event → Recorded → List Name → Type 0
+Records script events session order = recording (run events (start script)) ≡ Some (session, order)
+
+-- Two virtual processors miss the same page; the page is lost on its way and sent again.
+abbrev pub script_of_two : Scripted
+script_of_two = record {
+  geometry = record { pages = 2; cells = 1 };
+  init = record { page = 1; cells = 7 ∷ [] } ∷ [];
+  pivots = 1;
+  window = 4;
+  vcpus = record { before_move = []; after_move = ReadCell 1 0 ∷ [] } ∷ record { before_move = []; after_move = ReadCell 1 0 ∷ [] } ∷ [];
+}
+
+abbrev pub events_of_two : List Event
+events_of_two =
+    HaltGuest ∷ LinkTurn Downward Deliver ∷ PagerPop ∷ PagerDeliver ∷ GuestStep 0 ∷ GuestStep 1 ∷ PagerFault ∷ PagerFault ∷ PagerFlush
+    ∷ LinkTurn Upward Deliver ∷ Serve ∷ LinkTurn Downward Lose ∷ PagerTick ∷ LinkTurn Upward Deliver ∷ Serve ∷ LinkTurn Downward Deliver ∷ PagerPop
+    ∷ PagerDeliver ∷ GuestStep 0 ∷ GuestStep 1 ∷ []
+
+abbrev pub session_of_two : Recorded
+session_of_two = record {
+  geometry = record { pages = 2; cells = 1 };
+  init = record { page = 1; cells = 7 ∷ [] } ∷ [];
+  guest = Halt ∷ Resume 1 ∷ Miss 0 1 ∷ Miss 1 1 ∷ See 8 ∷ Read 0 1 0 7 ∷ Read 1 1 0 7 ∷ [];
+  source = Halted 0 ∷ State ∷ Ask 1 ∷ Send 1 (7 ∷ []) ∷ Ask 2 ∷ Again 3 ∷ [];
+  link = Down 1 ∷ Up 3 ∷ Up 6 ∷ Down 5 ∷ [];
+  pager = Got 0 ∷ Ready ∷ Fault 2 ∷ Want 1 ∷ Fault 3 ∷ Join 3 ∷ Want 1 ∷ Got 3 ∷ Place 1 7 (7 ∷ []) ∷ [];
+}
+
+abbrev pub order_of_two : List Name
+order_of_two =
+    (Guest, 0) ∷ (FromSource, 0) ∷ (FromSource, 1) ∷ (Link, 0) ∷ (Pager, 0) ∷ (Pager, 1) ∷ (Guest, 1) ∷ (Guest, 2) ∷ (Guest, 3)
+    ∷ (Pager, 2) ∷ (Pager, 3) ∷ (Pager, 4) ∷ (Pager, 5) ∷ (Link, 1) ∷ (FromSource, 2) ∷ (FromSource, 3) ∷ (Pager, 6) ∷ (Link, 2)
+    ∷ (FromSource, 4) ∷ (FromSource, 5) ∷ (Link, 3) ∷ (Pager, 7) ∷ (Pager, 8) ∷ (Guest, 4) ∷ (Guest, 5) ∷ (Guest, 6) ∷ []
+
+-- A page comes before the state, a state comes twice, and a released page is missed.
+abbrev pub script_of_one : Scripted
+script_of_one = record {
+  geometry = record { pages = 2; cells = 1 };
+  init = [];
+  pivots = 1;
+  window = 2;
+  vcpus = record { before_move = ReleasePage 1 ∷ []; after_move = ReadCell 1 0 ∷ [] } ∷ [];
+}
+
+abbrev pub events_of_one : List Event
+events_of_one =
+    GuestStep 0 ∷ HaltGuest ∷ Push ∷ Push ∷ SourceTick ∷ LinkTurn Downward Back ∷ LinkTurn Downward Repeat ∷ PagerPop ∷ LinkTurn Downward Deliver ∷ PagerPop
+    ∷ PagerDeliver ∷ LinkTurn Downward Deliver ∷ PagerPop ∷ LinkTurn Downward Deliver ∷ PagerPop ∷ PagerTick ∷ PagerDeliver ∷ GuestStep 0 ∷ PagerFault
+    ∷ GuestStep 0 ∷ LinkTurn Upward Deliver ∷ Serve ∷ PagerTick ∷ LinkTurn Upward Deliver ∷ Serve ∷ []
+
+abbrev pub session_of_one : Recorded
+session_of_one = record {
+  geometry = record { pages = 2; cells = 1 };
+  init = [];
+  guest = Release 0 1 ∷ Halt ∷ Resume 1 ∷ Miss 0 1 ∷ See 8 ∷ Read 0 1 0 0 ∷ [];
+  source = Halted 1 ∷ State ∷ Send 0 (0 ∷ []) ∷ Again 1 ∷ Ask 4 ∷ Again 2 ∷ Ask 5 ∷ Done ∷ [];
+  link = Down 2 ∷ Down 3 ∷ Down 1 ∷ Down 2 ∷ Up 5 ∷ Up 9 ∷ [];
+  pager = Got 1 ∷ Ready ∷ Got 2 ∷ Skip 2 ∷ Got 3 ∷ Want 0 ∷ Place 0 4 (0 ∷ []) ∷ Fault 3 ∷ Zero 1 ∷ All ∷ [];
+}
+
+abbrev pub order_of_one : List Name
+order_of_one =
+    (Guest, 0) ∷ (Guest, 1) ∷ (FromSource, 0) ∷ (FromSource, 1) ∷ (FromSource, 2) ∷ (FromSource, 3) ∷ (Link, 0) ∷ (Link, 1) ∷ (Pager, 0)
+    ∷ (Pager, 1) ∷ (Guest, 2) ∷ (Link, 2) ∷ (Pager, 2) ∷ (Pager, 3) ∷ (Link, 3) ∷ (Pager, 4) ∷ (Pager, 5) ∷ (Pager, 6) ∷ (Guest, 3)
+    ∷ (Pager, 7) ∷ (Pager, 8) ∷ (Guest, 4) ∷ (Guest, 5) ∷ (Link, 4) ∷ (FromSource, 4) ∷ (FromSource, 5) ∷ (Pager, 9) ∷ (Link, 5)
+    ∷ (FromSource, 6) ∷ (FromSource, 7) ∷ []
+
+-- the virtual processors that the next delivery of the pager wakes
+abbrev pub woken_in : Books → List ℕ
+woken_in (Before h) = []
+woken_in (After a) = (deliver a.pager a.target).woken
+
+abbrev pub woken_next : Option Machine → List ℕ
+woken_next None = []
+woken_next (Some core) = woken_in core.books
+
+-- calls on the source's book
+pub data Call : Type 0 where
+  Pushes : Call
+  Serves : ℕ → Packet → Call
+  Ticks : Call
+
+abbrev pub called : Call → SourcePart → Offer
+called Pushes b = source_push b
+called (Serves up packet) b = source_serve up packet b
+called Ticks b = source_tick b
+
+-- the packets that calls offer, in turn, and the log that they leave
+abbrev pub offers : List Call → SourcePart → List (Option Packet) × List SourceRec
+offers [] b = ([], b.log)
+offers (call ∷ calls) b = ((called call b).packet ∷ (offers calls (called call b).book).0, (offers calls (called call b).book).1)
+
+-- a source of two pages of one cell, of which the second holds 7, at the halt
+abbrev pub small_source : SourcePart
+small_source = halted_source (record { pages = 2; cells = 1 }) (initial (record { page = 1; cells = 7 ∷ [] } ∷ [])) no_page 1 0
+
+-- a page is pushed; the other is wanted twice; then the source is told that all is there
+abbrev pub source_calls : List Call
+source_calls = Pushes ∷ Serves 3 (WantPacket 3 1) ∷ Serves 4 (WantPacket 5 1) ∷ Serves 5 (AllPacket 9) ∷ Pushes ∷ Ticks ∷ []
+
+abbrev pub source_offers : List (Option Packet)
+source_offers = Some (PagePacket 2 0 (0 ∷ [])) ∷ Some (PagePacket 4 1 (7 ∷ [])) ∷ Some (PagePacket 6 1 (7 ∷ [])) ∷ None ∷ None ∷ None ∷ []
+
+abbrev pub source_records : List SourceRec
+source_records = Halted 0 ∷ State ∷ Send 0 (0 ∷ []) ∷ Ask 3 ∷ Send 1 (7 ∷ []) ∷ Ask 4 ∷ Again 4 ∷ Ask 5 ∷ Done ∷ []
+
+-- a guest with this log, which has a page of one cell to read
+abbrev pub core_with : List GuestRec → Machine
+core_with log = record {
+  books = Before (record {
+    init = [];
+    pivots = 1;
+    window = 1;
+    vcpus = record { before_move = ReadCell 0 0 ∷ []; after_move = [] } ∷ [];
+    guest = record (new_guest (record { pages = 1; cells = 1 }) []) { log = log };
+  });
+  order = [];
+}
+
+-- a read is refused where the log has no room for a record, and only there; an event that appends nothing never is
+pub record IsRefusedWhenFull : Type 0 where
+  pub refused : (log : List GuestRec) → length log ≡ 1048576 → step (GuestStep 0) (core_with log) ≡ None
+  pub taken : (log : List GuestRec) → length log < 1048576 → (core : Machine) × (step (GuestStep 0) (core_with log) ≡ Some core)
+  pub silent : (log : List GuestRec) → length log ≡ 1048576 → step Push (core_with log) ≡ Some (core_with log)
