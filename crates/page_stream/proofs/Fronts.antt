@@ -1,9 +1,9 @@
 -- Packets at the front of bytes.
-use Rattle.std.proofs.Common.{◌≡◌, ℕ, ◌+◌, ◌-◌, ◌<◌, ◌≤◌, List, true, [], ◌∷◌, ◌++◌, length, take, drop, refl, sym, ap, ◌∙◌, append_assoc, length-append, arith}
-use Rattle.std.specs.List.{flat_map, AllByRecursion}
+use Rattle.std.proofs.Common.{◌≡◌, ℕ, ◌+◌, ◌-◌, ◌≤◌, List, true, length, drop, ap, ◌∙◌, length-append, arith}
+use Rattle.std.specs.List.{flat_map}
 use Rattle.std.proofs.lemmas.List.{drop_at}
 use Rattle.migration_types.specs.Extents.{Extent}
-use Rattle.page_stream.specs.Bytes.{packet_bytes, Fits}
+use Rattle.page_stream.specs.Bytes.{packet_bytes}
 use Rattle.page_stream.specs.Streams.{StandsFor, HasFault, Flow, Takes, Refuses}
 use Rattle.page_stream.specs.declared.stream.StreamFaultKind.{StreamFaultKind}
 use Rattle.page_stream.specs.declared.stream.StreamFaultKind.TheVariants.{Length, Kind, Fields, Memory, Broken}

@@ -1,15 +1,15 @@
 -- The reading of bytes is one only.
-use Rattle.std.proofs.Common.{◌≡◌, ◌⊎◌, inl, inr, ℕ, ◌+◌, ◌*◌, ◌^◌, ◌<◌, ◌≤◌, List, [], ◌∷◌, ◌++◌, length, take, drop, slice_index, refl, sym, ap, ◌∙◌, append_assoc, length-append, arith}
+use Rattle.std.proofs.Common.{◌≡◌, inl, inr, ℕ, ◌+◌, ◌^◌, ◌<◌, ◌≤◌, List, [], ◌∷◌, ◌++◌, length, take, drop, refl, sym, ap, ◌∙◌, append_assoc, length-append, arith}
 use Rattle.std.specs.List.{flat_map, concat, AllByRecursion}
 use Rattle.std.proofs.lemmas.List.{append-nil}
-use Rattle.std.specs.Int.{w32, w64, from_be_bytes, to_be_bytes}
+use Rattle.std.specs.Int.{w64, from_be_bytes}
 use Rattle.std.proofs.Math.Seq.{take-append_seam, drop-append_seam}
 use Rattle.std.proofs.lemmas.Nat.{from_be_bytes-to_be_bytes_4, from_be_bytes-to_be_bytes_8}
 use Rattle.text_lines.specs.Contents.{IsContent}
 use Rattle.migration_types.specs.Extents.{Extent, IsExtent}
 use Rattle.page_stream.specs.Packets.{number_of}
-use Rattle.page_stream.specs.Bytes.{number_bytes, cell_bytes, kind_of, fields_of, body_of, packet_bytes, Rises, Fits, FieldsFit, IsShort, IsNoBody}
-use Rattle.page_stream.specs.Streams.{StandsFor, IsReading, IsRest, IsPartial, HasFault, Flow, Takes, TakesAll, IsLength, IsKind, said_length}
+use Rattle.page_stream.specs.Bytes.{number_bytes, cell_bytes, kind_of, fields_of, body_of, packet_bytes, Rises, Fits, IsShort}
+use Rattle.page_stream.specs.Streams.{StandsFor, IsReading, IsRest, IsPartial, HasFault, Flow, TakesAll, IsLength, said_length}
 use Rattle.page_stream.specs.declared.Packet.{Packet}
 use Rattle.page_stream.specs.declared.Packet.TheVariants.{State as StatePacket, Page as PagePacket, Want as WantPacket, All as AllPacket}
 use Rattle.page_stream.specs.declared.stream.StreamFaultKind.{StreamFaultKind}
@@ -180,5 +180,5 @@ pieces_together start end [] packets h =
 pieces_together start end (piece ∷ pieces) packets h =
     let later = pieces_together h.0 end pieces h.2 h.4 in
     let both : StandsFor start.geometry ((start.rest ++ piece) ++ concat pieces) (h.1 ++ h.2) end.rest =
-        stands_joined start.geometry (start.rest ++ piece) (concat pieces) h.1 h.2 h.0.rest end.rest h.3.stands (rw h.3.geometry at later) in
+    stands_joined start.geometry (start.rest ++ piece) (concat pieces) h.1 h.2 h.0.rest end.rest h.3.stands (rw h.3.geometry at later) in
     rw h.5 (rw (← append_assoc start.rest piece (concat pieces)) both)

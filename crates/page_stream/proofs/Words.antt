@@ -1,10 +1,9 @@
 -- Lists of numbers, as bytes.
-use Rattle.std.proofs.Common.{◌≡◌, ℕ, ◌+◌, ◌*◌, ◌^◌, ◌<◌, ◌≤◌, List, [], ◌∷◌, ◌++◌, length, zero, suc, get_or, take, drop, refl, sym, ap, ◌∙◌, append_assoc, length-append, take-append-drop, arith}
+use Rattle.std.proofs.Common.{◌≡◌, ℕ, ◌+◌, ◌*◌, ◌^◌, ◌<◌, ◌≤◌, List, [], ◌∷◌, ◌++◌, length, zero, suc, get_or, take, drop, refl, sym, ap, ◌∙◌, append_assoc, take-append-drop, arith}
 use Rattle.std.specs.List.{flat_map, AllByRecursion}
-use Rattle.std.specs.Int.{w32, w64, from_be_bytes, to_be_bytes}
-use Rattle.std.proofs.lemmas.List.{append-nil}
+use Rattle.std.specs.Int.{w32, w64, from_be_bytes}
 use Rattle.std.proofs.lemmas.Nat.{from_be_bytes-to_be_bytes_4, be_bytes_4, be_bytes_8}
-use Rattle.page_stream.specs.Bytes.{number_bytes, cell_bytes, kind_of, fields_of, body_of, packet_bytes, Rises, Fits, IsNoBody}
+use Rattle.page_stream.specs.Bytes.{number_bytes, cell_bytes, kind_of, fields_of, body_of, packet_bytes, Rises, IsNoBody}
 use Rattle.page_stream.specs.inner.Fronts.{AreFields, IsNoFields}
 use Rattle.page_stream.specs.Packets.{number_of}
 use Rattle.migration_types.specs.Extents.{Extent}

@@ -3,7 +3,7 @@ use Rattle.std.specs.Prelude.{◌≡◌, ℕ, ◌≤◌, Option, List, [], ◌++
 use Rattle.std.specs.List.{flat_map, concat, AllByRecursion}
 use Rattle.std.specs.Io.KnownBytes.{Consumes, Appends, IsAtEnd}
 use Rattle.migration_types.specs.Extents.{Extent}
-use Rattle.page_stream.specs.Bytes.{packet_bytes, Fits}
+use Rattle.page_stream.specs.Bytes.{packet_bytes}
 use Rattle.page_stream.specs.Streams.{StandsFor, HasFault, IsPartial}
 use Rattle.page_stream.specs.declared.Packet.{Packet}
 use Rattle.page_stream.specs.declared.stream.StreamFaultKind.{StreamFaultKind}

@@ -56,12 +56,7 @@ fn put_state(out: &mut Vec<u8>, number: u32, released: &[PageNo]) -> Result<(), 
     Ok(())
 }
 
-fn put_page(
-    out: &mut Vec<u8>,
-    number: u32,
-    page: PageNo,
-    cells: &[u64],
-) -> Result<(), AllocError>
+fn put_page(out: &mut Vec<u8>, number: u32, page: PageNo, cells: &[u64]) -> Result<(), AllocError>
     requires { length cells.now ≤ most_cells }
     ensures { OnOk result (out.new.items ≡ out.old.items ++ packet_bytes (PagePacket number page cells.now)) }
 {

@@ -91,11 +91,7 @@ fn front_of(alloc: Global, geometry: Geometry, bytes: &[u8]) -> Result<Front<'_>
 }
 
 /// Reads the packets at the front of some bytes, until one is not whole or has a fault.
-fn take_packets(
-    alloc: Global,
-    geometry: Geometry,
-    bytes: &[u8],
-) -> Result<Taken, AllocError>
+fn take_packets(alloc: Global, geometry: Geometry, bytes: &[u8]) -> Result<Taken, AllocError>
     ensures used { IfOk result (λ t. t.used ≤ length bytes.now) }
     ensures stands { IfOk result (λ t. StandsFor geometry bytes.now t.packets.items (drop t.used bytes.now)) }
     ensures end { IfOk result (λ t. IsEnd geometry (drop t.used bytes.now) t.fault) }

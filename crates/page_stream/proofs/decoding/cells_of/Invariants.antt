@@ -1,4 +1,4 @@
-use Rattle.std.proofs.Common.{◌≡◌, ◌++◌, ◌+◌, ◌*◌, ◌<◌, ◌^◌, ℕ, List, length}
+use Rattle.std.proofs.Common.{◌≡◌, ◌++◌, ◌+◌, ◌*◌, ◌<◌, ◌^◌, length}
 use Rattle.std.specs.List.{flat_map, AllByRecursion}
 use Rattle.page_stream.specs.Bytes.{cell_bytes}
 use Rattle.page_stream.proofs.decoding.cells_of.Given as goal

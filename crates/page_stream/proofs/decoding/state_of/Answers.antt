@@ -1,6 +1,6 @@
 use Rattle.std.proofs.Common.{◌≡◌, ◌++◌, ℕ, List, length, ap, sym, refl, ◌∙◌, arith}
 use Rattle.std.specs.List.{flat_map}
-use Rattle.page_stream.specs.Bytes.{number_bytes, Rises}
+use Rattle.page_stream.specs.Bytes.{number_bytes}
 use Rattle.page_stream.proofs.Words.{same_number, only_state, length_numbers, rises_few}
 use Rattle.page_stream.proofs.decoding.state_of.Goals as goal
 

@@ -1,4 +1,4 @@
-use Rattle.std.proofs.Common.{◌++◌, length, ap, ◌∙◌}
+use Rattle.std.proofs.Common.{◌++◌, ap, ◌∙◌}
 use Rattle.std.specs.List.{flat_map}
 use Rattle.page_stream.specs.Bytes.{number_bytes, cell_bytes}
 use Rattle.page_stream.proofs.Words.{page_bytes}
