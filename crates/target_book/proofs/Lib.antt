@@ -1,2 +1,6 @@
 pub mod Parts
 pub mod Weaves
+pub mod Logs
+pub mod Histories
+pub mod Keeping
+pub mod Books

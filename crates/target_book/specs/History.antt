@@ -76,14 +76,18 @@ IsHistory history = (n : ℕ) (x : Happening) → slice_get history n ≡ Some x
 abbrev pub IsRecorded : List GuestRec → Missing → Type 0
 IsRecorded log missing = slice_get log missing.number ≡ Some (Miss missing.vcpu missing.page)
 
--- The history of a book: what the book holds follows from it, its frames on the resident pages.
+-- a book that holds what the target has, its frames on the resident pages
+pub record Holds (t : Target) (book : TargetPart) : Type 0 where
+  pub placed : t.placed ≡ book.placed
+  pub memory : (page cell : ℕ) → is_some (book.placed page) ≡ true → t.memory page cell ≡ book.memory page cell
+  pub frontier : t.frontier ≡ book.frontier
+  pub is_resumed : t.is_resumed ≡ book.is_resumed
+
+-- the history of a book: its log has the history's records, and it holds what the target has after it
 pub record IsHistoryOf (book : TargetPart) (history : List Happening) : Type 0 where
   pub demands : IsHistory history
   pub log : guest_part history ≡ book.log
-  pub is_resumed : (target_at history (length history)).is_resumed ≡ book.is_resumed
-  pub placed : (target_at history (length history)).placed ≡ book.placed
-  pub frontier : (target_at history (length history)).frontier ≡ book.frontier
-  pub memory : (page cell : ℕ) → is_some (book.placed page) ≡ true → (target_at history (length history)).memory page cell ≡ book.memory page cell
+  pub holds : Holds (target_at history (length history)) book
   pub misses : AllByRecursion (IsRecorded book.log) book.misses
 
 -- a record of the guest before its halt, on a machine of this extent

@@ -4,8 +4,8 @@ ghost use Rattle.std.specs.Prelude.{◌≡◌, ◌<◌, ◌≤◌, [], ◌∷◌
 ghost use Rattle.std.specs.List.{AllByRecursion};
 ghost use Rattle.migration_types.specs.Limits.{most_records};
 ghost use Rattle.target_book.specs.TargetPart.{halted_target, target_access, resumes, with_placed, with_zeroed, with_misses};
-ghost use Rattle.target_book.specs.History.{Did, IsBeforeHalt, IsAccess};
-ghost use Rattle.target_book.specs.Kept.{part_of, geometry_of};
+ghost use Rattle.target_book.specs.History.{Did, Placed, IsBeforeHalt, IsAccess};
+ghost use Rattle.target_book.specs.Kept.{part_of, geometry_of, HaveGrown};
 
 use crate::state::State;
 use crate::{Access, Missing, TargetFault};
@@ -81,6 +81,7 @@ impl TargetBook {
     pub fn access(&mut self, vcpu: u8, op: Op) -> Result<Access, TargetFault>
         requires { IsAccess (geometry_of self.old) op }
         ensures part { IfOk result (λ a. record { book = part_of self.new; access = a } ≡ target_access vcpu op (part_of self.old)) }
+        ensures history { OnOk result (HaveGrown self.old self.new) }
         ensures geometry { geometry_of self.new ≡ geometry_of self.old }
         ensures full { IsErrOf result TargetFault.LogFull → most_records < length (target_access vcpu op (part_of self.old)).book.log }
         ensures err { OnErr result (self.new ≡ self.old) }
@@ -93,6 +94,7 @@ impl TargetBook {
     pub fn resume(&mut self) -> Result<(), TargetFault>
         requires { (part_of self.old).is_resumed ≡ false }
         ensures part { OnOk result (part_of self.new ≡ resumes (part_of self.old)) }
+        ensures history { OnOk result (HaveGrown self.old self.new) }
         ensures geometry { geometry_of self.new ≡ geometry_of self.old }
         ensures full { IsErrOf result TargetFault.LogFull → most_records < length (resumes (part_of self.old)).log }
         ensures err { OnErr result (self.new ≡ self.old) }
@@ -107,6 +109,7 @@ impl TargetBook {
         requires contents { length contents.now ≡ (geometry_of self.old).cells }
         requires absent { (part_of self.old).placed page ≡ None }
         ensures part { OnOk result (part_of self.new ≡ with_placed page number contents.now (part_of self.old)) }
+        ensures history { OnOk result (self.new.history ≡ self.old.history ++ Placed page number contents.now ∷ []) }
         ensures geometry { geometry_of self.new ≡ geometry_of self.old }
         ensures err { OnErr result (self.new ≡ self.old) }
     {
@@ -129,6 +132,7 @@ impl TargetBook {
         requires page { page < (geometry_of self.old).pages }
         requires absent { (part_of self.old).placed page ≡ None }
         ensures part { OnOk result (part_of self.new ≡ with_zeroed page number (part_of self.old)) }
+        ensures history { OnOk result (self.new.history ≡ self.old.history ++ Placed page number [] ∷ []) }
         ensures geometry { geometry_of self.new ≡ geometry_of self.old }
         ensures err { OnErr result (self.new ≡ self.old) }
     {

@@ -1,9 +1,10 @@
 -- The history that is stored as two lists.
-use Rattle.std.specs.Prelude.{ℕ, suc, ◌==◌, ◌≤◌, List, [], ◌∷◌, ◌++◌, if◌then◌else◌}
+use Rattle.std.specs.Prelude.{ℕ, suc, ◌==◌, ◌≤◌, List, [], ◌∷◌, ◌++◌, length, if◌then◌else◌}
+use Rattle.std.specs.List.{AllByRecursion}
 use Rattle.migration_types.specs.declared.records.GuestRec.{GuestRec}
 use Rattle.target_book.specs.declared.book.Placement.{Placement}
-use Rattle.target_book.specs.History.{Happening, Did, Placed}
-use Rattle.target_book.specs.Kept.{Held, IsSized}
+use Rattle.target_book.specs.History.{Happening, Did, Placed, IsHistoryOf}
+use Rattle.target_book.specs.Kept.{Held, part_held, IsSized}
 
 -- the placements that were made after so many records of the guest
 abbrev pub placed_after : ℕ → List Placement → List Happening
@@ -22,3 +23,5 @@ IsWithin n p = p.after ≤ n
 -- what a book keeps
 pub record IsBook (h : Held) (placements : List Placement) : Type 0 where
   pub sized : IsSized h.frames.geometry h
+  pub within : AllByRecursion (IsWithin (length h.log)) placements
+  pub history : IsHistoryOf (part_held h) (woven 0 h.log placements)
