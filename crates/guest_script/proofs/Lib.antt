@@ -1,0 +1,4 @@
+pub mod Exactly
+pub mod Lists
+pub mod Tells
+pub mod EventSteps

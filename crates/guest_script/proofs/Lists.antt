@@ -1,0 +1,27 @@
+-- Lists of which some items came.
+use Rattle.std.proofs.Common.{◌≡◌, ℕ, zero, suc, ◌+◌, List, [], ◌∷◌, ◌++◌, length, map, replicate, refl, sym, ap, ◌∙◌, length-append, arith}
+use Rattle.std.specs.List.{AllByRecursion}
+use Rattle.std.specs.Fmt.{decimal}
+use Rattle.std.proofs.lemmas.List.{append_cancel_left}
+use Rattle.std.proofs.lemmas.Fmt.{decimal_injective}
+use Rattle.std.specs.Prelude.{◌<◌, ◌^◌}
+
+pub keyed_same : (key : List ℕ) (m n : ℕ) → m < 2 ^ 64 → n < 2 ^ 64 → key ++ decimal m ≡ key ++ decimal n → m ≡ n
+keyed_same key m n p q e = decimal_injective m n p q (append_cancel_left key (decimal m) (decimal n) e)
+
+pub all_at : {X : Type 0} (P : X → Type 0) (front : List X) (x : X) (back : List X) → AllByRecursion P (front ++ x ∷ back) → P x
+all_at P [] x back h = h.0
+all_at P (y ∷ front) x back h = all_at P front x back h.1
+
+pub all_append : {X : Type 0} (P : X → Type 0) (xs ys : List X) → AllByRecursion P xs → AllByRecursion P ys → AllByRecursion P (xs ++ ys)
+all_append P [] ys h k = k
+all_append P (x ∷ xs) ys h k = (h.0, all_append P xs ys h.1 k)
+
+pub all_replicate : {X : Type 0} (P : X → Type 0) (n : ℕ) (x : X) → P x → AllByRecursion P (replicate n x)
+all_replicate P zero x h = tt
+all_replicate P (suc n) x h = (h, all_replicate P n x h)
+
+-- as many items as the list has: none is left
+pub none_left : {X : Type 0} (v front back : List X) → v ≡ front ++ back → length v ≡ length front → back ≡ []
+none_left v front [] e l = refl
+none_left v front (x ∷ back) e l = let n = ap (λ (t : List _). length t) e in absurd (omega (arith, n, length-append front (x ∷ back), l))

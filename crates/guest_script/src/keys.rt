@@ -1,0 +1,40 @@
+//! The words and whole lines of the texts, for their readers and their writers.
+
+ghost use Rattle.std.specs.Prelude.{◌≡◌};
+ghost use Rattle.guest_script.specs.Events.{link_key, fate_word};
+
+use migration_events::{Direction, Fate};
+
+/// The first line of a text of events.
+pub const EVENTS_HEADER: &[u8] = b"postcopy-events 1";
+
+/// How the line with the number of events begins.
+pub const EVENTS_KEY: &[u8] = b"events ";
+
+/// The last line of a text.
+pub const CLOSING: &[u8] = b"end";
+
+/// How the line of a virtual processor's step begins.
+pub const GUEST_KEY: &[u8] = b"guest ";
+
+/// How the line of a turn of the link begins.
+pub fn link_key_of(direction: Direction) -> &'static [u8]
+    ensures { result.now ≡ link_key direction }
+{
+    match direction {
+        Direction::Down => b"link down ",
+        Direction::Up => b"link up ",
+    }
+}
+
+/// The word of a fate.
+pub fn fate_word_of(fate: Fate) -> &'static [u8]
+    ensures { result.now ≡ fate_word fate }
+{
+    match fate {
+        Fate::Deliver => b"deliver",
+        Fate::Lose => b"lose",
+        Fate::Repeat => b"repeat",
+        Fate::Back => b"back",
+    }
+}
