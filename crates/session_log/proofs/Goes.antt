@@ -18,7 +18,7 @@ use Rattle.session_log.specs.declared.parts.Stage.TheVariants.{Header, Pages, Ce
 use Rattle.session_log.specs.Records.{guest_line, source_line, link_line, pager_line}
 use Rattle.session_log.specs.inner.InitPages.{Rise, rise_long, rise_increases}
 use Rattle.session_log.specs.Grammar.{header, pages_key, cells_key, init_key, guest_key, source_key, link_key, pager_key, page_line, closing, session_lines, SpellsSession}
-use Rattle.session_log.specs.inner.Held.{Draft, Part, part_onto, geometry_onto, init_onto, guest_onto, source_onto, link_onto, pager_onto, held_onto, IsWhole, LogFits, GuestFits, SourceFits, LinkFits, PagerFits, Live}
+use Rattle.session_log.specs.inner.Held.{Draft, Part, part_onto, geometry_onto, init_onto, guest_onto, source_onto, link_onto, pager_onto, held_onto, IsWhole, InitFits, LogFits, GuestFits, SourceFits, LinkFits, PagerFits, Live}
 use Rattle.session_log.proofs.Lists.{all_append, all_replicate}
 use Rattle.session_log.proofs.Sections.{with_items, onto_more, onto_whole, fresh, fresh_fits, missing, filled_whole, filled_fits}
 use Rattle.session_log.proofs.Laws.{held_append, StartFits, guest_part, source_part, link_part, pager_part, pager_lines, link_lines, source_lines, guest_lines, init_agrees, guest_agrees, source_agrees, link_agrees, pager_agrees}
@@ -142,27 +142,33 @@ rise_append : (low mid high : ℕ) (xs ys : List InitPage) → Rise low xs mid �
 rise_append low mid high [] ys r s = subst (λ (n : ℕ). Rise n ys high) (sym r) s
 rise_append low mid high (x ∷ xs) ys r s = (r.0, rise_append (x.page + 1) mid high xs ys r.1 s)
 
+-- initial pages that came go on to all that were announced
+pub init_filled : (e : Extent) (next : ℕ) (part : Part InitPage) → InitFits e next part → (more : List InitPage) × (top : ℕ) × InitFits e top (with_items part more) × IsWhole (with_items part more)
+init_filled e next part f =
+    let m = part.count - length part.items in
+    let more = pages_from e.cells next m in
+    let within = f.within in
+    let len = pages_count e.cells next m in
+    let room = f.room in
+    let both = length-append part.items more in
+    (more, next + m, record {
+      geometry = f.geometry;
+      within = omega arith;
+      each = all_append (InitPageFits e) part.items more f.each (pages_fit e next m f.geometry room);
+      rising = rise_append 0 next (next + m) part.items more f.rising (pages_rise e.cells next m);
+      room = omega arith;
+    }, omega arith)
+
 init_begins : (d : Draft) → StartFits d → Begins SpellsSession (held_onto Init d [])
 init_begins d f =
-    let m = d.init.count - length d.init.items in
-    let more = pages_from d.geometry.cells d.next_page m in
-    let top = d.next_page + m in
-    let within = f.within in
-    let len = pages_count d.geometry.cells d.next_page m in
-    let room = f.room in
-    let both = length-append d.init.items more in
+    let filled = init_filled d.geometry d.next_page d.init f in
+    let more = filled.0 in
+    let top = filled.1 in
     let list = with_items d.init more in
     let line = guest_key ++ decimal 0 in
     let e : Draft = record d { init = list; next_page = top; guest = fresh 0 } in
-    let fits : StartFits e = record {
-      geometry = f.geometry;
-      within = omega arith;
-      each = all_append (InitPageFits d.geometry) d.init.items more f.each (pages_fit d.geometry d.next_page m f.geometry room);
-      rising = rise_append 0 d.next_page top d.init.items more f.rising (pages_rise d.geometry.cells d.next_page m);
-      room = omega arith;
-    } in
     step Init Guest d e (map page_line more ++ line ∷ []) (ap (geometry_onto d.geometry) (onto_more init_key page_line d.init more (line ∷ [])))
-    (guest_begins e (fresh_fits (StartFits e) list (GuestRecFits d.geometry) 0 fits (omega arith) (omega arith)))
+    (guest_begins e (fresh_fits (StartFits e) list (GuestRecFits d.geometry) 0 filled.2 filled.3 (omega arith)))
 
 abbrev empty_draft : Extent → Draft
 empty_draft e = record { geometry = e; next_page = 0; init = fresh 0; guest = fresh 0; source = fresh 0; link = fresh 0; pager = fresh 0 }

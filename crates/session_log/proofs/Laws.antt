@@ -14,9 +14,7 @@ use Rattle.migration_types.specs.declared.records.SourceRec.{SourceRec}
 use Rattle.migration_types.specs.declared.records.LinkRec.{LinkRec}
 use Rattle.migration_types.specs.declared.records.PagerRec.{PagerRec}
 use Rattle.migration_types.specs.declared.pages.InitPage.{InitPage}
-use Rattle.migration_types.specs.declared.geometry.GeometryFault.{GeometryFault}
-use Rattle.migration_types.specs.declared.geometry.GeometryFault.TheVariants.{Pages as NoPages, Cells as NoCells, TooMany}
-use Rattle.migration_types.specs.Extents.{Extent, IsExtent, IsGeometryFault}
+use Rattle.migration_types.specs.Extents.{Extent, IsExtent}
 use Rattle.migration_types.specs.Pages.{InitPageFits}
 use Rattle.migration_types.specs.Sessions.{Recorded, IsSession, GuestRecFits, SourceRecFits, LinkRecFits, PagerRecFits}
 use Rattle.session_log.specs.declared.parts.Stage.{Stage}
@@ -95,34 +93,6 @@ extent pages cells = record { pages = pages; cells = cells }
 
 pub extent_same : (a b : Extent) → a.pages ≡ b.pages → a.cells ≡ b.cells → a ≡ b
 extent_same a b p q = ap (λ (n : ℕ). extent n a.cells) p ∙ ap (extent b.pages) q
-
--- what has a geometry misses no limit of it
-pub no_fault : (pages cells : ℕ) (fault : GeometryFault) → IsGeometryFault pages cells fault → IsExtent (extent pages cells) → ⊥
-no_fault pages cells NoPages fault h = let some = h.some_pages in let few = h.few_pages in elim fault [ inl none ↦ absurd (omega arith) | inr many ↦ absurd (omega arith) ]
-no_fault pages cells NoCells fault h = let some = h.some_cells in let few = h.few_cells in elim fault.2 [ inl none ↦ absurd (omega arith) | inr many ↦ absurd (omega arith) ]
-no_fault pages cells TooMany fault h = let few = h.few_in_all in absurd (omega (arith, fault.4))
-
-pub no_pages : (d : Draft) (line : List ℕ) → line ≡ pages_key ++ decimal 0 → Begins SpellsSession (held_onto Pages d (line ∷ [])) → ⊥
-no_pages d line e b =
-    let g = goes_from Pages d line b in
-    let whole = g.whole in
-    let l : line ≡ pages_key ++ decimal g.v.geometry.pages = cc in
-    let few = g.fits.geometry.few_pages in
-    let some = g.fits.geometry.some_pages in
-    let z = keyed pages_key 0 g.v.geometry.pages (omega arith) (omega arith) (sym e ∙ l) in
-    absurd (omega arith)
-
-pub cells_at : (d : Draft) (line : List ℕ) (c : ℕ) → d.geometry.pages ≤ 65536 → c ≤ 512 → line ≡ cells_key ++ decimal c → Begins SpellsSession (held_onto Cells d (line ∷ [])) → IsExtent (extent d.geometry.pages c)
-cells_at d line c lp lc e b =
-    let g = goes_from Cells d line b in
-    let whole = g.whole in
-    let fp = g.fits.geometry.few_pages in
-    let fc = g.fits.geometry.few_cells in
-    let l : line ≡ cells_key ++ decimal g.v.geometry.cells = cc in
-    let p : pages_key ++ decimal d.geometry.pages ≡ pages_key ++ decimal g.v.geometry.pages = cc in
-    let pages = keyed pages_key d.geometry.pages g.v.geometry.pages (omega arith) (omega arith) p in
-    let cells = keyed cells_key c g.v.geometry.cells (omega arith) (omega arith) (sym e ∙ l) in
-    subst IsExtent (extent_same g.v.geometry (extent d.geometry.pages c) (sym pages) (sym cells)) g.fits.geometry
 
 pub init_count_at : (d : Draft) (line : List ℕ) → IsExtent d.geometry → Goes InitCount d line → (n : ℕ) × (n ≤ d.geometry.pages) × (line ≡ init_key ++ decimal n)
 init_count_at d line geo g =
@@ -225,7 +195,8 @@ page_same x y p q e =
     let cut = same_cut (decimal x.page) (decimal y.page) (contents_text x.cells) (contents_text y.cells) (decimal_word x.page p) (decimal_word y.page q) rest in
     (decimal_injective x.page y.page p q cut.0, cut.1)
 
-rise_at : (low high next : ℕ) (xs ys : List InitPage) (item : InitPage) (back : List InitPage) → high < 2 ^ 64 → next < 2 ^ 64 → Rise low (xs ++ item ∷ back) high → Rise low ys next → map page_line xs ≡ map page_line ys → (next ≤ item.page) × (item.page + 1 + length back ≤ high)
+-- a page behind others has a number behind theirs, with room for those to come
+pub rise_at : (low high next : ℕ) (xs ys : List InitPage) (item : InitPage) (back : List InitPage) → high < 2 ^ 64 → next < 2 ^ 64 → Rise low (xs ++ item ∷ back) high → Rise low ys next → map page_line xs ≡ map page_line ys → (next ≤ item.page) × (item.page + 1 + length back ≤ high)
 rise_at low high next [] [] item back p q r s e = let k = rise_long (item.page + 1) high back r.1 in (omega (arith, r.0, s), omega arith)
 rise_at low high next [] (y ∷ ys) item back p q r s e = absurd cc
 rise_at low high next (x ∷ xs) [] item back p q r s e = absurd cc
@@ -287,19 +258,22 @@ page_push e part next after p is f less low high has =
 
 -- ---- why a line is refused
 
-pub pages_refused : (d : Draft) (line : List ℕ) → ((n : ℕ) → n ≤ 65536 → line ≢ pages_key ++ decimal n) → Begins SpellsSession (held_onto Pages d (line ∷ [])) → ⊥
+pub pages_refused : (d : Draft) (line : List ℕ) → ((n : ℕ) → 1 ≤ n → n ≤ 65536 → line ≢ pages_key ++ decimal n) → Begins SpellsSession (held_onto Pages d (line ∷ [])) → ⊥
 pages_refused d line none b =
     let g = goes_from Pages d line b in
     let whole = g.whole in
     let l : line ≡ pages_key ++ decimal g.v.geometry.pages = cc in
-    none g.v.geometry.pages g.fits.geometry.few_pages l
+    none g.v.geometry.pages g.fits.geometry.some_pages g.fits.geometry.few_pages l
 
-pub cells_refused : (d : Draft) (line : List ℕ) → ((n : ℕ) → n ≤ 512 → line ≢ cells_key ++ decimal n) → Begins SpellsSession (held_onto Cells d (line ∷ [])) → ⊥
-cells_refused d line none b =
+pub cells_refused : (d : Draft) (line : List ℕ) → d.geometry.pages ≤ 65536 → ((n : ℕ) → IsExtent (extent d.geometry.pages n) → line ≢ cells_key ++ decimal n) → Begins SpellsSession (held_onto Cells d (line ∷ [])) → ⊥
+cells_refused d line lp none b =
     let g = goes_from Cells d line b in
     let whole = g.whole in
+    let fp = g.fits.geometry.few_pages in
     let l : line ≡ cells_key ++ decimal g.v.geometry.cells = cc in
-    none g.v.geometry.cells g.fits.geometry.few_cells l
+    let p : pages_key ++ decimal d.geometry.pages ≡ pages_key ++ decimal g.v.geometry.pages = cc in
+    let pages = keyed pages_key d.geometry.pages g.v.geometry.pages (omega arith) (omega arith) p in
+    none g.v.geometry.cells (subst (λ (n : ℕ). IsExtent (extent n g.v.geometry.cells)) (sym pages) g.fits.geometry) l
 
 pub init_count_refused : (d : Draft) (line : List ℕ) → IsExtent d.geometry → ((n : ℕ) → n ≤ d.geometry.pages → line ≢ init_key ++ decimal n) → Begins SpellsSession (held_onto InitCount d (line ∷ [])) → ⊥
 init_count_refused d line geo none b = let n = init_count_at d line geo (goes_from InitCount d line b) in none n.0 n.1 n.2

@@ -28,7 +28,7 @@ use Rattle.session_log.proofs.Tells.{guest_tells, source_tells, link_tells, page
 abbrev page_of : ℕ → List ℕ → InitPage
 page_of page cells = record { page = page; cells = cells }
 
-init_page_tells : (e : Extent) → IsExtent e → (x y : InitPage) → InitPageFits e x → InitPageFits e y → page_line x ≡ page_line y → x ≡ y
+pub init_page_tells : (e : Extent) → IsExtent e → (x y : InitPage) → InitPageFits e x → InitPageFits e y → page_line x ≡ page_line y → x ≡ y
 init_page_tells e h x y p q same =
     let few = h.few_pages in
     let below = p.page in

@@ -4,11 +4,14 @@
 
 pub(crate) const HEADER: &[u8] = b"postcopy-session 1";
 
-pub(crate) const PAGES_KEY: &[u8] = b"pages ";
+/// How the line with the number of pages begins.
+pub const PAGES_KEY: &[u8] = b"pages ";
 
-pub(crate) const CELLS_KEY: &[u8] = b"cells ";
+/// How the line with the number of cells begins.
+pub const CELLS_KEY: &[u8] = b"cells ";
 
-pub(crate) const INIT_KEY: &[u8] = b"init ";
+/// How the line with the number of initial pages begins.
+pub const INIT_KEY: &[u8] = b"init ";
 
 pub(crate) const GUEST_KEY: &[u8] = b"guest ";
 
@@ -18,7 +21,8 @@ pub(crate) const LINK_KEY: &[u8] = b"link ";
 
 pub(crate) const PAGER_KEY: &[u8] = b"pager ";
 
-pub(crate) const CLOSING: &[u8] = b"end";
+/// The last line.
+pub const CLOSING: &[u8] = b"end";
 
 // An initial page.
 

@@ -77,7 +77,7 @@ fn next_page(before: &[InitPage]) -> u32
 
 /// The lines of the initial pages, of which the next is at most the page `high`.
 #[derive(Clone, Copy)]
-pub(crate) struct InitLines {
+pub struct InitLines {
     pub machine: Machine,
     pub high: u32,
 }
