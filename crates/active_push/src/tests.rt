@@ -124,6 +124,16 @@ fn tick_until(book: &mut SourceBook, left: u32) -> Result<(), SourceFault>
     Ok(())
 }
 
+/// Whether what needs two records is refused.
+fn refuses_two_records(book: &mut SourceBook) -> bool {
+    is_full(book.serve(3, &want(3))) && is_full(book.serve(3, &all()))
+}
+
+/// Whether what needs one record is refused.
+fn refuses_one_record(book: &mut SourceBook) -> bool {
+    is_full(book.tick()) && is_full(book.push())
+}
+
 #[test]
 fn halt_offers_the_state(rt: HostRuntime) -> Result<(), Fail> {
     let (book, packet) = after_halt(&rt)?;
@@ -149,13 +159,8 @@ fn sends_each_page_and_ends(rt: HostRuntime) -> Result<(), Fail> {
 fn refuses_what_the_log_has_no_room_for(rt: HostRuntime) -> Result<(), Fail> {
     let (mut book, _) = after_halt(&rt)?;
     tick_until(&mut book, 1)?;
-    assert!(rt; is_full(book.serve(3, &want(3))));
-    assert!(rt; is_full(book.serve(3, &all())));
+    assert!(rt; refuses_two_records(&mut book));
     tick_until(&mut book, 0)?;
-    assert!(rt; is_full(book.tick()));
-    assert!(rt; is_full(book.push()));
-    assert!(rt; is_full(book.serve(3, &want(3))));
-    assert!(rt; is_full(book.serve(3, &all())));
-    assert_eq!(rt; book.sent(PageNo::new(FIRST)), None);
+    assert!(rt; refuses_two_records(&mut book) && refuses_one_record(&mut book));
     Ok(())
 }
