@@ -1,5 +1,5 @@
 -- Each change of the target's part keeps its history.
-use Rattle.std.proofs.Common.{◌≡◌, ℕ, ◌==◌, ◌&&◌, Bool, true, false, cond, List, [], ◌∷◌, ◌++◌, length, map, drop, Option, Some, None, refl, sym, ap, ◌∙◌, subst, arith, append_assoc}
+use Rattle.std.proofs.Common.{◌≡◌, ℕ, ◌==◌, ◌&&◌, Bool, true, false, cond, List, [], ◌∷◌, ◌++◌, length, map, Option, Some, None, refl, sym, ap, ◌∙◌, subst, arith, append_assoc}
 use Rattle.std.specs.List.{AllByRecursion}
 use Rattle.std.specs.Prelude.{is_some, nat_le, slice_index}
 use Rattle.std.proofs.lemmas.Bool.Decides.{nat_tests}
@@ -15,7 +15,7 @@ use Rattle.migration_events.specs.declared.ops.Op.TheVariants.{Read as ReadCell,
 use Rattle.residency.specs.Placements.{Placements, no_placement, with_placement, raised, is_covered}
 use Rattle.target_book.specs.declared.Access.TheVariants.{Waiting, Missed}
 use Rattle.target_book.specs.declared.Missing.{Missing}
-use Rattle.target_book.specs.TargetPart.{TargetPart, Accessed, halted_target, does, misses_page, accesses, target_access, resumes, with_placed, with_zeroed, with_misses}
+use Rattle.target_book.specs.TargetPart.{TargetPart, Accessed, halted_target, does, misses_page, accesses, target_access, resumes, with_placed, with_zeroed}
 use Rattle.target_book.specs.History.{Happening, Did, Placed, Target, target_at, IsRecorded, Holds, IsHistoryOf, IsBeforeHalt, IsAccess}
 use Rattle.target_book.proofs.Logs.{get_new, each_push}
 use Rattle.target_book.proofs.Histories.{recorded_more, pushed}
@@ -231,15 +231,3 @@ place_kept p k content b h absent was =
 -- as zeros, likewise
 pub zero_kept : (p k : ℕ) (b : TargetPart) (h : List Happening) → b.placed p ≡ None → IsHistoryOf b h → IsHistoryOf (with_zeroed p k b) (h ++ Placed p k [] ∷ [])
 zero_kept p k b h absent was = place_kept p k [] b h absent was
-
-each_dropped : (P : Missing → Type 0) (misses : List Missing) → AllByRecursion P misses → AllByRecursion P (drop 1 misses)
-each_dropped P [] all = tt
-each_dropped P (m ∷ misses) all = all.1
-
-pub take_kept : (b : TargetPart) (h : List Happening) → IsHistoryOf b h → IsHistoryOf (with_misses (drop 1 b.misses) b) h
-take_kept b h was = record {
-  demands = was.demands;
-  log = was.log;
-  holds = record { placed = was.holds.placed; memory = was.holds.memory; frontier = was.holds.frontier; is_resumed = was.holds.is_resumed };
-  misses = each_dropped (IsRecorded b.log) b.misses was.misses;
-}

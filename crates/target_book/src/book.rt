@@ -4,7 +4,7 @@ ghost use Rattle.std.specs.Prelude.{◌≡◌, ◌<◌, ◌≤◌, [], ◌∷◌
 ghost use Rattle.std.specs.List.{AllByRecursion};
 ghost use Rattle.migration_types.specs.Limits.{most_records};
 ghost use Rattle.target_book.specs.TargetPart.{halted_target, target_access, resumes, with_placed, with_zeroed, with_misses};
-ghost use Rattle.target_book.specs.History.{Did, Placed, IsBeforeHalt, IsAccess};
+ghost use Rattle.target_book.specs.History.{Did, Placed, IsHistoryOf, IsBeforeHalt, IsAccess};
 ghost use Rattle.target_book.specs.Kept.{part_of, geometry_of, HaveGrown};
 
 use crate::state::State;
@@ -191,6 +191,14 @@ impl TargetBook {
         ensures { result ≡ geometry_of self.now }
     {
         self.state.frames.geometry()
+    }
+
+    /// Tells callers what the book keeps: it holds what follows from its history, and its log is within its limit.
+    pub fn keeps_history(&self)
+        ensures history { IsHistoryOf (part_of self.now) self.now.history }
+        ensures few { length (part_of self.now).log ≤ most_records }
+    {
+        let _ = &self.state;
     }
 
     /// The guest's log and the frames.

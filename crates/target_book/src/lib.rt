@@ -3,6 +3,8 @@
 
 mod book;
 mod state;
+#[cfg(test)]
+mod tests;
 
 pub use book::TargetBook;
 use migration_types::PageNo;
