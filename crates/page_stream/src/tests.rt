@@ -25,13 +25,15 @@ const BEYOND: [u8; 13] = [0, 0, 0, 9, 3, 0, 0, 0, 3, 0, 0, 0, 2];
 // All pages are placed.
 const ALL: [u8; 9] = [0, 0, 0, 5, 4, 0, 0, 0, 9];
 
+// All of them in turn.
+const FIVE: [&[u8]; 5] = [&BARE, &STATE, &PAGE, &WANT, &ALL];
+
 /// Whether the packet fits, and has these bytes.
-fn is_written(alloc: Global, packet: &Packet, bytes: &[u8]) -> Result<bool, Fail> {
-    let geometry = Geometry::new(2, 1)?;
-    if !fits(geometry, packet) {
-        return Ok(false);
-    }
-    Ok(encode(alloc, packet)?.as_slice() == bytes)
+fn is_written(alloc: Global, packet: &Packet, bytes: &[u8]) -> bool {
+    let Ok(geometry) = Geometry::new(2, 1) else {
+        return false;
+    };
+    fits(geometry, packet) && encode(alloc, packet).is_ok_and(|written| written.as_slice() == bytes)
 }
 
 fn state(alloc: Global, pages: &[PageNo]) -> Result<Packet, AllocError> {
@@ -41,58 +43,61 @@ fn state(alloc: Global, pages: &[PageNo]) -> Result<Packet, AllocError> {
     })
 }
 
-#[test]
-fn writes_states(rt: HostRuntime) -> Result<(), Fail> {
-    assert!(rt; is_written(rt.alloc(), &state(rt.alloc(), &[])?, &BARE)?);
-    assert!(rt; is_written(rt.alloc(), &state(rt.alloc(), &[PageNo::new(1)])?, &STATE)?);
-    assert!(rt;
-        !is_written(
-            rt.alloc(),
-            &state(rt.alloc(), &[PageNo::new(1), PageNo::new(0)])?,
-            &STATE
-        )?
-    );
-    Ok(())
+fn is_state_written(alloc: Global, pages: &[PageNo], bytes: &[u8]) -> bool {
+    state(alloc, pages).is_ok_and(|packet| is_written(alloc, &packet, bytes))
 }
 
 #[test]
-fn writes_pages(rt: HostRuntime) -> Result<(), Fail> {
-    let page = Packet::Page {
-        number: 3,
-        page: PageNo::new(0),
-        contents: Contents::one(5),
-    };
-    assert!(rt; is_written(rt.alloc(), &page, &PAGE)?);
-    Ok(())
+fn writes_states(rt: HostRuntime) {
+    let alloc = rt.alloc();
+    let (first, second) = (PageNo::new(0), PageNo::new(1));
+    assert!(rt; is_state_written(alloc, &[], &BARE));
+    assert!(rt; is_state_written(alloc, &[second], &STATE));
+    assert!(rt; !is_state_written(alloc, &[second, first], &STATE));
 }
 
-fn want(page: u16) -> Packet {
-    Packet::Want {
+fn is_page_written(alloc: Global, page: u16) -> bool {
+    let packet = Packet::Page {
         number: 3,
         page: PageNo::new(page),
-    }
+        contents: Contents::one(5),
+    };
+    is_written(alloc, &packet, &PAGE)
+}
+
+fn is_want_written(alloc: Global, page: u16, bytes: &[u8]) -> bool {
+    let packet = Packet::Want {
+        number: 3,
+        page: PageNo::new(page),
+    };
+    is_written(alloc, &packet, bytes)
 }
 
 #[test]
-fn writes_what_the_pager_sends(rt: HostRuntime) -> Result<(), Fail> {
-    assert!(rt; is_written(rt.alloc(), &want(0), &WANT)?);
-    assert!(rt; !is_written(rt.alloc(), &want(2), &BEYOND)?);
-    assert!(rt; is_written(rt.alloc(), &Packet::All { number: 9 }, &ALL)?);
-    Ok(())
+fn writes_pages_and_wants(rt: HostRuntime) {
+    let alloc = rt.alloc();
+    assert!(rt; is_page_written(alloc, 0) && !is_page_written(alloc, 2));
+    assert!(rt; is_want_written(alloc, 0, &WANT) && !is_want_written(alloc, 2, &BEYOND));
+    assert!(rt; is_written(alloc, &Packet::All { number: 9 }, &ALL));
 }
 
-/// The five packets' bytes.
-fn five(alloc: Global) -> Result<Vec<u8>, AllocError> {
-    let mut bytes = Vec::from_slice(alloc, &BARE)?;
-    for part in [STATE.as_slice(), &PAGE, &WANT, &ALL] {
+/// The bytes of the five packets, and these.
+fn five_and(alloc: Global, more: &[u8]) -> Result<Vec<u8>, AllocError> {
+    let mut bytes = Vec::new(alloc);
+    for part in FIVE {
         bytes.extend_from_slice(part)?;
     }
+    bytes.extend_from_slice(more)?;
     Ok(bytes)
 }
 
 /// Adds the bytes of these packets.
-fn add(alloc: Global, out: &mut Vec<u8>, packets: &[Packet]) -> Result<(), Fail> {
-    let geometry = Geometry::new(2, 1)?;
+fn add(
+    alloc: Global,
+    geometry: Geometry,
+    out: &mut Vec<u8>,
+    packets: &[Packet],
+) -> Result<(), AllocError> {
     for packet in packets {
         if fits(geometry, packet) {
             out.extend_from_slice(&encode(alloc, packet)?)?;
@@ -102,67 +107,74 @@ fn add(alloc: Global, out: &mut Vec<u8>, packets: &[Packet]) -> Result<(), Fail>
 }
 
 /// The bytes of the packets that a stream answers for these bytes, which come so many at a time.
-fn passed(alloc: Global, bytes: &[u8], count: usize) -> Result<Vec<u8>, Fail>
+fn passed(
+    alloc: Global,
+    geometry: Geometry,
+    bytes: &[u8],
+    count: usize,
+) -> Result<Vec<u8>, AllocError>
     requires { 0 < count }
 {
-    let mut stream = Stream::new(alloc, Geometry::new(2, 1)?);
+    let mut stream = Stream::new(alloc, geometry);
     let mut out = Vec::new(alloc);
     for piece in bytes.chunks(count) {
-        match stream.feed(piece) {
-            Ok(packets) => add(alloc, &mut out, packets.as_slice())?,
-            Err(fault) => add(alloc, &mut out, fault.before.as_slice())?,
-        }
+        let packets = match stream.feed(piece) {
+            Ok(packets) => packets,
+            Err(fault) => fault.before,
+        };
+        add(alloc, geometry, &mut out, packets.as_slice())?;
     }
     Ok(out)
 }
 
+/// Whether a stream answers the five packets, where their bytes and these come so many at a time.
+fn takes_five(alloc: Global, more: &[u8], count: usize) -> Result<bool, Fail>
+    requires { 0 < count }
+{
+    let geometry = Geometry::new(2, 1)?;
+    let bytes = five_and(alloc, more)?;
+    let out = passed(alloc, geometry, &bytes, count)?;
+    Ok(out.len() == 73 && bytes.starts_with(&out))
+}
+
 #[test]
 fn takes_pieces(rt: HostRuntime) -> Result<(), Fail> {
-    let bytes = five(rt.alloc())?;
     for count in 1..80 {
-        assert!(rt; passed(rt.alloc(), &bytes, count)? == bytes);
+        assert!(rt; takes_five(rt.alloc(), &[], count)?);
     }
-    Ok(())
-}
-
-fn fault_of(stream: &mut Stream, piece: &[u8]) -> Option<StreamFaultKind> {
-    match stream.feed(piece) {
-        Ok(_) => None,
-        Err(fault) => Some(fault.kind),
-    }
-}
-
-/// The fault of a new stream with this piece.
-fn first_fault(alloc: Global, piece: &[u8]) -> Result<Option<StreamFaultKind>, Fail> {
-    let mut stream = Stream::new(alloc, Geometry::new(2, 1)?);
-    Ok(fault_of(&mut stream, piece))
-}
-
-#[test]
-fn tells_faults_of_lengths_and_kinds(rt: HostRuntime) -> Result<(), Fail> {
-    let length = Some(StreamFaultKind::Length);
-    assert!(rt; first_fault(rt.alloc(), &[0, 0, 0, 0])? == length);
-    assert!(rt; first_fault(rt.alloc(), &[0, 4, 0, 10])? == length);
-    assert!(rt; first_fault(rt.alloc(), &[0, 4, 0])?.is_none());
-    assert!(rt; first_fault(rt.alloc(), &[0, 0, 0, 5, 5])? == Some(StreamFaultKind::Kind));
-    Ok(())
-}
-
-#[test]
-fn tells_faults_of_fields(rt: HostRuntime) -> Result<(), Fail> {
-    let mut stream = Stream::new(rt.alloc(), Geometry::new(2, 1)?);
-    assert!(rt; fault_of(&mut stream, &BEYOND) == Some(StreamFaultKind::Fields));
-    assert!(rt; fault_of(&mut stream, &ALL) == Some(StreamFaultKind::Broken));
     Ok(())
 }
 
 #[test]
 fn answers_packets_ahead_of_a_fault(rt: HostRuntime) -> Result<(), Fail> {
-    let mut bytes = five(rt.alloc())?;
-    bytes.extend_from_slice(&BEYOND)?;
-    bytes.extend_from_slice(&ALL)?;
-    assert!(rt; passed(rt.alloc(), &bytes, 200)? == five(rt.alloc())?);
+    assert!(rt; takes_five(rt.alloc(), &BEYOND, 200)?);
     Ok(())
+}
+
+fn fault_of(stream: &mut Stream, piece: &[u8]) -> Option<StreamFaultKind> {
+    stream.feed(piece).err().map(|fault| fault.kind)
+}
+
+/// The faults of a new stream with these two pieces.
+fn faults_of(
+    alloc: Global,
+    first: &[u8],
+    second: &[u8],
+) -> Option<(Option<StreamFaultKind>, Option<StreamFaultKind>)> {
+    let mut stream = Stream::new(alloc, Geometry::new(2, 1).ok()?);
+    Some((fault_of(&mut stream, first), fault_of(&mut stream, second)))
+}
+
+#[test]
+fn tells_faults(rt: HostRuntime) {
+    let alloc = rt.alloc();
+    let (length, broken) = (Some(StreamFaultKind::Length), Some(StreamFaultKind::Broken));
+    assert!(rt; faults_of(alloc, &[0, 0, 0], &[0]) == Some((None, length)));
+    assert!(rt; faults_of(alloc, &[0, 4, 0, 10], &[]) == Some((length, broken)));
+    let kind = Some(StreamFaultKind::Kind);
+    assert!(rt; faults_of(alloc, &[0, 0, 0, 5, 5], &ALL) == Some((kind, broken)));
+    let fields = Some(StreamFaultKind::Fields);
+    assert!(rt; faults_of(alloc, &BEYOND, &ALL) == Some((fields, broken)));
 }
 
 /// Gives at most so many bytes a read; the read at the place `fails` fails.
@@ -210,120 +222,103 @@ impl Write for Sink {
     }
 }
 
-fn empty_sink(alloc: Global) -> Sink {
-    Sink {
-        got: Vec::new(alloc),
-        most: 1_000,
-        fails: None,
-    }
+/// How much a reader gives and a writer takes at a time, and where they fail.
+#[derive(Clone, Copy)]
+struct Trial {
+    gives: usize,
+    read_fails: Option<u32>,
+    takes: usize,
+    write_fails: Option<u32>,
+    turns: u32,
 }
 
-/// What a pump of these bytes answers, given 40 a read.
-fn pumped(
-    alloc: Global,
-    bytes: &[u8],
-    sink: &mut Sink,
-    turns: u32,
-) -> Result<Result<u64, PumpFault>, Fail> {
+// Two reads, and one that finds the end.
+const PLAIN: Trial = Trial {
+    gives: 40,
+    read_fails: None,
+    takes: 1_000,
+    write_fails: None,
+    turns: 3,
+};
+
+/// What a pump of these bytes answers, and how many of them it wrote, if it wrote none but them.
+fn pumped(alloc: Global, bytes: &[u8], trial: Trial) -> Option<(Result<u64, PumpFault>, usize)> {
     let mut source = Source {
         rest: bytes,
-        most: 40,
-        fails: None,
+        most: trial.gives,
+        fails: trial.read_fails,
     };
-    Ok(pump(alloc, &mut source, sink, Geometry::new(2, 1)?, turns))
+    let mut sink = Sink {
+        got: Vec::new(alloc),
+        most: trial.takes,
+        fails: trial.write_fails,
+    };
+    let geometry = Geometry::new(2, 1).ok()?;
+    let answer = pump(alloc, &mut source, &mut sink, geometry, trial.turns);
+    bytes
+        .starts_with(&sink.got)
+        .then_some((answer, sink.got.len()))
 }
 
 #[test]
 fn pumps_until_the_end(rt: HostRuntime) -> Result<(), Fail> {
-    let bytes = five(rt.alloc())?;
-    let mut sink = empty_sink(rt.alloc());
-    assert!(rt; pumped(rt.alloc(), &bytes, &mut sink, 3)? == Ok(5));
-    assert!(rt; sink.got == bytes);
+    let alloc = rt.alloc();
+    let bytes = five_and(alloc, &[])?;
+    assert!(rt; pumped(alloc, &bytes, PLAIN) == Some((Ok(5), 73)));
+    assert!(rt; pumped(alloc, &[], PLAIN) == Some((Ok(0), 0)));
+    let slow = Trial {
+        gives: 1,
+        takes: 1,
+        turns: 74,
+        ..PLAIN
+    };
+    assert!(rt; pumped(alloc, &bytes, slow) == Some((Ok(5), 73)));
     Ok(())
 }
 
 #[test]
-fn counts_its_reads(rt: HostRuntime) -> Result<(), Fail> {
-    let bytes = five(rt.alloc())?;
-    assert!(rt;
-        pumped(rt.alloc(), &bytes, &mut empty_sink(rt.alloc()), 1)? == Err(PumpFault::Turns)
-    );
-    assert!(rt;
-        pumped(rt.alloc(), &bytes, &mut empty_sink(rt.alloc()), 2)? == Err(PumpFault::Turns)
-    );
-    assert!(rt; pumped(rt.alloc(), &[], &mut empty_sink(rt.alloc()), 1)? == Ok(0));
+fn tells_turns_and_failed_reads(rt: HostRuntime) -> Result<(), Fail> {
+    let alloc = rt.alloc();
+    let bytes = five_and(alloc, &[])?;
+    let short = Trial { turns: 1, ..PLAIN };
+    assert!(rt; pumped(alloc, &bytes, short) == Some((Err(PumpFault::Turns), 30)));
+    let failing = Trial {
+        read_fails: Some(1),
+        ..PLAIN
+    };
+    assert!(rt; pumped(alloc, &bytes, failing) == Some((Err(PumpFault::Read), 30)));
     Ok(())
 }
 
 #[test]
-fn tells_a_cut_input(rt: HostRuntime) -> Result<(), Fail> {
-    let mut bytes = five(rt.alloc())?;
+fn tells_cuts_and_faults(rt: HostRuntime) -> Result<(), Fail> {
+    let alloc = rt.alloc();
+    let mut bytes = five_and(alloc, &BEYOND)?;
+    assert!(rt; pumped(alloc, &bytes, PLAIN) == Some((Err(PumpFault::Stream), 73)));
     bytes.truncate(72);
-    let mut sink = empty_sink(rt.alloc());
-    assert!(rt; pumped(rt.alloc(), &bytes, &mut sink, 3)? == Err(PumpFault::Cut));
-    assert!(rt; sink.got.len() == 64 && bytes.starts_with(&sink.got));
+    assert!(rt; pumped(alloc, &bytes, PLAIN) == Some((Err(PumpFault::Cut), 64)));
     Ok(())
 }
 
-#[test]
-fn tells_a_fault_of_the_stream(rt: HostRuntime) -> Result<(), Fail> {
-    let mut bytes = five(rt.alloc())?;
-    bytes.extend_from_slice(&BEYOND)?;
-    let mut sink = empty_sink(rt.alloc());
-    assert!(rt; pumped(rt.alloc(), &bytes, &mut sink, 9)? == Err(PumpFault::Stream));
-    assert!(rt; sink.got == five(rt.alloc())?);
-    Ok(())
-}
-
-#[test]
-fn tells_a_failed_read(rt: HostRuntime) -> Result<(), Fail> {
-    let bytes = five(rt.alloc())?;
-    let mut sink = empty_sink(rt.alloc());
-    let mut source = Source {
-        rest: &bytes,
-        most: 40,
-        fails: Some(1),
+/// What a pump answers whose writes take one byte each, the one at this place failing, and how many bytes it wrote.
+fn pumped_to(alloc: Global, bytes: &[u8], place: u32) -> Option<(Result<u64, PumpFault>, usize)> {
+    let failing = Trial {
+        takes: 1,
+        write_fails: Some(place),
+        ..PLAIN
     };
-    let answer = pump(rt.alloc(), &mut source, &mut sink, Geometry::new(2, 1)?, 9);
-    assert!(rt; answer == Err(PumpFault::Read));
-    assert!(rt; sink.got.len() == 30 && bytes.starts_with(&sink.got));
-    Ok(())
-}
-
-/// What a pump of the five packets' bytes, given one a read, answers with such a writer, and whether it wrote only
-/// what it read.
-fn pumped_slowly(
-    alloc: Global,
-    most: usize,
-    fails: Option<u32>,
-) -> Result<(Result<u64, PumpFault>, bool), Fail> {
-    let bytes = five(alloc)?;
-    let mut source = Source {
-        rest: &bytes,
-        most: 1,
-        fails: None,
-    };
-    let mut sink = Sink {
-        got: Vec::new(alloc),
-        most,
-        fails,
-    };
-    let answer = pump(alloc, &mut source, &mut sink, Geometry::new(2, 1)?, 74);
-    Ok((answer, bytes.starts_with(&sink.got)))
-}
-
-#[test]
-fn goes_byte_by_byte(rt: HostRuntime) -> Result<(), Fail> {
-    assert!(rt; pumped_slowly(rt.alloc(), 1, None)? == (Ok(5), true));
-    Ok(())
+    pumped(alloc, bytes, failing)
 }
 
 #[test]
 fn tells_failed_writes(rt: HostRuntime) -> Result<(), Fail> {
+    let alloc = rt.alloc();
+    let bytes = five_and(alloc, &[])?;
     let failed = Err(PumpFault::Write);
-    assert!(rt; pumped_slowly(rt.alloc(), 0, None)? == (failed, true));
-    for place in 0..73 {
-        assert!(rt; pumped_slowly(rt.alloc(), 1, Some(place))? == (failed, true));
+    let full = Trial { takes: 0, ..PLAIN };
+    assert!(rt; pumped(alloc, &bytes, full) == Some((failed, 0)));
+    for place in 0..73u32 {
+        assert!(rt; pumped_to(alloc, &bytes, place) == Some((failed, place as usize)));
     }
     Ok(())
 }
