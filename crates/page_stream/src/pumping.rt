@@ -1,11 +1,10 @@
 //! Packets that go from a reader to a writer.
 
-ghost use Rattle.std.specs.Prelude.{◌≡◌, ◌+◌, ◌≤◌, ◌⊎◌, ◌++◌, false, length, vec_len, OnOk, IfOk, IfErr};
+ghost use Rattle.std.specs.Prelude.{◌≡◌, ◌+◌, ◌≤◌, ◌++◌, false, length, vec_len, OnOk, IfOk, IfErr};
 ghost use Rattle.std.specs.List.{flat_map, AllByRecursion};
 ghost use Rattle.std.specs.Io.KnownBytes.{Appends};
 ghost use Rattle.migration_types.specs.Extents.{IsExtent};
-ghost use Rattle.page_stream.specs.Bytes.{packet_bytes, Fits, IsShort};
-ghost use Rattle.page_stream.specs.Streams.{IsPartial};
+ghost use Rattle.page_stream.specs.Bytes.{packet_bytes, IsShort};
 ghost use Rattle.page_stream.specs.Pumps.{PumpsAll, PumpsUntil};
 ghost use Rattle.page_stream.specs.inner.Passing.{PutsFront, IsOfReading, IsOfWriting, PassesOn, StopsAt};
 

@@ -3,7 +3,7 @@
 ghost use Rattle.std.specs.Prelude.{◌≡◌, ◌≤◌, ℕ, List, [], ◌++◌, drop, length, false, IfOk, IfErr, MatchBool};
 ghost use Rattle.std.specs.List.{concat};
 ghost use Rattle.migration_types.specs.Extents.{Extent, IsExtent};
-ghost use Rattle.page_stream.specs.Streams.{StandsFor, IsReading, IsPartial, HasFault, Flow, Takes, TakesAll, Refuses};
+ghost use Rattle.page_stream.specs.Streams.{StandsFor, IsReading, IsPartial, Flow, Takes, TakesAll, Refuses};
 ghost use Rattle.page_stream.specs.inner.Fronts.{IsFront, IsEnd};
 
 use crate::Packet;
