@@ -1,5 +1,5 @@
 -- What the calls of the source's book leave, and what they offer.
-use Rattle.std.proofs.Common.{◌≡◌, ◌≢◌, ℕ, ◌+◌, ◌<◌, ◌⊎◌, inl, inr, Bool, true, false, cond, not, List, [], ◌∷◌, ◌++◌, length, Option, Some, None, refl, sym, ap, ◌∙◌, subst, arith}
+use Rattle.std.proofs.Common.{◌≡◌, ◌≢◌, ℕ, ◌+◌, ◌<◌, ◌⊎◌, inl, inr, Bool, true, false, cond, not, List, [], ◌∷◌, ◌++◌, length, take, Option, Some, None, refl, sym, ap, ◌∙◌, subst, arith}
 use Rattle.std.specs.Prelude.{count_by, is_some, ◌==◌, Contains}
 use Rattle.std.specs.List.{range_with_len, list_any}
 use Rattle.std.proofs.lemmas.Bool.{and_parts, ltb-true, eqb-true}
@@ -16,6 +16,7 @@ use Rattle.std.proofs.lemmas.Cmp.{nat_eq_equiv}
 use Rattle.std.proofs.lemmas.List.Recursion.{is_count_by}
 use Rattle.std.proofs.lemmas.Map.Views.{Contains-from_any, list_any-from_Contains}
 use Rattle.page_tables.specs.Tables.{values, pages_of, with_value}
+use Rattle.bubbling.specs.Edges.{at_page}
 use Rattle.bubbling.specs.Bubbling.{Ring, Bubbling, IsNextPushed, in_turn, turned, faulted, unsent as unsent_in}
 use Rattle.active_push.specs.SourcePart.{SourcePart, Offer, silent, owes, unsent, nearer, nearest, pushes, sends, source_push, with_pivot}
 use Rattle.active_push.specs.Books.{SourceKept, part_of, IsSourceLog, IsSourceBook}
@@ -115,12 +116,16 @@ flipped = record {
 }
 
 -- a page that bubbling takes in is a pivot then
-pub pivot_is : (page : ℕ) (old new : Bubbling) → (Contains old.ring.pivots page → new ≡ old) → (¬ (Contains old.ring.pivots page) → new ≡ record old { ring = faulted page old.ring }) → new ≡ record old { ring = with_pivot page old.ring }
+pub pivot_is : (page : ℕ) (old new : Bubbling) → (Contains old.ring.pivots page → new ≡ old) → (¬ (Contains old.ring.pivots page) → new ≡ record old { ring = faulted page old.ring; edges = take old.ring.most (at_page page ∷ old.edges) }) → new ≡ record old { ring = with_pivot page old.ring; edges = new.edges }
 pivot_is page old new of_pivot of_other = go (list_any (λ pivot. pivot == page) old.ring.pivots) refl
   where
-    go : (t : Bool) → list_any (λ pivot. pivot == page) old.ring.pivots ≡ t → new ≡ record old { ring = cond t old.ring (faulted page old.ring) }
-    go true t = of_pivot (Contains-from_any {eq = λ q k. k == q} (λ q k e. sym (eqb-true k q e)) page old.ring.pivots t)
-    go false t = of_other (λ has. let e = list_any-from_Contains flipped page old.ring.pivots has in absurd (cc))
+    go : (t : Bool) → list_any (λ pivot. pivot == page) old.ring.pivots ≡ t → new ≡ record old { ring = cond t old.ring (faulted page old.ring); edges = new.edges }
+    go true t =
+        let same = of_pivot (Contains-from_any {eq = λ q k. k == q} (λ q k e. sym (eqb-true k q e)) page old.ring.pivots t) in
+        same ∙ ap (λ edges. record old { edges = edges }) (ap (λ (b : Bubbling). b.edges) (sym same))
+    go false t =
+        let grown = of_other (λ has. let e = list_any-from_Contains flipped page old.ring.pivots has in absurd (cc)) in
+        grown ∙ ap (λ edges. record old { ring = faulted page old.ring; edges = edges }) (ap (λ (b : Bubbling). b.edges) (sym grown))
 
 pub unsent_parts : (b : SourcePart) (set : Pages) (page : ℕ) → set ≡ unsent b → set page ≡ true → (owes b page ≡ true) × (b.sent page ≡ None)
 unsent_parts b set page e is =

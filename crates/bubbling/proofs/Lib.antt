@@ -1,3 +1,3 @@
 pub mod Sizes
-pub mod Nearest
+pub mod Reaches
 pub mod Rings

@@ -1,7 +1,9 @@
 -- The pages that a source pushes, outward from pivots.
-use Rattle.std.specs.Prelude.{◌≡◌, ◌≢◌, ℕ, ◌+◌, ◌-◌, ◌%◌, ◌<◌, ◌≤◌, ◌⊎◌, nat_lt, Bool, false, true, ◌&&◌, List, [], ◌∷◌, length, take, slice_index, slice_index_or}
+use Rattle.std.specs.Prelude.{◌≡◌, ◌≢◌, ℕ, ◌+◌, ◌-◌, ◌%◌, ◌<◌, ◌≤◌, ◌⊎◌, nat_lt, Bool, false, true, ◌&&◌, Option, Some, List, [], ◌∷◌, length, take, slice_index, slice_index_or}
 use Rattle.migration_types.specs.Extents.{Extent}
 use Rattle.migration_types.specs.PageSets.{Pages, others}
+use Rattle.bubbling.specs.declared.edges.Edges.{Edges}
+use Rattle.bubbling.specs.Edges.{at_page, edges_in, IsOnEdge, IsOutward, IsReach, IsAtRest}
 
 -- at most so many pivots are ever kept
 abbrev pub most_pivots : ℕ
@@ -13,10 +15,11 @@ pub record Ring : Type 0 where
   pub pivots : List ℕ
   pub turn : ℕ
 
--- the machine, the pivots, and for each page whether it is still to be pushed
+-- the machine, the pivots, the edges of each, and for each page whether it is still to be pushed
 pub record Bubbling : Type 0 where
   pub geometry : Extent
   pub ring : Ring
+  pub edges : List Edges
   pub marks : List Bool
 
 -- the pages that are marked; beyond the marks is none
@@ -72,10 +75,11 @@ pub record IsNextPushed (set : Pages) (pivot page : ℕ) : Type 0 where
   pub is_unsent : set page ≡ true
   pub is_first : (other : ℕ) → set other ≡ true → other ≢ page → GoesBefore pivot page other
 
--- a machine's pivots and unsent pages at the start
+-- a machine's pivots with their edges, and its unsent pages, at the start
 pub record IsStart (e : Extent) (most : ℕ) (owed : Pages) (b : Bubbling) : Type 0 where
   pub geometry : b.geometry ≡ e
   pub ring : b.ring ≡ first_ring most
+  pub edges : b.edges ≡ at_page 0 ∷ []
   pub unsent_is : unsent b ≡ owed
 
 -- these pivots and unsent pages, of the same machine
@@ -83,3 +87,23 @@ pub record IsWith (before after : Bubbling) (ring : Ring) (pages : Pages) : Type
   pub geometry : after.geometry ≡ before.geometry
   pub ring_is : after.ring ≡ ring
   pub unsent_is : unsent after ≡ pages
+
+-- the edges of a pivot
+abbrev pub edges_of : ℕ → Bubbling → Option Edges
+edges_of page b = edges_in page b.ring.pivots b.edges
+
+-- each pivot is within its edges, and no page strictly between them is still to be pushed
+abbrev pub AreEdges : Bubbling → Type 0
+AreEdges b = (pivot : ℕ) (e : Edges) → edges_of pivot b ≡ Some e → IsReach b.geometry.pages (unsent b) pivot e
+
+-- no edge of a pivot that is kept moves inward
+abbrev pub NoneInward : Bubbling → Bubbling → Type 0
+NoneInward before after = (pivot : ℕ) (e f : Edges) → edges_of pivot before ≡ Some e → edges_of pivot after ≡ Some f → IsOutward e f
+
+-- a pivot's edges moved outward past what was not to be pushed, and the page that is chosen is on one of them
+pub record HasMoved (before after : Bubbling) (pivot page : ℕ) : Type 0 where
+  pub edges : Edges
+  pub is : edges_of pivot after ≡ Some edges
+  pub on_edge : IsOnEdge page edges
+  pub at_rest : IsAtRest before.geometry.pages (unsent before) edges
+  pub others : (other : ℕ) → other ≢ pivot → edges_of other after ≡ edges_of other before

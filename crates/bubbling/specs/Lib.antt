@@ -1,1 +1,2 @@
 pub mod Bubbling
+pub mod Edges

@@ -1,17 +1,21 @@
 //! Which page a source pushes next: outward on both sides of pivot pages, of which each fault makes one.
 #![tactic(auto)]
 
-ghost use Rattle.std.specs.Prelude.{◌≡◌, ◌+◌, ◌<◌, ◌≤◌, IfOk, IfSome, MatchOption, Contains, length};
+ghost use Rattle.std.specs.Prelude.{◌≡◌, ◌+◌, ◌<◌, ◌≤◌, IfOk, IfSome, MatchOption, Contains, ◌∷◌, length, take};
+ghost use Rattle.std.specs.Option.{option_map};
 
+mod edges;
 mod pivots;
 #[cfg(test)]
 mod tests;
 mod unsent;
 
+use arrayvec::ArrayVec;
 use balloon_ledger::Ledger;
+use edges::Edges;
 use migration_types::{Geometry, PageNo};
 pub use pivots::MOST_PIVOTS;
-use pivots::Pivots;
+use pivots::{Pivots, ROOM};
 use std::alloc::{AllocError, Global};
 use std::marker::Model;
 use unsent::Unsent;
@@ -22,24 +26,28 @@ use unsent::Unsent;
 pub struct Bubbles {
     geometry: Geometry,
     pivots: Pivots,
+    /// The edges of each pivot, in the order of the pivots.
+    edges: ArrayVec<Edges, ROOM>,
     unsent: Unsent,
 }
 
 impl Model for Bubbles {
     ghost use Rattle.std.specs.Prelude.{◌≡◌, length};
-    ghost use Rattle.bubbling.specs.Bubbling.{Bubbling};
+    ghost use Rattle.bubbling.specs.Bubbling.{Bubbling, marked};
+    ghost use Rattle.bubbling.specs.Edges.{AreReaches};
 
     ghost Value = { Bubbling };
 
-    ghost view = { λ a. record { geometry = a.geometry; ring = a.pivots; marks = a.unsent } };
+    ghost view = { λ a. record { geometry = a.geometry; ring = a.pivots; edges = a.edges.items; marks = a.unsent } };
 
-    ghost invariant = { λ a. length a.unsent ≡ a.geometry.pages };
+    ghost invariant = { λ a. (length a.unsent ≡ a.geometry.pages) × AreReaches a.geometry.pages (marked a.unsent) a.pivots.pivots a.edges.items };
 }
 
 impl Bubbles {
     ghost use Rattle.migration_types.specs.PageSets.{no_page, without_page, size_below};
     ghost use Rattle.balloon_ledger.specs.Released.{released};
-    ghost use Rattle.bubbling.specs.Bubbling.{unsent, rest_of, in_turn, turned, faulted, IsNextPushed, IsRing, most_pivots, IsStart, IsWith};
+    ghost use Rattle.bubbling.specs.Bubbling.{unsent, rest_of, in_turn, turned, faulted, IsNextPushed, IsRing, most_pivots, edges_of, AreEdges, NoneInward, HasMoved, IsStart, IsWith};
+    ghost use Rattle.bubbling.specs.Edges.{at_page, low_edge, high_edge};
 
     /// All pages of the machine that are not released are to be pushed. Page 0 is the only pivot; at most so many
     /// pivots, 1 to 16, are ever kept.
@@ -58,39 +66,57 @@ impl Bubbles {
         Ok(Bubbles {
             geometry,
             pivots: Pivots::new(pivots),
+            edges: edges::first(),
             unsent,
         })
     }
 
-    /// The guest faulted at a page. A page that is no pivot becomes the newest one and has the turn, and the oldest of
-    /// a full list is dropped; the unsent pages stay. At a pivot nothing changes.
+    /// The guest faulted at a page. A page that is no pivot becomes the newest one, with both edges at itself, and has
+    /// the turn; the oldest of a full list is dropped with its edges. The unsent pages and the other edges stay. At a
+    /// pivot nothing changes.
     pub fn fault_at(&mut self, page: PageNo)
         requires { page < self.old.geometry.pages }
         ensures of_pivot { Contains self.old.ring.pivots page → self.new ≡ self.old }
-        ensures of_other { ¬ (Contains self.old.ring.pivots page) → self.new ≡ record self.old { ring = faulted page self.old.ring } }
+        ensures of_other { ¬ (Contains self.old.ring.pivots page) → self.new ≡ record self.old { ring = faulted page self.old.ring; edges = take self.old.ring.most (at_page page ∷ self.old.edges) } }
+        ensures outward { NoneInward self.old self.new }
     {
-        self.pivots.fault_at(page);
+        self.pivots.keeps_limits();
+        if self.pivots.place(page).is_none() {
+            self.pivots.add(page);
+            edges::add(&mut self.edges, self.pivots.most(), page);
+        }
     }
 
     /// The unsent page nearest to the pivot in turn, of two the greater. It counts as sent from now on, and the turn
-    /// passes to the next pivot. `None` where no page is unsent, and then nothing changes.
+    /// passes to the next pivot. The edges of the pivot that was in turn move outward past pages that are sent or not
+    /// owed, and the page is on one of them; the other edges stay. `None` where no page is unsent, and then nothing
+    /// changes.
     pub fn next(&mut self) -> Option<PageNo>
         ensures of_machine { IfSome result (λ q. q < self.old.geometry.pages) }
         ensures page { MatchOption result (unsent self.old ≡ no_page) (IsNextPushed (unsent self.old) (in_turn self.old.ring)) }
         ensures state { MatchOption result (self.new ≡ self.old) (λ q. IsWith self.old self.new (turned self.old.ring) (without_page q (unsent self.old))) }
         ensures fewer { IfSome result (λ q. size_below self.old.geometry.pages (unsent self.old) ≡ size_below self.old.geometry.pages (unsent self.new) + 1) }
+        ensures edges { IfSome result (HasMoved self.old self.new (in_turn self.old.ring)) }
+        ensures outward { NoneInward self.old self.new }
     {
-        let nearest = self.unsent.nearest(self.pivots.in_turn())?;
+        self.pivots.keeps_limits();
+        let turn = self.pivots.turn();
+        let edges = edges::at(&self.edges, turn).moved(&self.unsent);
+        let nearest = edges.nearest(self.pivots.in_turn(), &self.unsent)?;
         self.unsent.remove(nearest);
+        edges::put(&mut self.edges, turn, edges);
         self.pivots.pass_turn();
         Some(nearest)
     }
 
-    /// Counts a page as sent that did not come from `next`. True where it was unsent. The pivots and the turn stay.
+    /// Counts a page as sent that did not come from `next`. True where it was unsent. The pivots, their edges and the
+    /// turn stay.
     pub fn mark_sent(&mut self, page: PageNo) -> bool
         requires { page < self.old.geometry.pages }
         ensures was_unsent { result ≡ unsent self.old page }
         ensures state { IsWith self.old self.new self.old.ring (without_page page (unsent self.old)) }
+        ensures edges { self.new.edges ≡ self.old.edges }
+        ensures outward { NoneInward self.old self.new }
     {
         self.unsent.remove(page)
     }
@@ -102,6 +128,17 @@ impl Bubbles {
         self.unsent.left()
     }
 
+    /// The low and the high edge of a pivot, from -1 to the page count: all pages strictly between them are sent or not
+    /// owed. `None`: the page is no pivot.
+    pub fn edges(&self, page: PageNo) -> Option<(i32, i32)>
+        ensures { result ≡ option_map (λ e. (low_edge e, high_edge e)) (edges_of page self.now) }
+    {
+        self.unsent.keeps_limits();
+        self.pivots.keeps_limits();
+        let place = self.pivots.place(page)?;
+        Some(edges::at(&self.edges, place).told())
+    }
+
     /// The machine's geometry.
     pub fn geometry(&self) -> Geometry
         ensures { result ≡ self.now.geometry }
@@ -109,11 +146,13 @@ impl Bubbles {
         self.geometry
     }
 
-    /// Tells callers that the pivots are 1 to 16, all different, that one of them is in turn, and that each page of the
-    /// machine has a mark.
+    /// Tells callers that the pivots are 1 to 16, all different, and that one of them is in turn; that each page of the
+    /// machine has a mark; and that each pivot is within its edges, which are within the machine, and no page strictly
+    /// between them is unsent.
     pub fn keeps_limits(&self)
         ensures ring { IsRing self.now.ring }
         ensures marks { length self.now.marks ≡ self.now.geometry.pages }
+        ensures edges { AreEdges self.now }
     {
         self.pivots.keeps_limits();
     }

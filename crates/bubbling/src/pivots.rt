@@ -1,6 +1,6 @@
 //! The pages that pushing grows from, and whose turn it is.
 
-ghost use Rattle.std.specs.Prelude.{◌≡◌, ◌≤◌, MatchBool, Contains};
+ghost use Rattle.std.specs.Prelude.{◌≡◌, ◌<◌, ◌≤◌, MatchOption, Contains, length, slice_index};
 ghost use Rattle.bubbling.specs.Bubbling.{IsRing, most_pivots, first_ring, in_turn, turned, faulted};
 
 use arrayvec::ArrayVec;
@@ -10,7 +10,8 @@ use std::marker::Model;
 /// At most so many pivots are kept.
 pub const MOST_PIVOTS: u32 = 16;
 
-const ROOM: usize = MOST_PIVOTS as usize;
+/// The room for pivots.
+pub const ROOM: usize = MOST_PIVOTS as usize;
 
 /// Pages without repetition, newest first, which take turns.
 #[derive(Drop)]
@@ -53,21 +54,25 @@ impl Pivots {
         self.pages.as_slice()[self.turn]
     }
 
+    /// The place of the pivot in turn.
+    pub fn turn(&self) -> usize
+        ensures { result ≡ self.now.turn }
+    {
+        self.turn
+    }
+
+    /// How many pivots are kept at most.
+    pub fn most(&self) -> usize
+        ensures { result ≡ self.now.most }
+    {
+        self.most
+    }
+
     /// Gives the turn to the next pivot.
     pub fn pass_turn(&mut self)
         ensures { self.new ≡ turned self.old }
     {
         self.turn = (self.turn + 1) % self.pages.len();
-    }
-
-    /// Makes a page the newest pivot, with the turn, unless it is one already.
-    pub fn fault_at(&mut self, page: PageNo)
-        ensures of_pivot { Contains self.old.pivots page → self.new ≡ self.old }
-        ensures of_other { ¬ (Contains self.old.pivots page) → self.new ≡ faulted page self.old }
-    {
-        if !self.has(page) {
-            self.add(page);
-        }
     }
 
     /// Tells callers that there are 1 to 16 pivots, all different, and one of them in turn.
@@ -78,7 +83,7 @@ impl Pivots {
     }
 
     /// Makes a page the newest pivot, with the turn. The oldest of a full list is dropped.
-    fn add(&mut self, page: PageNo)
+    pub fn add(&mut self, page: PageNo)
         requires { ¬ (Contains self.old.pivots page) }
         ensures { self.new ≡ faulted page self.old }
     {
@@ -87,15 +92,15 @@ impl Pivots {
         self.turn = 0;
     }
 
-    /// Whether a page is a pivot.
-    fn has(&self, page: PageNo) -> bool
-        ensures { MatchBool result (Contains self.now.pivots page) (¬ (Contains self.now.pivots page)) }
+    /// The place of a page among the pivots, the newest at 0. `None`: it is no pivot.
+    pub fn place(&self, page: PageNo) -> Option<usize>
+        ensures { MatchOption result (¬ (Contains self.now.pivots page)) (λ j. (j < length self.now.pivots) × (slice_index self.now.pivots j ≡ page)) }
     {
-        for pivot in self.pages.as_slice() {
-            if *pivot == page {
-                return true;
+        for at in 0..self.pages.len() {
+            if self.pages.as_slice()[at] == page {
+                return Some(at);
             }
         }
-        false
+        None
     }
 }

@@ -1,29 +1,45 @@
-//! Machines of eight pages, of which none is released.
+//! Pages that are pushed in turn, compared with a search over all pages.
 
 use super::*;
 use std::test::Fail;
+
+/// The guest faults at a page of the machine.
+fn fault_at(bubbles: &mut Bubbles, number: u16) {
+    if u32::from(number) < bubbles.geometry().pages() {
+        bubbles.fault_at(PageNo::new(number));
+    }
+}
+
+/// Counts a page of the machine as sent.
+fn mark_sent(bubbles: &mut Bubbles, number: u16) -> bool {
+    u32::from(number) < bubbles.geometry().pages() && bubbles.mark_sent(PageNo::new(number))
+}
+
+/// Whether these pages are pushed next, one after another.
+fn pushes(bubbles: &mut Bubbles, numbers: &[u16]) -> bool {
+    for number in numbers {
+        if bubbles.next() != Some(PageNo::new(*number)) {
+            return false;
+        }
+    }
+    true
+}
+
+/// Whether no page is left.
+fn is_done(bubbles: &mut Bubbles) -> bool {
+    bubbles.left() == 0 && bubbles.next().is_none()
+}
 
 #[test]
 fn takes_turns(rt: HostRuntime) -> Result<(), Fail> {
     let geometry = Geometry::new(8, 1)?;
     let ledger = Ledger::new(rt.alloc(), geometry)?;
     let mut bubbles = Bubbles::new(rt.alloc(), geometry, 2, &ledger)?;
-    assert_eq!(rt; bubbles.geometry(), geometry);
-    assert_eq!(rt; bubbles.left(), 8);
-    assert_eq!(rt; bubbles.next(), Some(PageNo::new(0)));
-    assert_eq!(rt; bubbles.left(), 7);
-    let five = PageNo::new(5);
-    assert!(rt; bubbles.mark_sent(five));
-    assert_eq!(rt; bubbles.left(), 6);
-    assert!(rt; !bubbles.mark_sent(five));
-    assert_eq!(rt; bubbles.left(), 6);
-    bubbles.fault_at(five);
-    for (number, left) in [(6, 5), (1, 4), (4, 3), (2, 2), (7, 1), (3, 0)] {
-        assert_eq!(rt; bubbles.next(), Some(PageNo::new(number)));
-        assert_eq!(rt; bubbles.left(), left);
-    }
-    assert_eq!(rt; bubbles.next(), None);
-    assert_eq!(rt; bubbles.left(), 0);
+    assert!(rt; bubbles.geometry() == geometry && bubbles.left() == 8);
+    assert!(rt; pushes(&mut bubbles, &[0]) && bubbles.left() == 7);
+    assert!(rt; mark_sent(&mut bubbles, 5) && !mark_sent(&mut bubbles, 5));
+    fault_at(&mut bubbles, 5);
+    assert!(rt; pushes(&mut bubbles, &[6, 1, 4, 2, 7, 3]) && is_done(&mut bubbles));
     Ok(())
 }
 
@@ -32,18 +48,117 @@ fn keeps_one_pivot(rt: HostRuntime) -> Result<(), Fail> {
     let geometry = Geometry::new(8, 1)?;
     let ledger = Ledger::new(rt.alloc(), geometry)?;
     let mut bubbles = Bubbles::new(rt.alloc(), geometry, 1, &ledger)?;
-    bubbles.fault_at(PageNo::new(6));
-    assert_eq!(rt; bubbles.next(), Some(PageNo::new(6)));
-    assert_eq!(rt; bubbles.left(), 7);
-    assert_eq!(rt; bubbles.next(), Some(PageNo::new(7)));
-    assert_eq!(rt; bubbles.left(), 6);
-    assert_eq!(rt; bubbles.next(), Some(PageNo::new(5)));
-    assert_eq!(rt; bubbles.left(), 5);
-    bubbles.fault_at(PageNo::new(0));
-    assert_eq!(rt; bubbles.next(), Some(PageNo::new(0)));
-    assert_eq!(rt; bubbles.left(), 4);
-    bubbles.fault_at(PageNo::new(0));
-    assert_eq!(rt; bubbles.next(), Some(PageNo::new(1)));
-    assert_eq!(rt; bubbles.left(), 3);
+    fault_at(&mut bubbles, 6);
+    assert!(rt; pushes(&mut bubbles, &[6, 7, 5]));
+    fault_at(&mut bubbles, 0);
+    assert!(rt; pushes(&mut bubbles, &[0]));
+    fault_at(&mut bubbles, 0);
+    assert!(rt; pushes(&mut bubbles, &[1]));
+    Ok(())
+}
+
+#[test]
+fn moves_edges_past_a_released_page(rt: HostRuntime) -> Result<(), Fail> {
+    let geometry = Geometry::new(8, 1)?;
+    let mut ledger = Ledger::new(rt.alloc(), geometry)?;
+    ledger.release(PageNo::new(4));
+    let mut bubbles = Bubbles::new(rt.alloc(), geometry, 2, &ledger)?;
+    assert!(rt; bubbles.left() == 7 && bubbles.edges(PageNo::new(3)).is_none());
+    fault_at(&mut bubbles, 3);
+    assert!(rt; pushes(&mut bubbles, &[3]) && bubbles.edges(PageNo::new(3)) == Some((3, 3)));
+    assert!(rt; pushes(&mut bubbles, &[0, 2]) && bubbles.edges(PageNo::new(3)) == Some((2, 5)));
+    assert!(rt; pushes(&mut bubbles, &[1, 5, 6, 7]) && is_done(&mut bubbles));
+    Ok(())
+}
+
+/// The pages that are left and the pivots, for a search over all pages.
+#[derive(Drop)]
+struct Search {
+    unsent: [bool; 64],
+    most: usize,
+    pivots: ArrayVec<usize, 16>,
+    turn: usize,
+}
+
+impl Search {
+    fn fault_at(&mut self, page: usize) {
+        if !self.pivots.as_slice().contains(&page) {
+            self.pivots.truncate(self.most.saturating_sub(1));
+            let _ = self.pivots.try_insert(0, page);
+            self.turn = 0;
+        }
+    }
+
+    fn mark_sent(&mut self, page: usize) -> bool {
+        let Some(unsent) = self.unsent.get_mut(page) else {
+            return false;
+        };
+        let was_unsent = *unsent;
+        *unsent = false;
+        was_unsent
+    }
+
+    fn next(&mut self) -> Option<usize> {
+        let pivot = *self.pivots.as_slice().get(self.turn)?;
+        let nearest = nearest(&self.unsent, pivot)?;
+        self.mark_sent(nearest);
+        self.turn = self.turn.saturating_add(1).checked_rem(self.pivots.len())?;
+        Some(nearest)
+    }
+}
+
+/// The page nearest to the pivot, of two the greater.
+fn nearest(unsent: &[bool], pivot: usize) -> Option<usize> {
+    let mut best: Option<usize> = None;
+    for page in 0..unsent.len() {
+        if unsent[page] && best.is_none_or(|b| page.abs_diff(pivot) <= b.abs_diff(pivot)) {
+            best = Some(page);
+        }
+    }
+    best
+}
+
+/// Does the same with both, as a number chooses. Whether they answer alike.
+fn agrees(bubbles: &mut Bubbles, search: &mut Search, choice: u32) -> bool {
+    let page = PageNo::new((choice / 4 % 64) as u16);
+    match choice % 4 {
+        0 => {
+            fault_at(bubbles, page.number());
+            search.fault_at(page.index());
+            true
+        }
+        1 => mark_sent(bubbles, page.number()) == search.mark_sent(page.index()),
+        _ => bubbles.next().map(|p| p.index()) == search.next(),
+    }
+}
+
+/// The same 300 times.
+fn agree(bubbles: &mut Bubbles, search: &mut Search) -> bool {
+    let mut seed: u32 = 1;
+    for _ in 0..300 {
+        seed = seed.wrapping_mul(1_103_515_245).wrapping_add(12_345);
+        if !agrees(bubbles, search, seed / 65_536) {
+            return false;
+        }
+    }
+    is_done(bubbles)
+}
+
+#[test]
+fn agrees_with_a_search(rt: HostRuntime) -> Result<(), Fail> {
+    let geometry = Geometry::new(64, 1)?;
+    let ledger = Ledger::new(rt.alloc(), geometry)?;
+    for most in 1..17 {
+        let mut bubbles = Bubbles::new(rt.alloc(), geometry, most, &ledger)?;
+        let mut pivots = ArrayVec::new();
+        pivots.push(0);
+        let mut search = Search {
+            unsent: [true; 64],
+            most: most as usize,
+            pivots,
+            turn: 0,
+        };
+        assert!(rt; agree(&mut bubbles, &mut search));
+    }
     Ok(())
 }

@@ -1,10 +1,10 @@
 //! The pages that are still to be pushed.
 
-ghost use Rattle.std.specs.Prelude.{◌≡◌, ℕ, ◌<◌, ◌≤◌, nat_lt, false, IfOk, MatchOption, length, replicate, if◌then◌else◌};
+ghost use Rattle.std.specs.Prelude.{◌≡◌, ℕ, ◌<◌, ◌≤◌, false, IfOk, length, replicate};
 ghost use Rattle.migration_types.specs.Limits.{most_pages};
-ghost use Rattle.migration_types.specs.PageSets.{no_page, without_page, size_below};
+ghost use Rattle.migration_types.specs.PageSets.{without_page, size_below};
 ghost use Rattle.balloon_ledger.specs.Released.{released};
-ghost use Rattle.bubbling.specs.Bubbling.{marked, rest_of, distance, IsNextPushed};
+ghost use Rattle.bubbling.specs.Bubbling.{marked, rest_of};
 
 use balloon_ledger::Ledger;
 use migration_types::{Geometry, PageNo};
@@ -65,18 +65,27 @@ impl Unsent {
         was_there
     }
 
-    /// The page nearest to the pivot, of two the greater.
-    pub fn nearest(&self, pivot: PageNo) -> Option<PageNo>
-        ensures { MatchOption result (marked self.now ≡ no_page) (IsNextPushed (marked self.now) pivot) }
+    /// Whether a page is there.
+    pub fn has(&self, page: u32) -> bool
+        requires { page < length self.now }
+        ensures { result ≡ marked self.now page }
     {
-        let mut best = None;
-        for n in 0..self.marks.len() {
-            let page = PageNo::new(n as u16);
-            if self.marks[n] {
-                best = Some(nearer(best, pivot, page));
-            }
-        }
-        best
+        self.marks[page as usize]
+    }
+
+    /// Tells callers that the machine has at most 65,536 pages.
+    pub fn keeps_limits(&self)
+        ensures { length self.now ≤ most_pages }
+    {
+        let _left = self.left;
+    }
+
+    /// How many pages the machine has.
+    pub fn pages(&self) -> u32
+        ensures pages { result ≡ length self.now }
+        ensures few { length self.now ≤ most_pages }
+    {
+        self.marks.len() as u32
     }
 
     /// How many pages there are.
@@ -118,21 +127,4 @@ fn count(marks: &[bool]) -> u32
         }
     }
     left
-}
-
-/// The nearer page to the pivot, of two the later one.
-fn nearer(best: Option<PageNo>, pivot: PageNo, page: PageNo) -> PageNo
-    ensures { MatchOption best (result ≡ page) (λ b. result ≡ (if nat_lt (distance pivot b) (distance pivot page) then b else page)) }
-{
-    match best {
-        Some(best) if apart(pivot, best) < apart(pivot, page) => best,
-        _ => page,
-    }
-}
-
-/// How far apart two pages are.
-fn apart(a: PageNo, b: PageNo) -> u16
-    ensures { result ≡ distance a b }
-{
-    a.number().abs_diff(b.number())
 }

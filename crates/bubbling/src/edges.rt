@@ -1,0 +1,178 @@
+//! The edges of pivots, to which pushing has come on both sides.
+
+ghost use Rattle.std.specs.Prelude.{◌≡◌, ℕ, ◌+◌, ◌-◌, ◌<◌, ◌≤◌, nat_lt, true, false, [], ◌∷◌, length, take, slice_index_or, slice_set, if◌then◌else◌, IfSome, MatchOption};
+ghost use Rattle.migration_types.specs.Limits.{most_pages};
+ghost use Rattle.migration_types.specs.PageSets.{no_page};
+ghost use Rattle.bubbling.specs.Bubbling.{most_pivots, marked, distance, IsNextPushed};
+ghost use Rattle.bubbling.specs.Edges.{at_page, low_edge, high_edge, IsOnEdge, IsOutward, IsReach, IsAtRest};
+
+use crate::pivots::ROOM;
+use crate::unsent::Unsent;
+use arrayvec::ArrayVec;
+use migration_types::PageNo;
+
+/// The two edges of a pivot. The pages strictly between them are those from `first` up to, and without, `past`.
+#[derive(Clone, Copy, Default)]
+pub struct Edges {
+    /// The page after the low edge; 0 where the low edge is before page 0.
+    pub first: u32,
+    /// The high edge; the page count where it is after the last page.
+    pub past: u32,
+}
+
+impl Edges {
+    /// Both edges at a page.
+    pub fn at(page: PageNo) -> Edges
+        ensures { result ≡ at_page page }
+    {
+        let number = u32::from(page.number());
+        Edges {
+            first: number + 1,
+            past: number,
+        }
+    }
+
+    /// The edges moved outward, each to the next page that is to be pushed, or out of the machine.
+    pub fn moved(self, unsent: &Unsent) -> Edges
+        requires start { self.first ≤ length unsent.now }
+        requires end { self.past ≤ length unsent.now }
+        requires none { (q : ℕ) → self.first ≤ q → q < self.past → marked unsent.now q ≡ false }
+        ensures outward { IsOutward self result }
+        ensures end { result.past ≤ length unsent.now }
+        ensures none { (q : ℕ) → result.first ≤ q → q < result.past → marked unsent.now q ≡ false }
+        ensures rest { IsAtRest (length unsent.now) (marked unsent.now) result }
+    {
+        Edges {
+            first: lowered(self.first, unsent),
+            past: raised(self.past, unsent),
+        }
+    }
+
+    /// The page nearest to the pivot, of two the greater, which is on an edge.
+    pub fn nearest(self, pivot: PageNo, unsent: &Unsent) -> Option<PageNo>
+        requires reach { IsReach (length unsent.now) (marked unsent.now) pivot self }
+        requires rest { IsAtRest (length unsent.now) (marked unsent.now) self }
+        ensures page { MatchOption result (marked unsent.now ≡ no_page) (IsNextPushed (marked unsent.now) pivot) }
+        ensures on_edge { IfSome result (λ q. IsOnEdge q self) }
+    {
+        match (self.low(), self.high(unsent.pages())) {
+            (None, high) => high,
+            (low, None) => low,
+            (Some(low), Some(high)) => Some(nearer(pivot, low, high)),
+        }
+    }
+
+    /// The edges as numbers of pages, the low one -1 before page 0.
+    pub fn told(self) -> (i32, i32)
+        requires start { self.first ≤ most_pages }
+        requires end { self.past ≤ most_pages }
+        ensures { result ≡ (low_edge self, high_edge self) }
+    {
+        (self.first as i32 - 1, self.past as i32)
+    }
+
+    /// The page on the low edge.
+    fn low(self) -> Option<PageNo>
+        requires { self.first ≤ most_pages }
+        ensures { MatchOption result (self.first ≡ 0) (λ q. q + 1 ≡ self.first) }
+    {
+        let low = self.first.checked_sub(1)?;
+        Some(PageNo::new(low as u16))
+    }
+
+    /// The page on the high edge, of so many pages.
+    fn high(self, pages: u32) -> Option<PageNo>
+        requires few { pages ≤ most_pages }
+        requires end { self.past ≤ pages }
+        ensures { MatchOption result (self.past ≡ pages) (λ q. (q ≡ self.past) × (q < pages)) }
+    {
+        if self.past == pages {
+            return None;
+        }
+        Some(PageNo::new(self.past as u16))
+    }
+}
+
+/// The edges of page 0 as the only pivot.
+pub fn first() -> ArrayVec<Edges, ROOM>
+    ensures { result.items ≡ at_page 0 ∷ [] }
+{
+    let mut edges = ArrayVec::new();
+    edges.push(Edges::at(PageNo::new(0)));
+    edges
+}
+
+/// Puts the edges of a new pivot before the others. The last of a full list are dropped.
+pub fn add(edges: &mut ArrayVec<Edges, ROOM>, most: usize, page: PageNo)
+    requires some { 1 ≤ most }
+    requires few { most ≤ most_pivots }
+    ensures { edges.new.items ≡ take most (at_page page ∷ edges.old.items) }
+{
+    edges.truncate(most - 1);
+    edges.insert(0, Edges::at(page));
+}
+
+/// The edges at a place.
+pub fn at(edges: &ArrayVec<Edges, ROOM>, place: usize) -> Edges
+    requires { place < length edges.now.items }
+    ensures { result ≡ slice_index_or edges.now.items place result }
+{
+    edges.as_slice()[place]
+}
+
+/// Puts edges in place of those at a place.
+pub fn put(edges: &mut ArrayVec<Edges, ROOM>, place: usize, new: Edges)
+    requires { place < length edges.old.items }
+    ensures { edges.new.items ≡ slice_set edges.old.items place new }
+{
+    edges.as_mut_slice()[place] = new;
+}
+
+/// The page after the last one below `first` that is to be pushed, or 0.
+fn lowered(first: u32, unsent: &Unsent) -> u32
+    requires { first ≤ length unsent.now }
+    ensures outward { result ≤ first }
+    ensures none { (q : ℕ) → result ≤ q → q < first → marked unsent.now q ≡ false }
+    ensures rest { 1 ≤ result → marked unsent.now (result - 1) ≡ true }
+{
+    let mut lowest = first;
+    while lowest > 0 && !unsent.has(lowest - 1) {
+        lowest -= 1;
+    }
+    lowest
+}
+
+/// The first page from `past` on that is to be pushed, or the page count.
+fn raised(past: u32, unsent: &Unsent) -> u32
+    requires { past ≤ length unsent.now }
+    ensures outward { past ≤ result }
+    ensures end { result ≤ length unsent.now }
+    ensures none { (q : ℕ) → past ≤ q → q < result → marked unsent.now q ≡ false }
+    ensures rest { result < length unsent.now → marked unsent.now result ≡ true }
+{
+    let pages = unsent.pages();
+    for page in past..pages {
+        if unsent.has(page) {
+            return page;
+        }
+    }
+    pages
+}
+
+/// The page nearer to the pivot, of two as near the high one.
+fn nearer(pivot: PageNo, low: PageNo, high: PageNo) -> PageNo
+    ensures { result ≡ (if nat_lt (distance pivot low) (distance pivot high) then low else high) }
+{
+    if apart(pivot, low) < apart(pivot, high) {
+        low
+    } else {
+        high
+    }
+}
+
+/// How far apart two pages are.
+fn apart(a: PageNo, b: PageNo) -> u16
+    ensures { result ≡ distance a b }
+{
+    a.number().abs_diff(b.number())
+}
