@@ -1,1 +1,3 @@
 pub mod GuestPart
+pub mod Books
+pub mod inner
