@@ -134,33 +134,43 @@ fn refuses_one_record(book: &mut SourceBook) -> bool {
     is_full(book.tick()) && is_full(book.push())
 }
 
+/// Whether a push, two wants of the second page and the end are answered, and then nothing is left to do.
+fn does_all(book: &mut SourceBook) -> bool {
+    offers(book.push(), (2, FIRST, 0))
+        && offers(book.serve(3, &want(3)), (4, SECOND, 7))
+        && offers(book.serve(4, &want(5)), (6, SECOND, 7))
+        && is_silent(book.serve(5, &all()))
+        && is_silent(book.push())
+        && is_silent(book.tick())
+}
+
+/// Whether all is refused for which the log has no room.
+fn refuses_all(book: &mut SourceBook) -> Result<bool, SourceFault> {
+    tick_until(book, 1)?;
+    if !refuses_two_records(book) {
+        return Ok(false);
+    }
+    tick_until(book, 0)?;
+    Ok(refuses_two_records(book) && refuses_one_record(book))
+}
+
 #[test]
 fn halt_offers_the_state(rt: HostRuntime) -> Result<(), Fail> {
     let (book, packet) = after_halt(&rt)?;
-    assert!(rt; is_state(&packet, 1));
-    assert_eq!(rt; book.sent(PageNo::new(FIRST)), None);
+    assert!(rt; is_state(&packet, 1) && book.sent(PageNo::new(FIRST)).is_none());
     Ok(())
 }
 
 #[test]
 fn sends_each_page_and_ends(rt: HostRuntime) -> Result<(), Fail> {
     let (mut book, _) = after_halt(&rt)?;
-    assert!(rt; offers(book.push(), (2, FIRST, 0)));
-    assert!(rt; offers(book.serve(3, &want(3)), (4, SECOND, 7)));
-    assert!(rt; offers(book.serve(4, &want(5)), (6, SECOND, 7)));
-    assert!(rt; is_silent(book.serve(5, &all())));
-    assert!(rt; is_silent(book.push()));
-    assert!(rt; is_silent(book.tick()));
-    assert!(rt; is_whole(book.source_log()));
+    assert!(rt; does_all(&mut book) && is_whole(book.source_log()));
     Ok(())
 }
 
 #[test]
 fn refuses_what_the_log_has_no_room_for(rt: HostRuntime) -> Result<(), Fail> {
     let (mut book, _) = after_halt(&rt)?;
-    tick_until(&mut book, 1)?;
-    assert!(rt; refuses_two_records(&mut book));
-    tick_until(&mut book, 0)?;
-    assert!(rt; refuses_two_records(&mut book) && refuses_one_record(&mut book));
+    assert!(rt; refuses_all(&mut book)?);
     Ok(())
 }
