@@ -52,7 +52,8 @@ impl Model for TargetBook {
 impl TargetBook {
     /// The book at the halt, whose record the guest's log gains: no page was placed, and the guest does not run yet.
     /// The log holds what the guest did at the source, reads, writes and releases alone. `TargetFault::LogFull` where
-    /// the log has no room for the record. On an error the log comes back as it was.
+    /// the log has no room for the record, `TargetFault::Memory` where there is no memory for the frames and tables. On
+    /// an error the log comes back as it was.
     pub fn halted(
         alloc: Global,
         geometry: Geometry,
@@ -77,7 +78,8 @@ impl TargetBook {
     /// An operation of a virtual processor, a read or a write. Before the guest resumes it waits. On a page that was not
     /// placed it misses, once, and then waits until the page is placed. On a page that was placed it is done and
     /// recorded, after a look at the placement where the guest saw none so late.
-    /// `TargetFault::LogFull` where the log has no room for the records. On an error nothing changes.
+    /// `TargetFault::LogFull` where the log has no room for the records, `TargetFault::Memory` where there is no memory
+    /// for them. On an error nothing changes.
     pub fn access(&mut self, vcpu: u8, op: Op) -> Result<Access, TargetFault>
         requires { IsAccess (geometry_of self.old) op }
         ensures part { IfOk result (λ a. record { book = part_of self.new; access = a } ≡ target_access vcpu op (part_of self.old)) }
@@ -90,7 +92,7 @@ impl TargetBook {
     }
 
     /// The guest resumes at the target, which is recorded. `TargetFault::LogFull` where the log has no room for the
-    /// record. On an error nothing changes.
+    /// record, `TargetFault::Memory` where there is no memory for it. On an error nothing changes.
     pub fn resume(&mut self) -> Result<(), TargetFault>
         requires { (part_of self.old).is_resumed ≡ false }
         ensures part { OnOk result (part_of self.new ≡ resumes (part_of self.old)) }

@@ -16,15 +16,18 @@ pub enum Access {
     Done(u64),
     /// Its page was missed.
     Missed,
-    /// Its page's miss stands.
+    /// A miss of the virtual processor stands, or the guest has not resumed.
     Waiting,
 }
 
-/// A miss that the pager has not taken, with the number of its record.
+/// A miss that the pager has not taken.
 #[derive(Clone, Copy, Debug, PartialEq, Eq)]
 pub struct Missing {
+    /// The number of its record in the guest's log.
     pub number: u32,
+    /// The virtual processor that missed.
     pub vcpu: u8,
+    /// The page that it missed.
     pub page: PageNo,
 }
 
