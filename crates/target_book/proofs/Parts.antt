@@ -1,5 +1,6 @@
 -- The parts of the target's book, as the code comes to them.
-use Rattle.std.proofs.Common.{◌≡◌, ℕ, zero, suc, ◌+◌, true, false, cond, [], ◌∷◌, ◌++◌, length, Some, get_or, replicate, refl, sym, ap, ◌∙◌, arith, length-append}
+use Rattle.std.proofs.Common.{◌≡◌, ℕ, zero, suc, ◌+◌, true, false, cond, [], ◌∷◌, ◌++◌, length, Some, get_or, replicate, refl, sym, ap, subst, ◌<◌, ◌∙◌, arith, length-append}
+use Rattle.std.specs.List.{AllByRecursion}
 use Rattle.migration_types.specs.declared.records.GuestRec.TheVariants.{Read, Write, See}
 use Rattle.migration_types.specs.Extents.{Extent}
 use Rattle.migration_types.specs.PageSets.{no_page, without_page}
@@ -51,4 +52,5 @@ sized_own e h sized = record {
   frames = refl;
   places = sized.places ∙ sym sized.frames;
   marks = sized.marks;
+  misses = subst (λ (x : Extent). AllByRecursion (λ m. m.page < x.pages) h.misses) (sym sized.frames) sized.misses;
 }

@@ -1,5 +1,6 @@
 -- What contracts see of a target's book.
-use Rattle.std.specs.Prelude.{◌≡◌, Bool, false, ◌≤◌, List, ◌++◌, length, map, slice_index_or}
+use Rattle.std.specs.Prelude.{◌≡◌, Bool, false, ◌<◌, ◌≤◌, List, ◌++◌, length, map, slice_index_or}
+use Rattle.std.specs.List.{AllByRecursion}
 use Rattle.migration_types.specs.declared.records.GuestRec.{GuestRec}
 use Rattle.migration_types.specs.Extents.{Extent}
 use Rattle.migration_types.specs.Limits.{most_records}
@@ -51,9 +52,10 @@ pub record HaveGrown (old new : Kept) : Type 0 where
   pub log : new.held.log ≡ old.held.log ++ records
   pub history : new.history ≡ old.history ++ map Did records
 
--- one machine's frames, residency and marks, and a log within its limit
+-- one machine's frames, residency and marks, misses of its pages, and a log within its limit
 pub record IsSized (e : Extent) (h : Held) : Type 0 where
   pub few : length h.log ≤ most_records
   pub frames : h.frames.geometry ≡ e
   pub places : h.places.geometry ≡ e
   pub marks : length h.standing ≡ 256
+  pub misses : AllByRecursion (λ m. m.page < e.pages) h.misses

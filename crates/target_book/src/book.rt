@@ -1,6 +1,6 @@
 //! The book, with its history.
 
-ghost use Rattle.std.specs.Prelude.{◌≡◌, ◌<◌, ◌≤◌, [], ◌∷◌, ◌++◌, length, map, drop, slice_get, None, false, IfOk, IfErr, OnOk, OnErr, IsErrOf};
+ghost use Rattle.std.specs.Prelude.{◌≡◌, ◌<◌, ◌≤◌, [], ◌∷◌, ◌++◌, length, map, drop, slice_get, None, false, IfSome, IfOk, IfErr, OnOk, OnErr, IsErrOf};
 ghost use Rattle.std.specs.List.{AllByRecursion};
 ghost use Rattle.migration_types.specs.Limits.{most_records};
 ghost use Rattle.target_book.specs.TargetPart.{halted_target, target_access, resumes, with_placed, with_zeroed, with_misses};
@@ -150,9 +150,10 @@ impl TargetBook {
         Ok(())
     }
 
-    /// The oldest miss that was not taken. None: all were taken.
+    /// The oldest miss that was not taken, of a page of the machine. None: all were taken.
     pub fn next_miss(&self) -> Option<Missing>
-        ensures { result ≡ slice_get (part_of self.now).misses 0 }
+        ensures oldest { result ≡ slice_get (part_of self.now).misses 0 }
+        ensures page { IfSome result (λ m. m.page < (geometry_of self.now).pages) }
     {
         self.state.misses.front().copied()
     }

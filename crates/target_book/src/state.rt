@@ -92,7 +92,8 @@ impl State {
 
     /// A virtual processor misses a page, unless a miss of it stands.
     fn miss(&mut self, vcpu: u8, page: PageNo) -> Result<Access, TargetFault>
-        requires { IsSized (held self.old).frames.geometry (held self.old) }
+        requires sized { IsSized (held self.old).frames.geometry (held self.old) }
+        requires page { page < (held self.old).frames.geometry.pages }
         ensures ok { IfOk result (λ a. record { book = part_held (held self.new); access = a } ≡ misses_page vcpu page (part_held (held self.old))) }
         ensures full { IsErrOf result TargetFault.LogFull → most_records < length (misses_page vcpu page (part_held (held self.old))).book.log }
         ensures sized { (e : Extent) → IsSized e (held self.old) → IsSized e (held self.new) }

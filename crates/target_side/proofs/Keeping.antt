@@ -99,12 +99,14 @@ kept_incoming x b here k = record {
 -- a page is taken out of the inbox
 pub kept_taken : (x : Incoming) (rest : List Incoming) (b : PagerPart) → b.inbox ≡ x ∷ rest → IsKept b → HasCome b.geometry b.log x × IsKept (record b { inbox = rest })
 kept_taken x rest b is k =
-    let all : AllByRecursion (HasCome b.geometry b.log) (x ∷ rest) = subst (AllByRecursion (HasCome b.geometry b.log)) is k.tied.inbox in
-    (all.0, record {
-      few = k.few;
-      begun = k.begun;
-      tied = record { inbox = all.1; outbox = k.tied.outbox; wants = k.tied.wants; waiting = k.tied.waiting; placed = k.tied.placed };
-    })
+    let all : AllByRecursion (HasCome b.geometry b.log) (x ∷ rest) = subst (AllByRecursion (HasCome b.geometry b.log)) is k.tied.inbox in (
+      all.0,
+      record {
+        few = k.few;
+        begun = k.begun;
+        tied = record { inbox = all.1; outbox = k.tied.outbox; wants = k.tied.wants; waiting = k.tied.waiting; placed = k.tied.placed };
+      },
+    )
 
 -- a packet is taken out of the outbox, or goes into it
 pub kept_flushed : (packet : Packet) (rest : List Packet) (b : PagerPart) → b.outbox ≡ packet ∷ rest → IsKept b → IsKept (record b { outbox = rest })

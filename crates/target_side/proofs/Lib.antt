@@ -3,3 +3,5 @@ mod Keeping
 mod Listed
 mod Sounds
 mod Ticking
+mod Paging
+mod Branches

@@ -80,7 +80,3 @@ still_settled None list there p is e = ap (λ b. is_listed p list || b) e ∙ or
     or_true true = refl
     or_true false = refl
 still_settled (Some xs) list there p is e = absurd (cc)
-
--- there is a value just where there is not none
-pub there_is : {A : Type 0} (o : Option A) (b : Bool) → b ≡ is_some o → (b ≡ true → is_some o ≡ true) × (b ≡ false → is_some o ≡ false)
-there_is o b e = (λ t. sym e ∙ t, λ f. sym e ∙ f)

@@ -52,7 +52,7 @@ said_all b log n grown at = λ i. record { book = record b { log = grown i }; pa
 pub said_want : (b : PagerPart) (log : List PagerRec) (wants : ℕ → Option ℕ) (n page p : ℕ) → log ≡ b.log ++ Want page ∷ [] → wants ≡ with_value page (Some (length b.log)) b.wants → n ≡ length b.log → page ≡ oldest b.waiting p → record { book = record b { log = log; wants = wants }; packet = Some (WantPacket n page) } ≡ ticks_at (Some p) b
 said_want b log wants n page p grown given at is =
     let same : record { book = record b { log = log; wants = wants }; packet = Some (WantPacket n page) } ≡ record { book = wants_page page b; packet = Some (WantPacket (length b.log) page) } =
-            λ i. record { book = record b { log = grown i; wants = given i }; packet = Some (WantPacket (at i) page) }
+    λ i. record { book = record b { log = grown i; wants = given i }; packet = Some (WantPacket (at i) page) }
     in same ∙ ap (λ (q : ℕ). let s : Sent = record { book = wants_page q b; packet = Some (WantPacket (length b.log) q) } in s) is
 
 pub kept_wants : (b : PagerPart) (page : ℕ) (log : List PagerRec) (wants : ℕ → Option ℕ) → is_some b.released ≡ true → page < b.geometry.pages → length b.log + 1 ≤ most_records → log ≡ b.log ++ Want page ∷ [] → wants ≡ with_value page (Some (length b.log)) b.wants → IsKept b → IsKept (record b { log = log; wants = wants })
@@ -90,7 +90,3 @@ sound_wanting log outbox waiting wants s pages k = record {
   in_range = s.in_range;
   settled = s.settled;
 }
-
-pub oldest_is : (xs : List Waiting) (p : ℕ) (o : Option ℕ) → o ≡ option_map (λ (e : Waiting). e.page) (slice_get xs 0) → (o ≡ None → p ≡ oldest xs p) × ((q : ℕ) → o ≡ Some q → q ≡ oldest xs p)
-oldest_is [] p o e = (λ n. refl, λ q h. absurd (cc))
-oldest_is (x ∷ xs) p o e = (λ n. absurd (cc), λ q h. cc)

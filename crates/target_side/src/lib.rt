@@ -5,9 +5,9 @@ mod log;
 mod marks;
 mod pager;
 
-pub use pager::PagerBook;
-
 use migration_types::{Contents, PageNo};
+pub use pager::PagerBook;
+pub use target_book::{Access, Missing, TargetBook, TargetFault};
 
 /// A page that has come, with the number of its record.
 #[derive(Drop)]

@@ -22,12 +22,7 @@ pub(crate) fn mark_all(marks: &mut Table<bool>, pages: &[PageNo])
 }
 
 /// The least page from a number on that is marked in neither of two tables, or the page count where there is none.
-pub(crate) fn first_unmarked(
-    one: &Table<bool>,
-    other: &Table<bool>,
-    from: u32,
-    pages: u32,
-) -> u32
+pub(crate) fn first_unmarked(one: &Table<bool>, other: &Table<bool>, from: u32, pages: u32) -> u32
     requires begins { from ≤ pages }
     requires few { pages ≤ most_pages }
     requires one { pages_of one.now ≡ pages }

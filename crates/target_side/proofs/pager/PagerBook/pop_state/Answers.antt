@@ -17,10 +17,10 @@ invariant_of-self-then-is_some c =
     let room : length c.self.inside.log.items + 2 ≤ most_records = c.in_ok-make_room.ensures.fits in
     sound_with _ _ _ _ c.self.invariant
     (popped_again _ c.args.link_number c.append-got.result c.append.new.log.items there
-      (c.append.ensures.items
-        ∙ ap (λ l. l ++ Skip c.append-got.result ∷ []) c.append-got.ensures.items
-        ∙ ap (λ (l : List PagerRec). (l ++ Got c.args.link_number ∷ []) ++ Skip c.append-got.result ∷ []) c.make_room.ensures.same)
-      room c.self.invariant.kept)
+    (c.append.ensures.items
+    ∙ ap (λ l. l ++ Skip c.append-got.result ∷ []) c.append-got.ensures.items
+    ∙ ap (λ (l : List PagerRec). (l ++ Got c.args.link_number ∷ []) ++ Skip c.append-got.result ∷ []) c.make_room.ensures.same)
+    room c.self.invariant.kept)
 
 pub mark_all-requires-clause-none : goal.mark_all-requires-clause-none
 mark_all-requires-clause-none c =
@@ -39,10 +39,10 @@ invariant_of-self-2 c =
     let list : c.from_vec.result ≡ c.args.released.now = c.from_vec.ensures ∙ c.in-Ok.ensures.items in
     record {
       kept = popped_first _ c.args.link_number c.from_vec.result c.append-3.new.log.items away
-        (c.append-3.ensures.items
+          (c.append-3.ensures.items
           ∙ ap (λ l. l ++ Ready ∷ []) c.append-2.ensures.items
           ∙ ap (λ (l : List PagerRec). (l ++ Got c.args.link_number ∷ []) ++ Ready ∷ []) c.make_room.ensures.same)
-        c.self.invariant.kept;
+          c.self.invariant.kept;
       placed_pages = c.self.invariant.placed_pages;
       wants_pages = c.self.invariant.wants_pages;
       marked_pages = c.mark_all.ensures.pages ∙ c.self.invariant.marked_pages;

@@ -24,10 +24,10 @@ returns-then-absent-pages-clause-ok c =
     let there : is_some c.self.inside.released ≡ true = grind (arith, common_steps) in
     let up = sound_up c.first_unmarked-absent.result c.self.invariant (omega (arith, c.first_unmarked-absent.ensures.ends, c.pages-pages.ensures)) c.first_unmarked-absent.ensures.marked in
     let all : (p : ℕ) → p < c.self.inside.geometry.pages → (is_released c.self.inside.released p || values c.self.inside.placed p) ≡ true =
-            λ p lt. up.settled p (omega (arith, c.if-absent-pages.true, c.pages-pages.ensures)) in
+    λ p lt. up.settled p (omega (arith, c.if-absent-pages.true, c.pages-pages.ensures)) in
     said_all _ c.append-number.new.log.items c.append-number.result
-      (c.append-number.ensures.items ∙ ap (λ l. l ++ All ∷ []) c.make_room.ensures.same)
-      (c.append-number.ensures.number ∙ ap length c.make_room.ensures.same)
+    (c.append-number.ensures.items ∙ ap (λ l. l ++ All ∷ []) c.make_room.ensures.same)
+    (c.append-number.ensures.number ∙ ap length c.make_room.ensures.same)
     ∙ sym (ticks_done c.self.inside.released _ there all)
     ∙ ap (λ (v : PagerLists). pager_tick (part_of v)) c.self.view_is
 
@@ -58,8 +58,8 @@ returns-clause-ok c =
     let up = sound_up c.first_unmarked-absent.result c.self.invariant (omega (arith, c.first_unmarked-absent.ensures.ends, c.pages-pages.ensures)) c.first_unmarked-absent.ensures.marked in
     let here = unsettled c.first_unmarked-absent.result c.self.invariant (c.first_unmarked-absent.ensures.unmarked (omega (arith, c.first_unmarked-absent.ensures.ends, c.if-absent-pages.false))) in
     said_want _ c.want_page-number.new.log.items (values c.want_page-number.new.wants) c.want_page-number.result c.oldest_or-page.result c.first_unmarked-absent.result
-      (log_is c) (wants_are c)
-      (c.want_page-number.ensures.number ∙ ap length c.make_room.ensures.same)
-      (c.oldest_or-page.ensures ∙ ap (oldest c.self.inside.waiting) c.new.ensures)
+    (log_is c) (wants_are c)
+    (c.want_page-number.ensures.number ∙ ap length c.make_room.ensures.same)
+    (c.oldest_or-page.ensures ∙ ap (oldest c.self.inside.waiting) c.new.ensures)
     ∙ sym (ticks_wanting c.self.inside.released _ c.first_unmarked-absent.result there below up.settled here)
     ∙ ap (λ (v : PagerLists). pager_tick (part_of v)) c.self.view_is
