@@ -43,16 +43,16 @@ count_taken d new line live none few is = step Count Events d new line live
     (record { few = few; within = rw none (omega arith); each = rw none tt })
     (rw (none, is) refl)
     (λ v more r.
-        let e = r.1 in
-        let many = r.0.few in
-        let head : events_key ++ decimal new.count ≡ events_key ++ decimal (length v) = sym is ∙ cc in
-        let tail : more ≡ map event_line v ++ closing ∷ [] = cc in
-        record { fits = r.0; count = sym (keyed_same events_key new.count (length v) (omega arith) (omega arith) head); back = v; whole = ap (λ (t : List Event). t ++ v) (sym none); lines = tail })
+    let e = r.1 in
+    let many = r.0.few in
+    let head : events_key ++ decimal new.count ≡ events_key ++ decimal (length v) = sym is ∙ cc in
+    let tail : more ≡ map event_line v ++ closing ∷ [] = cc in
+    record { fits = r.0; count = sym (keyed_same events_key new.count (length v) (omega arith) (omega arith) head); back = v; whole = ap (λ (t : List Event). t ++ v) (sym none); lines = tail })
     (λ v more r.
-        let same : r.back ≡ v = sym (r.whole ∙ ap (λ (t : List Event). t ++ r.back) none) in
-        let head : line ≡ events_key ++ decimal (length v) = is ∙ ap (λ (n : ℕ). events_key ++ decimal n) (sym r.count) in
-        let tail : more ≡ map event_line v ++ closing ∷ [] = r.lines ∙ ap (λ (t : List Event). map event_line t ++ closing ∷ []) same in
-        (r.fits, cc))
+    let same : r.back ≡ v = sym (r.whole ∙ ap (λ (t : List Event). t ++ r.back) none) in
+    let head : line ≡ events_key ++ decimal (length v) = is ∙ ap (λ (n : ℕ). events_key ++ decimal n) (sym r.count) in
+    let tail : more ≡ map event_line v ++ closing ∷ [] = r.lines ∙ ap (λ (t : List Event). map event_line t ++ closing ∷ []) same in
+    (r.fits, cc))
 
 -- the event that may come is the only one with this line
 next_event : (d : Part Event) (line : List ℕ) (v : List Event) (more : List (List ℕ)) → EventsLeft d v (line ∷ more) → length d.items < d.count → (y : Event) × (back : List Event) × (v ≡ d.items ++ y ∷ back) × (line ≡ event_line y) × (more ≡ map event_line back ++ closing ∷ []) × EventFits y
@@ -67,9 +67,9 @@ event_taken d new line x live less is fits spelled = rw is (step Events Events d
     (record { few = live.fits.few; within = omega (arith, length-append d.items (x ∷ [])); each = all_append EventFits d.items (x ∷ []) live.fits.each (fits, tt) })
     (ap (λ (t : List (List ℕ)). events_header ∷ (events_key ++ decimal d.count) ∷ t) (sym (append-nil (map event_line (d.items ++ x ∷ []))) ∙ section_push event_line d.items x [] ∙ ap (λ (l : List ℕ). map event_line d.items ++ l ∷ []) (sym spelled)))
     (λ v more r.
-        let n = next_event d line v more r less in
-        let same = event_tells x n.0 fits n.5 (sym spelled ∙ n.3) in
-        record { fits = r.fits; count = r.count; back = n.1; whole = n.2 ∙ ap (λ (y : Event). d.items ++ y ∷ n.1) (sym same) ∙ sym (append_assoc d.items (x ∷ []) n.1); lines = n.4 })
+    let n = next_event d line v more r less in
+    let same = event_tells x n.0 fits n.5 (sym spelled ∙ n.3) in
+    record { fits = r.fits; count = r.count; back = n.1; whole = n.2 ∙ ap (λ (y : Event). d.items ++ y ∷ n.1) (sym same) ∙ sym (append_assoc d.items (x ∷ []) n.1); lines = n.4 })
     (λ v more r. record { fits = r.fits; count = r.count; back = x ∷ r.back; whole = r.whole ∙ append_assoc d.items (x ∷ []) r.back; lines = let e = r.lines in cc }))
 
 -- no event is left

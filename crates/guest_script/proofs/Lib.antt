@@ -2,3 +2,9 @@ pub mod Exactly
 pub mod Lists
 pub mod Tells
 pub mod EventSteps
+pub mod ScriptTells
+pub mod Letters
+pub mod ScriptSteps
+pub mod ScriptVcpus
+pub mod ScriptGoes
+pub mod ScriptLaws

@@ -1,2 +1,4 @@
 pub mod Events
+pub mod Scenarios
+pub mod Scripts
 pub mod inner

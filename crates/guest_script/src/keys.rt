@@ -38,3 +38,33 @@ pub fn fate_word_of(fate: Fate) -> &'static [u8]
         Fate::Back => b"back",
     }
 }
+
+/// The first line of a script's text.
+pub const SCRIPT_HEADER: &[u8] = b"postcopy-script 1";
+
+/// How the line with the number of pivots begins.
+pub const PIVOTS_KEY: &[u8] = b"pivots ";
+
+/// How the line with the window begins.
+pub const WINDOW_KEY: &[u8] = b"window ";
+
+/// How the line with the fates on the way down begins.
+pub const DOWN_KEY: &[u8] = b"down ";
+
+/// How the line with the fates on the way up begins.
+pub const UP_KEY: &[u8] = b"up ";
+
+/// How the line with the number of virtual processors begins.
+pub const VCPUS_KEY: &[u8] = b"vcpus ";
+
+/// How the line of a virtual processor begins.
+pub const VCPU_KEY: &[u8] = b"vcpu ";
+
+/// How the line of a read begins.
+pub const READ_KEY: &[u8] = b"r ";
+
+/// How the line of a write begins.
+pub const WRITE_KEY: &[u8] = b"w ";
+
+/// How the line of a release begins.
+pub const RELEASE_KEY: &[u8] = b"z ";

@@ -6,20 +6,37 @@ ghost use Rattle.std.specs.Prelude.{IfOk};
 ghost use Rattle.text_lines.specs.Answer.{Reads};
 ghost use Rattle.text_lines.specs.Text.{IsSpelling, IsUnambiguous};
 ghost use Rattle.guest_script.specs.Events.{AreEvents, SpellsEvents};
+ghost use Rattle.guest_script.specs.Scripts.{SpellsScript};
 
 use migration_events::Event;
 use migration_types::Seq;
+use session_log::{CELLS_KEY, INIT_KEY, InitLines, PAGES_KEY};
 use std::alloc::{AllocError, Global};
-use text_lines::{TextFault, push_counted, push_line, read};
+use text_lines::{TextFault, push_counted, push_keyed, push_line, read};
 
 mod event_form;
 mod event_reader;
 mod event_steps;
+mod fates;
 mod keys;
+mod op_form;
+mod script;
+mod script_reader;
+mod script_steps;
+mod stages;
+mod vcpus;
 
 use event_form::EventForm;
 use event_reader::EventLines;
-use keys::{CLOSING, EVENTS_HEADER, EVENTS_KEY};
+use fates::push_fates;
+use keys::{
+    CLOSING, DOWN_KEY, EVENTS_HEADER, EVENTS_KEY, PIVOTS_KEY, SCRIPT_HEADER, UP_KEY, VCPUS_KEY,
+    WINDOW_KEY,
+};
+use op_form::push_vcpus;
+pub use script::Script;
+use script_reader::ScriptLines;
+pub use vcpus::{MOST_FATES, MOST_OPS, MOST_PIVOTS, MOST_VCPUS, MOST_WINDOW, Vcpu};
 
 /// The events that the bytes are the text of, at most 1,048,576.
 ///
@@ -49,6 +66,48 @@ pub fn write_events(alloc: Global, events: &[Event]) -> Result<Vec<u8>, AllocErr
     push_line(&mut out, CLOSING)?;
     Ok(out)
 }
+
+/// The script that the bytes are the text of.
+///
+/// # Errors
+///
+/// As those of `read_events`: the line at which the bytes stop being a script's text, or want of memory.
+pub fn read_script(alloc: Global, bytes: &[u8]) -> Result<Script, TextFault>
+    ensures { Reads SpellsScript bytes.now result }
+{
+    read(ScriptLines::new(alloc), bytes)
+}
+
+/// The text of a script, which `read_script` reads back.
+///
+/// # Errors
+///
+/// There is no memory for it.
+pub fn write_script(alloc: Global, script: &Script) -> Result<Vec<u8>, AllocError>
+    ensures { IfOk result (λ bytes. IsSpelling SpellsScript script.now bytes.items) }
+{
+    script.keeps_limits();
+    let geometry = script.geometry();
+    let vcpus = script.vcpus();
+    let mut out = Vec::new(alloc);
+    push_line(&mut out, SCRIPT_HEADER)?;
+    push_keyed(&mut out, PAGES_KEY, geometry.pages())?;
+    push_keyed(&mut out, CELLS_KEY, geometry.cells())?;
+    push_counted::<InitLines>(&mut out, INIT_KEY, script.init())?;
+    push_keyed(&mut out, PIVOTS_KEY, script.pivots())?;
+    push_keyed(&mut out, WINDOW_KEY, script.window())?;
+    push_fates(&mut out, DOWN_KEY, script.down())?;
+    push_fates(&mut out, UP_KEY, script.up())?;
+    push_keyed(&mut out, VCPUS_KEY, vcpus.len())?;
+    push_vcpus(&mut out, vcpus)?;
+    push_line(&mut out, CLOSING)?;
+    Ok(out)
+}
+
+/// A law: no script's text begins another, a text is that of one script, and a script has one text. Runs nothing.
+pub fn script_texts_are_unambiguous()
+    ensures { IsUnambiguous SpellsScript }
+{}
 
 /// A law: no text of events begins another, a text is that of one list of events, and a list of events has one text.
 /// Runs nothing.

@@ -150,14 +150,18 @@ init_filled e next part f =
     let within = f.within in
     let len = pages_count e.cells next m in
     let room = f.room in
-    let both = length-append part.items more in
-    (more, next + m, record {
-      geometry = f.geometry;
-      within = omega arith;
-      each = all_append (InitPageFits e) part.items more f.each (pages_fit e next m f.geometry room);
-      rising = rise_append 0 next (next + m) part.items more f.rising (pages_rise e.cells next m);
-      room = omega arith;
-    }, omega arith)
+    let both = length-append part.items more in (
+      more,
+      next + m,
+      record {
+        geometry = f.geometry;
+        within = omega arith;
+        each = all_append (InitPageFits e) part.items more f.each (pages_fit e next m f.geometry room);
+        rising = rise_append 0 next (next + m) part.items more f.rising (pages_rise e.cells next m);
+        room = omega arith;
+      },
+      omega arith,
+    )
 
 init_begins : (d : Draft) → StartFits d → Begins SpellsSession (held_onto Init d [])
 init_begins d f =

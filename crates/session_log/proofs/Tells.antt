@@ -22,7 +22,7 @@ use Rattle.session_log.specs.Records.{access_text, vcpu_page_text, page_text, pl
 -- ---- fields
 
 -- a number and what stands behind the space after it
-number_tells : (n m : ℕ) (r s : List ℕ) → n < 2 ^ 64 → m < 2 ^ 64 → decimal n ++ 32 ∷ r ≡ decimal m ++ 32 ∷ s → (n ≡ m) × (r ≡ s)
+pub number_tells : (n m : ℕ) (r s : List ℕ) → n < 2 ^ 64 → m < 2 ^ 64 → decimal n ++ 32 ∷ r ≡ decimal m ++ 32 ∷ s → (n ≡ m) × (r ≡ s)
 number_tells n m r s p q e =
     let same = numbers_same n m (32 ∷ r) (32 ∷ s) p q (no_digit-space r) (no_digit-space s) e in
     let rest = same.1 in

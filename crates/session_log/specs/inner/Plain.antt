@@ -15,7 +15,7 @@ use Rattle.session_log.specs.inner.RecordPlain.{plain_contents, plain_number, pl
 use Rattle.session_log.specs.inner.InitPages.{few_init}
 use Rattle.session_log.specs.Grammar.{header, pages_key, cells_key, init_key, guest_key, source_key, link_key, pager_key, page_key, page_line, closing, counted, SpellsSession}
 
-plain_page : (e : Extent) → e.pages ≤ 65536 → (p : InitPage) → InitPageFits e p → IsLine (page_line p)
+pub plain_page : (e : Extent) → e.pages ≤ 65536 → (p : InitPage) → InitPageFits e p → IsLine (page_line p)
 plain_page e few p h =
     let below = h.page in
     plain_append page_key (decimal p.page ++ 32 ∷ contents_text p.cells) (plain_codes page_key refl) (plain_number p.page (contents_text p.cells) (omega arith) (plain_contents p.cells))

@@ -1,0 +1,115 @@
+//! Scripts.
+
+ghost use Rattle.std.specs.Prelude.{◌≡◌};
+ghost use Rattle.guest_script.specs.Scenarios.{IsScenario};
+
+use crate::vcpus::Vcpu;
+use migration_events::Fate;
+use migration_types::{Geometry, InitPage, Seq};
+use std::marker::Model;
+
+/// What a guest does and how its migration goes, within all limits: a machine and its first memory, how many pivots are
+/// kept at most, how many packets may be under way when a page is pushed, what becomes of the packets in each direction,
+/// and what each virtual processor does.
+#[derive(Drop)]
+pub struct Script {
+    geometry: Geometry,
+    init: Seq<InitPage>,
+    pivots: u32,
+    window: u32,
+    down: Seq<Fate>,
+    up: Seq<Fate>,
+    vcpus: Seq<Vcpu>,
+}
+
+impl Model for Script {
+    ghost use Rattle.guest_script.specs.Scenarios.{Scenario, IsScenario};
+
+    ghost Value = { Scenario };
+
+    ghost view = { λ a. record { geometry = a.geometry; init = a.init; pivots = a.pivots; window = a.window; down = a.down; up = a.up; vcpus = a.vcpus } };
+
+    ghost invariant = { λ a. IsScenario (record { geometry = a.geometry; init = a.init; pivots = a.pivots; window = a.window; down = a.down; up = a.up; vcpus = a.vcpus }) };
+}
+
+impl Script {
+    /// The script of these parts. Takes no memory.
+    pub(crate) fn of_parts(
+        geometry: Geometry,
+        init: Seq<InitPage>,
+        pivots: u32,
+        window: u32,
+        down: Seq<Fate>,
+        up: Seq<Fate>,
+        vcpus: Seq<Vcpu>,
+    ) -> Self
+        requires { IsScenario (record { geometry = geometry; init = init; pivots = pivots; window = window; down = down; up = up; vcpus = vcpus }) }
+        ensures { result ≡ record { geometry = geometry; init = init; pivots = pivots; window = window; down = down; up = up; vcpus = vcpus } }
+    {
+        Script {
+            geometry,
+            init,
+            pivots,
+            window,
+            down,
+            up,
+            vcpus,
+        }
+    }
+
+    /// The machine's geometry.
+    pub fn geometry(&self) -> Geometry
+        ensures { result ≡ self.now.geometry }
+    {
+        self.geometry
+    }
+
+    /// The pages that do not begin as zeros, in rising order.
+    pub fn init(&self) -> &[InitPage]
+        ensures { result.now ≡ self.now.init }
+    {
+        self.init.as_slice()
+    }
+
+    /// How many pivots are kept at most, 1 to 16.
+    pub fn pivots(&self) -> u32
+        ensures { result ≡ self.now.pivots }
+    {
+        self.pivots
+    }
+
+    /// How many packets may be under way on the way down when a page is pushed, the pushed one with them, 1 to 65,536.
+    pub fn window(&self) -> u32
+        ensures { result ≡ self.now.window }
+    {
+        self.window
+    }
+
+    /// What becomes of the packets on their way down, one after another, at most 4,096.
+    pub fn down(&self) -> &[Fate]
+        ensures { result.now ≡ self.now.down }
+    {
+        self.down.as_slice()
+    }
+
+    /// What becomes of the packets on their way up, one after another, at most 4,096.
+    pub fn up(&self) -> &[Fate]
+        ensures { result.now ≡ self.now.up }
+    {
+        self.up.as_slice()
+    }
+
+    /// What each virtual processor does, 1 to 64 of them.
+    pub fn vcpus(&self) -> &[Vcpu]
+        ensures { result.now ≡ self.now.vcpus }
+    {
+        self.vcpus.as_slice()
+    }
+
+    /// Tells callers that it is within all limits.
+    pub fn keeps_limits(&self)
+        ensures { IsScenario self.now }
+    {
+        let _init = &self.init;
+    }
+}
