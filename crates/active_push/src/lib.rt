@@ -7,8 +7,6 @@ ghost use Rattle.active_push.specs.Choice.{IsChoice};
 
 mod book;
 mod records;
-#[cfg(test)]
-mod tests;
 
 pub use book::SourceBook;
 use thiserror::Error;

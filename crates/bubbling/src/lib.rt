@@ -6,8 +6,6 @@ ghost use Rattle.std.specs.Option.{option_map};
 
 mod edges;
 mod pivots;
-#[cfg(test)]
-mod tests;
 mod unsent;
 
 use arrayvec::ArrayVec;

@@ -1,6 +1,9 @@
-//! Tests of the containers: the frames, the machine that never moved, tables by page, and the queue of faults.
+//! Tests of the containers: the frames, the machine that never moved, tables by page, the queue of faults, and
+//! what is pushed next.
 #![tactic(auto)]
 
+#[cfg(test)]
+mod bubbles;
 #[cfg(test)]
 mod machines;
 #[cfg(test)]

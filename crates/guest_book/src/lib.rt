@@ -2,7 +2,5 @@
 #![tactic(auto)]
 
 mod book;
-#[cfg(test)]
-mod tests;
 
 pub use book::GuestBook;

@@ -5,8 +5,6 @@ ghost use Rattle.std.specs.Prelude.{◌≡◌, ◌<◌, true, false, None, lengt
 ghost use Rattle.std.specs.Option.{option_map};
 
 mod arrivals;
-#[cfg(test)]
-mod tests;
 mod turns;
 
 use migration_events::{Direction, Fate};

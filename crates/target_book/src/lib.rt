@@ -3,8 +3,6 @@
 
 mod book;
 mod state;
-#[cfg(test)]
-mod tests;
 
 pub use book::TargetBook;
 use migration_types::PageNo;

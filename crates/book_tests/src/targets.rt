@@ -1,11 +1,11 @@
 //! A guest that misses a page and goes on once it is placed, a page of zeros, and logs without room.
 
-use super::*;
 use migration_events::Op;
-use migration_types::{Geometry, GuestRec};
+use migration_types::{Geometry, GuestRec, PageNo};
 use page_store::Store;
 use std::alloc::Global;
 use std::test::Fail;
+use target_book::{Access, Missing, TargetBook, TargetFault};
 
 /// A book over a log of so many releases.
 fn halted(alloc: Global, geometry: Geometry, releases: usize) -> Result<TargetBook, TargetFault> {

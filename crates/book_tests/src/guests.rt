@@ -3,12 +3,13 @@
 ghost use Rattle.std.specs.Prelude.{◌≡◌, IfOk, IsTrue};
 ghost use Rattle.migration_events.specs.Ops.{OpFits};
 
-use super::*;
+use guest_book::GuestBook;
 use migration_events::Op;
 use migration_types::{Contents, Geometry, GuestRec, InitPage, PageNo};
 use page_stream::Packet;
 use std::alloc::AllocError;
 use std::test::Fail;
+use target_book::TargetFault;
 
 const FIRST: u16 = 0;
 

@@ -1,7 +1,10 @@
 //! Packets on their way: their order, each fate, and a full log.
 
-use super::*;
-use migration_types::{PageNo, Seq};
+use link_book::{LinkBook, LinkFault};
+use migration_events::{Direction, Fate};
+use migration_types::{LinkRec, PageNo, Seq};
+use page_stream::Packet;
+use std::alloc::{AllocError, Global};
 use std::test::Fail;
 
 fn want(number: u32) -> Packet {

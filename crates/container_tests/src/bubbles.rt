@@ -1,6 +1,9 @@
 //! Pages that are pushed in turn, compared with a search over all pages.
 
-use super::*;
+use arrayvec::ArrayVec;
+use balloon_ledger::Ledger;
+use bubbling::Bubbles;
+use migration_types::{Geometry, PageNo};
 use std::test::Fail;
 
 /// The guest faults at a page of the machine.

@@ -3,8 +3,8 @@
 
 ghost use Rattle.std.specs.Prelude.{◌<◌};
 
-use crate::{Packet, PumpFault, Stream, StreamFaultKind, encode, fits, pump};
 use migration_types::{Contents, Geometry, PageNo, Seq};
+use page_stream::{Packet, PumpFault, Stream, StreamFaultKind, encode, fits, pump};
 use std::alloc::{AllocError, Global};
 use std::io;
 use std::io::{ErrorKind, Read, Write};

@@ -4,7 +4,7 @@
 ghost use Rattle.std.specs.Prelude.{◌≤◌};
 ghost use Rattle.migration_types.specs.Limits.{most_records};
 
-use super::*;
+use active_push::{SourceBook, SourceFault};
 use balloon_ledger::Ledger;
 use migration_types::{Geometry, MOST_RECORDS, PageNo, SourceRec};
 use page_store::Store;
