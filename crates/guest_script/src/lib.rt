@@ -24,6 +24,8 @@ mod script;
 mod script_reader;
 mod script_steps;
 mod stages;
+#[cfg(test)]
+mod tests;
 mod vcpus;
 
 use event_form::EventForm;

@@ -1,0 +1,119 @@
+//! Texts of two worked scripts and of their events, read and written, and lines at which texts are refused.
+
+use super::*;
+use migration_events::{Direction, Fate, Op};
+use migration_types::PageNo;
+use std::test::Fail;
+
+/// Two virtual processors that read one page.
+const OF_TWO: &[u8] =
+    b"postcopy-script 1\npages 2\ncells 1\ninit 1\npage 1 0000000000000007\npivots 1\nwindow 4\ndown -\nup -\nvcpus 2\nvcpu 0 1\nr 1 0\nvcpu 0 1\nr 1 0\nend\n";
+
+/// One that releases a page before its move and reads it after it.
+const OF_ONE: &[u8] =
+    b"postcopy-script 1\npages 2\ncells 1\ninit 0\npivots 1\nwindow 2\ndown -\nup -\nvcpus 1\nvcpu 1 1\nz 1\nr 1 0\nend\n";
+
+/// Fates in both directions, and a write.
+const OF_FATES: &[u8] =
+    b"postcopy-script 1\npages 2\ncells 1\ninit 0\npivots 16\nwindow 65536\ndown dlrb\nup b\nvcpus 1\nvcpu 0 1\nw 1 0 9\nend\n";
+
+const EVENTS_OF_TWO: &[u8] =
+    b"postcopy-events 1\nevents 20\nhalt\nlink down deliver\npop\ndeliver\nguest 0\nguest 1\nfault\nfault\nflush\nlink up deliver\nserve\nlink down lose\npager-tick\nlink up deliver\nserve\nlink down deliver\npop\ndeliver\nguest 0\nguest 1\nend\n";
+
+const EVENTS_OF_ONE: &[u8] =
+    b"postcopy-events 1\nevents 25\nguest 0\nhalt\npush\npush\nsource-tick\nlink down back\nlink down repeat\npop\nlink down deliver\npop\ndeliver\nlink down deliver\npop\nlink down deliver\npop\npager-tick\ndeliver\nguest 0\nfault\nguest 0\nlink up deliver\nserve\npager-tick\nlink up deliver\nserve\nend\n";
+
+/// Whether a script's text is read, and written as it was.
+fn script_comes_back(alloc: Global, text: &[u8]) -> bool {
+    match read_script(alloc, text) {
+        Ok(script) => match write_script(alloc, &script) {
+            Ok(written) => written.as_slice() == text,
+            Err(_) => false,
+        },
+        Err(_) => false,
+    }
+}
+
+/// Whether a text of events is read, and written as it was.
+fn events_come_back(alloc: Global, text: &[u8]) -> bool {
+    match read_events(alloc, text) {
+        Ok(events) => match write_events(alloc, events.as_slice()) {
+            Ok(written) => written.as_slice() == text,
+            Err(_) => false,
+        },
+        Err(_) => false,
+    }
+}
+
+/// The line at which a text is refused, and 0 where it is read.
+fn line_of<T: Drop>(answer: Result<T, TextFault>) -> u32 {
+    match answer {
+        Ok(_) => 0,
+        Err(fault) => fault.line,
+    }
+}
+
+/// Whether a script's only virtual processor does these before and after its move.
+fn does(script: &Script, before: &[Op], after: &[Op]) -> bool {
+    match script.vcpus() {
+        [vcpu] => vcpu.before_move.as_slice() == before && vcpu.after_move.as_slice() == after,
+        _ => false,
+    }
+}
+
+#[test]
+fn scripts_come_back(rt: HostRuntime) -> Result<(), Fail> {
+    assert!(rt; script_comes_back(rt.alloc(), OF_TWO));
+    assert!(rt; script_comes_back(rt.alloc(), OF_ONE));
+    assert!(rt; script_comes_back(rt.alloc(), OF_FATES));
+    Ok(())
+}
+
+#[test]
+fn a_script_says_what_its_lines_do(rt: HostRuntime) -> Result<(), Fail> {
+    let script = read_script(rt.alloc(), OF_ONE).expect(&rt, "a script's text");
+    let page = PageNo::new(1);
+    assert!(rt;
+        does(
+            &script,
+            &[Op::Release { page }],
+            &[Op::Read { page, cell: 0 }]
+        )
+    );
+    assert_eq!(rt; script.window(), 2);
+    Ok(())
+}
+
+#[test]
+fn events_are_read_and_written(rt: HostRuntime) -> Result<(), Fail> {
+    assert!(rt; events_come_back(rt.alloc(), EVENTS_OF_TWO));
+    assert!(rt; events_come_back(rt.alloc(), EVENTS_OF_ONE));
+    Ok(())
+}
+
+#[test]
+fn an_event_is_what_its_line_says(rt: HostRuntime) -> Result<(), Fail> {
+    let text = b"postcopy-events 1\nevents 2\nguest 63\nlink up back\nend\n";
+    let events = read_events(rt.alloc(), text).expect(&rt, "a text of events");
+    let turn = Event::LinkTurn {
+        direction: Direction::Up,
+        fate: Fate::Back,
+    };
+    assert!(rt; events.as_slice() == [Event::GuestStep { vcpu: 63 }, turn].as_slice());
+    Ok(())
+}
+
+#[test]
+fn texts_are_refused_at_their_lines(rt: HostRuntime) -> Result<(), Fail> {
+    let alloc = rt.alloc();
+    let high = b"postcopy-events 1\nevents 2\nhalt\nguest 64\nend\n";
+    assert_eq!(rt; line_of(read_events(alloc, high)), 4);
+    let short = b"postcopy-events 1\nevents 2\nhalt\n";
+    assert_eq!(rt; line_of(read_events(alloc, short)), 4);
+    let late =
+        b"postcopy-script 1\npages 1\ncells 1\ninit 0\npivots 1\nwindow 1\ndown -\nup -\nvcpus 1\nvcpu 0 1\nz 0\nend\n";
+    assert_eq!(rt; line_of(read_script(alloc, late)), 11);
+    let wide = b"postcopy-script 1\npages 1\ncells 1\ninit 0\npivots 17\n";
+    assert_eq!(rt; line_of(read_script(alloc, wide)), 5);
+    Ok(())
+}
