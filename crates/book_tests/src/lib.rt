@@ -8,6 +8,8 @@ mod links;
 #[cfg(test)]
 mod packets;
 #[cfg(test)]
+mod pagers;
+#[cfg(test)]
 mod sources;
 #[cfg(test)]
 mod targets;

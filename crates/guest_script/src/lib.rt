@@ -24,8 +24,6 @@ mod script;
 mod script_reader;
 mod script_steps;
 mod stages;
-#[cfg(test)]
-mod tests;
 mod vcpus;
 
 use event_form::EventForm;

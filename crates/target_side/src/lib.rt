@@ -4,8 +4,6 @@
 mod log;
 mod marks;
 mod pager;
-#[cfg(test)]
-mod tests;
 
 use migration_types::{Contents, PageNo};
 pub use pager::PagerBook;

@@ -14,6 +14,8 @@ mod lines;
 #[cfg(test)]
 mod records;
 #[cfg(test)]
+mod scripts;
+#[cfg(test)]
 mod sessions;
 #[cfg(test)]
 mod slow;

@@ -1,11 +1,12 @@
 //! Two virtual processors that miss one page, on a machine of two pages of one cell, and what a full log refuses.
 
-use super::*;
 use migration_events::Op;
-use migration_types::{Geometry, MOST_RECORDS, PagerRec, Seq};
+use migration_types::{Contents, Geometry, MOST_RECORDS, PageNo, PagerRec, Seq};
 use page_stream::Packet;
 use std::alloc::Global;
 use std::test::Fail;
+use target_book::{Access, TargetBook, TargetFault};
+use target_side::PagerBook;
 
 /// The state comes, with no released page, and the guest resumes.
 fn begins(alloc: Global, pager: &mut PagerBook, target: &mut TargetBook) -> bool {

@@ -1,8 +1,9 @@
 //! Texts of two worked scripts and of their events, read and written, and lines at which texts are refused.
 
-use super::*;
-use migration_events::{Direction, Fate, Op};
-use migration_types::PageNo;
+use guest_script::{Script, read_events, read_script, write_events, write_script};
+use migration_events::{Direction, Event, Fate, Op};
+use migration_types::{PageNo, TextFault};
+use std::alloc::Global;
 use std::test::Fail;
 
 /// Two virtual processors that read one page.
