@@ -5,4 +5,5 @@
 #![tactic(auto)]
 
 mod machine;
+
 pub use machine::Machine;
