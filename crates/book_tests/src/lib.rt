@@ -1,6 +1,9 @@
 //! Tests of packets and of the parties' books.
 #![tactic(auto)]
 
+ghost use Rattle.std.specs.Prelude.{◌≡◌};
+ghost use Rattle.page_stream.specs.declared.Packet.TheVariants.{Want};
+
 #[cfg(test)]
 mod guests;
 #[cfg(test)]
@@ -13,3 +16,16 @@ mod pagers;
 mod sources;
 #[cfg(test)]
 mod targets;
+
+use migration_types::PageNo;
+use page_stream::Packet;
+
+/// A packet that asks for a page, by the pager's record of this number.
+pub fn want(number: u32, page: u16) -> Packet
+    ensures { result ≡ Want number page }
+{
+    Packet::Want {
+        number,
+        page: PageNo::new(page),
+    }
+}

@@ -1,18 +1,12 @@
 //! Packets on their way: their order, each fate, and a full log.
 
+use crate::want;
 use link_book::{LinkBook, LinkFault};
 use migration_events::{Direction, Fate};
 use migration_types::{LinkRec, PageNo, Seq};
 use page_stream::Packet;
 use std::alloc::{AllocError, Global};
 use std::test::Fail;
-
-fn want(number: u32) -> Packet {
-    Packet::Want {
-        number,
-        page: PageNo::new(0),
-    }
-}
 
 fn offer_down(book: &mut LinkBook, packet: Packet, front: bool) -> Result<(), AllocError> {
     book.room()?;
@@ -22,7 +16,7 @@ fn offer_down(book: &mut LinkBook, packet: Packet, front: bool) -> Result<(), Al
 
 fn offer_up(book: &mut LinkBook, number: u32) -> Result<(), AllocError> {
     book.room()?;
-    book.offer_up(want(number));
+    book.offer_up(want(number, 0));
     Ok(())
 }
 
@@ -105,7 +99,7 @@ fn a_packet_meets_each_fate(rt: HostRuntime) -> Result<(), Fail> {
 #[test]
 fn drops_what_goes_the_other_way(rt: HostRuntime) -> Result<(), Fail> {
     let mut book = LinkBook::new(rt.alloc());
-    offer_down(&mut book, want(3), false)?;
+    offer_down(&mut book, want(3, 0), false)?;
     turns(&mut book, Direction::Down, &[Fate::Repeat])?;
     assert!(rt; book.quiet() && book.link_log().is_empty());
     Ok(())

@@ -3,6 +3,7 @@
 
 ghost use Rattle.std.specs.Prelude.{◌<◌};
 
+use crate::want;
 use migration_types::{Contents, Geometry, PageNo, Seq};
 use page_stream::{Packet, PumpFault, Stream, StreamFaultKind, encode, fits, pump};
 use std::alloc::{AllocError, Global};
@@ -66,11 +67,7 @@ fn is_page_written(alloc: Global, page: u16) -> bool {
 }
 
 fn is_want_written(alloc: Global, page: u16, bytes: &[u8]) -> bool {
-    let packet = Packet::Want {
-        number: 3,
-        page: PageNo::new(page),
-    };
-    is_written(alloc, &packet, bytes)
+    is_written(alloc, &want(3, page), bytes)
 }
 
 #[test]

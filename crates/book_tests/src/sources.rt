@@ -4,6 +4,7 @@
 ghost use Rattle.std.specs.Prelude.{◌≤◌};
 ghost use Rattle.migration_types.specs.Limits.{most_records};
 
+use crate::want;
 use active_push::{SourceBook, SourceFault};
 use balloon_ledger::Ledger;
 use migration_types::{Geometry, MOST_RECORDS, PageNo, SourceRec};
@@ -75,13 +76,6 @@ fn is_state(packet: &Packet, number: u32) -> bool {
     }
 }
 
-fn want(number: u32) -> Packet {
-    Packet::Want {
-        number,
-        page: PageNo::new(SECOND),
-    }
-}
-
 fn all() -> Packet {
     Packet::All { number: 9 }
 }
@@ -126,7 +120,7 @@ fn tick_until(book: &mut SourceBook, left: u32) -> Result<(), SourceFault>
 
 /// Whether what needs two records is refused.
 fn refuses_two_records(book: &mut SourceBook) -> bool {
-    is_full(book.serve(3, &want(3))) && is_full(book.serve(3, &all()))
+    is_full(book.serve(3, &want(3, SECOND))) && is_full(book.serve(3, &all()))
 }
 
 /// Whether what needs one record is refused.
@@ -137,8 +131,8 @@ fn refuses_one_record(book: &mut SourceBook) -> bool {
 /// Whether a push, two wants of the second page and the end are answered, and then nothing is left to do.
 fn does_all(book: &mut SourceBook) -> bool {
     offers(book.push(), (2, FIRST, 0))
-        && offers(book.serve(3, &want(3)), (4, SECOND, 7))
-        && offers(book.serve(4, &want(5)), (6, SECOND, 7))
+        && offers(book.serve(3, &want(3, SECOND)), (4, SECOND, 7))
+        && offers(book.serve(4, &want(5, SECOND)), (6, SECOND, 7))
         && is_silent(book.serve(5, &all()))
         && is_silent(book.push())
         && is_silent(book.tick())

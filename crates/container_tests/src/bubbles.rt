@@ -1,5 +1,6 @@
 //! Pages that are pushed in turn, compared with a search over all pages.
 
+use crate::nearest;
 use arrayvec::ArrayVec;
 use balloon_ledger::Ledger;
 use bubbling::Bubbles;
@@ -103,22 +104,11 @@ impl Search {
 
     fn next(&mut self) -> Option<usize> {
         let pivot = *self.pivots.as_slice().get(self.turn)?;
-        let nearest = nearest(&self.unsent, pivot)?;
+        let nearest = nearest(&self.unsent, PageNo::new(pivot as u16))?.index();
         self.mark_sent(nearest);
         self.turn = self.turn.saturating_add(1).checked_rem(self.pivots.len())?;
         Some(nearest)
     }
-}
-
-/// The page nearest to the pivot, of two the greater.
-fn nearest(unsent: &[bool], pivot: usize) -> Option<usize> {
-    let mut best: Option<usize> = None;
-    for page in 0..unsent.len() {
-        if unsent[page] && best.is_none_or(|b| page.abs_diff(pivot) <= b.abs_diff(pivot)) {
-            best = Some(page);
-        }
-    }
-    best
 }
 
 /// Does the same with both, as a number chooses. Whether they answer alike.

@@ -8,5 +8,8 @@ mod bubbles;
 mod machines;
 #[cfg(test)]
 mod queues;
+mod search;
 #[cfg(test)]
 mod tables;
+
+pub use search::nearest;
