@@ -104,7 +104,7 @@ impl Search {
 
     fn next(&mut self) -> Option<usize> {
         let pivot = *self.pivots.as_slice().get(self.turn)?;
-        let nearest = nearest(&self.unsent, PageNo::new(pivot as u16))?.index();
+        let nearest = nearest(&self.unsent, PageNo::new((pivot % 64) as u16))?.index();
         self.mark_sent(nearest);
         self.turn = self.turn.saturating_add(1).checked_rem(self.pivots.len())?;
         Some(nearest)
