@@ -285,6 +285,13 @@ impl SourceBook {
         &self.log
     }
 
+    /// Gives up the source's log.
+    pub fn into_log(self) -> Vec<SourceRec>
+        ensures { result.items ≡ self.log }
+    {
+        self.log
+    }
+
     /// The number of a page's `send`, or `None` where it was not sent.
     pub fn sent(&self, page: PageNo) -> Option<u32>
         requires { page < self.now.frames.geometry.pages }

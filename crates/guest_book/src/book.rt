@@ -151,6 +151,13 @@ impl GuestBook {
         &self.log
     }
 
+    /// Gives up the guest's log.
+    pub fn into_log(self) -> Vec<GuestRec>
+        ensures { result.items ≡ self.log }
+    {
+        self.log
+    }
+
     /// The machine's geometry.
     pub fn geometry(&self) -> Geometry
         ensures { result ≡ self.now.frames.geometry }

@@ -211,6 +211,13 @@ impl LinkBook {
         self.log.as_slice()
     }
 
+    /// Gives up the link's log.
+    pub fn into_log(self) -> Vec<LinkRec>
+        ensures { result.items ≡ self.part.log }
+    {
+        self.log
+    }
+
     /// Tells callers that the log has at most 1,048,576 records, and that each arrival's number is that of the record
     /// that it came.
     pub fn keeps_limits(&self)

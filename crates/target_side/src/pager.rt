@@ -5,7 +5,7 @@ ghost use Rattle.std.specs.Option.{option_map};
 ghost use Rattle.migration_types.specs.Limits.{most_records};
 ghost use Rattle.page_tables.specs.Tables.{pages_of, values, with_value, IsWith};
 ghost use Rattle.target_side.specs.PagerPart.{new_pager, pager_flush};
-ghost use Rattle.target_side.specs.PagerLists.{part_of};
+ghost use Rattle.target_side.specs.PagerLists.{part_of, IsKept};
 
 use crate::Incoming;
 use crate::log::append;
@@ -94,6 +94,21 @@ impl PagerBook {
         ensures { result.now ≡ self.now.log }
     {
         self.log.as_slice()
+    }
+
+    /// Gives up its log.
+    pub fn into_log(self) -> Vec<PagerRec>
+        ensures { result.items ≡ self.log }
+    {
+        self.log
+    }
+
+    /// Tells callers what every book keeps: its log has at most 1,048,576 records and begins with the state, and what
+    /// has come, what is asked for, who waits and what is placed follow from it.
+    pub fn keeps_limits(&self)
+        ensures { IsKept (part_of self.now) }
+    {
+        let _log = &self.log;
     }
 
     /// Whether the state has come, with which the log begins.
