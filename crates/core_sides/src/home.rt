@@ -1,0 +1,207 @@
+//! The side before the halt.
+
+ghost use Rattle.std.specs.Prelude.{◌≡◌, true, false, slice_get, IfOk, IfErr, OnOk, OnErr, IsErrOf};
+ghost use Rattle.migration_types.specs.Sessions.{IsSession};
+ghost use Rattle.guest_book.specs.Books.{guest_session};
+ghost use Rattle.link_book.specs.LinkPart.{new_link};
+ghost use Rattle.target_side.specs.PagerPart.{new_pager};
+ghost use Rattle.target_side.specs.PagerLists.{part_of as pager_of};
+ghost use Rattle.migration_model.specs.Machine.{Before, IsScript, home_session, away_session};
+ghost use Rattle.migration_model.specs.Events.{start, home_step, all_at_move, halted, has_room};
+ghost use Rattle.core_sides.specs.Sides.{home_of, away_of, scripted_of, IsHome};
+
+use crate::away::Away;
+use crate::copies::copies;
+use crate::faults::CoreFault;
+use crate::left::{Left, all_left};
+use guest_book::GuestBook;
+use guest_script::Script;
+use link_book::LinkBook;
+use migration_types::{Geometry, GuestRec, InitPage, Logs, Seq, Session};
+use std::alloc::{AllocError, Global};
+use std::marker::Model;
+use target_side::PagerBook;
+
+/// A migration before its halt: the guest's book, and what each virtual processor has left to do of a script. Contracts
+/// see the script, what is left, and the guest's book.
+#[derive(Drop)]
+pub struct Home<'a> {
+    alloc: Global,
+    script: &'a Script,
+    vcpus: Vec<Left<'a>>,
+    guest: GuestBook,
+}
+
+impl<'a> Model for Home<'a> {
+    ghost use Rattle.core_sides.specs.Sides.{HomeLists, IsHome};
+
+    ghost Value = { HomeLists };
+
+    ghost view = { λ h. record { script = h.script.now; vcpus = h.vcpus.items; guest = h.guest } };
+
+    ghost invariant = { λ h. IsHome (record { script = h.script.now; vcpus = h.vcpus.items; guest = h.guest }) };
+}
+
+impl<'a> Home<'a> {
+    /// The guest of a script before its first operation. An error: there is no memory for it.
+    #[tactic(auto, using(crate::proofs::Steps::script_is))]
+    pub fn start(alloc: Global, script: &'a Script) -> Result<Home<'a>, AllocError>
+        ensures books { IfOk result (λ h. Before (home_of h) ≡ (start (scripted_of script.now)).books) }
+        ensures script { IfOk result (λ h. h.script ≡ script.now) }
+        ensures fits { IsScript (scripted_of script.now) }
+    {
+        script.keeps_limits();
+        let vcpus = all_left(alloc, script.vcpus())?;
+        let guest = GuestBook::new(alloc, script.geometry(), script.init())?;
+        Ok(Home {
+            alloc,
+            script,
+            vcpus,
+            guest,
+        })
+    }
+
+    /// A virtual processor does its next operation before its move, which is recorded. One that is at its move, and a
+    /// number that is none of the script's virtual processors, does nothing. `CoreFault::LogFull` where the guest's log
+    /// has no room for the record. On an error nothing changes.
+    pub fn guest_step(&mut self, vcpu: u8) -> Result<(), CoreFault>
+        ensures ok { OnOk result (home_of self.new ≡ home_step vcpu (slice_get (home_of self.old).vcpus vcpu) (home_of self.old)) }
+        ensures script { self.new.script ≡ self.old.script }
+        ensures full { IsErrOf result CoreFault.LogFull → has_room (home_session (home_step vcpu (slice_get (home_of self.old).vcpus vcpu) (home_of self.old))) ≡ false }
+        ensures err { OnErr result (home_of self.new ≡ home_of self.old) }
+    {
+        let Some(left) = self.vcpus.get(usize::from(vcpu)) else {
+            return Ok(());
+        };
+        let Some((op, rest)) = left.early() else {
+            return Ok(());
+        };
+        self.guest.access(vcpu, op)?;
+        self.vcpus[usize::from(vcpu)] = rest;
+        Ok(())
+    }
+
+    /// Whether each virtual processor is at its move, and so the guest may be halted.
+    pub fn all_at_move(&self) -> bool
+        ensures { result ≡ all_at_move (home_of self.now).vcpus }
+    {
+        self.vcpus.iter().all(|left| left.before_move.is_empty())
+    }
+
+    /// The guest is halted, which is recorded, and the source tells the target of it. `CoreFault::LogFull` where the
+    /// guest's log has no room for the record. On an error all comes back as it was.
+    pub fn halt(self) -> Result<Away<'a>, (Home<'a>, CoreFault)>
+        ensures ok { IfOk result (λ a. away_of a ≡ halted (home_of self.entry)) }
+        ensures script { IfOk result (λ a. a.script ≡ self.entry.script) }
+        ensures full { IfErr result (λ e. e.1 ≡ CoreFault.LogFull → has_room (away_session (halted (home_of self.entry))) ≡ false) }
+        ensures err { IfErr result (λ e. e.0 ≡ self.entry) }
+    {
+        let Ok((link, pager)) = nothing_under_way(self.alloc, self.script.geometry()) else {
+            return Err((self, CoreFault::Memory));
+        };
+        let Home {
+            alloc,
+            script,
+            vcpus,
+            guest,
+        } = self;
+        script.keeps_limits();
+        match guest.halt(script.pivots()) {
+            Ok((source, target, packet)) => {
+                let mut link = link;
+                link.offer_down(packet, false);
+                Ok(Away {
+                    alloc,
+                    script,
+                    vcpus,
+                    source,
+                    link,
+                    pager,
+                    target,
+                })
+            }
+            Err((guest, fault)) => {
+                let home = Home {
+                    alloc,
+                    script,
+                    vcpus,
+                    guest,
+                };
+                Err((home, CoreFault::from(fault)))
+            }
+        }
+    }
+
+    /// The guest's log.
+    pub fn guest_log(&self) -> &[GuestRec]
+        ensures { result.now ≡ (home_of self.now).guest.log }
+    {
+        self.guest.guest_log()
+    }
+
+    /// What was recorded so far, copied, where it is within the limits of a session. An error: there is no memory for it.
+    pub fn session(&self) -> Result<Session, AllocError>
+        requires { IsSession (home_session (home_of self.now)) }
+        ensures { IfOk result (λ s. s ≡ home_session (home_of self.now)) }
+    {
+        let init = copies(self.alloc, self.script.init())?;
+        let guest = Vec::from_slice(self.alloc, self.guest.guest_log())?;
+        Ok(guest_session(
+            self.alloc,
+            self.guest.geometry(),
+            init,
+            Seq::from_vec(guest),
+        ))
+    }
+
+    /// What was recorded, where it is within the limits of a session; nothing of it is copied but the initial pages. An
+    /// error: there is no memory for these.
+    pub fn into_session(self) -> Result<Session, AllocError>
+        requires { IsSession (home_session (home_of self)) }
+        ensures { IfOk result (λ s. s ≡ home_session (home_of self.entry)) }
+    {
+        let init = copies(self.alloc, self.script.init())?;
+        let Home { alloc, guest, .. } = self;
+        let geometry = guest.geometry();
+        let log = Seq::from_vec(guest.into_log());
+        Ok(guest_session(alloc, geometry, init, log))
+    }
+
+    /// Tells callers what it keeps: all is of the script's machine, and the log is within its limit.
+    pub fn keeps_limits(&self)
+        ensures kept { IsHome self.now }
+        ensures room { has_room (home_session (home_of self.now)) ≡ true }
+    {
+        self.guest.keeps_limits();
+    }
+}
+
+/// The link's and the pager's book at the halt, with room for the packet of the state.
+fn nothing_under_way(alloc: Global, geometry: Geometry) -> Result<(LinkBook, PagerBook), AllocError>
+    ensures link { IfOk result (λ books. books.0 ≡ record { part = new_link; has_room = true }) }
+    ensures pager { IfOk result (λ books. pager_of books.1 ≡ new_pager geometry) }
+{
+    let pager = PagerBook::new(alloc, geometry)?;
+    let mut link = LinkBook::new(alloc);
+    link.room()?;
+    Ok((link, pager))
+}
+
+/// What was recorded where nobody but the guest recorded anything.
+fn guest_session(
+    alloc: Global,
+    geometry: Geometry,
+    init: Seq<InitPage>,
+    guest: Seq<GuestRec>,
+) -> Session
+    requires { IsSession (guest_session geometry init guest) }
+    ensures { result ≡ guest_session geometry init guest }
+{
+    let logs = Logs {
+        guest,
+        source: Seq::from_vec(Vec::new(alloc)),
+        link: Seq::from_vec(Vec::new(alloc)),
+        pager: Seq::from_vec(Vec::new(alloc)),
+    };
+    Session::new(geometry, init, logs)
+}

@@ -1,0 +1,13 @@
+//! A migration before its halt and after it: the books of each side with the script that they follow, and each event
+//! that concerns them, without the recorded order.
+#![tactic(auto)]
+
+mod away;
+mod copies;
+mod faults;
+mod home;
+mod left;
+
+pub use away::Away;
+pub use faults::CoreFault;
+pub use home::Home;
