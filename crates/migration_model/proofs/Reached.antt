@@ -1,5 +1,5 @@
 -- What is reached from a script's start stays so.
-use Rattle.migration_model.proofs.Whole.{run_is_faultless}
+use Rattle.migration_model.proofs.Whole.{MachineKept, run_is_faultless, run_kept}
 use Rattle.migration_model.specs.Events.{if_taken, run, start, step}
 use Rattle.migration_model.specs.Machine.{IsScript, Machine, Scripted}
 use Rattle.migration_model.specs.Promise.{IsFaultlessRecording, IsReached}
@@ -29,6 +29,10 @@ step_reached e core next k is = record {
   events = k.events ++ e ∷ [];
   runs = run_more k.events e (start k.script) ∙ ap (λ q. if_taken (step e) q) k.runs ∙ is;
 }
+
+-- the invariant of the events
+pub reached_kept : (core : Machine) → IsReached core → MachineKept core
+reached_kept core k = run_kept k.script k.events core k.fits k.runs
 
 pub reached_faultless : (core : Machine) → IsReached core → IsFaultlessRecording core
 reached_faultless core k = run_is_faultless k.script k.events core k.fits k.runs

@@ -199,7 +199,7 @@ pub record MachineKept (core : Machine) : Type 0 where
   pub books : BooksKept core.order core.books
   pub room : HasRoom (session_of core.books)
 
-room_there : (s : Recorded) → has_room s ≡ true → HasRoom s
+pub room_there : (s : Recorded) → has_room s ≡ true → HasRoom s
 room_there s e =
     let guest = nat_le (length s.guest) 1048576 in
     let source = nat_le (length s.source) 1048576 in
@@ -236,6 +236,9 @@ core_faultless core k = go core.books core.order k.books k.room
     go (Before h) o kept room = home_faultless o h kept room
     go (After a) o kept room = away_faultless o a kept room
 
+pub run_kept : (script : Scripted) (events : List Event) (core : Machine) → IsScript script → run events (start script) ≡ Some core → MachineKept core
+run_kept script events core fits is =
+    run_keeps events (start script) core (record { books = start_keeps script fits; room = record { guest = omega arith; source = omega arith; link = omega arith; pager = omega arith } }) is
+
 pub run_is_faultless : (script : Scripted) (events : List Event) (core : Machine) → IsScript script → run events (start script) ≡ Some core → IsFaultlessRecording core
-run_is_faultless script events core fits is =
-    core_faultless core (run_keeps events (start script) core (record { books = start_keeps script fits; room = record { guest = omega arith; source = omega arith; link = omega arith; pager = omega arith } }) is)
+run_is_faultless script events core fits is = core_faultless core (run_kept script events core fits is)

@@ -1,0 +1,347 @@
+-- No event appends more than two records to a log.
+use Rattle.active_push.specs.SourcePart.{SourcePart, asks, nearest, owes, pushes, serves_all, serves_owed, serves_want, silent, source_push, source_serve, source_tick, state_packet, unsent, with_pivot}
+use Rattle.bubbling.specs.Bubbling.{in_turn}
+use Rattle.fault_queue.specs.Waiting.{is_asked, is_waiting}
+use Rattle.guest_book.specs.GuestPart.{GuestPart, guest_access}
+use Rattle.link_book.specs.LinkPart.{Lane, LinkPart, fate_of, goes, if_packet, lane_of, lane_turned, turned, with_back, with_front, with_up}
+use Rattle.link_book.specs.declared.Arrival.{Arrival}
+use Rattle.migration_events.specs.Ops.{page_in}
+use Rattle.migration_events.specs.declared.events.Direction.{Direction}
+use Rattle.migration_events.specs.declared.events.Direction.TheVariants.{Down as Downward, Up as Upward}
+use Rattle.migration_events.specs.declared.events.Event.{Event}
+use Rattle.migration_events.specs.declared.events.Event.TheVariants.{GuestStep, Halt as HaltGuest, LinkTurn, PagerDeliver, PagerFault, PagerFlush, PagerPop, PagerTick, Push, Serve, SourceTick}
+use Rattle.migration_events.specs.declared.events.Fate.{Fate}
+use Rattle.migration_events.specs.declared.events.Fate.TheVariants.{Back, Deliver, Lose, Repeat}
+use Rattle.migration_events.specs.declared.ops.Op.{Op}
+use Rattle.migration_events.specs.declared.ops.Op.TheVariants.{Read as ReadCell, Release as ReleasePage, Write as WriteCell}
+use Rattle.migration_model.proofs.Lists.{length_suc}
+use Rattle.migration_model.specs.Events.{accessed, all_at_move, away_event, away_ops, away_step, books_event, halted, home_event, home_ops, home_step, offered, paged, popped, pushed, sent_up, served}
+use Rattle.migration_model.specs.Machine.{After, Away, Before, Books, Home, Vcpu, away_session, home_session, session_of}
+use Rattle.migration_types.specs.PageSets.{with_page, without_page}
+use Rattle.migration_types.specs.Sessions.{Recorded}
+use Rattle.migration_types.specs.declared.records.GuestRec.TheVariants.{Halt, Miss, See}
+use Rattle.migration_types.specs.declared.records.PagerRec.TheVariants.{Fault}
+use Rattle.migration_types.specs.declared.records.SourceRec.TheVariants.{Again, Done}
+use Rattle.page_stream.specs.declared.Packet.{Packet}
+use Rattle.page_stream.specs.declared.Packet.TheVariants.{All as AllPacket, Page as PagePacket, State as StatePacket, Want as WantPacket}
+use Rattle.residency.specs.Placements.{is_covered}
+use Rattle.std.proofs.Common.{Bool, List, None, Option, Some, [], ap, arith, cond, false, length, refl, subst, suc, sym, true, ℕ, ◌+◌, ◌++◌, ◌∙◌, ◌∷◌, ◌≡◌, ◌≤◌}
+use Rattle.std.specs.List.{range_with_len}
+use Rattle.std.specs.Prelude.{nat_lt, slice_get}
+use Rattle.target_book.specs.TargetPart.{Accessed, TargetPart, accesses, does, looks, misses_page, resumes, target_access, with_misses}
+use Rattle.target_book.specs.declared.Access.TheVariants.{Missed, Waiting}
+use Rattle.target_book.specs.declared.Missing.{Missing}
+use Rattle.target_side.specs.PagerPart.{Paged, PagerPart, Sent, deliver, delivers_at, delivers_by, delivers_next, fault_absent, fault_at, fault_join, fault_new, faults, first_absent, flushes, is_released, next_fault, pager_flush, pager_pop, pager_tick, pops_by, pops_first, pops_later, ticks, ticks_at, zeroes}
+use Rattle.target_side.specs.declared.Incoming.{Incoming}
+
+-- at most two longer
+abbrev pub IsLittleMore : {A : Type 0} → List A → List A → Type 0
+IsLittleMore old new = length new ≤ length old + 2
+
+none_more : {A : Type 0} (xs : List A) → IsLittleMore xs xs
+none_more xs = omega arith
+
+same_more : {A : Type 0} (xs ys : List A) → ys ≡ xs → IsLittleMore xs ys
+same_more xs ys e = omega (arith, ap length e)
+
+one_more : {A : Type 0} (xs : List A) (x : A) → IsLittleMore xs (xs ++ x ∷ [])
+one_more xs x = omega (arith, length_suc xs x)
+
+two_more : {A : Type 0} (xs : List A) (x y : A) → IsLittleMore xs ((xs ++ x ∷ []) ++ y ∷ [])
+two_more xs x y = omega (arith, length_suc xs x, length_suc (xs ++ x ∷ []) y)
+
+-- the guest at home
+guest_more : (v : ℕ) (op : Op) (b : GuestPart) → IsLittleMore b.log (guest_access v op b).log
+guest_more v (ReadCell p c) b = one_more b.log _
+guest_more v (WriteCell p c x) b = one_more b.log _
+guest_more v (ReleasePage p) b = one_more b.log _
+
+-- the source
+owed_more : (up page : ℕ) (q : Option ℕ) (b : SourcePart) → IsLittleMore b.log (serves_owed page q (record (asks up b) { ring = with_pivot page b.ring })).book.log
+owed_more up page None b = two_more b.log _ _
+owed_more up page (Some send) b = two_more b.log _ _
+
+want_more : (up page : ℕ) (b : SourcePart) → IsLittleMore b.log (serves_want page (asks up b)).book.log
+want_more up page b = go (owes (asks up b) page)
+  where
+    go : (owed : Bool) → IsLittleMore b.log (cond owed (serves_owed page (b.sent page) (record (asks up b) { ring = with_pivot page b.ring })) (silent (asks up b))).book.log
+    go true = owed_more up page (b.sent page) b
+    go false = one_more b.log _
+
+all_more : (up : ℕ) (b : SourcePart) → IsLittleMore b.log (serves_all (asks up b)).book.log
+all_more up b = go b.is_done
+  where
+    go : (done : Bool) → IsLittleMore b.log (cond done (silent (asks up b)) (record { book = record (asks up b) { log = (asks up b).log ++ Done ∷ []; is_done = true }; packet = None })).book.log
+    go true = one_more b.log _
+    go false = two_more b.log _ _
+
+serve_more : (up : ℕ) (packet : Packet) (b : SourcePart) → IsLittleMore b.log (source_serve up packet b).book.log
+serve_more up (StatePacket n released) b = none_more b.log
+serve_more up (PagePacket n page content) b = none_more b.log
+serve_more up (WantPacket n page) b = want_more up page b
+serve_more up (AllPacket n) b = all_more up b
+
+push_more : (b : SourcePart) → IsLittleMore b.log (source_push b).book.log
+push_more b = go b.is_done (nearest (in_turn b.ring) (unsent b) (range_with_len 0 b.geometry.pages))
+  where
+    go : (done : Bool) (page : Option ℕ) → IsLittleMore b.log (cond done (silent b) (pushes page b)).book.log
+    go true page = none_more b.log
+    go false None = none_more b.log
+    go false (Some page) = one_more b.log _
+
+source_tick_more : (b : SourcePart) → IsLittleMore b.log (source_tick b).book.log
+source_tick_more b = go b.was_asked
+  where
+    go : (asked : Bool) → IsLittleMore b.log (cond asked (silent b) (record { book = record b { log = b.log ++ Again 1 ∷ [] }; packet = Some (state_packet (length b.log) b) })).book.log
+    go true = none_more b.log
+    go false = one_more b.log _
+
+-- the link
+back_more : (packet : Option Packet) (b : LinkPart) → IsLittleMore b.log (if_packet with_back packet b).log
+back_more None b = none_more b.log
+back_more (Some packet) b = none_more b.log
+
+front_more : (packet : Option Packet) (b : LinkPart) → IsLittleMore b.log (if_packet with_front packet b).log
+front_more None b = none_more b.log
+front_more (Some packet) b = none_more b.log
+
+up_more : (packet : Option Packet) (b : LinkPart) → IsLittleMore b.log (if_packet with_up packet b).log
+up_more None b = none_more b.log
+up_more (Some packet) b = none_more b.log
+
+fate_more : (fate : Fate) (direction : Direction) (packet : Packet) (lane : Lane) → IsLittleMore lane.log (fate_of fate direction packet lane).log
+fate_more Deliver direction packet lane = one_more lane.log _
+fate_more Lose direction packet lane = none_more lane.log
+fate_more Repeat direction packet lane = one_more lane.log _
+fate_more Back direction packet lane = none_more lane.log
+
+lane_more : (direction : Direction) (fate : Fate) (line : List Packet) (lane : Lane) → IsLittleMore lane.log (lane_turned direction fate line lane).log
+lane_more direction fate [] lane = none_more lane.log
+lane_more direction fate (packet ∷ rest) lane = go (goes direction packet)
+  where
+    go : (is_own : Bool) → IsLittleMore lane.log (cond is_own (fate_of fate direction packet (record lane { line = rest })) (record lane { line = rest })).log
+    go true = fate_more fate direction packet (record lane { line = rest })
+    go false = none_more lane.log
+
+turn_more : (direction : Direction) (fate : Fate) (b : LinkPart) → IsLittleMore b.log (turned direction fate b).log
+turn_more Downward fate b = lane_more Downward fate b.down (lane_of Downward b)
+turn_more Upward fate b = lane_more Upward fate b.up (lane_of Upward b)
+
+-- the pager
+pop_more : (down : ℕ) (packet : Packet) (b : PagerPart) → IsLittleMore b.log (pager_pop down packet b).log
+pop_more down packet b = go b.released packet
+  where
+    go : (released : Option (List ℕ)) (packet : Packet) → IsLittleMore b.log (pops_by released down packet b).log
+    go None (StatePacket n released) = two_more b.log _ _
+    go None (PagePacket n p content) = none_more b.log
+    go None (WantPacket n p) = none_more b.log
+    go None (AllPacket n) = none_more b.log
+    go (Some set) (StatePacket n released) = two_more b.log _ _
+    go (Some set) (PagePacket n p content) = one_more b.log _
+    go (Some set) (WantPacket n p) = none_more b.log
+    go (Some set) (AllPacket n) = none_more b.log
+
+flush_more : (b : PagerPart) → IsLittleMore b.log (pager_flush b).book.log
+flush_more b = go b.outbox
+  where
+    go : (outbox : List Packet) → IsLittleMore b.log (flushes outbox b).book.log
+    go [] = none_more b.log
+    go (packet ∷ rest) = none_more b.log
+
+tick_more : (b : PagerPart) → IsLittleMore b.log (pager_tick b).book.log
+tick_more b = go b.released
+  where
+    at : (page : Option ℕ) → IsLittleMore b.log (ticks_at page b).book.log
+    at None = one_more b.log _
+    at (Some page) = one_more b.log _
+
+    go : (released : Option (List ℕ)) → IsLittleMore b.log (ticks released b).book.log
+    go None = none_more b.log
+    go (Some released) = at (first_absent (range_with_len 0 b.geometry.pages) released b.placed)
+
+-- the pager's and the target's logs, after a call on both
+record PagedMore (b : PagerPart) (t : TargetPart) (r : Paged) : Type 0 where
+  pager : IsLittleMore b.log r.pager.log
+  target : IsLittleMore t.log r.target.log
+
+paged_none : (b : PagerPart) (t : TargetPart) (woken : List ℕ) → PagedMore b t (record { pager = b; target = t; woken = woken })
+paged_none b t woken = record { pager = none_more b.log; target = none_more t.log }
+
+-- the pager has learned of a miss
+abbrev learned : ℕ → PagerPart → PagerPart
+learned miss b = record b { log = b.log ++ Fault miss ∷ [] }
+
+module _ (miss p v : ℕ) (b : PagerPart) (t : TargetPart) where
+  join_more : (want : Option ℕ) → IsLittleMore b.log (fault_join p v want (learned miss b)).log
+  join_more None = one_more b.log _
+  join_more (Some want) = two_more b.log _ _
+
+  absent_more : PagedMore b t (fault_absent p v (learned miss b) t)
+  absent_more = go (is_waiting v b.waiting) (is_released b.released p) (is_asked p b.waiting)
+    where
+      go : (waits released asked : Bool) → PagedMore b t
+          (cond waits (record { pager = learned miss b; target = t; woken = [] })
+          (cond released (zeroes p (learned miss b) t)
+          (cond asked (record { pager = fault_join p v (b.wants p) (learned miss b); target = t; woken = [] })
+          (record { pager = fault_new p v (learned miss b); target = t; woken = [] }))))
+      go true released asked = record { pager = one_more b.log _; target = none_more t.log }
+      go false true asked = record { pager = two_more b.log _ _; target = none_more t.log }
+      go false false true = record { pager = join_more (b.wants p); target = none_more t.log }
+      go false false false = record { pager = two_more b.log _ _; target = none_more t.log }
+
+  fault_more : (placed : Option ℕ) → PagedMore b t (fault_at p v placed (learned miss b) t)
+  fault_more (Some k) = record { pager = one_more b.log _; target = none_more t.log }
+  fault_more None = absent_more
+
+faults_more : (misses : List Missing) (b : PagerPart) (t : TargetPart) → PagedMore b t (faults misses b t)
+faults_more [] b t = paged_none b t []
+faults_more (x ∷ rest) b t =
+    let k = fault_more x.number x.page x.vcpu b (with_misses rest t) (t.placed x.page) in
+    record { pager = k.pager; target = k.target }
+
+module _ (b : PagerPart) (t : TargetPart) where
+  delivers_more : (inbox : List Incoming) → PagedMore b t (delivers_next inbox b t)
+  delivers_more [] = paged_none b t []
+  delivers_more (x ∷ rest) = go (t.placed x.page)
+    where
+      go : (placed : Option ℕ) → PagedMore b t (delivers_at x placed (record b { inbox = rest }) t)
+      go (Some k) = record { pager = one_more b.log _; target = none_more t.log }
+      go None = record { pager = one_more b.log _; target = none_more t.log }
+
+  deliver_more : PagedMore b t (deliver b t)
+  deliver_more = go b.released
+    where
+      by : (resumed : Bool) → PagedMore b t (cond resumed (delivers_next b.inbox b t) (record { pager = b; target = resumes t; woken = [] }))
+      by true = delivers_more b.inbox
+      by false = record { pager = none_more b.log; target = one_more t.log _ }
+
+      go : (released : Option (List ℕ)) → PagedMore b t (delivers_by released b t)
+      go None = paged_none b t []
+      go (Some released) = by t.is_resumed
+
+-- the guest at the target
+does_more : (v k : ℕ) (op : Op) (b : TargetPart) → IsLittleMore b.log (does v op (looks k b)).log
+does_more v k (ReadCell p c) b = go (is_covered (Some k) b.frontier)
+  where
+    go : (covered : Bool) → IsLittleMore b.log (does v (ReadCell p c) (cond covered b (record b { log = b.log ++ See k ∷ []; frontier = Some k }))).log
+    go true = one_more b.log _
+    go false = two_more b.log _ _
+does_more v k (WriteCell p c x) b = go (is_covered (Some k) b.frontier)
+  where
+    go : (covered : Bool) → IsLittleMore b.log (does v (WriteCell p c x) (cond covered b (record b { log = b.log ++ See k ∷ []; frontier = Some k }))).log
+    go true = one_more b.log _
+    go false = two_more b.log _ _
+does_more v k (ReleasePage p) b = go (is_covered (Some k) b.frontier)
+  where
+    go : (covered : Bool) → IsLittleMore b.log (cond covered b (record b { log = b.log ++ See k ∷ []; frontier = Some k })).log
+    go true = none_more b.log
+    go false = one_more b.log _
+
+access_more : (v : ℕ) (op : Op) (b : TargetPart) → IsLittleMore b.log (target_access v op b).book.log
+access_more v op b = go b.is_resumed
+  where
+    by : (stands : Bool) → IsLittleMore b.log (cond {A = Accessed} stands (record { book = b; access = Waiting }) (record {
+      book = record b {
+        log = b.log ++ Miss v (page_in op) ∷ [];
+        misses = b.misses ++ (record { number = length b.log; vcpu = v; page = page_in op }) ∷ [];
+        standing = with_page v b.standing;
+      };
+      access = Missed;
+    })).book.log
+    by true = none_more b.log
+    by false = one_more b.log _
+
+    at : (placed : Option ℕ) → IsLittleMore b.log (accesses v op placed b).book.log
+    at None = by (b.standing v)
+    at (Some k) = does_more v k op (record b { standing = without_page v b.standing })
+
+    go : (resumed : Bool) → IsLittleMore b.log (cond {A = Accessed} resumed (accesses v op (b.placed (page_in op)) b) (record { book = b; access = Waiting })).book.log
+    go true = at (b.placed (page_in op))
+    go false = none_more b.log
+
+-- a session of which no log has more than two records more
+pub record GrowsByTwo (s t : Recorded) : Type 0 where
+  pub guest : IsLittleMore s.guest t.guest
+  pub source : IsLittleMore s.source t.source
+  pub link : IsLittleMore s.link t.link
+  pub pager : IsLittleMore s.pager t.pager
+
+stays_short : (s : Recorded) → GrowsByTwo s s
+stays_short s = record { guest = none_more s.guest; source = none_more s.source; link = none_more s.link; pager = none_more s.pager }
+
+home_ops_more : (v : ℕ) (vcpu : Vcpu) (ops : List Op) (h : Home) → GrowsByTwo (home_session h) (home_session (home_ops v vcpu ops h))
+home_ops_more v vcpu [] h = stays_short (home_session h)
+home_ops_more v vcpu (op ∷ ops) h = record { guest = guest_more v op h.guest; source = omega arith; link = omega arith; pager = omega arith }
+
+home_step_more : (v : ℕ) (vcpu : Option Vcpu) (h : Home) → GrowsByTwo (home_session h) (home_session (home_step v vcpu h))
+home_step_more v None h = stays_short (home_session h)
+home_step_more v (Some vcpu) h = home_ops_more v vcpu vcpu.before_move h
+
+home_more : (e : Event) (h : Home) → GrowsByTwo (home_session h) (session_of (home_event e h))
+home_more (GuestStep v) h = home_step_more v (slice_get h.vcpus v) h
+home_more HaltGuest h = go (all_at_move h.vcpus)
+  where
+    go : (at_move : Bool) → GrowsByTwo (home_session h) (session_of (cond at_move (After (halted h)) (Before h)))
+    go true = record { guest = one_more h.guest.log Halt; source = omega arith; link = omega arith; pager = omega arith }
+    go false = stays_short (home_session h)
+home_more Push h = stays_short (home_session h)
+home_more Serve h = stays_short (home_session h)
+home_more SourceTick h = stays_short (home_session h)
+home_more (LinkTurn direction fate) h = stays_short (home_session h)
+home_more PagerPop h = stays_short (home_session h)
+home_more PagerFault h = stays_short (home_session h)
+home_more PagerFlush h = stays_short (home_session h)
+home_more PagerDeliver h = stays_short (home_session h)
+home_more PagerTick h = stays_short (home_session h)
+
+away_ops_more : (v : ℕ) (vcpu : Vcpu) (ops : List Op) (a : Away) → GrowsByTwo (away_session a) (away_session (away_ops v vcpu ops a))
+away_ops_more v vcpu [] a = stays_short (away_session a)
+away_ops_more v vcpu (op ∷ ops) a = record { guest = access_more v op a.target; source = none_more a.source.log; link = none_more a.link.log; pager = none_more a.pager.log }
+
+away_step_more : (v : ℕ) (vcpu : Option Vcpu) (a : Away) → GrowsByTwo (away_session a) (away_session (away_step v vcpu a))
+away_step_more v None a = stays_short (away_session a)
+away_step_more v (Some vcpu) a = away_ops_more v vcpu vcpu.after_move a
+
+pushed_more : (a : Away) → GrowsByTwo (away_session a) (away_session (pushed a))
+pushed_more a = go (nat_lt (length a.link.down) a.window)
+  where
+    go : (fits : Bool) → GrowsByTwo (away_session a) (away_session (cond fits (offered with_back (source_push a.source) a) a))
+    go true = record { guest = none_more a.target.log; source = push_more a.source; link = back_more (source_push a.source).packet a.link; pager = none_more a.pager.log }
+    go false = stays_short (away_session a)
+
+served_more : (arrivals : List Arrival) (a : Away) → GrowsByTwo (away_session a) (away_session (served arrivals a))
+served_more [] a = stays_short (away_session a)
+served_more (x ∷ rest) a = record {
+  guest = none_more a.target.log;
+  source = serve_more x.number x.packet a.source;
+  link = front_more (source_serve x.number x.packet a.source).packet (record a.link { up_arrivals = rest });
+  pager = none_more a.pager.log;
+}
+
+popped_more : (arrivals : List Arrival) (a : Away) → GrowsByTwo (away_session a) (away_session (popped arrivals a))
+popped_more [] a = stays_short (away_session a)
+popped_more (x ∷ rest) a = record { guest = none_more a.target.log; source = none_more a.source.log; link = none_more a.link.log; pager = pop_more x.number x.packet a.pager }
+
+paged_more : (r : Paged) (a : Away) → PagedMore a.pager a.target r → GrowsByTwo (away_session a) (away_session (paged r a))
+paged_more r a k = record { guest = k.target; source = none_more a.source.log; link = none_more a.link.log; pager = k.pager }
+
+sent_more : (r : Sent) (a : Away) → IsLittleMore a.pager.log r.book.log → GrowsByTwo (away_session a) (away_session (sent_up r a))
+sent_more r a k = record { guest = none_more a.target.log; source = none_more a.source.log; link = up_more r.packet a.link; pager = k }
+
+away_more : (e : Event) (a : Away) → GrowsByTwo (away_session a) (away_session (away_event e a))
+away_more (GuestStep v) a = away_step_more v (slice_get a.vcpus v) a
+away_more HaltGuest a = stays_short (away_session a)
+away_more Push a = pushed_more a
+away_more Serve a = served_more a.link.up_arrivals a
+away_more SourceTick a = record { guest = none_more a.target.log; source = source_tick_more a.source; link = back_more (source_tick a.source).packet a.link; pager = none_more a.pager.log }
+away_more (LinkTurn direction fate) a = record { guest = none_more a.target.log; source = none_more a.source.log; link = turn_more direction fate a.link; pager = none_more a.pager.log }
+away_more PagerPop a = popped_more a.link.down_arrivals a
+away_more PagerFault a = paged_more (next_fault a.pager a.target) a (faults_more a.target.misses a.pager a.target)
+away_more PagerFlush a = sent_more (pager_flush a.pager) a (flush_more a.pager)
+away_more PagerDeliver a = paged_more (deliver a.pager a.target) a (deliver_more a.pager a.target)
+away_more PagerTick a = sent_more (pager_tick a.pager) a (tick_more a.pager)
+
+-- no event appends more than two records to a log
+pub event_grows_by_two : (e : Event) (b : Books) → GrowsByTwo (session_of b) (session_of (books_event e b))
+event_grows_by_two e (Before h) = home_more e h
+event_grows_by_two e (After a) = away_more e a
