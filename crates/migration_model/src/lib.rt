@@ -5,6 +5,7 @@ ghost use Rattle.std.specs.Prelude.{◌≡◌, ℕ, ◌<◌, true, List, [], ◌
 ghost use Rattle.migration_model.specs.Machine.{Machine, Scripted, IsScript};
 ghost use Rattle.migration_model.specs.Events.{start, step, run};
 ghost use Rattle.migration_model.specs.Worked.{Records, script_of_two, events_of_two, session_of_two, order_of_two, script_of_one, events_of_one, session_of_one, order_of_one, woken_next, offers, source_calls, small_source, source_offers, source_records, IsRefusedWhenFull};
+ghost use Rattle.migration_model.specs.Orderly.{AreOrderly};
 ghost use Rattle.migration_model.specs.Promise.{IsFaultlessRecording, IsReached, SomeRunIsDone};
 
 use migration_events::Event;
@@ -17,11 +18,13 @@ pub fn recordings_are_faultless()
 {}
 
 /// A core is reached at a script's start, and after each event that is not refused; and what a reached core has
-/// recorded is faultless. So a type that keeps that its value is reached keeps that its recording is faultless.
+/// recorded is faultless. So a type that keeps that its value is reached keeps that its recording is faultless. What the
+/// calls on the books ask for, it has too.
 pub fn reached_cores_are_faultless()
     ensures start { (script : Scripted) → IsScript script → IsReached (start script) }
     ensures step { (e : Event) (core next : Machine) → IsReached core → step e core ≡ Some next → IsReached next }
     ensures faultless { (core : Machine) → IsReached core → IsFaultlessRecording core }
+    ensures orderly { (core : Machine) → IsReached core → AreOrderly core.books }
 {}
 
 /// There is a script with events that the law speaks of, and in which all comes to its end.
