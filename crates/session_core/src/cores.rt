@@ -1,0 +1,91 @@
+//! The core.
+
+ghost use Rattle.std.specs.Prelude.{◌≡◌, Some, None, IfOk, OnOk, OnErr, IsErrOf};
+ghost use Rattle.core_sides.specs.Sides.{scripted_of};
+ghost use Rattle.migration_model.specs.Machine.{session_of};
+ghost use Rattle.migration_model.specs.Events.{start, step};
+ghost use Rattle.migration_model.specs.Promise.{IsReached};
+ghost use Rattle.session_core.specs.Cores.{machine_of};
+ghost use Rattle.session_core.specs.Promised.{IsPromised};
+
+use crate::side::Side;
+use crate::stepping::step_books;
+use core_sides::{CoreFault, Home};
+use guest_script::Script;
+use migration_events::Event;
+use migration_types::{LogName, Session};
+use std::alloc::{AllocError, Global};
+use std::marker::Model;
+
+/// All books of a migration that follows a script, and the recorded order: the names of the records in the order in
+/// which they were appended. Contracts see it as the machine of the events.
+///
+/// It is always one that a script and events lead to, none of them refused. So what it has recorded is a session in its
+/// limits, of the right shape and with no fault of a page, and its recorded order is a merging of it.
+#[derive(Drop)]
+pub struct Core<'a> {
+    side: Side<'a>,
+    order: Vec<(LogName, u32)>,
+}
+
+impl<'a> Model for Core<'a> {
+    ghost use Rattle.migration_model.specs.Promise.{IsReached};
+    ghost use Rattle.session_core.specs.Cores.{Cored, machine, IsHeld};
+
+    ghost Value = { Cored };
+
+    ghost view = { λ core. record { side = core.side; order = core.order.items } };
+
+    ghost invariant = { λ core. IsHeld core.side × IsReached (machine core.side core.order.items) };
+}
+
+impl<'a> Core<'a> {
+    /// The core at a script's start: nothing is recorded. An error: there is no memory for it.
+    pub fn start(alloc: Global, script: &'a Script) -> Result<Core<'a>, AllocError>
+        ensures { IfOk result (λ core. machine_of core ≡ start (scripted_of script.now)) }
+    {
+        let home = Home::start(alloc, script)?;
+        Ok(Core {
+            side: Side::Home(home),
+            order: Vec::new(alloc),
+        })
+    }
+
+    /// An event. The books and the recorded order are then what the event makes of them. `CoreFault::LogFull` where the
+    /// event needs more records than a log has room for, `CoreFault::Memory` where memory is refused. On an error nothing
+    /// changes.
+    pub fn step(&mut self, event: Event) -> Result<(), CoreFault>
+        ensures ok { OnOk result (step event (machine_of self.old) ≡ Some (machine_of self.new)) }
+        ensures full { IsErrOf result CoreFault.LogFull → step event (machine_of self.old) ≡ None }
+        ensures err { OnErr result (machine_of self.new ≡ machine_of self.old) }
+    {
+        step_books(&mut self.side, &mut self.order, event)
+    }
+
+    /// What was recorded so far, copied. An error: there is no memory for it.
+    pub fn session(&self) -> Result<Session, AllocError>
+        ensures recorded { IfOk result (λ s. s ≡ session_of (machine_of self.now).books) }
+        ensures promised { IfOk result (λ s. IsPromised s (machine_of self.now).order) }
+    {
+        self.keeps_promise();
+        self.side.session()
+    }
+
+    /// What was recorded; nothing of it is copied but the initial pages. An error: there is no memory for these.
+    pub(crate) fn into_session(self) -> Result<Session, AllocError>
+        ensures recorded { IfOk result (λ s. s ≡ session_of (machine_of self.entry).books) }
+        ensures promised { IfOk result (λ s. IsPromised s (machine_of self.entry).order) }
+    {
+        self.keeps_promise();
+        self.side.into_session()
+    }
+
+    /// Tells callers what every core keeps: some script and events lead to it, and so what it has recorded is faultless,
+    /// and its recorded order is a merging of it.
+    pub fn keeps_promise(&self)
+        ensures reached { IsReached (machine_of self.now) }
+        ensures promised { IsPromised (session_of (machine_of self.now).books) (machine_of self.now).order }
+    {
+        let _order = &self.order;
+    }
+}

@@ -1,0 +1,35 @@
+//! An event on the books and on the recorded order.
+
+ghost use Rattle.std.specs.Prelude.{◌≡◌, Some, None, OnOk, OnErr, IsErrOf};
+ghost use Rattle.migration_model.specs.Events.{step};
+ghost use Rattle.migration_model.specs.Promise.{IsReached};
+ghost use Rattle.session_core.specs.Cores.{machine, IsHeld};
+
+use crate::names::push_names;
+use crate::side::Side;
+use core_sides::CoreFault;
+use migration_events::Event;
+use migration_types::LogName;
+
+/// An event on the books; the names of the records that it appends are appended to the order. On an error nothing
+/// changes.
+pub fn step_books(
+    side: &mut Side<'_>,
+    order: &mut Vec<(LogName, u32)>,
+    event: Event,
+) -> Result<(), CoreFault>
+    requires held { IsHeld side.old }
+    requires reached { IsReached (machine side.old order.old.items) }
+    ensures held { IsHeld side.new }
+    ensures ok { OnOk result (step event (machine side.old order.old.items) ≡ Some (machine side.new order.new.items)) }
+    ensures full { IsErrOf result CoreFault.LogFull → step event (machine side.old order.old.items) ≡ None }
+    ensures err { OnErr result (machine side.new order.new.items ≡ machine side.old order.old.items) }
+{
+    // No event appends more than two records to a log.
+    order.reserve(8)?;
+    let old = side.lengths();
+    side.event(event)?;
+    side.keeps_limits();
+    push_names(order, old, side.lengths());
+    Ok(())
+}
