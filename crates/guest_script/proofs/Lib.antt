@@ -8,3 +8,5 @@ pub mod ScriptSteps
 pub mod ScriptVcpus
 pub mod ScriptGoes
 pub mod ScriptLaws
+pub mod Pages
+pub mod Faults

@@ -1,4 +1,5 @@
 pub mod Events
 pub mod Scenarios
+pub mod ScriptFaults
 pub mod Scripts
 pub mod inner

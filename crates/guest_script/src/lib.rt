@@ -21,6 +21,7 @@ mod fates;
 mod keys;
 mod op_form;
 mod script;
+mod script_fault;
 mod script_reader;
 mod script_steps;
 mod stages;
@@ -35,6 +36,7 @@ use keys::{
 };
 use op_form::push_vcpus;
 pub use script::Script;
+pub use script_fault::{ScriptFault, VcpuFault};
 use script_reader::ScriptLines;
 pub use vcpus::{MOST_FATES, MOST_OPS, MOST_PIVOTS, MOST_VCPUS, MOST_WINDOW, Vcpu};
 

@@ -1,9 +1,11 @@
 //! Scripts.
 
-ghost use Rattle.std.specs.Prelude.{◌≡◌};
-ghost use Rattle.guest_script.specs.Scenarios.{IsScenario};
+ghost use Rattle.std.specs.Prelude.{◌≡◌, MatchOption, MatchResult, OnErr};
+ghost use Rattle.guest_script.specs.Scenarios.{IsScenario, Scenario};
+ghost use Rattle.guest_script.specs.ScriptFaults.{IsScriptFault};
 
-use crate::vcpus::Vcpu;
+use crate::script_fault::{ScriptFault, first_vcpu_fault, first_wrong_page};
+use crate::vcpus::{MOST_FATES, MOST_PIVOTS, MOST_VCPUS, MOST_WINDOW, Vcpu};
 use migration_events::Fate;
 use migration_types::{Geometry, InitPage, Seq};
 use std::marker::Model;
@@ -32,7 +34,75 @@ impl Model for Script {
     ghost invariant = { λ a. IsScenario (record { geometry = a.geometry; init = a.init; pivots = a.pivots; window = a.window; down = a.down; up = a.up; vcpus = a.vcpus }) };
 }
 
+/// The first fault of parts that are no script.
+fn fault_in(
+    geometry: Geometry,
+    init: &[InitPage],
+    pivots: u32,
+    window: u32,
+    down: &[Fate],
+    up: &[Fate],
+    vcpus: &[Vcpu],
+) -> Option<ScriptFault>
+    ensures { let parts : Scenario = record { geometry = geometry; init = init.now; pivots = pivots; window = window; down = down.now; up = up.now; vcpus = vcpus.now } in MatchOption result (IsScenario parts) (IsScriptFault parts) }
+{
+    if let Some(place) = first_wrong_page(geometry, init) {
+        return Some(ScriptFault::Init(place));
+    }
+    if pivots == 0 || pivots > MOST_PIVOTS {
+        return Some(ScriptFault::Pivots);
+    }
+    if window == 0 || window > MOST_WINDOW {
+        return Some(ScriptFault::Window);
+    }
+    if down.len() > MOST_FATES as usize {
+        return Some(ScriptFault::Down);
+    }
+    if up.len() > MOST_FATES as usize {
+        return Some(ScriptFault::Up);
+    }
+    if vcpus.is_empty() || vcpus.len() > MOST_VCPUS as usize {
+        return Some(ScriptFault::Vcpus);
+    }
+    let (vcpu, fault) = first_vcpu_fault(geometry, vcpus)?;
+    Some(ScriptFault::Vcpu { vcpu, fault })
+}
+
 impl Script {
+    /// The script of these parts, where they are within all limits. Takes no memory, and copies nothing.
+    ///
+    /// # Errors
+    ///
+    /// The first fault, in the order of `ScriptFault`: that of the initial pages, which rise, are the machine's and have a
+    /// value for each cell, not all of them zero; 1 to 16 pivots; a window of 1 to 65,536; at most 4,096 fates on each
+    /// way; 1 to 64 virtual processors, of which each has at most 65,536 operations before its move and after it, on pages
+    /// and cells of the machine, and no release after it. The parts are then let go.
+    pub fn new(
+        geometry: Geometry,
+        init: Seq<InitPage>,
+        pivots: u32,
+        window: u32,
+        down: Seq<Fate>,
+        up: Seq<Fate>,
+        vcpus: Seq<Vcpu>,
+    ) -> Result<Self, ScriptFault>
+        ensures value { let parts : Scenario = record { geometry = geometry; init = init; pivots = pivots; window = window; down = down; up = up; vcpus = vcpus } in MatchResult result (λ script. (script ≡ parts) × IsScenario parts) (IsScriptFault parts) }
+        ensures refused { let parts : Scenario = record { geometry = geometry; init = init; pivots = pivots; window = window; down = down; up = up; vcpus = vcpus } in OnErr result (IsScenario parts → ⊥) }
+    {
+        match fault_in(
+            geometry,
+            init.as_slice(),
+            pivots,
+            window,
+            down.as_slice(),
+            up.as_slice(),
+            vcpus.as_slice(),
+        ) {
+            Some(fault) => Err(fault),
+            None => Ok(Script::of_parts(geometry, init, pivots, window, down, up, vcpus)),
+        }
+    }
+
     /// The script of these parts. Takes no memory.
     pub(crate) fn of_parts(
         geometry: Geometry,

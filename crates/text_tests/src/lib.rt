@@ -14,6 +14,8 @@ mod lines;
 #[cfg(test)]
 mod records;
 #[cfg(test)]
+mod script_faults;
+#[cfg(test)]
 mod scripts;
 #[cfg(test)]
 mod sessions;

@@ -1,0 +1,63 @@
+-- Parts with a fault are no script.
+use Rattle.std.proofs.Common.{◌≡◌, ℕ, ◌+◌, List, [], ◌∷◌, ◌++◌, take, drop, refl, sym, subst, arith}
+use Rattle.std.specs.Prelude.{Option, Some, None, slice_get, IsSomeAnd}
+use Rattle.std.specs.List.{AllByRecursion}
+use Rattle.std.proofs.lemmas.List.{take-append-drop, take_more}
+use Rattle.std.proofs.lemmas.Option.{get_or_from_slice_get, slice_get_within}
+use Rattle.migration_types.specs.declared.pages.InitPage.{InitPage}
+use Rattle.migration_types.specs.Extents.{Extent}
+use Rattle.migration_types.specs.Pages.{AreInitPages, InitPageFits}
+use Rattle.migration_events.specs.Ops.{OpFits}
+use Rattle.session_log.specs.inner.InitPages.{Rise, rise_of}
+use Rattle.guest_script.specs.declared.vcpus.Vcpu.{Vcpu as Processor}
+use Rattle.guest_script.specs.declared.script_fault.ScriptFault.{ScriptFault}
+use Rattle.guest_script.specs.declared.script_fault.ScriptFault.TheVariants.{Init, Pivots, Window, Down, Up, Vcpus, Vcpu}
+use Rattle.guest_script.specs.declared.script_fault.VcpuFault.{VcpuFault}
+use Rattle.guest_script.specs.declared.script_fault.VcpuFault.TheVariants.{ManyBefore, ManyAfter, Before, After}
+use Rattle.guest_script.specs.Scenarios.{Scenario, IsScenario, LateOpFits, VcpuFits}
+use Rattle.guest_script.specs.ScriptFaults.{IsScriptFault, IsVcpuFault}
+use Rattle.guest_script.proofs.Lists.{all_at}
+use Rattle.guest_script.proofs.Pages.{are_pages}
+
+all_front : {X : Type 0} (P : X → Type 0) (xs ys : List X) → AllByRecursion P (xs ++ ys) → AllByRecursion P xs
+all_front P [] ys h = tt
+all_front P (x ∷ xs) ys h = (h.0, all_front P xs ys h.1)
+
+all_take : {X : Type 0} (P : X → Type 0) (n : ℕ) (xs : List X) → AllByRecursion P xs → AllByRecursion P (take n xs)
+all_take P n xs h = all_front P (take n xs) (drop n xs) (subst (AllByRecursion P) (sym (take-append-drop n xs)) h)
+
+all_get : {X : Type 0} (P : X → Type 0) (n : ℕ) (xs : List X) (x : X) → AllByRecursion P xs → slice_get xs n ≡ Some x → P x
+all_get P n xs x h is =
+    let lt = slice_get_within xs n x is in
+    let more : take (n + 1) xs ≡ take n xs ++ x ∷ [] = subst (λ (y : _). take (n + 1) xs ≡ take n xs ++ y ∷ []) (get_or_from_slice_get xs n x x is) (take_more xs n x lt) in
+    all_at P (take n xs) x [] (subst (AllByRecursion P) more (all_take P (n + 1) xs h))
+
+-- the first of rising pages rise
+rise_front : (low high : ℕ) (ps qs : List InitPage) → Rise low (ps ++ qs) high → (least : ℕ) × Rise low ps least
+rise_front low high [] qs r = (low, refl)
+rise_front low high (p ∷ ps) qs r = let rest = rise_front (p.page + 1) high ps qs r.1 in (rest.0, (r.0, rest.1))
+
+pages_take : (e : Extent) (n : ℕ) (ps : List InitPage) → AreInitPages e ps → AreInitPages e (take n ps)
+pages_take e n ps h =
+    let rise = rise_of e ps h in
+    let front = rise_front 0 rise.0 (take n ps) (drop n ps) (subst (λ (qs : List InitPage). Rise 0 qs rise.0) (sym (take-append-drop n ps)) rise.2) in
+    are_pages e (take n ps) front.0 (all_take (InitPageFits e) n ps h.each) front.1
+
+vcpu_none : (e : Extent) (vcpu : Processor) (fault : VcpuFault) → IsVcpuFault e vcpu fault → VcpuFits e vcpu → ⊥
+vcpu_none e vcpu ManyBefore h fits = absurd (omega (arith, h, fits.few_before))
+vcpu_none e vcpu ManyAfter h fits = absurd (omega (arith, h.1, fits.few_after))
+vcpu_none e vcpu (Before n) h fits = h.1.1 (all_take (OpFits e) (n + 1) vcpu.before_move fits.before_move)
+vcpu_none e vcpu (After n) h fits = h.2.1 (all_take (LateOpFits e) (n + 1) vcpu.after_move fits.after_move)
+
+found_none : (e : Extent) (fault : VcpuFault) (found : Option Processor) → ((vcpu : Processor) → found ≡ Some vcpu → VcpuFits e vcpu) → IsSomeAnd found (λ vcpu. IsVcpuFault e vcpu fault) → ⊥
+found_none e fault None fits h = h
+found_none e fault (Some vcpu) fits h = vcpu_none e vcpu fault h (fits vcpu refl)
+
+pub none_with_fault : (s : Scenario) (fault : ScriptFault) → IsScriptFault s fault → IsScenario s → ⊥
+none_with_fault s (Init n) h fits = h.1 (pages_take s.geometry (n + 1) s.init fits.init)
+none_with_fault s Pivots h fits = h.1 (fits.some_pivots, fits.few_pivots)
+none_with_fault s Window h fits = h.1 (fits.some_window, fits.few_window)
+none_with_fault s Down h fits = h.1 fits.few_down
+none_with_fault s Up h fits = h.1 fits.few_up
+none_with_fault s Vcpus h fits = h.1 (fits.some_vcpus, fits.few_vcpus)
+none_with_fault s (Vcpu n fault) h fits = found_none s.geometry fault (slice_get s.vcpus n) (λ vcpu is. all_get (VcpuFits s.geometry) n s.vcpus vcpu fits.vcpus is) h.1.1
