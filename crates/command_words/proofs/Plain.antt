@@ -11,7 +11,7 @@ use Rattle.command_words.specs.declared.asked.Asked.TheVariants.{One, Two}
 use Rattle.command_words.specs.declared.asked.OneText.{OneText}
 use Rattle.command_words.specs.declared.asked.OneText.TheVariants.{Certify, Audit}
 use Rattle.command_words.specs.declared.asked.TwoTexts.{TwoTexts}
-use Rattle.command_words.specs.declared.asked.TwoTexts.TheVariants.{Check, Replay}
+use Rattle.command_words.specs.declared.asked.TwoTexts.TheVariants.{Check, Replay, Steps}
 use Rattle.command_words.specs.Words.{IsPlain, IsPlainName, asked, asked_by, postcopy_words, with_names}
 
 -- a name of one of three forms
@@ -37,6 +37,7 @@ one_name Audit = codes "audit"
 two_name : TwoTexts → Text
 two_name Check = codes "check"
 two_name Replay = codes "replay"
+two_name Steps = codes "steps"
 
 taken_one : (task : OneText) (program name : Text) → Form name → IsTaken (program ∷ one_name task ∷ name ∷ []) (One task name)
 unfolding clap_on_literals one_name
@@ -67,6 +68,15 @@ taken_two Replay program _ _ Empty (Other b rest e) = record { taken = simp e; g
 taken_two Replay program _ _ (Other a front d) Dash = record { taken = simp d; given = simp d }
 taken_two Replay program _ _ (Other a front d) Empty = record { taken = simp d; given = simp d }
 taken_two Replay program _ _ (Other a front d) (Other b rest e) = record { taken = simp (d, e); given = simp (d, e) }
+taken_two Steps program _ _ Dash Dash = record { taken = refl; given = refl }
+taken_two Steps program _ _ Dash Empty = record { taken = refl; given = refl }
+taken_two Steps program _ _ Dash (Other b rest e) = record { taken = simp e; given = simp e }
+taken_two Steps program _ _ Empty Dash = record { taken = refl; given = refl }
+taken_two Steps program _ _ Empty Empty = record { taken = refl; given = refl }
+taken_two Steps program _ _ Empty (Other b rest e) = record { taken = simp e; given = simp e }
+taken_two Steps program _ _ (Other a front d) Dash = record { taken = simp d; given = simp d }
+taken_two Steps program _ _ (Other a front d) Empty = record { taken = simp d; given = simp d }
+taken_two Steps program _ _ (Other a front d) (Other b rest e) = record { taken = simp (d, e); given = simp (d, e) }
 
 -- a command with so many names, which are plain, is taken
 one_taken : (task : OneText) (program word : Text) (names : List Text) (job : Asked Text) → AllByRecursion IsPlainName names → with_names names (One task word) ≡ Some job → IsTaken (program ∷ one_name task ∷ names) job
@@ -87,23 +97,24 @@ two_taken task program word other (first ∷ second ∷ third ∷ rest) job plai
 
 -- the row of a name is the first that has it
 row_taken : (program name : Text) (names : List Text) (job : Asked Text) → AllByRecursion IsPlainName names
-    → (check certify audit replay : Bool)
-    → (check ≡ true → codes "check" ≡ name) → (certify ≡ true → codes "certify" ≡ name) → (audit ≡ true → codes "audit" ≡ name) → (replay ≡ true → codes "replay" ≡ name)
-    → option_and_then (λ (row : Text × Asked Text). with_names names row.1) (cond check (Some (codes "check", Two Check (codes "SESSION") (codes "CERT"))) (cond certify (Some (codes "certify", One Certify (codes "SESSION"))) (cond audit (Some (codes "audit", One Audit (codes "SESSION"))) (cond replay (Some (codes "replay", Two Replay (codes "SESSION") (codes "RUNS"))) None)))) ≡ Some job
+    → (check certify audit replay steps : Bool)
+    → (check ≡ true → codes "check" ≡ name) → (certify ≡ true → codes "certify" ≡ name) → (audit ≡ true → codes "audit" ≡ name) → (replay ≡ true → codes "replay" ≡ name) → (steps ≡ true → codes "steps" ≡ name)
+    → option_and_then (λ (row : Text × Asked Text). with_names names row.1) (cond check (Some (codes "check", Two Check (codes "SESSION") (codes "CERT"))) (cond certify (Some (codes "certify", One Certify (codes "SESSION"))) (cond audit (Some (codes "audit", One Audit (codes "SESSION"))) (cond replay (Some (codes "replay", Two Replay (codes "SESSION") (codes "RUNS"))) (cond steps (Some (codes "steps", Two Steps (codes "SCRIPT") (codes "EVENTS"))) None))))) ≡ Some job
     → IsTaken (program ∷ name ∷ names) job
 unfolding one_name two_name
-row_taken program name names job plain true certify audit replay a b c d e = subst (λ (x : Text). IsTaken (program ∷ x ∷ names) job) (a refl) (two_taken Check program _ _ names job plain e)
-row_taken program name names job plain false true audit replay a b c d e = subst (λ (x : Text). IsTaken (program ∷ x ∷ names) job) (b refl) (one_taken Certify program _ names job plain e)
-row_taken program name names job plain false false true replay a b c d e = subst (λ (x : Text). IsTaken (program ∷ x ∷ names) job) (c refl) (one_taken Audit program _ names job plain e)
-row_taken program name names job plain false false false true a b c d e = subst (λ (x : Text). IsTaken (program ∷ x ∷ names) job) (d refl) (two_taken Replay program _ _ names job plain e)
-row_taken program name names job plain false false false false a b c d e = let none : None ≡ Some job = e in absurd cc
+row_taken program name names job plain true certify audit replay steps a b c d f e = subst (λ (x : Text). IsTaken (program ∷ x ∷ names) job) (a refl) (two_taken Check program _ _ names job plain e)
+row_taken program name names job plain false true audit replay steps a b c d f e = subst (λ (x : Text). IsTaken (program ∷ x ∷ names) job) (b refl) (one_taken Certify program _ names job plain e)
+row_taken program name names job plain false false true replay steps a b c d f e = subst (λ (x : Text). IsTaken (program ∷ x ∷ names) job) (c refl) (one_taken Audit program _ names job plain e)
+row_taken program name names job plain false false false true steps a b c d f e = subst (λ (x : Text). IsTaken (program ∷ x ∷ names) job) (d refl) (two_taken Replay program _ _ names job plain e)
+row_taken program name names job plain false false false false true a b c d f e = subst (λ (x : Text). IsTaken (program ∷ x ∷ names) job) (f refl) (two_taken Steps program _ _ names job plain e)
+row_taken program name names job plain false false false false false a b c d f e = let none : None ≡ Some job = e in absurd cc
 
 same_text : (a b : Text) → bytes_eq a b ≡ true → a ≡ b
 same_text a b e = (bytes_eq-Decides a b).0 e
 
 -- plain words of a command are taken, and ask for it
 pub taken_plain : (words : List Text) (name : Text) (names : List Text) (job : Asked Text) → IsPlain words name names → asked_by name names ≡ Some job → IsTaken words job
-taken_plain words name names job h e = rw h.words_are (row_taken h.program name names job h.plain _ _ _ _ (same_text (codes "check") name) (same_text (codes "certify") name) (same_text (codes "audit") name) (same_text (codes "replay") name) e)
+taken_plain words name names job h e = rw h.words_are (row_taken h.program name names job h.plain _ _ _ _ _ (same_text (codes "check") name) (same_text (codes "certify") name) (same_text (codes "audit") name) (same_text (codes "replay") name) (same_text (codes "steps") name) e)
 
 -- a word or none is not taken, as a command has to be there
 pub bare_not_taken : (words : List Text) → length words ≤ 1 → takes postcopy_words words ≡ false

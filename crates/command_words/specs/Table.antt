@@ -5,17 +5,18 @@ use Rattle.clap.specs.Words.{Text}
 use Rattle.command_words.specs.declared.asked.Asked.{Asked}
 use Rattle.command_words.specs.declared.asked.Asked.TheVariants.{One, Two}
 use Rattle.command_words.specs.declared.asked.OneText.TheVariants.{Certify, Audit}
-use Rattle.command_words.specs.declared.asked.TwoTexts.TheVariants.{Check, Replay}
+use Rattle.command_words.specs.declared.asked.TwoTexts.TheVariants.{Check, Replay, Steps}
 use Rattle.command_words.specs.declared.table.Word.{Word}
 use Rattle.command_words.specs.declared.table.Row.{Row}
 
--- `check SESSION CERT`, `certify SESSION`, `audit SESSION`, `replay SESSION RUNS`
+-- `check SESSION CERT`, `certify SESSION`, `audit SESSION`, `replay SESSION RUNS`, `steps SCRIPT EVENTS`
 abbrev pub table : List (Text × Asked Text)
 table =
     (codes "check", Two Check (codes "SESSION") (codes "CERT")) ∷
     (codes "certify", One Certify (codes "SESSION")) ∷
     (codes "audit", One Audit (codes "SESSION")) ∷
-    (codes "replay", Two Replay (codes "SESSION") (codes "RUNS")) ∷ []
+    (codes "replay", Two Replay (codes "SESSION") (codes "RUNS")) ∷
+    (codes "steps", Two Steps (codes "SCRIPT") (codes "EVENTS")) ∷ []
 
 -- a command, with another word for each of its texts
 abbrev pub asked_map : {V W : Type 0} → (V → W) → Asked V → Asked W

@@ -16,6 +16,8 @@ pub enum TwoTexts {
     Check,
     /// What becomes of a merging of a session along its runs.
     Replay,
+    /// The session that events record of a script.
+    Steps,
 }
 
 /// A command, with a word for each of its texts.

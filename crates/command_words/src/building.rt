@@ -13,7 +13,8 @@ use std::alloc::{AllocError, Global};
 
 const VERSION: &str = "1.0.0";
 
-const ABOUT: &str = "Audits recorded migration sessions; with no command it does: check - -";
+const ABOUT: &str =
+    "Records migrations, and audits recorded sessions; with no command it does: check - -";
 
 const AFTER_HELP: &str =
     "A file named - is standard input. Where two are, they share it: the first text ends with its first line 'end'.

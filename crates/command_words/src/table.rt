@@ -38,7 +38,17 @@ const RUNS: Word = Word {
     help: "The file of a merging's runs; - is standard input",
 };
 
-static COMMANDS: [Row; 4] = [
+const SCRIPT: Word = Word {
+    name: "SCRIPT",
+    help: "The file of a guest's script; - is standard input",
+};
+
+const EVENTS: Word = Word {
+    name: "EVENTS",
+    help: "The file of a list of events; - is standard input",
+};
+
+static COMMANDS: [Row; 5] = [
     Row {
         name: "check",
         about: "Judges the certificate of a session, as in: postcopy check session cert",
@@ -58,6 +68,11 @@ static COMMANDS: [Row; 4] = [
         name: "replay",
         about: "Replays a merging of a session along its runs, as in: postcopy replay session runs",
         asked: Asked::Two(TwoTexts::Replay, SESSION, RUNS),
+    },
+    Row {
+        name: "steps",
+        about: "Writes the session that events record of a script, as in: postcopy steps script events",
+        asked: Asked::Two(TwoTexts::Steps, SCRIPT, EVENTS),
     },
 ];
 

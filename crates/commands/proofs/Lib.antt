@@ -1,3 +1,5 @@
 pub mod Cuts
 pub mod Statuses
 pub mod Audits
+pub mod Stepped
+pub mod Recorded

@@ -10,13 +10,14 @@ use Rattle.command_words.specs.declared.asked.Asked.{Asked}
 use Rattle.command_words.specs.declared.asked.OneText.{OneText}
 use Rattle.command_words.specs.declared.asked.OneText.TheVariants.{Certify, Audit}
 use Rattle.command_words.specs.declared.asked.TwoTexts.{TwoTexts}
-use Rattle.command_words.specs.declared.asked.TwoTexts.TheVariants.{Check, Replay}
+use Rattle.command_words.specs.declared.asked.TwoTexts.TheVariants.{Check, Replay, Steps}
 use Rattle.commands.specs.declared.answer.Fault.{Fault}
 use Rattle.commands.specs.declared.answer.Fault.TheVariants.{File, Output, Memory}
 use Rattle.commands.specs.declared.replaying.Outcome.{Outcome}
 use Rattle.commands.specs.declared.replaying.Outcome.TheVariants as outcome
 use Rattle.commands.specs.Answers.{Audited, Refused, Reported, audited_status, fault_status, report_status, verdict_status}
 use Rattle.commands.specs.Replayed.{outcome_status}
+use Rattle.commands.specs.Steps.{LogFull, Records, ScriptText, EventsText, Steps as Stepped, steps_status}
 use Rattle.commands.specs.Told.{IsOneAnswer, IsTwoAnswer}
 
 verdict_few : (v : Verdict) → verdict_status v < 2
@@ -46,6 +47,12 @@ outcome_few outcome.NoMerging = omega arith
 outcome_few (outcome.Broken n) = omega arith
 outcome_few outcome.Safe = omega arith
 
+steps_few : (o : Stepped) → steps_status o < 2
+steps_few (ScriptText line) = omega arith
+steps_few (EventsText line) = omega arith
+steps_few LogFull = omega arith
+steps_few (Records session) = omega arith
+
 -- the status of an answer is 0 or 1
 pub one_few : (task : OneText) (session text : List ℕ) (status : ℕ) → IsOneAnswer task session text status → status < 2
 one_few Certify session text status h = rw h.is_status (audited_few h.value)
@@ -54,6 +61,7 @@ one_few Audit session text status h = rw h.is_status (audited_few h.value)
 pub two_few : (task : TwoTexts) (texts : List ℕ × List ℕ) (text : List ℕ) (status : ℕ) → IsTwoAnswer task texts text status → status < 2
 two_few Check texts text status h = rw h.is_status (verdict_few h.value)
 two_few Replay texts text status h = rw h.is_status (outcome_few h.value)
+two_few Steps texts text status h = rw h.is_status (steps_few h.value)
 
 -- the status that was written is the answer's
 pub few_written : (done : Result ℕ Fault) (own : ℕ) → own < 2 → IfOk done (λ status. status ≡ own) → IfOk done (λ status. status < 2)

@@ -7,11 +7,12 @@ use Rattle.command_words.specs.declared.asked.Asked.TheVariants.{One, Two}
 use Rattle.command_words.specs.declared.asked.OneText.{OneText}
 use Rattle.command_words.specs.declared.asked.OneText.TheVariants.{Certify, Audit}
 use Rattle.command_words.specs.declared.asked.TwoTexts.{TwoTexts}
-use Rattle.command_words.specs.declared.asked.TwoTexts.TheVariants.{Check, Replay}
+use Rattle.command_words.specs.declared.asked.TwoTexts.TheVariants.{Check, Replay, Steps}
 use Rattle.commands.specs.declared.auditing.Wanted.TheVariants as wanted
 use Rattle.commands.specs.Answers.{IsAuditAnswer, IsVerdictAnswer}
 use Rattle.commands.specs.Cutting.{IsCutAtEnd}
 use Rattle.commands.specs.Replayed.{IsReplayAnswer}
+use Rattle.commands.specs.Steps.{IsStepsAnswer}
 
 -- the answer of a command on one text
 abbrev pub IsOneAnswer : OneText → List ℕ → List ℕ → ℕ → Type 0
@@ -22,6 +23,7 @@ IsOneAnswer Audit session = IsAuditAnswer wanted.Report session
 abbrev pub IsTwoAnswer : TwoTexts → List ℕ × List ℕ → List ℕ → ℕ → Type 0
 IsTwoAnswer Check texts = IsVerdictAnswer texts.0 texts.1
 IsTwoAnswer Replay texts = IsReplayAnswer texts.0 texts.1
+IsTwoAnswer Steps texts = IsStepsAnswer texts.0 texts.1
 
 -- the name of the input
 abbrev pub is_dash : List ℕ → Bool

@@ -2,9 +2,11 @@
 
 ghost use Rattle.std.specs.Prelude.{◌≡◌, IfOk};
 ghost use Rattle.std.specs.Io.KnownBytes.{Appends};
-ghost use Rattle.commands.specs.Answers.{fault_status};
+ghost use Rattle.commands.specs.Answers.{Says, fault_status, numbered};
 
+use std::alloc::{AllocError, Global};
 use std::io::Write;
+use text_lines::push_keyed;
 
 /// The status where all is well.
 pub const ACCEPTED: u8 = 0;
@@ -57,6 +59,18 @@ pub fn tell<E: Write>(fault: Fault<'_>, errors: &mut E) -> u8
             MEMORY
         }
     }
+}
+
+/// The answer to a text that is refused at this line, which the key tells.
+pub fn refused(alloc: Global, key: &[u8], line: u32) -> Result<Answer, AllocError>
+    ensures { IfOk result (λ answer. Says answer (numbered key.now line) 1) }
+{
+    let mut text = Vec::new(alloc);
+    push_keyed(&mut text, key, line)?;
+    Ok(Answer {
+        text,
+        status: REFUSED,
+    })
 }
 
 /// Writes an answer's text, and answers its status.

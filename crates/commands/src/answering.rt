@@ -7,6 +7,7 @@ use crate::answer::Answer;
 use crate::auditing::{Wanted, audit_text};
 use crate::checking::judge;
 use crate::replaying::replay_texts;
+use crate::stepping::steps_texts;
 use command_words::{OneText, TwoTexts};
 use std::alloc::{AllocError, Global};
 
@@ -32,5 +33,6 @@ pub fn two_answer(
     match task {
         TwoTexts::Check => judge(alloc, first, second),
         TwoTexts::Replay => replay_texts(alloc, first, second),
+        TwoTexts::Steps => steps_texts(alloc, first, second),
     }
 }

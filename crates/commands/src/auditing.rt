@@ -1,18 +1,17 @@
 //! The report on a session, or its certificate, as a text and a status.
 
-ghost use Rattle.std.specs.Prelude.{◌≡◌, [], ◌∷◌, IfOk, codes};
+ghost use Rattle.std.specs.Prelude.{◌≡◌, [], ◌∷◌, IfOk};
 ghost use Rattle.text_lines.specs.Text.{ended};
 ghost use Rattle.audit_report.specs.Reports.{IsReport, ReportFits};
 ghost use Rattle.audit_report.specs.ReportText.{first_line};
-ghost use Rattle.commands.specs.Answers.{IsAnswer, IsAuditAnswer, Says, certificate_text, numbered, report_status, wanted_text};
+ghost use Rattle.commands.specs.Answers.{IsAnswer, IsAuditAnswer, Says, certificate_text, report_status, wanted_text};
 
-use crate::answer::{ACCEPTED, Answer, REFUSED};
+use crate::answer::{ACCEPTED, Answer, REFUSED, refused};
 use audit_report::{Report, audit, print_report, push_first_line};
 use cert_text::write_cert;
 use migration_types::Session;
 use session_log::read_session;
 use std::alloc::{AllocError, Global};
-use text_lines::push_keyed;
 
 /// What of an audit is written.
 #[derive(Clone, Copy)]
@@ -21,18 +20,6 @@ pub enum Wanted {
     Report,
     /// The certificate of a clean session, and of another the first line of the report.
     Certificate,
-}
-
-/// The answer to a session's text that is refused at this line.
-fn refused(alloc: Global, line: u32) -> Result<Answer, AllocError>
-    ensures { IfOk result (λ answer. Says answer (numbered (codes "session-text line ") line) 1) }
-{
-    let mut text = Vec::new(alloc);
-    push_keyed(&mut text, b"session-text line ", line)?;
-    Ok(Answer {
-        text,
-        status: REFUSED,
-    })
 }
 
 /// The first line of a report.
@@ -103,6 +90,6 @@ pub fn audit_text(alloc: Global, session: &[u8], wanted: Wanted) -> Result<Answe
 {
     match read_session(alloc, session) {
         Ok(session) => answer_to(alloc, &session, wanted),
-        Err(fault) => refused(alloc, fault.refused_line()?),
+        Err(fault) => refused(alloc, b"session-text line ", fault.refused_line()?),
     }
 }

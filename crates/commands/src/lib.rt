@@ -11,8 +11,10 @@ mod pair;
 mod program;
 mod reading;
 mod replaying;
+mod stepping;
 
 pub use answer::{Fault, USAGE, tell};
 pub use checking::{push_verdict, status_of};
 pub use program::run;
 pub use reading::TextSource;
+pub use stepping::recorded_sessions_are_clean;

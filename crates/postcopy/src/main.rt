@@ -1,10 +1,10 @@
-//! Audits recorded migration sessions.
+//! Records migrations, and audits recorded sessions.
 //!
 //! `postcopy check SESSION CERT` reads the two texts and writes one line, the verdict. `certify SESSION` writes the
-//! certificate of a session, `audit SESSION` the report on it, and `replay SESSION RUNS` what becomes of a merging. A file
-//! named `-` is standard input; where two are, the first text ends with the first line `end`. With no word it does
-//! `check - -`. The status is 0 where all is well, 1 for another answer, 2 for words that are no command, 3 for a file or
-//! an output that failed, and 4 for want of memory.
+//! certificate of a session, `audit SESSION` the report on it, and `replay SESSION RUNS` what becomes of a merging.
+//! `steps SCRIPT EVENTS` writes the session that events record of a script. A file named `-` is standard input; where two
+//! are, the first text ends with the first line `end`. With no word it does `check - -`. The status is 0 where all is well,
+//! 1 for another answer, 2 for words that are no command, 3 for a file or an output that failed, and 4 for want of memory.
 #![tactic(auto)]
 
 ghost use Rattle.std.specs.Prelude.{◌≤◌};

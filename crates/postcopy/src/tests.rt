@@ -10,40 +10,12 @@ use std::cell::Cell;
 use std::io;
 use std::io::{ErrorKind, Read, Write};
 use std::process::Abort;
+use texts::{
+    ACCEPTED_LINE, BOTH, CERT, CLEAN_REPORT, EMPTY_CERT_LINE, EMPTY_SESSION_LINE, HANDOVER,
+    RECORDED, SAFE_RUNS, SCRIPT_AND_EVENTS, SESSION, TEXTS,
+};
 
-// One page that is written, read, released and read again.
-const SESSION: &[u8] =
-    b"postcopy-session 1\npages 1\ncells 1\ninit 0\nguest 4\nw 0 0 0 3\nr 0 0 0 3\nz 0 0\nr 0 0 0 0\nsource 0\nlink 0\npager 0\nend\n";
-
-// The session's certificate.
-const CERT: &[u8] = b"postcopy-certificate 1\npages 1\npage 0 none\nruns 1\nrun guest 4\nend\n";
-
-// The report on the session.
-const CLEAN_REPORT: &[u8] =
-    b"clean\npostcopy-certificate 1\npages 1\npage 0 none\nruns 1\nrun guest 4\nend\n";
-
-const BOTH: &[u8] =
-    b"postcopy-session 1\npages 1\ncells 1\ninit 0\nguest 4\nw 0 0 0 3\nr 0 0 0 3\nz 0 0\nr 0 0 0 0\nsource 0\nlink 0\npager 0\nend\npostcopy-certificate 1\npages 1\npage 0 none\nruns 1\nrun guest 4\nend\n";
-
-// A session with a handover, in which no look at the second page's placement stands before its use.
-const HANDOVER: &[u8] =
-    b"postcopy-session 1\npages 2\ncells 1\ninit 1\npage 0 0000000000000005\nguest 8\nw 0 1 0 7\nhalt\nresume 1\nmiss 0 0\nsee 5\nr 0 0 0 5\nw 0 1 0 9\nr 0 1 0 9\nsource 5\nhalted 1\nstate\nask 1\nsend 0 0000000000000005\nsend 1 0000000000000007\nlink 4\ndown 1\nup 3\ndown 3\ndown 4\npager 8\ngot 0\nready\nfault 3\nwant 0\ngot 2\nplace 0 4 0000000000000005\ngot 3\nplace 1 6 0000000000000007\nend\n";
-
-// A merging of it in which that page is used before it is placed.
-const BROKEN_RUNS: &[u8] =
-    b"postcopy-runs 1\nruns 12\nrun guest 2\nrun source 2\nrun link 1\nrun pager 2\nrun guest 2\nrun pager 2\nrun link 1\nrun source 3\nrun link 2\nrun pager 3\nrun guest 4\nrun pager 1\nend\n";
-
-// A merging of it in which all goes well.
-const SAFE_RUNS: &[u8] =
-    b"postcopy-runs 1\nruns 11\nrun guest 2\nrun source 2\nrun link 1\nrun pager 2\nrun guest 2\nrun pager 2\nrun link 1\nrun source 3\nrun link 2\nrun pager 4\nrun guest 4\nend\n";
-
-const FEW_RUNS: &[u8] = b"postcopy-runs 1\nruns 1\nrun guest 3\nend\n";
-
-const ACCEPTED_LINE: &[u8] = b"yes\n";
-// Of the session and an empty certificate.
-const EMPTY_CERT_LINE: &[u8] = b"certificate-text line 1\n";
-// Of an empty session and the certificate.
-const EMPTY_SESSION_LINE: &[u8] = b"session-text line 1\n";
+mod texts;
 
 // Texts in memory, which count how often they were asked for.
 #[derive(Drop)]
@@ -109,15 +81,6 @@ struct Outcome {
     errors: Vec<u8>,
     asked: u32,
 }
-
-const TEXTS: [(&str, &[u8]); 6] = [
-    ("session", SESSION),
-    ("cert", CERT),
-    ("handover", HANDOVER),
-    ("broken-runs", BROKEN_RUNS),
-    ("safe-runs", SAFE_RUNS),
-    ("few-runs", FEW_RUNS),
-];
 
 // Runs the program on these words after its name, over the two texts and an input.
 fn ran_over<I: Read>(alloc: Global, words: &[&str], input: &mut I) -> Outcome {
@@ -317,6 +280,47 @@ fn replays(rt: HostRuntime) {
     none_is_wrong(&rt, wrong_case(rt.alloc(), REPLAYS.as_slice()));
 }
 
+// Scripts with events.
+static STEPS: [Case; 4] = [
+    Case(
+        &["postcopy", "steps", "script", "events"],
+        b"",
+        0,
+        RECORDED,
+        b"",
+        Some(2),
+    ),
+    Case(
+        &["postcopy", "steps", "-", "-"],
+        SCRIPT_AND_EVENTS,
+        0,
+        RECORDED,
+        b"",
+        Some(0),
+    ),
+    Case(
+        &["postcopy", "steps", "script", "-"],
+        b"",
+        1,
+        b"events-text line 1\n",
+        b"",
+        None,
+    ),
+    Case(
+        &["postcopy", "steps", "cert", "x"],
+        b"",
+        3,
+        b"",
+        b"file x\n",
+        Some(2),
+    ),
+];
+
+#[test]
+fn steps(rt: HostRuntime) {
+    none_is_wrong(&rt, wrong_case(rt.alloc(), STEPS.as_slice()));
+}
+
 // Files that are not there: none is asked for behind one.
 static MISSING: [Case; 7] = [
     Case(
@@ -508,7 +512,7 @@ fn help(rt: HostRuntime) {
 }
 
 // What the help tells.
-static TOLD: [&str; 10] = [
+static TOLD: [&str; 11] = [
     "0  all is well",
     "1  another answer",
     "2  words that are no command",
@@ -519,6 +523,7 @@ static TOLD: [&str; 10] = [
     "postcopy certify session",
     "postcopy audit session",
     "postcopy replay session runs",
+    "postcopy steps script events",
 ];
 
 // What a help does not tell.
@@ -571,12 +576,13 @@ impl TextSource for Starved {
 }
 
 // Words of each command.
-static COMMANDS: [&[&str]; 5] = [
+static COMMANDS: [&[&str]; 6] = [
     &["postcopy"],
     &["postcopy", "check", "session", "cert"],
     &["postcopy", "certify", "session"],
     &["postcopy", "audit", "-"],
     &["postcopy", "replay", "-", "-"],
+    &["postcopy", "steps", "script", "-"],
 ];
 
 fn wants_memory(alloc: Global, words: &[&str], opens: bool) -> bool {
@@ -608,11 +614,12 @@ fn want_of_memory(rt: HostRuntime) {
 }
 
 // Words for which something is written to the output.
-static WRITING: [&[&str]; 6] = [
+static WRITING: [&[&str]; 7] = [
     &["postcopy", "check", "session", "cert"],
     &["postcopy", "certify", "session"],
     &["postcopy", "audit", "session"],
     &["postcopy", "replay", "handover", "safe-runs"],
+    &["postcopy", "steps", "script", "events"],
     &["postcopy", "--help"],
     &["postcopy", "--version"],
 ];

@@ -11,5 +11,5 @@ pub returns-in_ok-refused_line-in-Err : goal.returns-in_ok-refused_line-in-Err
 returns-in_ok-refused_line-in-Err c =
     let line = c.in_ok-refused_line-in-Err.ensures in
     audit_of_refused c.args.wanted c.args.session.now c.in_ok-refused_line-in-Err.field-0 c.refused.result
-    (subst (λ n. IsRefusalLine SpellsSession c.args.session.now n) (sym line.0) (refused_at c.args.session.now c.in-Err.fault.line c.in-Err.fault.kind c.in-Err.ensures line.1))
+    (subst (λ n. IsRefusalLine SpellsSession c.args.session.now n) (sym line.0) (refused_at SpellsSession c.args.session.now c.in-Err.fault.line c.in-Err.fault.kind c.in-Err.ensures line.1))
     c.refused.ensures

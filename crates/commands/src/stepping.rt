@@ -1,0 +1,79 @@
+//! The session that events record of a script, as a text and a status.
+
+ghost use Rattle.std.specs.Prelude.{◌≡◌, ℕ, List, IfOk, codes};
+ghost use Rattle.text_lines.specs.Text.{ended, IsSpelling};
+ghost use Rattle.session_log.specs.Grammar.{session_lines};
+ghost use Rattle.guest_script.specs.Events.{SpellsEvents};
+ghost use Rattle.guest_script.specs.Scripts.{SpellsScript};
+ghost use Rattle.commands.specs.declared.auditing.Wanted.{Wanted as Asked};
+ghost use Rattle.commands.specs.Answers.{IsAuditAnswer, Says};
+ghost use Rattle.commands.specs.Steps.{IsStepsAnswer};
+
+use crate::answer::{ACCEPTED, Answer, REFUSED, refused};
+use guest_script::{Script, read_events, read_script};
+use migration_events::Event;
+use migration_types::Session;
+use session_core::{CoreFault, run};
+use session_log::write_session;
+use std::alloc::{AllocError, Global};
+use text_lines::push_line;
+
+/// The answer to events that a log has no room for.
+fn full(alloc: Global) -> Result<Answer, AllocError>
+    ensures { IfOk result (λ answer. Says answer (codes "log-full\n") 1) }
+{
+    let mut text = Vec::new(alloc);
+    push_line(&mut text, b"log-full")?;
+    Ok(Answer {
+        text,
+        status: REFUSED,
+    })
+}
+
+/// The answer that a session is.
+fn recorded(alloc: Global, session: &Session) -> Result<Answer, AllocError>
+    ensures { IfOk result (λ answer. Says answer (ended (session_lines session.now)) 0) }
+{
+    let text = write_session(alloc, session)?;
+    Ok(Answer {
+        text,
+        status: ACCEPTED,
+    })
+}
+
+/// What becomes of a script with events, whatever their texts are.
+fn answer_to(alloc: Global, script: &Script, events: &[Event]) -> Result<Answer, AllocError>
+    ensures { (first second : List ℕ) → IsSpelling SpellsScript script.now first → IsSpelling SpellsEvents events.now second → IfOk result (λ answer. IsStepsAnswer first second answer.text.items answer.status) }
+{
+    match run(alloc, script, events) {
+        Ok(session) => recorded(alloc, &session),
+        Err(CoreFault::LogFull) => full(alloc),
+        Err(CoreFault::Memory) => Err(AllocError),
+    }
+}
+
+/// What becomes of a script, whatever its text is, with the text of events.
+fn with_events(alloc: Global, script: &Script, events: &[u8]) -> Result<Answer, AllocError>
+    ensures { (first : List ℕ) → IsSpelling SpellsScript script.now first → IfOk result (λ answer. IsStepsAnswer first events.now answer.text.items answer.status) }
+{
+    match read_events(alloc, events) {
+        Ok(events) => answer_to(alloc, script, events.as_slice()),
+        Err(fault) => refused(alloc, b"events-text line ", fault.refused_line()?),
+    }
+}
+
+/// What becomes of a script with events, by their texts.
+pub fn steps_texts(alloc: Global, script: &[u8], events: &[u8]) -> Result<Answer, AllocError>
+    ensures { IfOk result (λ answer. IsStepsAnswer script.now events.now answer.text.items answer.status) }
+{
+    match read_script(alloc, script) {
+        Ok(script) => with_events(alloc, &script, events),
+        Err(fault) => refused(alloc, b"script-text line ", fault.refused_line()?),
+    }
+}
+
+/// A law: a session that `steps` writes is clean, so `audit` reports it as such, and `certify` writes its certificate. Runs
+/// nothing.
+pub fn recorded_sessions_are_clean()
+    ensures { (wanted : Asked) (script events session text : List ℕ) (status : ℕ) → IsStepsAnswer script events session 0 → IsAuditAnswer wanted session text status → status ≡ 0 }
+{}
