@@ -1,5 +1,5 @@
 -- What a line says of a machine's size.
-use Rattle.std.proofs.Common.{◌≡◌, ℕ, ◌≤◌, ◌<◌, inl, inr, arith}
+use Rattle.std.proofs.Common.{ℕ, inl, inr, arith}
 use Rattle.migration_types.specs.declared.geometry.GeometryFault.{GeometryFault}
 use Rattle.migration_types.specs.declared.geometry.GeometryFault.TheVariants.{Pages as NoPages, Cells as NoCells, TooMany}
 use Rattle.migration_types.specs.Extents.{Extent, IsExtent, IsGeometryFault}

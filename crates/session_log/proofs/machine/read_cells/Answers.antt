@@ -1,4 +1,4 @@
-use Rattle.std.proofs.Common.{◌≡◌, ℕ, ◌∙◌, sym, subst, arith}
+use Rattle.std.proofs.Common.{ℕ, ◌∙◌, sym, subst, arith}
 use Rattle.migration_types.specs.Extents.{IsExtent}
 use Rattle.session_log.specs.Grammar.{cells_key}
 use Rattle.session_log.proofs.Laws.{keyed, extent}
