@@ -6,3 +6,4 @@ pub mod Laws
 pub mod Goes
 pub mod Written
 pub mod Taken
+pub mod Back

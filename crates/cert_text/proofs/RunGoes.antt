@@ -54,7 +54,7 @@ tail_at d more runs f full fits e = runs_end d.count runs d.items more f.few fit
 
 -- ---- one run more
 
-run_held : (d : Part Run) (run : Run) → runs_onto d [] ++ run_line run ∷ [] ≡ runs_onto (record d { items = d.items ++ run ∷ [] }) []
+pub run_held : (d : Part Run) (run : Run) → runs_onto d [] ++ run_line run ∷ [] ≡ runs_onto (record d { items = d.items ++ run ∷ [] }) []
 run_held d run =
     runs_onto_append d [] (run_line run ∷ [])
     ∙ ap (λ (t : List (List ℕ)). (runs_key ++ decimal d.count) ∷ t) (sym (section_push run_line d.items run []))

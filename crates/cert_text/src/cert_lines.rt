@@ -5,13 +5,13 @@ ghost use Rattle.std.specs.Fmt.{decimal};
 ghost use Rattle.migration_types.specs.Limits.{most_pages};
 ghost use Rattle.cert_text.specs.Grammar.{pages_key, SpellsCert};
 
-use crate::entry_lines::{take_entries, take_entry};
+use crate::entry_lines::{drop_entry, take_entries, take_entry};
 use crate::keys::{CERT_HEADER, PAGES_KEY};
 use crate::run_lines::RunLines;
 use migration_types::{Cert, Entry, MOST_PAGES, Seq};
 use std::alloc::Global;
 use std::marker::Model;
-use text_lines::{FaultKind, LineReader, is_line, read_keyed};
+use text_lines::{FaultKind, LineReader, Rewind, is_line, read_keyed};
 
 /// Which line is due.
 #[derive(Clone, Copy)]
@@ -120,6 +120,35 @@ impl LineReader for CertLines {
     ghost use Rattle.cert_text.specs.inner.Plain.{plain_cert};
 
     ghost plain = { plain_cert };
+}
+
+impl Rewind for CertLines {
+    fn empty(alloc: Global) -> Self {
+        CertLines::new(alloc)
+    }
+
+    fn count(&self) -> u32 {
+        self.runs.few();
+        match self.stage {
+            Stage::Header => 0,
+            Stage::Pages => 1,
+            Stage::Entries => self.entries.len() as u32 + self.runs.count() + 2,
+        }
+    }
+
+    fn undo(&mut self) {
+        match self.stage {
+            Stage::Header => {}
+            Stage::Pages => self.stage = Stage::Header,
+            Stage::Entries => {
+                if self.runs.count() > 0 {
+                    self.runs.undo();
+                } else if !drop_entry(&mut self.entries) {
+                    self.stage = Stage::Pages;
+                }
+            }
+        }
+    }
 }
 
 /// The number of pages that a line announces, 1 to 65,536.

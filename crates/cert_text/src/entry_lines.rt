@@ -9,7 +9,7 @@ ghost use Rattle.migration_types.specs.Limits.{most_pages};
 ghost use Rattle.migration_types.specs.Sessions.{IsNumber};
 ghost use Rattle.migration_types.specs.Certs.{FirstFits, EntryFits};
 ghost use Rattle.cert_text.specs.Grammar.{first_text, placed_text, entry_text, entry_line, entry_lines};
-ghost use Rattle.cert_text.specs.inner.Taken.{TakesEntries, TakesEntry};
+ghost use Rattle.cert_text.specs.inner.Taken.{LosesLast, TakesEntries, TakesEntry};
 
 use crate::keys::{BALLOON_KEY, NO_FIRST, NONE, PAGE_KEY, SOURCE_KEY, after_end};
 use migration_types::{Entry, First, LAST_RECORD};
@@ -117,6 +117,13 @@ pub fn take_entry(entries: &mut Vec<Entry>, line: &[u8]) -> Result<(), FaultKind
         Ok(()) => Ok(()),
         Err(_) => Err(FaultKind::Memory),
     }
+}
+
+/// Lets the last entry go, and answers whether there was one.
+pub fn drop_entry(entries: &mut Vec<Entry>) -> bool
+    ensures { LosesLast entries.old.items entries.new.items result }
+{
+    entries.pop().is_some()
 }
 
 /// The entry of this page at the front of a text of whole lines, and what follows its line. It may answer `None` at any

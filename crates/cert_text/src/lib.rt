@@ -10,7 +10,7 @@ ghost use Rattle.cert_text.specs.Runs.{SpellsRuns};
 
 use migration_types::{Cert, Run, Seq};
 use std::alloc::{AllocError, Global};
-use text_lines::{TextFault, push_keyed, push_line, read};
+use text_lines::{TextFault, TextReader, push_keyed, push_line, read_whole};
 
 mod cert_lines;
 mod entry_lines;
@@ -19,11 +19,17 @@ mod run_lines;
 mod runs;
 mod runs_text;
 
-use cert_lines::CertLines;
+pub use cert_lines::CertLines;
 use entry_lines::push_entries;
 use keys::{CERT_HEADER, PAGES_KEY, RUNS_HEADER};
 use runs::push_runs;
-use runs_text::RunsText;
+pub use runs_text::RunsText;
+
+/// Reads the text of a certificate that comes in pieces.
+pub type CertReader = TextReader<CertLines>;
+
+/// Reads a text of runs that comes in pieces.
+pub type RunsReader = TextReader<RunsText>;
 
 /// The certificate that the bytes spell: a header, an entry for each of 1 to 65,536 pages in order, at most 4,194,304
 /// runs of 1 to 1,048,576 records, of which no two neighbours are of one log, and a closing line. An LF ends each line.
@@ -33,7 +39,7 @@ use runs_text::RunsText;
 pub fn read_cert(alloc: Global, bytes: &[u8]) -> Result<Cert, TextFault>
     ensures { Reads SpellsCert bytes.now result }
 {
-    read(CertLines::new(alloc), bytes)
+    read_whole::<CertLines>(alloc, bytes)
 }
 
 /// The text of a certificate, which `read_cert` reads back. An error: there is no memory for it.
@@ -58,7 +64,7 @@ pub fn write_cert(alloc: Global, cert: &Cert) -> Result<Vec<u8>, AllocError>
 pub fn read_runs(alloc: Global, bytes: &[u8]) -> Result<Seq<Run>, TextFault>
     ensures { Reads SpellsRuns bytes.now result }
 {
-    read(RunsText::new(alloc), bytes)
+    read_whole::<RunsText>(alloc, bytes)
 }
 
 /// The text of runs within all limits, which `read_runs` reads back. An error: there is no memory for it.

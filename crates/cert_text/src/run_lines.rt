@@ -1,6 +1,6 @@
 //! Reading runs line by line, as a part of a text.
 
-ghost use Rattle.std.specs.Prelude.{◌≡◌, ◌≢◌, [], ◌∷◌, ◌++◌, ◌<◌, ◌^◌, List, length, IfSome, IfNone, OnOk, OnErr, IfErr};
+ghost use Rattle.std.specs.Prelude.{◌≡◌, ◌≢◌, [], ◌∷◌, ◌++◌, ◌<◌, ◌^◌, ℕ, List, length, IfSome, IfNone, OnOk, OnErr, IfErr};
 ghost use Rattle.text_lines.specs.Text.{Begins, TakesLines};
 ghost use Rattle.migration_types.specs.declared.cert.Run.{Run as Told};
 ghost use Rattle.cert_text.specs.Runs.{SpellsRunLines};
@@ -114,6 +114,33 @@ impl RunLines {
         match self.stage {
             RunStage::Done => Some(Seq::from_vec(self.runs.into_vec())),
             _ => None,
+        }
+    }
+
+    /// How many lines came.
+    pub fn count(&self) -> u32
+        ensures { result ≡ length self.now }
+    {
+        match self.stage {
+            RunStage::Count => 0,
+            RunStage::Runs => self.runs.came() + 1,
+            RunStage::Done => self.runs.came() + 2,
+        }
+    }
+
+    /// Takes the last line back.
+    pub fn undo(&mut self)
+        requires { 0 < length self.old }
+        ensures { (line : List ℕ) × (self.old ≡ self.new ++ line ∷ []) }
+    {
+        match self.stage {
+            RunStage::Count => {}
+            RunStage::Runs => {
+                if !self.runs.drop_last() {
+                    self.stage = RunStage::Count;
+                }
+            }
+            RunStage::Done => self.stage = RunStage::Runs,
         }
     }
 }

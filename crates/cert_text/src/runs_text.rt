@@ -8,7 +8,7 @@ use crate::run_lines::RunLines;
 use migration_types::{Run, Seq};
 use std::alloc::Global;
 use std::marker::Model;
-use text_lines::{FaultKind, LineReader, is_line};
+use text_lines::{FaultKind, LineReader, Rewind, is_line};
 
 /// Reads a text of runs line by line: what its lines said so far. Contracts see the lines.
 #[derive(Drop)]
@@ -79,4 +79,27 @@ impl LineReader for RunsText {
     ghost use Rattle.cert_text.specs.inner.Plain.{plain_runs_text};
 
     ghost plain = { plain_runs_text };
+}
+
+impl Rewind for RunsText {
+    fn empty(alloc: Global) -> Self {
+        RunsText::new(alloc)
+    }
+
+    fn count(&self) -> u32 {
+        self.runs.few();
+        if self.headed {
+            self.runs.count() + 1
+        } else {
+            0
+        }
+    }
+
+    fn undo(&mut self) {
+        if self.runs.count() > 0 {
+            self.runs.undo();
+        } else {
+            self.headed = false;
+        }
+    }
 }

@@ -1,5 +1,5 @@
 -- Entries taken in a row.
-use Rattle.std.specs.Prelude.{◌≡◌, ℕ, List, [], ◌∷◌, ◌++◌, length}
+use Rattle.std.specs.Prelude.{Bool, true, false, ◌≡◌, ℕ, List, [], ◌∷◌, ◌++◌, length}
 use Rattle.std.specs.List.{AllByRecursion}
 use Rattle.text_lines.specs.Text.{ended}
 use Rattle.migration_types.specs.declared.cert.Entry.{Entry}
@@ -20,3 +20,8 @@ pub record TakesEntry (old new : List Entry) (line : List ℕ) : Type 0 where
   pub grown : new ≡ old ++ entry ∷ []
   pub fits : EntryFits entry
   pub spelled : line ≡ entry_line (length old) entry
+
+-- entries without their last, or none
+abbrev pub LosesLast : List Entry → List Entry → Bool → Type 0
+LosesLast old new true = (entry : Entry) × (old ≡ new ++ entry ∷ [])
+LosesLast old new false = (old ≡ []) × (new ≡ [])
