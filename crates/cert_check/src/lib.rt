@@ -10,5 +10,5 @@ mod verdict;
 
 pub use judge::check;
 pub use shape_fault::shape;
-pub use texts::check_texts;
+pub use texts::{check_read, check_texts};
 pub use verdict::{ShapeFault, Verdict};

@@ -1,6 +1,9 @@
 //! The verdict on the texts of a session and a certificate.
 
-ghost use Rattle.std.specs.Prelude.{◌≡◌, IfOk};
+ghost use Rattle.std.specs.Prelude.{◌≡◌, ℕ, List, IfOk};
+ghost use Rattle.text_lines.specs.Answer.{IsRead};
+ghost use Rattle.session_log.specs.Grammar.{SpellsSession};
+ghost use Rattle.cert_text.specs.Grammar.{SpellsCert};
 ghost use Rattle.audit_model.specs.Mergings.{HasMerging};
 ghost use Rattle.audit_model.specs.World.{IsSafe};
 ghost use Rattle.audit_model.specs.Laws.{FindsResident, ReadsFlat, PlacedOnce, PlacedUntouched, ReleasedAsZeros};
@@ -10,7 +13,7 @@ ghost use Rattle.cert_check.specs.inner.CertTexts.{IsCertTextVerdict, IsYes};
 use crate::judge::check;
 use crate::verdict::Verdict;
 use cert_text::{cert_texts_are_unambiguous, read_cert};
-use migration_types::Session;
+use migration_types::{Cert, Session};
 use session_log::{read_session, session_texts_are_unambiguous};
 use std::alloc::{AllocError, Global};
 
@@ -23,6 +26,24 @@ fn judged(alloc: Global, session: &Session, cert: &[u8]) -> Result<Verdict, Allo
     match read_cert(alloc, cert) {
         Ok(certified) => check(alloc, session, &certified),
         Err(fault) => Ok(Verdict::CertText(fault.refused_line()?)),
+    }
+}
+
+/// The verdict on a session and its certificate, by what was read of their texts: the first that applies, of all that
+/// [`Verdict`] has. The only error is want of memory.
+pub fn check_read(
+    alloc: Global,
+    session: &Result<Session, u32>,
+    cert: &Result<Cert, u32>,
+) -> Result<Verdict, AllocError>
+    ensures { (first second : List ℕ) → IsRead SpellsSession first session.now → IsRead SpellsCert second cert.now → IfOk result (IsTextVerdict first second) }
+{
+    match session {
+        Ok(session) => match cert {
+            Ok(cert) => check(alloc, session, cert),
+            Err(line) => Ok(Verdict::CertText(*line)),
+        },
+        Err(line) => Ok(Verdict::SessionText(*line)),
     }
 }
 
