@@ -1,8 +1,5 @@
 -- Laws on the answers of audits.
-use Rattle.std.proofs.Common.{◌≢◌, ℕ, List, IfOk, Result, Ok, Err, refl}
-use Rattle.text_lines.specs.declared.FaultKind.{FaultKind}
-use Rattle.text_lines.specs.declared.FaultKind.TheVariants.{Form, Range, Ended, Memory}
-use Rattle.text_lines.specs.Answer.{Refused as RefusedAs}
+use Rattle.std.proofs.Common.{ℕ, List, IfOk, Result, Ok, Err}
 use Rattle.text_lines.specs.Text.{IsSpelling, IsRefusalLine}
 use Rattle.migration_types.specs.Sessions.{Recorded}
 use Rattle.session_log.specs.Grammar.{SpellsSession}
@@ -11,13 +8,6 @@ use Rattle.std.specs.declared.alloc.AllocError.{AllocError}
 use Rattle.commands.specs.declared.answer.Answer.{Answer}
 use Rattle.commands.specs.declared.auditing.Wanted.{Wanted}
 use Rattle.commands.specs.Answers.{IsAnswer, IsAuditAnswer, Reported, Refused, Says, audited_text, report_status, wanted_text}
-
--- a text that is refused, and not for want of memory, is refused at that line
-pub refused_at : {V : Type 0} (Spells : V → List (List ℕ) → Type 0) (input : List ℕ) (line : ℕ) (kind : FaultKind) → RefusedAs Spells input line kind → kind ≢ Memory → IsRefusalLine Spells input line
-refused_at Spells input line Form h ne = h
-refused_at Spells input line Range h ne = h
-refused_at Spells input line Ended h ne = h
-refused_at Spells input line Memory h ne = absurd (ne refl)
 
 -- the answer to a session is the answer to its text
 pub audit_of_spelled : (wanted : Wanted) (bytes : List ℕ) (s : Recorded) (found : Result Answer AllocError) → IsSpelling SpellsSession s bytes

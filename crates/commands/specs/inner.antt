@@ -1,2 +1,4 @@
 -- What serves proofs alone.
-pub mod Pairs
+pub mod Ends
+pub mod Takings
+pub mod Found

@@ -1,38 +1,124 @@
-//! What each command answers to its texts: an arm for each.
+//! What each command answers to the texts under its names: an arm for each.
 
-ghost use Rattle.std.specs.Prelude.{IfOk};
-ghost use Rattle.commands.specs.Told.{IsOneAnswer, IsTwoAnswer};
+ghost use Rattle.std.specs.Prelude.{◌≡◌, ℕ, List, Ok, IfOk};
+ghost use Rattle.text_lines.specs.Answer.{IsRead};
+ghost use Rattle.session_log.specs.Grammar.{SpellsSession};
+ghost use Rattle.commands.specs.Told.{AreNamed, IsNamed, IsOneAnswer, IsTwoAnswer};
+ghost use Rattle.commands.specs.inner.Found.{AnswersTo};
 
-use crate::answer::Answer;
-use crate::auditing::{Wanted, audit_text};
-use crate::checking::judge;
-use crate::replaying::replay_texts;
+use crate::answer::{Answer, Fault};
+use crate::auditing::{Wanted, audit_read};
+use crate::checking::judge_read;
+use crate::naming::{read_named, read_pair};
+use crate::reading::TextSource;
+use crate::replaying::replay_read;
 use crate::stepping::steps_texts;
+use cert_text::{CertReader, RunsReader};
 use command_words::{OneText, TwoTexts};
+use migration_types::Session;
+use session_log::SessionReader;
 use std::alloc::{AllocError, Global};
+use std::io::Read;
 
-/// The answer of a command on one text.
-pub fn one_answer(alloc: Global, task: OneText, text: &[u8]) -> Result<Answer, AllocError>
-    ensures { IfOk result (λ answer. IsOneAnswer task text.now answer.text.items answer.status) }
+// An answer, or the fault that there is none.
+fn given(answer: Result<Answer, AllocError>) -> Result<Answer, Fault<'static>>
+    ensures { IfOk result (λ given. answer ≡ Ok given) }
 {
-    match task {
-        OneText::Certify => audit_text(alloc, text, Wanted::Certificate),
-        OneText::Audit => audit_text(alloc, text, Wanted::Report),
+    match answer {
+        Ok(answer) => Ok(answer),
+        Err(_) => Err(Fault::Memory),
     }
 }
 
-/// The answer of a command on two texts.
-pub fn two_answer(
+// The answer of a command on one text, by what was read of it.
+fn session_answer(
     alloc: Global,
-    task: TwoTexts,
-    first: &[u8],
-    second: &[u8],
+    task: OneText,
+    session: &Result<Session, u32>,
 ) -> Result<Answer, AllocError>
-    ensures { IfOk result (λ answer. IsTwoAnswer task (first.now, second.now) answer.text.items answer.status) }
+    ensures { (text : List ℕ) → IsRead SpellsSession text session.now → IfOk result (λ answer. IsOneAnswer task text answer.text.items answer.status) }
 {
     match task {
-        TwoTexts::Check => judge(alloc, first, second),
-        TwoTexts::Replay => replay_texts(alloc, first, second),
-        TwoTexts::Steps => steps_texts(alloc, first, second),
+        OneText::Certify => audit_read(alloc, session, Wanted::Certificate),
+        OneText::Audit => audit_read(alloc, session, Wanted::Report),
+    }
+}
+
+/// The answer of a command on the text under a name.
+pub fn one_answer<'a, S: TextSource, I: Read>(
+    alloc: Global,
+    task: OneText,
+    name: &'a str,
+    texts: &S,
+    input: &mut I,
+) -> Result<Answer, Fault<'a>>
+    ensures { IfOk result (AnswersTo (IsNamed name.entry.now (S.bytes_of texts.now) (I.remaining input.old)) (IsOneAnswer task)) }
+{
+    let session = read_named::<SessionReader, S, I>(alloc, name, texts, input)?;
+    given(session_answer(alloc, task, &session))
+}
+
+// The verdict on the texts under two names.
+fn check_named<'a, S: TextSource, I: Read>(
+    alloc: Global,
+    first: &'a str,
+    second: &'a str,
+    texts: &S,
+    input: &mut I,
+) -> Result<Answer, Fault<'a>>
+    ensures { IfOk result (AnswersTo (AreNamed first.entry.now second.entry.now (S.bytes_of texts.now) (I.remaining input.old)) (IsTwoAnswer TwoTexts.Check)) }
+{
+    let (session, cert) = read_pair::<SessionReader, CertReader, S, I>(
+        alloc, first, second, texts, input,
+    )?;
+    given(judge_read(alloc, &session, &cert))
+}
+
+// The replay of the texts under two names.
+fn replay_named<'a, S: TextSource, I: Read>(
+    alloc: Global,
+    first: &'a str,
+    second: &'a str,
+    texts: &S,
+    input: &mut I,
+) -> Result<Answer, Fault<'a>>
+    ensures { IfOk result (AnswersTo (AreNamed first.entry.now second.entry.now (S.bytes_of texts.now) (I.remaining input.old)) (IsTwoAnswer TwoTexts.Replay)) }
+{
+    let (session, runs) = read_pair::<SessionReader, RunsReader, S, I>(
+        alloc, first, second, texts, input,
+    )?;
+    given(replay_read(alloc, &session, &runs))
+}
+
+// What the script and the events under two names record.
+fn steps_named<'a, S: TextSource, I: Read>(
+    alloc: Global,
+    first: &'a str,
+    second: &'a str,
+    texts: &S,
+    input: &mut I,
+) -> Result<Answer, Fault<'a>>
+    ensures { IfOk result (AnswersTo (AreNamed first.entry.now second.entry.now (S.bytes_of texts.now) (I.remaining input.old)) (IsTwoAnswer TwoTexts.Steps)) }
+{
+    let (script, events) =
+        read_pair::<Vec<u8>, Vec<u8>, S, I>(alloc, first, second, texts, input)?;
+    given(steps_texts(alloc, &script, &events))
+}
+
+/// The answer of a command on the texts under two names, which are read in this order.
+pub fn two_answer<'a, S: TextSource, I: Read>(
+    alloc: Global,
+    task: TwoTexts,
+    first: &'a str,
+    second: &'a str,
+    texts: &S,
+    input: &mut I,
+) -> Result<Answer, Fault<'a>>
+    ensures { IfOk result (AnswersTo (AreNamed first.entry.now second.entry.now (S.bytes_of texts.now) (I.remaining input.old)) (IsTwoAnswer task)) }
+{
+    match task {
+        TwoTexts::Check => check_named(alloc, first, second, texts, input),
+        TwoTexts::Replay => replay_named(alloc, first, second, texts, input),
+        TwoTexts::Steps => steps_named(alloc, first, second, texts, input),
     }
 }

@@ -1,7 +1,9 @@
 //! The report on a session, or its certificate, as a text and a status.
 
-ghost use Rattle.std.specs.Prelude.{◌≡◌, [], ◌∷◌, IfOk};
+ghost use Rattle.std.specs.Prelude.{◌≡◌, ℕ, List, [], ◌∷◌, IfOk};
+ghost use Rattle.text_lines.specs.Answer.{IsRead};
 ghost use Rattle.text_lines.specs.Text.{ended};
+ghost use Rattle.session_log.specs.Grammar.{SpellsSession};
 ghost use Rattle.audit_report.specs.Reports.{IsReport, ReportFits};
 ghost use Rattle.audit_report.specs.ReportText.{first_line};
 ghost use Rattle.commands.specs.Answers.{IsAnswer, IsAuditAnswer, Says, certificate_text, report_status, wanted_text};
@@ -10,7 +12,6 @@ use crate::answer::{ACCEPTED, Answer, REFUSED, refused};
 use audit_report::{Report, audit, print_report, push_first_line};
 use cert_text::write_cert;
 use migration_types::Session;
-use session_log::read_session;
 use std::alloc::{AllocError, Global};
 
 /// What of an audit is written.
@@ -84,12 +85,16 @@ fn answer_to(alloc: Global, session: &Session, wanted: Wanted) -> Result<Answer,
     }
 }
 
-/// What is wanted of the audit of a session, by its text.
-pub fn audit_text(alloc: Global, session: &[u8], wanted: Wanted) -> Result<Answer, AllocError>
-    ensures { IfOk result (λ answer. IsAuditAnswer wanted session.now answer.text.items answer.status) }
+/// What is wanted of the audit of a session, by what was read of its text.
+pub fn audit_read(
+    alloc: Global,
+    session: &Result<Session, u32>,
+    wanted: Wanted,
+) -> Result<Answer, AllocError>
+    ensures { (text : List ℕ) → IsRead SpellsSession text session.now → IfOk result (λ answer. IsAuditAnswer wanted text answer.text.items answer.status) }
 {
-    match read_session(alloc, session) {
-        Ok(session) => answer_to(alloc, &session, wanted),
-        Err(fault) => refused(alloc, b"session-text line ", fault.refused_line()?),
+    match session {
+        Ok(session) => answer_to(alloc, session, wanted),
+        Err(line) => refused(alloc, b"session-text line ", *line),
     }
 }

@@ -1,11 +1,15 @@
 //! The verdict on a session and its certificate, as a line and a status.
 
-ghost use Rattle.std.specs.Prelude.{◌≡◌, ◌++◌, IfOk, OnOk};
+ghost use Rattle.std.specs.Prelude.{◌≡◌, ◌++◌, ℕ, List, IfOk, OnOk};
+ghost use Rattle.text_lines.specs.Answer.{IsRead};
+ghost use Rattle.session_log.specs.Grammar.{SpellsSession};
+ghost use Rattle.cert_text.specs.Grammar.{SpellsCert};
 ghost use Rattle.commands.specs.Answers.{IsVerdictAnswer, verdict_line, verdict_status};
 
 use crate::answer::{ACCEPTED, Answer, REFUSED};
 use audit_report::push_shape;
-use cert_check::{Verdict, check_texts};
+use cert_check::{Verdict, check_read};
+use migration_types::{Cert, Session};
 use std::alloc::{AllocError, Global};
 use text_lines::{push_keyed, push_line};
 
@@ -34,11 +38,15 @@ pub fn push_verdict(out: &mut Vec<u8>, verdict: Verdict) -> Result<(), AllocErro
     }
 }
 
-/// The verdict on the texts of a session and a certificate.
-pub fn judge(alloc: Global, session: &[u8], cert: &[u8]) -> Result<Answer, AllocError>
-    ensures { IfOk result (λ answer. IsVerdictAnswer session.now cert.now answer.text.items answer.status) }
+/// The verdict on a session and a certificate, by what was read of their texts.
+pub fn judge_read(
+    alloc: Global,
+    session: &Result<Session, u32>,
+    cert: &Result<Cert, u32>,
+) -> Result<Answer, AllocError>
+    ensures { (first second : List ℕ) → IsRead SpellsSession first session.now → IsRead SpellsCert second cert.now → IfOk result (λ answer. IsVerdictAnswer first second answer.text.items answer.status) }
 {
-    let verdict = check_texts(alloc, session, cert)?;
+    let verdict = check_read(alloc, session, cert)?;
     let mut text = Vec::new(alloc);
     push_verdict(&mut text, verdict)?;
     Ok(Answer {

@@ -7,11 +7,11 @@ mod auditing;
 mod checking;
 mod cutting;
 mod naming;
-mod pair;
 mod program;
 mod reading;
 mod replaying;
 mod stepping;
+mod taking;
 
 pub use answer::{Fault, USAGE, tell};
 pub use checking::{push_verdict, status_of};

@@ -1,13 +1,12 @@
 //! The texts under names.
 
-ghost use Rattle.std.specs.Prelude.{◌≡◌, false, IfOk};
-ghost use Rattle.commands.specs.Told.{AreNamed, IsNamed, is_dash};
-ghost use Rattle.commands.specs.inner.Pairs.{first_text, second_text, IsPair};
+ghost use Rattle.std.specs.Prelude.{◌≡◌, ◌&&◌, ℕ, List, false, IfOk};
+ghost use Rattle.commands.specs.Told.{AreNamed, AreOfInput, IsNamed, is_dash};
 
 use crate::answer::Fault;
-use crate::cutting::cut_at_end;
-use crate::pair::Pair;
-use crate::reading::{ReadFault, TextSource, fault_of, read_whole};
+use crate::cutting::Both;
+use crate::reading::{ReadFault, TextSource, fault_of, read_text};
+use crate::taking::Taker;
 use std::alloc::Global;
 use std::io::Read;
 
@@ -19,52 +18,59 @@ fn fault_at(name: &str, fault: ReadFault) -> Fault<'_> {
     }
 }
 
-/// Reads the text under a name; `-` is the input.
-pub fn read_named<'a, S: TextSource, I: Read>(
+/// What is found of the text under a name; `-` is the input.
+pub fn read_named<'a, T: Taker, S: TextSource, I: Read>(
     alloc: Global,
     name: &'a str,
     texts: &S,
     input: &mut I,
-) -> Result<Vec<u8>, Fault<'a>>
-    ensures named { IfOk result (λ v. IsNamed name.entry.now (S.bytes_of texts.now) (I.remaining input.old) v.items) }
+) -> Result<T::Found, Fault<'a>>
+    ensures named { IfOk result (λ found. (text : List ℕ) × IsNamed name.entry.now (S.bytes_of texts.now) (I.remaining input.old) text × T.is_found text found) }
     ensures apart { is_dash name.entry.now ≡ false → input.new ≡ input.old }
 {
     if name == "-" {
-        return read_whole(alloc, input).map_err(|fault| fault_at(name, fault));
+        return read_text::<I, T>(alloc, input).map_err(|fault| fault_at(name, fault));
     }
     match texts.text(name) {
-        Ok(mut text) => read_whole(alloc, &mut text).map_err(|fault| fault_at(name, fault)),
+        Ok(mut text) => read_text::<S::Text, T>(alloc, &mut text).map_err(|fault| fault_at(
+            name, fault,
+        )),
         Err(error) => Err(fault_at(name, fault_of(&error))),
     }
 }
 
-/// Reads the texts under two names, in this order. Where both are `-` the input holds both: the first ends with its
-/// first line `end`.
-pub fn read_pair<'a, S: TextSource, I: Read>(
+/// What is found of the two texts that the input holds: the first ends with its first line `end`.
+pub fn read_input<A: Taker, B: Taker, I: Read>(
+    alloc: Global,
+    input: &mut I,
+) -> Result<(A::Found, B::Found), Fault<'static>>
+    ensures { IfOk result (λ found. (texts : List ℕ × List ℕ) × AreOfInput (I.remaining input.old) texts × A.is_found texts.0 found.0 × B.is_found texts.1 found.1) }
+{
+    read_text::<I, Both<A, B>>(alloc, input).map_err(|fault| fault_at("-", fault))
+}
+
+// Whether both names are the input's.
+fn are_input(first: &str, second: &str) -> bool
+    ensures { result ≡ (is_dash first.entry.now && is_dash second.entry.now) }
+{
+    first == "-" && second == "-"
+}
+
+/// What is found of the texts under two names, which are read in this order. Where both are `-` the input holds both:
+/// the first ends with its first line `end`.
+pub fn read_pair<'a, A: Taker, B: Taker, S: TextSource, I: Read>(
     alloc: Global,
     first: &'a str,
     second: &'a str,
     texts: &S,
     input: &mut I,
-) -> Result<Pair, Fault<'a>>
-    ensures pair { IfOk result IsPair }
-    ensures named { IfOk result (λ pair. AreNamed first.entry.now second.entry.now (S.bytes_of texts.now) (I.remaining input.old) (first_text pair, second_text pair)) }
+) -> Result<(A::Found, B::Found), Fault<'a>>
+    ensures { IfOk result (λ found. (read : List ℕ × List ℕ) × AreNamed first.entry.now second.entry.now (S.bytes_of texts.now) (I.remaining input.old) read × A.is_found read.0 found.0 × B.is_found read.1 found.1) }
 {
-    if first == "-" && second == "-" {
-        let bytes = read_named(alloc, first, texts, input)?;
-        let cut = cut_at_end(bytes.as_slice()).0.len();
-        return Ok(Pair {
-            bytes,
-            cut,
-            other: None,
-        });
+    if are_input(first, second) {
+        return read_input::<A, B, I>(alloc, input);
     }
-    let bytes = read_named(alloc, first, texts, input)?;
-    let other = read_named(alloc, second, texts, input)?;
-    let cut = bytes.len();
-    Ok(Pair {
-        bytes,
-        cut,
-        other: Some(other),
-    })
+    let found = read_named::<A, S, I>(alloc, first, texts, input)?;
+    let other = read_named::<B, S, I>(alloc, second, texts, input)?;
+    Ok((found, other))
 }

@@ -5,49 +5,15 @@ ghost use Rattle.clap.specs.Words.{kind_of, takes};
 ghost use Rattle.command_words.specs.Table.{asked_names};
 ghost use Rattle.command_words.specs.Words.{IsPlain, asked, asked_by, postcopy_words, word_texts};
 ghost use Rattle.commands.specs.Answers.{fault_status};
-ghost use Rattle.commands.specs.Told.{AreNamed, AreOfInput, IsNamed, IsOneAnswer, IsTwoAnswer, Tells, TellsAsked, TellsOf};
+ghost use Rattle.commands.specs.Told.{AreNamed, AreOfInput, IsNamed, IsOneAnswer, IsTwoAnswer, Tells, TellsAsked};
 
 use crate::answer::{Fault, USAGE, tell, written};
 use crate::answering::{one_answer, two_answer};
-use crate::naming::{read_named, read_pair};
 use crate::reading::TextSource;
 use clap::error::ErrorKind;
 use command_words::{Asked, Job, OneText, TwoTexts, read_words};
 use std::alloc::Global;
 use std::io::{Read, Write};
-
-// Tells the answer of a command on one text.
-fn tell_one<O: Write>(
-    alloc: Global,
-    task: OneText,
-    text: &[u8],
-    output: &mut O,
-) -> Result<u8, Fault<'static>>
-    ensures few { IfOk result (λ status. status < 2) }
-    ensures told { IfOk result (TellsOf (IsOneAnswer task text.now) (O.contents output.old) (O.contents output.new)) }
-{
-    match one_answer(alloc, task, text) {
-        Ok(answer) => written(&answer, output),
-        Err(_) => Err(Fault::Memory),
-    }
-}
-
-// Tells the answer of a command on two texts.
-fn tell_two<O: Write>(
-    alloc: Global,
-    task: TwoTexts,
-    first: &[u8],
-    second: &[u8],
-    output: &mut O,
-) -> Result<u8, Fault<'static>>
-    ensures few { IfOk result (λ status. status < 2) }
-    ensures told { IfOk result (TellsOf (IsTwoAnswer task (first.now, second.now)) (O.contents output.old) (O.contents output.new)) }
-{
-    match two_answer(alloc, task, first, second) {
-        Ok(answer) => written(&answer, output),
-        Err(_) => Err(Fault::Memory),
-    }
-}
 
 // Does a command on the text under a name.
 fn perform_one<'a, S: TextSource, I: Read, O: Write>(
@@ -61,8 +27,8 @@ fn perform_one<'a, S: TextSource, I: Read, O: Write>(
     ensures few { IfOk result (λ status. status < 2) }
     ensures told { IfOk result (Tells (IsNamed name.entry.now (S.bytes_of texts.now) (I.remaining input.old)) (IsOneAnswer task) (O.contents output.old) (O.contents output.new)) }
 {
-    let text = read_named(alloc, name, texts, input)?;
-    tell_one(alloc, task, text.as_slice(), output)
+    let answer = one_answer(alloc, task, name, texts, input)?;
+    written(&answer, output)
 }
 
 // Does a command on the texts under two names, read in this order.
@@ -78,9 +44,8 @@ fn perform_two<'a, S: TextSource, I: Read, O: Write>(
     ensures few { IfOk result (λ status. status < 2) }
     ensures told { IfOk result (Tells (AreNamed first.entry.now second.entry.now (S.bytes_of texts.now) (I.remaining input.old)) (IsTwoAnswer task) (O.contents output.old) (O.contents output.new)) }
 {
-    let pair = read_pair(alloc, first, second, texts, input)?;
-    let (first, second) = pair.texts();
-    tell_two(alloc, task, first, second, output)
+    let answer = two_answer(alloc, task, first, second, texts, input)?;
+    written(&answer, output)
 }
 
 // Judges the two texts of the input.

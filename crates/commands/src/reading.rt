@@ -1,8 +1,11 @@
-//! Reading texts whole.
+//! Reading texts to their ends, piece by piece.
 
-ghost use Rattle.std.specs.Prelude.{◌≡◌, ◌≤◌, ℕ, List, Option, Some, None, IfOk, IfSome, vec_len};
+ghost use Rattle.std.specs.Prelude.{◌≡◌, ◌<◌, ℕ, List, [], Option, Some, None, IfOk, OnOk, IfSome, MatchResult, length, vec_len};
+ghost use Rattle.std.specs.Io.KnownBytes.{Consumes, IsAtEnd, Keeps};
 ghost use Rattle.commands.specs.Told.{AreRead};
+ghost use Rattle.commands.specs.inner.Takings.{TakesAll};
 
+use crate::taking::Taker;
 use std::alloc::{AllocError, Global};
 use std::io;
 use std::io::{ErrorKind, Read};
@@ -36,44 +39,59 @@ const MOST_BYTES: usize = 268_435_456;
 const MOST_READS: u32 = 1_048_576;
 
 // How many bytes are asked for at a time.
-const BUFFER_BYTES: usize = 65_536;
+const BUFFER_BYTES: usize = 131_072;
 
-/// Reads what a reader has left, which is at most 268,435,456 bytes, in at most 1,048,576 reads.
-pub fn read_whole<R: Read>(alloc: Global, reader: &mut R) -> Result<Vec<u8>, ReadFault>
-    ensures { IfOk result (λ v. AreRead (R.remaining reader.old) v.items) }
+/// What is found of the text that a reader has left, which is taken piece by piece as it is read: at most 268,435,456
+/// bytes, in at most 1,048,576 reads.
+pub fn read_text<R: Read, T: Taker>(alloc: Global, reader: &mut R) -> Result<T::Found, ReadFault>
+    ensures { IfOk result (λ found. (text : List ℕ) × AreRead (R.remaining reader.old) text × T.is_found text found) }
 {
-    read_within(alloc, reader, MOST_BYTES, MOST_READS)
+    let mut taker = T::new(alloc);
+    read_within(alloc, reader, &mut taker, MOST_BYTES, MOST_READS)?;
+    Ok(taker.end())
 }
 
-/// Reads what a reader has left, within these limits. It stops with a fault once a limit is passed. A read that was
-/// interrupted counts, and is made again.
-fn read_within<R: Read>(
+/// Reads once, and answers what was read: nothing at the end alone.
+fn read_piece<'a, R: Read>(reader: &mut R, buffer: &'a mut [u8]) -> io::Result<&'a [u8]>
+    requires { 0 < length buffer.old }
+    ensures { MatchResult result (λ piece. Consumes (R.remaining reader.old) (R.remaining reader.new) piece.now × (piece.now ≡ [] → IsAtEnd (R.remaining reader.new))) (λ _. Keeps (R.remaining reader.old) (R.remaining reader.new)) }
+{
+    match reader.read(buffer) {
+        Ok(count) => Ok(&buffer[..count]),
+        Err(error) => Err(error),
+    }
+}
+
+/// Gives what a reader has left to a taker, within these limits. It stops with a fault once a limit is passed. A read
+/// that was interrupted counts, and is made again.
+fn read_within<R: Read, T: Taker>(
     alloc: Global,
     reader: &mut R,
+    taker: &mut T,
     most_bytes: usize,
     most_reads: u32,
-) -> Result<Vec<u8>, ReadFault>
-    ensures whole { IfOk result (λ v. IfSome (R.remaining reader.old) (λ xs. v.items ≡ xs)) }
-    ensures within { IfOk result (λ v. vec_len v ≤ most_bytes) }
+) -> Result<(), ReadFault>
+    ensures { OnOk result (TakesAll T.came most_bytes (R.remaining reader.old) taker.old taker.new) }
 {
     let Ok(mut buffer) = zeroes(alloc, BUFFER_BYTES) else {
         return Err(ReadFault::Memory);
     };
-    let mut bytes = Vec::new(alloc);
+    let mut left = most_bytes;
     for _ in 0..most_reads {
-        let count = match reader.read(buffer.as_mut_slice()) {
-            Ok(count) => count,
+        let piece = match read_piece(reader, buffer.as_mut_slice()) {
+            Ok(piece) => piece,
             Err(error) if error.kind() == ErrorKind::Interrupted => continue,
             Err(error) => return Err(fault_of(&error)),
         };
-        if count == 0 {
-            return Ok(bytes);
+        if piece.is_empty() {
+            return Ok(());
         }
-        if count > most_bytes - bytes.len() {
+        if piece.len() > left {
             return Err(ReadFault::File);
         }
-        if bytes.extend_from_slice(&buffer[..count]).is_err() {
-            return Err(ReadFault::Memory);
+        match taker.take(piece) {
+            Ok(()) => left -= piece.len(),
+            Err(_) => return Err(ReadFault::Memory),
         }
     }
     Err(ReadFault::File)

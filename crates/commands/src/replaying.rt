@@ -1,16 +1,18 @@
 //! What becomes of a merging of a session along its runs, as a line and a status.
 
-ghost use Rattle.std.specs.Prelude.{◌≡◌, ◌++◌, IfOk, OnOk};
+ghost use Rattle.std.specs.Prelude.{◌≡◌, ◌++◌, ℕ, List, IfOk, OnOk};
+ghost use Rattle.text_lines.specs.Answer.{IsRead};
+ghost use Rattle.session_log.specs.Grammar.{SpellsSession};
+ghost use Rattle.cert_text.specs.Runs.{SpellsRuns};
 ghost use Rattle.audit_model.specs.Shape.{IsRightShape};
 ghost use Rattle.commands.specs.Replayed.{IsAlong, IsOutcome, IsReplayAnswer, IsReplayed, outcome_line, outcome_status};
 
 use crate::answer::{ACCEPTED, Answer, REFUSED};
 use audit_report::push_shape;
 use cert_check::{ShapeFault, shape};
-use cert_text::read_runs;
 use merge_runs::{MergeFault, replay};
-use migration_types::{Run, Session};
-use session_log::{line_of, read_session};
+use migration_types::{Run, Seq, Session};
+use session_log::line_of;
 use std::alloc::{AllocError, Global};
 use text_lines::{push_keyed, push_line};
 
@@ -56,23 +58,31 @@ fn shaped(alloc: Global, session: &Session, runs: &[Run]) -> Result<Outcome, All
     }
 }
 
-/// What becomes of the replay of a session along runs, by their text.
-fn along_text(alloc: Global, session: &Session, runs: &[u8]) -> Result<Outcome, AllocError>
-    ensures { IfOk result (IsAlong session.now runs.now) }
+/// What becomes of the replay of a session along runs, by what was read of their text.
+fn along_read(
+    alloc: Global,
+    session: &Session,
+    runs: &Result<Seq<Run>, u32>,
+) -> Result<Outcome, AllocError>
+    ensures { (text : List ℕ) → IsRead SpellsRuns text runs.now → IfOk result (IsAlong session.now text) }
 {
-    match read_runs(alloc, runs) {
+    match runs {
         Ok(runs) => shaped(alloc, session, runs.as_slice()),
-        Err(fault) => Ok(Outcome::RunsText(fault.refused_line()?)),
+        Err(line) => Ok(Outcome::RunsText(*line)),
     }
 }
 
-/// What becomes of the replay of a session along runs, by their texts.
-fn find_outcome(alloc: Global, session: &[u8], runs: &[u8]) -> Result<Outcome, AllocError>
-    ensures { IfOk result (IsOutcome session.now runs.now) }
+/// What becomes of the replay of a session along runs, by what was read of their texts.
+fn find_outcome(
+    alloc: Global,
+    session: &Result<Session, u32>,
+    runs: &Result<Seq<Run>, u32>,
+) -> Result<Outcome, AllocError>
+    ensures { (first second : List ℕ) → IsRead SpellsSession first session.now → IsRead SpellsRuns second runs.now → IfOk result (IsOutcome first second) }
 {
-    match read_session(alloc, session) {
-        Ok(session) => along_text(alloc, &session, runs),
-        Err(fault) => Ok(Outcome::SessionText(fault.refused_line()?)),
+    match session {
+        Ok(session) => along_read(alloc, session, runs),
+        Err(line) => Ok(Outcome::SessionText(*line)),
     }
 }
 
@@ -100,9 +110,13 @@ fn status_of(outcome: Outcome) -> u8
     }
 }
 
-/// What becomes of the replay of a session along runs, by their texts.
-pub fn replay_texts(alloc: Global, session: &[u8], runs: &[u8]) -> Result<Answer, AllocError>
-    ensures { IfOk result (λ answer. IsReplayAnswer session.now runs.now answer.text.items answer.status) }
+/// What becomes of the replay of a session along runs, by what was read of their texts.
+pub fn replay_read(
+    alloc: Global,
+    session: &Result<Session, u32>,
+    runs: &Result<Seq<Run>, u32>,
+) -> Result<Answer, AllocError>
+    ensures { (first second : List ℕ) → IsRead SpellsSession first session.now → IsRead SpellsRuns second runs.now → IfOk result (λ answer. IsReplayAnswer first second answer.text.items answer.status) }
 {
     let outcome = find_outcome(alloc, session, runs)?;
     let mut text = Vec::new(alloc);

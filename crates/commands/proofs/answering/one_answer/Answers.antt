@@ -1,7 +1,9 @@
+use Rattle.commands.specs.Told.{IsNamed, IsOneAnswer}
+use Rattle.commands.proofs.WhatIsRead.{given_answers}
 use Rattle.commands.proofs.answering.one_answer.Goals as goal
 
-pub returns-in-Certify : goal.returns-in-Certify
-returns-in-Certify c = rw c.in-Certify.is c.audit_text.ensures
-
-pub returns-in-Audit : goal.returns-in-Audit
-returns-in-Audit c = rw c.in-Audit.is c.audit_text-in-Audit.ensures
+pub returns : goal.returns
+returns g c =
+    let n = c.in_ok-session.ensures.named in
+    given_answers (IsNamed c.args.name.now (g.S.TextSource.bytes_of c.args.texts.now) (g.I.Read.remaining c.args.input.now)) (IsOneAnswer c.args.task) n.0 c.session_answer.result c.given.result n.1
+    (c.session_answer.ensures n.0 n.2) c.given.ensures

@@ -1,10 +1,14 @@
-use Rattle.std.proofs.Common.{◌≡◌, ◌≤◌, vec_len}
+use Rattle.std.proofs.Common.{◌≡◌, ◌+◌, List, ℕ, ◌++◌, length, vec_len}
 use Rattle.std.specs.Io.KnownBytes.{Consumes}
 use Rattle.commands.proofs.reading.read_within.Given as goal
 
 abbrev pub invariant-loop : goal.invariant-loop
-invariant-loop g l = record {
-  consumed : Consumes (g.R.Read.remaining l.fn.reader) (g.R.Read.remaining l.reader) l.bytes.items;
-  room : vec_len l.buffer ≡ 65536;
-  within : vec_len l.bytes ≤ l.fn.most_bytes;
-}
+invariant-loop g l =
+    let came = g.T.Taker.came in
+    record {
+      bytes : List ℕ;
+      consumed : Consumes (g.R.Read.remaining l.fn.reader) (g.R.Read.remaining l.reader) bytes;
+      room : vec_len l.buffer ≡ 131072;
+      within : length bytes + l.left ≡ l.fn.most_bytes;
+      taken : (before : List ℕ) → came l.fn.taker before → came l.taker (before ++ bytes);
+    }

@@ -2,7 +2,7 @@ use Rattle.std.proofs.Common.{subst, sym}
 use Rattle.text_lines.specs.Text.{IsRefusalLine}
 use Rattle.guest_script.specs.Scripts.{SpellsScript}
 use Rattle.commands.specs.Steps.{ScriptText}
-use Rattle.commands.proofs.Audits.{refused_at}
+use Rattle.commands.proofs.WhatIsRead.{refused_at}
 use Rattle.commands.proofs.Stepped.{steps_told}
 use Rattle.commands.proofs.stepping.steps_texts.Goals as goal
 

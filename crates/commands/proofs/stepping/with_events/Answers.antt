@@ -3,7 +3,7 @@ use Rattle.text_lines.specs.Text.{IsRefusalLine, IsSpelling}
 use Rattle.migration_events.specs.declared.events.Event.{Event}
 use Rattle.guest_script.specs.Events.{SpellsEvents}
 use Rattle.commands.specs.Steps.{EventsText}
-use Rattle.commands.proofs.Audits.{refused_at}
+use Rattle.commands.proofs.WhatIsRead.{refused_at}
 use Rattle.commands.proofs.Stepped.{steps_told}
 use Rattle.commands.proofs.stepping.with_events.Goals as goal
 

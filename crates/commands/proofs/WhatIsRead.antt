@@ -1,0 +1,31 @@
+-- What was read of a text.
+use Rattle.std.proofs.Common.{◌≡◌, ◌≢◌, ℕ, List, ◌++◌, refl, subst, append_assoc}
+use Rattle.std.specs.Prelude.{Result, Ok, Err, IfOk, OnOk}
+use Rattle.text_lines.specs.declared.FaultKind.{FaultKind}
+use Rattle.text_lines.specs.declared.FaultKind.TheVariants.{Form, Range, Ended, Memory}
+use Rattle.text_lines.specs.Answer.{Refused}
+use Rattle.text_lines.specs.Text.{IsRefusalLine}
+use Rattle.std.specs.declared.alloc.AllocError.{AllocError}
+use Rattle.commands.specs.declared.answer.Answer.{Answer}
+use Rattle.commands.specs.declared.answer.Fault.{Fault}
+use Rattle.commands.specs.inner.Found.{AnswersTo}
+
+-- a text that is refused, and not for want of memory, is refused at that line
+pub refused_at : {V : Type 0} (Spells : V → List (List ℕ) → Type 0) (text : List ℕ) (line : ℕ) (kind : FaultKind) → Refused Spells text line kind → kind ≢ Memory → IsRefusalLine Spells text line
+refused_at Spells text line Form h ne = h
+refused_at Spells text line Range h ne = h
+refused_at Spells text line Ended h ne = h
+refused_at Spells text line Memory h ne = absurd (ne refl)
+
+-- one piece more
+pub more_taken : {T : Type 0} (Came : T → List ℕ → Type 0) (start mid new : T) (bytes piece : List ℕ) → ((before : List ℕ) → Came start before → Came mid (before ++ bytes)) → ((text : List ℕ) → Came mid text → Came new (text ++ piece)) → (before : List ℕ) → Came start before → Came new (before ++ (bytes ++ piece))
+more_taken Came start mid new bytes piece yet more before came = subst (Came new) (append_assoc before bytes piece) (more (before ++ bytes) (yet before came))
+
+-- the answer to what was found of some texts
+pub given_answers : {T : Type 0} (AreTexts : T → Type 0) (IsAnswerTo : T → List ℕ → ℕ → Type 0) (texts : T) (made : Result Answer AllocError) (given : Result Answer Fault) → AreTexts texts → IfOk made (λ a. IsAnswerTo texts a.text.items a.status) → IfOk given (λ g. made ≡ Ok g) → IfOk given (AnswersTo AreTexts IsAnswerTo)
+given_answers AreTexts IsAnswerTo texts made (Ok g) are is same = record { texts = texts; are_texts = are; is_answer = subst (λ (r : Result Answer AllocError). IfOk r (λ a. IsAnswerTo texts a.text.items a.status)) same is }
+given_answers AreTexts IsAnswerTo texts made (Err fault) are is same = tt
+
+pub ok_then : {V E : Type 0} (r : Result V E) (P Q : Type 0) → OnOk r P → (P → Q) → OnOk r Q
+ok_then (Ok v) P Q h f = f h
+ok_then (Err e) P Q h f = tt

@@ -1,0 +1,10 @@
+use Rattle.command_words.specs.declared.asked.TwoTexts.TheVariants.{Steps}
+use Rattle.commands.specs.Told.{AreNamed, IsTwoAnswer}
+use Rattle.commands.proofs.WhatIsRead.{given_answers}
+use Rattle.commands.proofs.answering.steps_named.Goals as goal
+
+pub returns : goal.returns
+returns g c =
+    let n = c.in_ok-script.ensures in
+    given_answers (AreNamed c.args.first.now c.args.second.now (g.S.TextSource.bytes_of c.args.texts.now) (g.I.Read.remaining c.args.input.now)) (IsTwoAnswer Steps) n.0 c.steps_texts.result c.given.result n.1
+    (c.steps_texts.ensures n.0.0 n.0.1 n.2 n.3) c.given.ensures
