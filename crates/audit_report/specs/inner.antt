@@ -1,3 +1,4 @@
 -- What serves proofs alone.
 pub mod Cuts
 pub mod Parts
+pub mod Read

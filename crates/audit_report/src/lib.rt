@@ -9,7 +9,11 @@ mod parts;
 mod placements;
 mod printing;
 mod report;
+mod texts;
+mod wanted;
 
 pub use auditing::audit;
 pub use printing::{print_report, push_first_line, push_shape};
 pub use report::Report;
+pub use texts::{Audited, audit_text};
+pub use wanted::{Wanted, print_audited};

@@ -1,0 +1,25 @@
+/* Checks the certificate of a session, both in mapped files: check SESSION CERT. */
+#include <fcntl.h>
+#include <postcopy.h>
+#include <stdio.h>
+#include <sys/mman.h>
+#include <sys/stat.h>
+
+static const uint8_t *text(const char *name, size_t *len) {
+    struct stat file;
+    int fd = open(name, O_RDONLY);
+    if (fd < 0 || fstat(fd, &file)) return NULL;
+    *len = (size_t)file.st_size;
+    void *at = *len ? mmap(NULL, *len, PROT_READ, MAP_PRIVATE, fd, 0) : "";
+    return at == MAP_FAILED ? NULL : at;
+}
+
+int main(int count, char **words) {
+    size_t session_len, cert_len;
+    const uint8_t *session = count == 3 ? text(words[1], &session_len) : NULL;
+    const uint8_t *cert = count == 3 ? text(words[2], &cert_len) : NULL;
+    if (!session || !cert) return 3;
+    postcopy_answer answer = postcopy_check(session, session_len, cert, cert_len);
+    printf("kind %u line %u reason %u\n", answer.kind, answer.line, answer.reason);
+    return answer.kind != POSTCOPY_YES;
+}

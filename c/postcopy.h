@@ -1,0 +1,80 @@
+/* The proved checker and auditor of recorded live migrations, for C and whatever calls C.
+   docs/EMBEDDING.md says what is proved of each call. Link with -lpostcopy. */
+#ifndef POSTCOPY_H
+#define POSTCOPY_H
+
+#include <stddef.h>
+#include <stdint.h>
+
+#ifdef __cplusplus
+extern "C" {
+#endif
+
+/* The version that this header is of: 10,000 times its first number, 100 times its second, and its third. */
+#define POSTCOPY_VERSION 10000
+
+/* Which answer it is. No answer has the number 0. */
+enum postcopy_kind {
+    POSTCOPY_YES = 1,          /* check: the certificate is right, and every merging of the session is safe */
+    POSTCOPY_CLEAN = 2,        /* certify, audit: every merging of the session is safe */
+    POSTCOPY_SESSION_TEXT = 3, /* the session's text is refused at `line` */
+    POSTCOPY_CERT_TEXT = 4,    /* check: the certificate's text is refused at `line` */
+    POSTCOPY_SHAPE = 5,        /* the session has not the right shape: the fault at `line`, and its `reason` */
+    POSTCOPY_PAGES = 6,        /* check: the session and the certificate have different numbers of pages */
+    POSTCOPY_RUNS = 7,         /* check: the run at `line` of the certificate is the first that cannot be taken */
+    POSTCOPY_PAGE = 8,         /* check: the entry at `line` of the certificate is the first that is not right */
+    POSTCOPY_KNOT = 9,         /* certify, audit: the session's logs have no merging, because of the record at `line` */
+    POSTCOPY_FAULTY = 10,      /* certify, audit: the session is not safe: the fault at `line`, and its `reason` */
+    POSTCOPY_NO_MEMORY = 11    /* there was no memory, and nothing is said of the texts */
+};
+
+/* Why, of POSTCOPY_SHAPE the first four, and of POSTCOPY_FAULTY the others. 0 is no reason. */
+enum postcopy_reason {
+    POSTCOPY_REASON_PHASES = 1,
+    POSTCOPY_REASON_NAMED = 2,
+    POSTCOPY_REASON_START = 3,
+    POSTCOPY_REASON_SECOND_SEND = 4,
+    POSTCOPY_REASON_READ = 11,
+    POSTCOPY_REASON_EARLY = 12,
+    POSTCOPY_REASON_GIVEN = 13,
+    POSTCOPY_REASON_STALE = 14,
+    POSTCOPY_REASON_TWICE = 15,
+    POSTCOPY_REASON_ALTERED = 16,
+    POSTCOPY_REASON_UNFIT = 17
+};
+
+typedef struct {
+    uint32_t kind;   /* of enum postcopy_kind */
+    uint32_t line;   /* the line of the text that the answer names, from 1 on, or 0 */
+    uint32_t reason; /* of enum postcopy_reason, or 0 */
+    size_t text_len; /* how many bytes the answer's text has, whether or not there was room for it; of check 0 */
+} postcopy_answer;
+
+/* What the caller promises of each call, and nothing checks:
+   - a pointer is not null, even where its length is 0, and a length is less than 2^63;
+   - the texts have so many readable bytes, which nobody writes until the call returns;
+   - the room has so many bytes that may be read and written, lies apart from the texts, and nobody else uses it until the
+     call returns. Its bytes may hold anything;
+   - malloc, realloc and free are of one allocator, and align as C wants it;
+   - no call is made from a signal handler, nor in the forked child of a process that had threads.
+   Calls may run in several threads at once. They keep nothing, and hand out nothing that is to be freed. */
+
+/* Judges the certificate of a session. */
+postcopy_answer postcopy_check(const uint8_t *session, size_t session_len, const uint8_t *cert, size_t cert_len);
+
+/* Writes the certificate of a session that is clean, and of another the first line of its report.
+   The text stands at the front of the room where text_len <= room_len. Where it does not fit, and where memory was refused,
+   the room stays as it was: call again with room for text_len bytes. No 0 follows the text. */
+postcopy_answer postcopy_certify(const uint8_t *session, size_t session_len, uint8_t *room, size_t room_len);
+
+/* Writes the report on a session, in the same way. */
+postcopy_answer postcopy_audit(const uint8_t *session, size_t session_len, uint8_t *room, size_t room_len);
+
+/* The version of the library that is linked, as POSTCOPY_VERSION tells that of this header. */
+uint32_t postcopy_version(void);
+
+#ifdef __cplusplus
+}
+#endif
+
+#endif

@@ -1,0 +1,35 @@
+-- The audit of the text of a session.
+use Rattle.std.specs.Prelude.{◌↔◌, ℕ, List}
+use Rattle.text_lines.specs.Text.{IsSpelling, IsRefusalLine}
+use Rattle.migration_types.specs.Sessions.{Recorded}
+use Rattle.session_log.specs.Grammar.{SpellsSession}
+use Rattle.audit_model.specs.Mergings.{HasMerging}
+use Rattle.audit_model.specs.World.{IsSafe}
+use Rattle.audit_model.specs.Shape.{IsRightShape}
+use Rattle.audit_report.specs.declared.texts.Audited.{Audited}
+use Rattle.audit_report.specs.declared.texts.Audited.TheVariants.{Refused, Reported}
+use Rattle.audit_report.specs.Reports.{IsReport, IsClean, ReportFits}
+
+-- the line at which the bytes are refused, or the report on the session that they spell
+abbrev pub IsAudited : List ℕ → Audited → Type 0
+IsAudited session (Refused line) = IsRefusalLine SpellsSession session line
+IsAudited session (Reported report) = (recorded : Recorded) × IsSpelling SpellsSession recorded session × IsReport recorded report
+
+-- there is a report
+abbrev pub HasReport : Audited → Type 0
+HasReport (Refused line) = ⊥
+HasReport (Reported report) = Unit {0}
+
+-- there is a report, and by it the session is clean
+abbrev pub FindsClean : Audited → Type 0
+FindsClean (Refused line) = ⊥
+FindsClean (Reported report) = IsClean report
+
+-- where the shape is right and there is a merging, the session is safe exactly where it is said to be clean
+abbrev pub IsSafeExactlyIf : Type 0 → Recorded → Type 0
+IsSafeExactlyIf Clean s = IsRightShape s → HasMerging s → (IsSafe s ↔ Clean)
+
+-- the report is within the limits of its text
+abbrev pub AuditedFits : Audited → Type 0
+AuditedFits (Refused line) = Unit {0}
+AuditedFits (Reported report) = ReportFits report

@@ -1,0 +1,10 @@
+-- The audit of a session that was read from a text.
+use Rattle.migration_types.specs.Sessions.{Recorded}
+use Rattle.audit_report.specs.declared.texts.Audited.{Audited}
+use Rattle.audit_report.specs.declared.texts.Audited.TheVariants.{Refused, Reported}
+use Rattle.audit_report.specs.Reports.{IsReport}
+
+-- the report on this session
+abbrev pub IsReportOn : Recorded → Audited → Type 0
+IsReportOn s (Refused line) = ⊥
+IsReportOn s (Reported report) = IsReport s report

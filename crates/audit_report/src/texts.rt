@@ -1,0 +1,55 @@
+//! The audit of the text of a session.
+
+ghost use Rattle.std.specs.Prelude.{IfOk};
+ghost use Rattle.audit_model.specs.World.{IsSafe};
+ghost use Rattle.cert_check.specs.Texts.{SpellsOneSession, OfSpelled};
+ghost use Rattle.audit_report.specs.Texts.{IsAudited, HasReport, FindsClean, IsSafeExactlyIf, AuditedFits};
+ghost use Rattle.audit_report.specs.inner.Read.{IsReportOn};
+
+use crate::auditing::audit;
+use crate::report::Report;
+use migration_types::Session;
+use session_log::{read_session, session_texts_are_unambiguous};
+use std::alloc::{AllocError, Global};
+
+/// What becomes of the audit of a session's text.
+#[derive(Drop)]
+pub enum Audited {
+    /// The text is refused at this line. Lines count from 1.
+    Refused(u32),
+    /// The report on the session that the text spells.
+    Reported(Report),
+}
+
+/// The report on a session that was read.
+fn reported(alloc: Global, session: &Session) -> Result<Audited, AllocError>
+    ensures report { IfOk result (IsReportOn session.now) }
+    ensures safe { IfOk result (λ audited. FindsClean audited → IsSafe session.now) }
+    ensures exactly { IfOk result (λ audited. IsSafeExactlyIf (FindsClean audited) session.now) }
+    ensures fits { IfOk result AuditedFits }
+{
+    match audit(alloc, session) {
+        Ok(report) => Ok(Audited::Reported(report)),
+        Err(error) => Err(error),
+    }
+}
+
+/// The report on the session that a text spells, or the line at which the text is refused.
+///
+/// Where there is a report the text spells exactly one session. Where this session has the right shape and a merging, it is
+/// safe exactly where the report is clean; and where the report is clean it is safe.
+///
+/// Nothing is assumed of who wrote the text. The only error is want of memory, which may come before the text is judged.
+pub fn audit_text(alloc: Global, session: &[u8]) -> Result<Audited, AllocError>
+    ensures audited { IfOk result (IsAudited session.now) }
+    ensures one_session { IfOk result (λ audited. HasReport audited → SpellsOneSession session.now) }
+    ensures safe { IfOk result (λ audited. FindsClean audited → OfSpelled session.now IsSafe) }
+    ensures exactly { IfOk result (λ audited. OfSpelled session.now (IsSafeExactlyIf (FindsClean audited))) }
+    ensures fits { IfOk result AuditedFits }
+{
+    session_texts_are_unambiguous();
+    match read_session(alloc, session) {
+        Ok(recorded) => reported(alloc, &recorded),
+        Err(fault) => Ok(Audited::Refused(fault.refused_line()?)),
+    }
+}

@@ -1,0 +1,79 @@
+//! The text that goes with the audit of a session's text.
+
+ghost use Rattle.std.specs.Prelude.{◌≡◌, [], ◌∷◌, IfOk};
+ghost use Rattle.text_lines.specs.Text.{ended};
+ghost use Rattle.audit_report.specs.Reports.{ReportFits};
+ghost use Rattle.audit_report.specs.ReportText.{first_line};
+ghost use Rattle.audit_report.specs.Texts.{AuditedFits};
+ghost use Rattle.audit_report.specs.AuditedText.{refusal_text, certificate_text, wanted_text, audited_text};
+
+use crate::printing::{print_report, push_first_line};
+use crate::report::Report;
+use crate::texts::Audited;
+use cert_text::write_cert;
+use std::alloc::{AllocError, Global};
+use text_lines::push_keyed;
+
+/// What of an audit is told.
+#[derive(Clone, Copy)]
+pub enum Wanted {
+    /// The report.
+    Report,
+    /// The certificate of a clean session, and of another the first line of the report.
+    Certificate,
+}
+
+/// The line of a text that is refused.
+fn refusal(alloc: Global, line: u32) -> Result<Vec<u8>, AllocError>
+    ensures { IfOk result (λ text. text.items ≡ refusal_text line) }
+{
+    let mut text = Vec::new(alloc);
+    push_keyed(&mut text, b"session-text line ", line)?;
+    Ok(text)
+}
+
+/// The first line of a report.
+fn summary(alloc: Global, report: &Report) -> Result<Vec<u8>, AllocError>
+    ensures { IfOk result (λ text. text.items ≡ ended (first_line report.now ∷ [])) }
+{
+    let mut text = Vec::new(alloc);
+    push_first_line(&mut text, report)?;
+    Ok(text)
+}
+
+/// The certificate of a clean session, and of another the first line of the report.
+fn certificate(alloc: Global, report: &Report) -> Result<Vec<u8>, AllocError>
+    ensures { IfOk result (λ text. text.items ≡ certificate_text report.now) }
+{
+    match report {
+        Report::Clean(cert) => write_cert(alloc, cert),
+        _ => summary(alloc, report),
+    }
+}
+
+/// What is wanted of a report.
+fn wanted_of(alloc: Global, report: &Report, wanted: Wanted) -> Result<Vec<u8>, AllocError>
+    requires { ReportFits report.now }
+    ensures { IfOk result (λ text. text.items ≡ wanted_text wanted report.now) }
+{
+    match wanted {
+        Wanted::Report => print_report(alloc, report),
+        Wanted::Certificate => certificate(alloc, report),
+    }
+}
+
+/// What is wanted of the audit of a text, or the line at which the text is refused. Each line ends with LF. An error: there
+/// is no memory for it.
+pub fn print_audited(
+    alloc: Global,
+    audited: &Audited,
+    wanted: Wanted,
+) -> Result<Vec<u8>, AllocError>
+    requires { AuditedFits audited.now }
+    ensures { IfOk result (λ text. text.items ≡ audited_text wanted audited.now) }
+{
+    match audited {
+        Audited::Refused(line) => refusal(alloc, *line),
+        Audited::Reported(report) => wanted_of(alloc, report, wanted),
+    }
+}

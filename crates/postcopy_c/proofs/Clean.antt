@@ -1,0 +1,32 @@
+-- The numbers of an audit say exactly whether it finds the session clean.
+use Rattle.std.proofs.Common.{◌≡◌, ℕ, List, refl, subst, arith}
+use Rattle.std.specs.Prelude.{◌↔◌}
+use Rattle.audit_report.specs.declared.report.Report.TheVariants as report
+use Rattle.audit_report.specs.declared.texts.Audited.{Audited}
+use Rattle.audit_report.specs.declared.texts.Audited.TheVariants.{Refused, Reported}
+use Rattle.audit_report.specs.Texts.{FindsClean, IsSafeExactlyIf}
+use Rattle.cert_check.specs.Texts.{OfSpelled}
+use Rattle.postcopy_c.specs.declared.answer.PostcopyAnswer.{PostcopyAnswer}
+use Rattle.postcopy_c.specs.declared.kinds.TheConstants.{CLEAN}
+use Rattle.postcopy_c.specs.Numbers.{audited_numbers}
+
+has_clean : (a : Audited) (text_len : ℕ) → FindsClean a → (audited_numbers a text_len).kind ≡ CLEAN
+has_clean (Refused line) text_len h = absurd h
+has_clean (Reported (report.Clean cert)) text_len h = refl
+has_clean (Reported (report.Shape fault)) text_len h = absurd h
+has_clean (Reported (report.Knot line)) text_len h = absurd h
+has_clean (Reported (report.Faulty line reason order)) text_len h = absurd h
+
+is_clean : (a : Audited) (text_len : ℕ) → (audited_numbers a text_len).kind ≡ CLEAN → FindsClean a
+is_clean (Refused line) text_len e = absurd (omega (arith, e))
+is_clean (Reported (report.Clean cert)) text_len e = tt
+is_clean (Reported (report.Shape fault)) text_len e = absurd (omega (arith, e))
+is_clean (Reported (report.Knot line)) text_len e = absurd (omega (arith, e))
+is_clean (Reported (report.Faulty line reason order)) text_len e = absurd (omega (arith, e))
+
+-- a session is safe exactly where the number is that of a clean one
+pub exactly_by_number : (text : List ℕ) (a : Audited) (text_len : ℕ) (answer : PostcopyAnswer) → answer ≡ audited_numbers a text_len
+    → OfSpelled text (IsSafeExactlyIf (FindsClean a)) → OfSpelled text (IsSafeExactlyIf (answer.kind ≡ CLEAN))
+exactly_by_number text a text_len answer e h s spelled shape merging =
+    let law = h s spelled shape merging in
+    (λ safe. rw e (has_clean a text_len (law.0 safe)), λ kind. law.1 (is_clean a text_len (rw e at kind)))

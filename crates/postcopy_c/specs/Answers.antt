@@ -1,0 +1,42 @@
+-- What the calls answer to the bytes that they are handed.
+use Rattle.std.specs.Prelude.{◌≡◌, ℕ, ◌<◌, ◌≤◌, ◌⊎◌, List, ◌++◌, length, drop, Result, IfOk}
+use Rattle.std.specs.declared.alloc.AllocError.{AllocError}
+use Rattle.cert_check.specs.declared.verdict.Verdict.{Verdict}
+use Rattle.cert_check.specs.Texts.{IsTextVerdict}
+use Rattle.audit_report.specs.declared.texts.Audited.{Audited}
+use Rattle.audit_report.specs.declared.wanted.Wanted.{Wanted}
+use Rattle.audit_report.specs.Texts.{IsAudited}
+use Rattle.audit_report.specs.AuditedText.{audited_text}
+use Rattle.postcopy_c.specs.declared.answer.PostcopyAnswer.{PostcopyAnswer}
+use Rattle.postcopy_c.specs.Numbers.{verdict_numbers, audited_numbers, no_memory}
+
+-- the numbers of the verdict on the two texts, or of want of memory
+pub record IsVerdictAnswer (session cert : List ℕ) (answer : PostcopyAnswer) : Type 0 where
+  pub verdict : Result Verdict AllocError
+  pub is_verdict : IfOk verdict (IsTextVerdict session cert)
+  pub are_numbers : answer ≡ verdict_numbers verdict
+
+-- the text stands at the front of the room where it fits, and what stood behind it stays; where it does not fit all stays
+pub record IsPut (text before after : List ℕ) : Type 0 where
+  pub fits : length text ≤ length before → after ≡ text ++ drop (length text) before
+  pub short : length before < length text → after ≡ before
+
+-- this is told of an audit: its numbers, with the length of all of its text, and its text in the room
+pub record IsTold (wanted : Wanted) (audited : Audited) (before after : List ℕ) (answer : PostcopyAnswer) : Type 0 where
+  pub are_numbers : answer ≡ audited_numbers audited (length (audited_text wanted audited))
+  pub is_put : IsPut (audited_text wanted audited) before after
+
+-- the audit of the text is told
+pub record TellsAudit (wanted : Wanted) (session before after : List ℕ) (answer : PostcopyAnswer) : Type 0 where
+  pub audited : Audited
+  pub is_audited : IsAudited session audited
+  pub told : IsTold wanted audited before after answer
+
+-- memory was refused, and the room stays as it was
+pub record WantsMemory (before after : List ℕ) (answer : PostcopyAnswer) : Type 0 where
+  pub are_numbers : answer ≡ no_memory
+  pub stays : after ≡ before
+
+-- the audit of the text is told, or memory was refused
+abbrev pub IsAuditAnswer : Wanted → List ℕ → List ℕ → List ℕ → PostcopyAnswer → Type 0
+IsAuditAnswer wanted session before after answer = TellsAudit wanted session before after answer ⊎ WantsMemory before after answer

@@ -1,0 +1,92 @@
+//! Answers as numbers.
+
+ghost use Rattle.std.specs.Prelude.{◌≡◌};
+ghost use Rattle.postcopy_c.specs.Numbers.{audited_numbers, no_memory, numbers, shape_number, verdict_numbers};
+
+use crate::kinds::{
+    CERT_TEXT, CLEAN, FAULTY, KNOT, NO_MEMORY, PAGE, PAGES, RUNS, SESSION_TEXT, SHAPE, YES,
+};
+use crate::reasons::{number_of_page, number_of_shape};
+use audit_report::{Audited, Report};
+use cert_check::{ShapeFault, Verdict};
+use std::alloc::AllocError;
+
+/// An answer as C has it.
+#[repr(C)]
+#[derive(Clone, Copy)]
+pub struct PostcopyAnswer {
+    /// Which answer it is, by the numbers of `kinds`.
+    pub kind: u32,
+    /// The line of a text that the answer names, from 1 on, or 0.
+    pub line: u32,
+    /// Why, by the numbers of `reasons`, or 0.
+    pub reason: u32,
+    /// How many bytes the text of the answer has, whether or not there was room for it.
+    pub text_len: usize,
+}
+
+/// An answer of this kind, with a line or 0.
+fn at_line(kind: u32, line: u32, text_len: usize) -> PostcopyAnswer
+    ensures { result ≡ numbers kind line 0 text_len }
+{
+    PostcopyAnswer {
+        kind,
+        line,
+        reason: 0,
+        text_len,
+    }
+}
+
+/// The answer that a session has not the right shape.
+fn misshapen(fault: &ShapeFault, text_len: usize) -> PostcopyAnswer
+    ensures { result ≡ numbers SHAPE fault.now.line (shape_number fault.now.reason) text_len }
+{
+    PostcopyAnswer {
+        kind: SHAPE,
+        line: fault.line,
+        reason: number_of_shape(fault.reason),
+        text_len,
+    }
+}
+
+/// The answer for want of memory.
+pub(crate) fn out_of_memory() -> PostcopyAnswer
+    ensures { result ≡ no_memory }
+{
+    at_line(NO_MEMORY, 0, 0)
+}
+
+/// The numbers of a verdict. Those of `Yes` are of no other.
+pub(crate) fn verdict_answer(verdict: Result<Verdict, AllocError>) -> PostcopyAnswer
+    ensures numbers { result ≡ verdict_numbers verdict }
+    ensures only_yes { result.kind ≡ YES → verdict ≡ Ok Verdict.Yes }
+{
+    match verdict {
+        Ok(Verdict::Yes) => at_line(YES, 0, 0),
+        Ok(Verdict::SessionText(line)) => at_line(SESSION_TEXT, line, 0),
+        Ok(Verdict::CertText(line)) => at_line(CERT_TEXT, line, 0),
+        Ok(Verdict::Shape(fault)) => misshapen(&fault, 0),
+        Ok(Verdict::Pages) => at_line(PAGES, 0, 0),
+        Ok(Verdict::Runs(line)) => at_line(RUNS, line, 0),
+        Ok(Verdict::Page(line)) => at_line(PAGE, line, 0),
+        Err(_) => out_of_memory(),
+    }
+}
+
+/// The numbers of an audit whose text has so many bytes.
+pub(crate) fn audited_answer(audited: &Audited, text_len: usize) -> PostcopyAnswer
+    ensures { result ≡ audited_numbers audited.now text_len }
+{
+    match audited {
+        Audited::Refused(line) => at_line(SESSION_TEXT, *line, text_len),
+        Audited::Reported(Report::Clean(_)) => at_line(CLEAN, 0, text_len),
+        Audited::Reported(Report::Shape(fault)) => misshapen(fault, text_len),
+        Audited::Reported(Report::Knot(line)) => at_line(KNOT, *line, text_len),
+        Audited::Reported(Report::Faulty { line, reason, .. }) => PostcopyAnswer {
+            kind: FAULTY,
+            line: *line,
+            reason: number_of_page(*reason),
+            text_len,
+        },
+    }
+}

@@ -1,0 +1,34 @@
+//! The numbers of the kinds of answers. No answer has the number 0.
+
+/// The certificate is right, and every merging of the session is safe.
+pub const YES: u32 = 1;
+
+/// Every merging of the session is safe.
+pub const CLEAN: u32 = 2;
+
+/// The session's text is refused at the line.
+pub const SESSION_TEXT: u32 = 3;
+
+/// The certificate's text is refused at the line.
+pub const CERT_TEXT: u32 = 4;
+
+/// The session has not the right shape: its first fault, at a line of its text, and why.
+pub const SHAPE: u32 = 5;
+
+/// The session and the certificate have different numbers of pages.
+pub const PAGES: u32 = 6;
+
+/// The run at this line of the certificate is the first that cannot be taken.
+pub const RUNS: u32 = 7;
+
+/// The entry at this line of the certificate is the first that is not right.
+pub const PAGE: u32 = 8;
+
+/// The session's logs have no merging: the first record, by its line, that can never be taken and is next in its log.
+pub const KNOT: u32 = 9;
+
+/// The session is not safe: its first fault of a page, at a line of its text, and why.
+pub const FAULTY: u32 = 10;
+
+/// There was no memory, and nothing is said of the texts.
+pub const NO_MEMORY: u32 = 11;

@@ -1,0 +1,73 @@
+//! The checker and the auditor for callers in C and in whatever calls C. Their header is `postcopy.h`.
+#![tactic(auto)]
+
+ghost use Rattle.std.specs.Prelude.{◌≡◌, ◌≢◌};
+ghost use Rattle.audit_model.specs.Mergings.{HasMerging};
+ghost use Rattle.audit_model.specs.World.{IsSafe};
+ghost use Rattle.audit_model.specs.Laws.{FindsResident, ReadsFlat, PlacedOnce, PlacedUntouched, ReleasedAsZeros};
+ghost use Rattle.cert_check.specs.Texts.{SpellsOneSession, OfSpelled, ReplaysClean};
+ghost use Rattle.audit_report.specs.Texts.{IsSafeExactlyIf};
+ghost use Rattle.postcopy_c.specs.Answers.{IsVerdictAnswer, IsAuditAnswer};
+
+mod answer;
+mod kinds;
+mod reasons;
+mod telling;
+
+use crate::answer::{PostcopyAnswer, verdict_answer};
+use crate::kinds::{CLEAN, NO_MEMORY, SESSION_TEXT, YES};
+use crate::telling::tell_audit;
+use audit_report::Wanted;
+use cert_check::check_texts;
+use std::alloc::Global;
+
+/// The version: 10,000 for each of its first number, 100 for each of its second, and its third.
+pub const VERSION: u32 = 10_000;
+
+/// The verdict on the bytes of a session and of its certificate, as `cert_check::check_texts` has it.
+#[unsafe(no_mangle)]
+pub extern "C" fn postcopy_check(alloc: Global, session: &[u8], cert: &[u8]) -> PostcopyAnswer
+    ensures verdict { IsVerdictAnswer session.now cert.now result }
+    ensures one_session { result.kind ≡ YES → SpellsOneSession session.now }
+    ensures safe { result.kind ≡ YES → OfSpelled session.now IsSafe }
+    ensures replays_clean { result.kind ≡ YES → OfSpelled session.now (ReplaysClean cert.now) }
+    ensures has_merging { result.kind ≡ YES → OfSpelled session.now HasMerging }
+    ensures finds_resident { result.kind ≡ YES → OfSpelled session.now FindsResident }
+    ensures reads_flat { result.kind ≡ YES → OfSpelled session.now ReadsFlat }
+    ensures placed_once { result.kind ≡ YES → OfSpelled session.now PlacedOnce }
+    ensures placed_untouched { result.kind ≡ YES → OfSpelled session.now PlacedUntouched }
+    ensures released_as_zeros { result.kind ≡ YES → OfSpelled session.now ReleasedAsZeros }
+{
+    verdict_answer(check_texts(alloc, session, cert))
+}
+
+/// The certificate of a session that is clean, and of another the first line of its report. The text stands at the front of
+/// the room where it fits, and its whole length is answered; where it does not fit the room stays as it was.
+#[unsafe(no_mangle)]
+pub extern "C" fn postcopy_certify(alloc: Global, session: &[u8], room: &mut [u8]) -> PostcopyAnswer
+    ensures told { IsAuditAnswer Wanted.Certificate session.now room.old room.new result }
+    ensures one_session { result.kind ≢ SESSION_TEXT → result.kind ≢ NO_MEMORY → SpellsOneSession session.now }
+    ensures safe { result.kind ≡ CLEAN → OfSpelled session.now IsSafe }
+    ensures exactly { result.kind ≢ NO_MEMORY → OfSpelled session.now (IsSafeExactlyIf (result.kind ≡ CLEAN)) }
+{
+    tell_audit(alloc, session, Wanted::Certificate, room)
+}
+
+/// The report on a session, as a text that is handed over as that of `postcopy_certify` is.
+#[unsafe(no_mangle)]
+pub extern "C" fn postcopy_audit(alloc: Global, session: &[u8], room: &mut [u8]) -> PostcopyAnswer
+    ensures told { IsAuditAnswer Wanted.Report session.now room.old room.new result }
+    ensures one_session { result.kind ≢ SESSION_TEXT → result.kind ≢ NO_MEMORY → SpellsOneSession session.now }
+    ensures safe { result.kind ≡ CLEAN → OfSpelled session.now IsSafe }
+    ensures exactly { result.kind ≢ NO_MEMORY → OfSpelled session.now (IsSafeExactlyIf (result.kind ≡ CLEAN)) }
+{
+    tell_audit(alloc, session, Wanted::Report, room)
+}
+
+/// The version of the library.
+#[unsafe(no_mangle)]
+pub extern "C" fn postcopy_version() -> u32
+    ensures { result ≡ VERSION }
+{
+    VERSION
+}

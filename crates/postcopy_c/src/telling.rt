@@ -1,0 +1,58 @@
+//! The audit of a text, told by numbers and by a text in the caller's room.
+
+ghost use Rattle.std.specs.Prelude.{◌≡◌, ◌≢◌, IfOk, IfErr};
+ghost use Rattle.audit_model.specs.World.{IsSafe};
+ghost use Rattle.cert_check.specs.Texts.{SpellsOneSession, OfSpelled};
+ghost use Rattle.audit_report.specs.Texts.{AuditedFits, IsSafeExactlyIf};
+ghost use Rattle.postcopy_c.specs.Answers.{IsPut, IsTold, IsAuditAnswer};
+
+use crate::answer::{PostcopyAnswer, audited_answer, out_of_memory};
+use crate::kinds::{CLEAN, NO_MEMORY, SESSION_TEXT};
+use audit_report::{Audited, Wanted, audit_text, print_audited};
+use std::alloc::{AllocError, Global};
+
+/// Puts a text at the front of the room where it fits; where it does not the room stays as it was.
+fn put(text: &[u8], room: &mut [u8])
+    ensures { IsPut text.now room.old room.new }
+{
+    if text.len() <= room.len() {
+        room[..text.len()].copy_from_slice(text);
+    }
+}
+
+/// Tells an audit. After an error the room is as it was.
+fn told(
+    alloc: Global,
+    audited: &Audited,
+    wanted: Wanted,
+    room: &mut [u8],
+) -> Result<PostcopyAnswer, AllocError>
+    requires { AuditedFits audited.now }
+    ensures told { IfOk result (λ answer. IsTold wanted audited.now room.old room.new answer) }
+    ensures stays { IfErr result (λ _. room.new ≡ room.old) }
+{
+    let text = print_audited(alloc, audited, wanted)?;
+    put(&text, room);
+    Ok(audited_answer(audited, text.len()))
+}
+
+/// Tells what is wanted of the audit of a text.
+pub(crate) fn tell_audit(
+    alloc: Global,
+    session: &[u8],
+    wanted: Wanted,
+    room: &mut [u8],
+) -> PostcopyAnswer
+    ensures told { IsAuditAnswer wanted session.now room.old room.new result }
+    ensures one_session { result.kind ≢ SESSION_TEXT → result.kind ≢ NO_MEMORY → SpellsOneSession session.now }
+    ensures safe { result.kind ≡ CLEAN → OfSpelled session.now IsSafe }
+    ensures exactly { result.kind ≢ NO_MEMORY → OfSpelled session.now (IsSafeExactlyIf (result.kind ≡ CLEAN)) }
+{
+    let Ok(audited) = audit_text(alloc, session) else {
+        return out_of_memory();
+    };
+    match told(alloc, &audited, wanted, room) {
+        Ok(answer) => answer,
+        Err(_) => out_of_memory(),
+    }
+}

@@ -1,0 +1,202 @@
+"""The proved checker and auditor of recorded live migrations.
+
+    >>> import postcopy
+    >>> print(postcopy.check("session", "certificate"))
+    yes
+
+Each function takes a text as bytes, or as the path of a file, which is mapped and not copied. Bytes and files must not change
+while a call runs; other threads go on meanwhile. What is proved of each call is told in docs/EMBEDDING.md.
+"""
+from __future__ import annotations
+
+import ctypes
+import ctypes.util
+import enum
+import mmap
+import os
+from dataclasses import dataclass
+from pathlib import Path
+from typing import Optional, Union
+
+__all__ = ["Answer", "Kind", "OutOfMemory", "Reason", "Text", "audit", "certify", "check", "version"]
+
+__version__ = "1.0.0"
+
+#: Bytes, or the path of a file with them.
+Text = Union[bytes, bytearray, memoryview, str, "os.PathLike[str]"]
+
+
+class OutOfMemory(MemoryError):
+    """Memory was refused, and nothing is said of the texts."""
+
+
+class Kind(enum.IntEnum):
+    """Which answer it is."""
+
+    YES = 1
+    CLEAN = 2
+    SESSION_TEXT = 3
+    CERT_TEXT = 4
+    SHAPE = 5
+    PAGES = 6
+    RUNS = 7
+    PAGE = 8
+    KNOT = 9
+    FAULTY = 10
+    NO_MEMORY = 11
+
+    @property
+    def word(self) -> str:
+        """The word of the kind in what the program writes."""
+        return "certificate-text" if self is Kind.CERT_TEXT else self.name.lower().replace("_", "-")
+
+
+class Reason(enum.IntEnum):
+    """Why a session has not the right shape, or a page is faulty."""
+
+    PHASES = 1
+    NAMED = 2
+    START = 3
+    SECOND_SEND = 4
+    READ = 11
+    EARLY = 12
+    GIVEN = 13
+    STALE = 14
+    TWICE = 15
+    ALTERED = 16
+    UNFIT = 17
+
+    @property
+    def word(self) -> str:
+        """The word of the reason in what the program writes."""
+        return self.name.lower().replace("_", "-")
+
+
+@dataclass(frozen=True)
+class Answer:
+    """An answer: its kind, the line of a text that it names, its reason, and its text.
+
+    The text is that which the program's command writes: of `certify` the certificate, or the first line of the report, and
+    of `audit` the report. `check` has none.
+    """
+
+    kind: Kind
+    line: Optional[int] = None
+    reason: Optional[Reason] = None
+    text: bytes = b""
+
+    @property
+    def is_safe(self) -> bool:
+        """Whether every merging of the session is safe: by a right certificate, or by the audit."""
+        return self.kind in (Kind.YES, Kind.CLEAN)
+
+    def __str__(self) -> str:
+        """The first line of what the program writes."""
+        line = "" if self.line is None else f" line {self.line}"
+        reason = "" if self.reason is None else f" {self.reason.word}"
+        return f"{self.kind.word}{line}{reason}"
+
+
+class _Answer(ctypes.Structure):
+    _fields_ = [
+        ("kind", ctypes.c_uint32),
+        ("line", ctypes.c_uint32),
+        ("reason", ctypes.c_uint32),
+        ("text_len", ctypes.c_size_t),
+    ]
+
+
+class _Bytes:
+    """Bytes in memory: where they stand, and how many they are. They stay until it is closed."""
+
+    def __init__(self, text: Text) -> None:
+        self._file: Optional[mmap.mmap] = None
+        if isinstance(text, (str, os.PathLike)):
+            text = self._mapped(text)
+        elif isinstance(text, memoryview):
+            text = text.cast("B") if text.contiguous and not text.readonly else text.tobytes()
+        elif not isinstance(text, (bytes, bytearray)):
+            raise TypeError(f"a text is bytes or a path, and not {type(text).__name__}")
+        self.length = len(text)
+        if isinstance(text, bytes):
+            self._held = ctypes.c_char_p(text)
+        else:
+            # (an array of no bytes would have no place of its own)
+            self._held = (ctypes.c_char * self.length).from_buffer(text) if self.length else ctypes.c_char_p(b"")
+        self.at = ctypes.cast(self._held, ctypes.c_void_p)
+
+    def _mapped(self, name: Union[str, "os.PathLike[str]"]) -> Union[bytes, mmap.mmap]:
+        with open(name, "rb") as file:
+            if os.fstat(file.fileno()).st_size == 0:
+                return file.read()
+            # (ctypes wants memory that could be written; nothing writes it, and the file would stay as it is)
+            self._file = mmap.mmap(file.fileno(), 0, access=mmap.ACCESS_COPY)
+            return self._file
+
+    def __enter__(self) -> "_Bytes":
+        return self
+
+    def __exit__(self, *_: object) -> None:
+        del self.at, self._held
+        if self._file is not None:
+            self._file.close()
+
+
+def _library() -> ctypes.CDLL:
+    """The shared library: the one that POSTCOPY_LIBRARY names, that of the wheel, that of a checkout, or the system's."""
+    here = Path(__file__).resolve().parent
+    beside = [here / "libpostcopy.so", here.parent.parent / "crates/postcopy_c/out/libpostcopy.so"]
+    named = os.environ.get("POSTCOPY_LIBRARY")
+    name = named or next((str(it) for it in beside if it.is_file()), None) or ctypes.util.find_library("postcopy")
+    if name is None:
+        raise ImportError("there is no libpostcopy: in a checkout tools/library builds it, and tools/install installs it")
+    library = ctypes.CDLL(name)
+    text = [ctypes.c_void_p, ctypes.c_size_t]
+    for call in (library.postcopy_check, library.postcopy_certify, library.postcopy_audit):
+        call.argtypes, call.restype = text + text, _Answer
+    library.postcopy_version.argtypes, library.postcopy_version.restype = [], ctypes.c_uint32
+    return library
+
+
+_LIB = _library()
+
+
+def _told(numbers: _Answer, text: bytes = b"") -> Answer:
+    kind = Kind(numbers.kind)
+    if kind is Kind.NO_MEMORY:
+        raise OutOfMemory("memory was refused")
+    return Answer(kind, numbers.line or None, Reason(numbers.reason) if numbers.reason else None, text)
+
+
+def _with_text(call: "ctypes._FuncPointer", session: Text) -> Answer:
+    with _Bytes(session) as given:
+        length = given.length + 65536
+        while True:
+            room = ctypes.create_string_buffer(length)
+            numbers = call(given.at, given.length, room, length)
+            if numbers.text_len <= length:
+                return _told(numbers, room[: numbers.text_len])
+            length = numbers.text_len
+
+
+def check(session: Text, certificate: Text) -> Answer:
+    """Judges the certificate of a session, as the command `check` does. Raises OutOfMemory where memory is refused."""
+    with _Bytes(session) as first, _Bytes(certificate) as second:
+        return _told(_LIB.postcopy_check(first.at, first.length, second.at, second.length))
+
+
+def certify(session: Text) -> Answer:
+    """The certificate of a session that is clean, and of another the first line of its report, as the command `certify` writes
+    it. Raises OutOfMemory where memory is refused."""
+    return _with_text(_LIB.postcopy_certify, session)
+
+
+def audit(session: Text) -> Answer:
+    """The report on a session, as the command `audit` writes it. Raises OutOfMemory where memory is refused."""
+    return _with_text(_LIB.postcopy_audit, session)
+
+
+def version() -> str:
+    """The version of the library."""
+    number = _LIB.postcopy_version()
+    return f"{number // 10000}.{number // 100 % 100}.{number % 100}"

@@ -1,0 +1,65 @@
+"""Builds the wheel of the package, with the shared library in it. Python's own library is all that it needs.
+
+    tools/library && pip wheel python              or, with no pip:
+    python3 python/wheel_of_library.py FOLDER
+"""
+import base64
+import hashlib
+import os
+import re
+import sys
+import sysconfig
+import zipfile
+
+HERE = os.path.dirname(os.path.abspath(__file__))
+LIBRARY = f"{HERE}/../crates/postcopy_c/out/libpostcopy.so"
+
+
+def project(field):
+    with open(f"{HERE}/pyproject.toml", encoding="utf-8") as file:
+        return re.search(rf'^{field} = "(.*)"$', file.read(), re.M)[1]
+
+
+def contents():
+    """The files of the package, by their names in the wheel."""
+    for name in ("__init__.py", "py.typed"):
+        with open(f"{HERE}/postcopy/{name}", "rb") as file:
+            yield f"postcopy/{name}", file.read()
+    if not os.path.isfile(LIBRARY):
+        sys.exit("wheel_of_library: there is no shared library: run tools/library first")
+    with open(LIBRARY, "rb") as file:
+        yield "postcopy/libpostcopy.so", file.read()
+
+
+def build_wheel(wheel_directory, config_settings=None, metadata_directory=None):
+    """Writes the wheel into a folder, and answers its name."""
+    name, version = project("name"), project("version")
+    tag = "py3-none-" + re.sub(r"[-.]", "_", sysconfig.get_platform())
+    info = f"{name}-{version}.dist-info"
+    files = dict(contents())
+    files[f"{info}/METADATA"] = (
+        f"Metadata-Version: 2.1\nName: {name}\nVersion: {version}\nSummary: {project('description')}\n"
+        f"Requires-Python: {project('requires-python')}\n"
+    ).encode()
+    files[f"{info}/WHEEL"] = f"Wheel-Version: 1.0\nGenerator: {name}\nRoot-Is-Purelib: false\nTag: {tag}\n".encode()
+    rows = []
+    for file, data in files.items():
+        digest = base64.urlsafe_b64encode(hashlib.sha256(data).digest()).rstrip(b"=").decode()
+        rows.append(f"{file},sha256={digest},{len(data)}\n")
+    rows.append(f"{info}/RECORD,,\n")
+    files[f"{info}/RECORD"] = "".join(rows).encode()
+    wheel = f"{name}-{version}-{tag}.whl"
+    os.makedirs(wheel_directory, exist_ok=True)
+    with zipfile.ZipFile(f"{wheel_directory}/{wheel}", "w", zipfile.ZIP_DEFLATED) as made:
+        for file, data in files.items():
+            # (no time of its own, so that one library gives one wheel)
+            entry = zipfile.ZipInfo(file)
+            entry.compress_type, entry.external_attr = zipfile.ZIP_DEFLATED, 0o100644 << 16
+            made.writestr(entry, data)
+    return wheel
+
+
+if __name__ == "__main__":
+    if len(sys.argv) != 2:
+        sys.exit(__doc__)
+    print(build_wheel(sys.argv[1]))

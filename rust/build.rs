@@ -1,0 +1,9 @@
+//! Links `libpostcopy.a`, which `tools/library` builds, from the folder that `POSTCOPY_LIB_DIR` names.
+
+fn main() {
+    println!("cargo:rerun-if-env-changed=POSTCOPY_LIB_DIR");
+    if let Ok(folder) = std::env::var("POSTCOPY_LIB_DIR") {
+        println!("cargo:rustc-link-search=native={folder}");
+    }
+    println!("cargo:rustc-link-lib=static=postcopy");
+}
