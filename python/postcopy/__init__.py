@@ -107,7 +107,7 @@ class _Answer(ctypes.Structure):
 
 
 class _Bytes:
-    """Bytes in memory: where they stand, and how many they are. They stay until it is closed."""
+    """Bytes in memory: where they stand, and how many they are. They stay there until it is closed."""
 
     def __init__(self, text: Text) -> None:
         self._file: Optional[mmap.mmap] = None
@@ -118,12 +118,13 @@ class _Bytes:
         elif not isinstance(text, (bytes, bytearray)):
             raise TypeError(f"a text is bytes or a path, and not {type(text).__name__}")
         self.length = len(text)
-        if isinstance(text, bytes):
-            self._held = ctypes.c_char_p(text)
+        if not isinstance(text, bytes) and self.length:
+            self._held: object = (ctypes.c_char * self.length).from_buffer(text)
+            self.at = ctypes.addressof(self._held)
         else:
-            # (an array of no bytes would have no place of its own)
-            self._held = (ctypes.c_char * self.length).from_buffer(text) if self.length else ctypes.c_char_p(b"")
-        self.at = ctypes.cast(self._held, ctypes.c_void_p)
+            # (bytes, also no bytes at all, have a place of their own)
+            self._held = bytes(text)
+            self.at = ctypes.cast(ctypes.c_char_p(self._held), ctypes.c_void_p).value
 
     def _mapped(self, name: Union[str, "os.PathLike[str]"]) -> Union[bytes, mmap.mmap]:
         with open(name, "rb") as file:
@@ -137,7 +138,7 @@ class _Bytes:
         return self
 
     def __exit__(self, *_: object) -> None:
-        del self.at, self._held
+        del self._held
         if self._file is not None:
             self._file.close()
 

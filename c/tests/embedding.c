@@ -1,0 +1,214 @@
+/* Calls the library as hostile surroundings do. Each line of the input is 'check SESSION CERT', 'certify SESSION' or
+   'audit SESSION', where a file named - is empty. The texts and the room end where memory ends that may be touched.
+
+   Each call is made with each allocation failing in turn, with rooms of each length up to the text's own, and by four threads at
+   once on small stacks. For each line it writes the answer's numbers on a line, and then the answer's text. The first call that
+   goes wrong ends it, with a message and status 1. */
+#define _GNU_SOURCE
+#include <postcopy.h>
+
+#include <fcntl.h>
+#include <pthread.h>
+#include <stdio.h>
+#include <stdlib.h>
+#include <string.h>
+#include <sys/mman.h>
+#include <sys/stat.h>
+#include <unistd.h>
+
+_Static_assert(offsetof(postcopy_answer, kind) == 0 && offsetof(postcopy_answer, line) == 4, "layout");
+_Static_assert(offsetof(postcopy_answer, reason) == 8 && offsetof(postcopy_answer, text_len) == 16, "layout");
+_Static_assert(sizeof(postcopy_answer) == 24, "layout");
+
+enum { PATTERN = 0xa5, MARGIN = 64, THREADS = 4, ROUNDS = 8, STACK = 65536, ALL_LENGTHS = 4096 };
+
+/* How many allocations pass before one fails, or -1; whether those behind it fail too; and how many blocks are there. */
+static _Thread_local long passing = -1;
+static _Thread_local int fail_on;
+static _Thread_local long blocks;
+
+void *__real_malloc(size_t size);
+void *__real_realloc(void *at, size_t size);
+void __real_free(void *at);
+
+static int refused(void) {
+    if (passing < 0) return 0;
+    if (passing > 0) return passing--, 0;
+    if (!fail_on) passing = -1;
+    return 1;
+}
+
+void *__wrap_malloc(size_t size) {
+    void *at = refused() ? NULL : __real_malloc(size);
+    blocks += at != NULL;
+    return at;
+}
+
+void *__wrap_realloc(void *at, size_t size) {
+    void *to = refused() ? NULL : __real_realloc(at, size);
+    blocks += !at && to;
+    return to;
+}
+
+void __wrap_free(void *at) {
+    blocks -= at != NULL;
+    __real_free(at);
+}
+
+static void fail(const char *why, const char *job) {
+    fprintf(stderr, "embedding: %s: %s\n", job, why);
+    exit(1);
+}
+
+/* So many bytes, and behind them memory that may not be touched. */
+static uint8_t *guarded(size_t len) {
+    size_t page = (size_t)sysconf(_SC_PAGESIZE), whole = (len + page - 1) / page * page;
+    uint8_t *at = mmap(NULL, whole + page, PROT_READ | PROT_WRITE, MAP_PRIVATE | MAP_ANONYMOUS, -1, 0);
+    if (at == MAP_FAILED || mprotect(at + whole, page, PROT_NONE)) abort();
+    return at + whole - len;
+}
+
+static void release(uint8_t *at, size_t len) {
+    size_t page = (size_t)sysconf(_SC_PAGESIZE), whole = (len + page - 1) / page * page;
+    munmap(at + len - whole, whole + page);
+}
+
+static uint8_t *text_of(const char *name, size_t *len) {
+    struct stat file = {0};
+    int fd = strcmp(name, "-") ? open(name, O_RDONLY) : -1;
+    if (strcmp(name, "-") && (fd < 0 || fstat(fd, &file))) fail("it cannot be read", name);
+    *len = (size_t)file.st_size;
+    uint8_t *at = guarded(*len);
+    for (size_t got = 0; got < *len;) {
+        ssize_t more = read(fd, at + got, *len - got);
+        if (more <= 0) fail("it cannot be read", name);
+        got += (size_t)more;
+    }
+    if (fd >= 0) close(fd);
+    size_t page = (size_t)sysconf(_SC_PAGESIZE), whole = (*len + page - 1) / page * page;
+    if (whole && mprotect(at + *len - whole, whole, PROT_READ)) abort();
+    return at;
+}
+
+typedef struct {
+    const char *line, *command;
+    uint8_t *session, *cert;
+    size_t session_len, cert_len;
+    postcopy_answer wanted;
+    uint8_t *text;
+} job;
+
+static postcopy_answer call(const job *it, uint8_t *room, size_t room_len) {
+    if (!strcmp(it->command, "check")) return postcopy_check(it->session, it->session_len, it->cert, it->cert_len);
+    if (!strcmp(it->command, "certify")) return postcopy_certify(it->session, it->session_len, room, room_len);
+    if (!strcmp(it->command, "audit")) return postcopy_audit(it->session, it->session_len, room, room_len);
+    fail("no command", it->line);
+    abort();
+}
+
+static int same(postcopy_answer one, postcopy_answer other) {
+    return one.kind == other.kind && one.line == other.line && one.reason == other.reason && one.text_len == other.text_len;
+}
+
+/* Whether the first bytes are the text, and all others the pattern. */
+static int holds(const uint8_t *room, size_t len, const uint8_t *text, size_t text_len) {
+    if (text_len && memcmp(room, text, text_len)) return 0;
+    for (size_t i = text_len; i < len; i++) {
+        if (room[i] != PATTERN) return 0;
+    }
+    return 1;
+}
+
+/* Makes the call with a room of this length; nothing but the room is written, and that only where the text fits. */
+static postcopy_answer call_with_room(const job *it, size_t room_len, size_t text_len) {
+    uint8_t *whole = guarded(MARGIN + room_len);
+    memset(whole, PATTERN, MARGIN + room_len);
+    long before = blocks;
+    postcopy_answer answer = call(it, whole + MARGIN, room_len);
+    passing = -1;
+    if (blocks != before) fail("a block was not freed", it->line);
+    if (!holds(whole, MARGIN, NULL, 0)) fail("bytes before the room were written", it->line);
+    int fits = answer.kind != POSTCOPY_NO_MEMORY && text_len <= room_len;
+    if (!holds(whole + MARGIN, room_len, it->text, fits ? text_len : 0)) fail("the room does not hold what it should", it->line);
+    release(whole, MARGIN + room_len);
+    return answer;
+}
+
+static void call_with_rooms(const job *it) {
+    size_t text_len = it->wanted.text_len;
+    for (size_t len = 0; len <= text_len + 1; len++) {
+        if (text_len > ALL_LENGTHS && len == ALL_LENGTHS / 2) len = text_len - ALL_LENGTHS / 2;
+        if (!same(call_with_room(it, len, text_len), it->wanted)) fail("another answer in another room", it->line);
+    }
+}
+
+/* Makes the call with the first allocation refused, the second, and so on, until none is; answers how many there are. */
+static long call_with_refusals(const job *it, int all_behind) {
+    for (long nth = 0;; nth++) {
+        passing = nth, fail_on = all_behind;
+        postcopy_answer answer = call(it, it->text, 0);
+        int none_was = passing > 0;
+        passing = nth, fail_on = all_behind;
+        if (!same(call_with_room(it, it->wanted.text_len, it->wanted.text_len), answer)) fail("another answer to the same refusal", it->line);
+        if (none_was || same(answer, it->wanted)) {
+            if (!same(answer, it->wanted)) fail("another answer with memory", it->line);
+            if (none_was) return nth;
+            continue;
+        }
+        if (!same(answer, (postcopy_answer){.kind = POSTCOPY_NO_MEMORY})) fail("a refused allocation changed the answer", it->line);
+    }
+}
+
+static void *call_in_thread(void *given) {
+    const job *it = given;
+    for (int i = 0; i < ROUNDS; i++) {
+        if (!same(call_with_room(it, it->wanted.text_len, it->wanted.text_len), it->wanted)) fail("another answer in a thread", it->line);
+    }
+    return NULL;
+}
+
+static void call_in_threads(job *it) {
+    pthread_t threads[THREADS];
+    pthread_attr_t how;
+    pthread_attr_init(&how);
+    pthread_attr_setstacksize(&how, STACK);
+    for (int i = 0; i < THREADS; i++) {
+        if (pthread_create(&threads[i], &how, call_in_thread, it)) abort();
+    }
+    for (int i = 0; i < THREADS; i++) pthread_join(threads[i], NULL);
+    pthread_attr_destroy(&how);
+}
+
+static void do_job(const char *line) {
+    char words[3][1024] = {"", "-", "-"};
+    if (sscanf(line, "%1023s %1023s %1023s", words[0], words[1], words[2]) < 2) fail("too few words", line);
+    job it = {.line = line, .command = words[0]};
+    it.session = text_of(words[1], &it.session_len), it.cert = text_of(words[2], &it.cert_len);
+    it.text = guarded(0);
+    it.wanted = call(&it, it.text, 0);
+    if (it.wanted.text_len) {
+        release(it.text, 0);
+        it.text = guarded(it.wanted.text_len);
+        if (!same(call(&it, it.text, it.wanted.text_len), it.wanted)) fail("another answer with room for the text", line);
+    }
+    call_with_rooms(&it);
+    long refusals = call_with_refusals(&it, 0);
+    if (call_with_refusals(&it, 1) != refusals) fail("another number of allocations", line);
+    call_in_threads(&it);
+    printf("%u %u %u %zu\n", it.wanted.kind, it.wanted.line, it.wanted.reason, it.wanted.text_len);
+    fwrite(it.text, 1, it.wanted.text_len, stdout);
+    fflush(stdout);
+    release(it.text, it.wanted.text_len);
+    release(it.cert, it.cert_len);
+    release(it.session, it.session_len);
+}
+
+int main(void) {
+    if (postcopy_version() != POSTCOPY_VERSION) fail("the library is of another version than the header", "version");
+    char line[4096];
+    while (fgets(line, sizeof line, stdin)) {
+        line[strcspn(line, "\n")] = 0;
+        do_job(line);
+    }
+    return 0;
+}
