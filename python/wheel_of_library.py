@@ -1,6 +1,6 @@
 """Builds the wheel of the package, with the shared library in it. Python's own library is all that it needs.
 
-    tools/library && pip wheel python              or, with no pip:
+    tools/library && pip wheel ./python              or, with no pip:
     python3 python/wheel_of_library.py FOLDER
 """
 import base64

@@ -171,12 +171,15 @@ def _told(numbers: _Answer, text: bytes = b"") -> Answer:
 
 def _with_text(call: "ctypes._FuncPointer", session: Text) -> Answer:
     with _Bytes(session) as given:
-        length = given.length + 65536
+        length = given.length + mmap.PAGESIZE
         while True:
-            room = ctypes.create_string_buffer(length)
-            numbers = call(given.at, given.length, room, length)
-            if numbers.text_len <= length:
-                return _told(numbers, room[: numbers.text_len])
+            # (memory that is mapped and not touched takes none)
+            with mmap.mmap(-1, length) as room:
+                held = (ctypes.c_char * length).from_buffer(room)
+                numbers = call(given.at, given.length, held, length)
+                del held
+                if numbers.text_len <= length:
+                    return _told(numbers, room[: numbers.text_len])
             length = numbers.text_len
 
 
