@@ -25,10 +25,10 @@ fn check(session: &[u8], cert: &[u8]) -> Answer {
 
 fn main() -> ExitCode {
     let texts: Option<Vec<Vec<u8>>> = std::env::args_os().skip(1).map(|name| std::fs::read(name).ok()).collect();
-    let Some([session, cert]) = texts.as_deref() else {
-        return ExitCode::from(3);
+    let answer = match texts.as_deref() {
+        Some([session, cert]) => check(session, cert),
+        _ => return ExitCode::from(3),
     };
-    let answer = check(session, cert);
     println!("kind {} line {} reason {}", answer.kind, answer.line, answer.reason);
     ExitCode::from(u8::from(answer.kind != YES || answer.text_len != 0))
 }
