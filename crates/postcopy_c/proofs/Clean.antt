@@ -1,6 +1,5 @@
 -- The numbers of an audit say exactly whether it finds the session clean.
-use Rattle.std.proofs.Common.{◌≡◌, ℕ, List, refl, subst, arith}
-use Rattle.std.specs.Prelude.{◌↔◌}
+use Rattle.std.proofs.Common.{◌≡◌, ℕ, List, refl, arith}
 use Rattle.audit_report.specs.declared.report.Report.TheVariants as report
 use Rattle.audit_report.specs.declared.texts.Audited.{Audited}
 use Rattle.audit_report.specs.declared.texts.Audited.TheVariants.{Refused, Reported}
