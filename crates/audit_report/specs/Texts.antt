@@ -8,6 +8,7 @@ use Rattle.audit_model.specs.World.{IsSafe}
 use Rattle.audit_model.specs.Shape.{IsRightShape}
 use Rattle.audit_report.specs.declared.texts.Audited.{Audited}
 use Rattle.audit_report.specs.declared.texts.Audited.TheVariants.{Refused, Reported}
+use Rattle.audit_report.specs.declared.report.Report.TheVariants.{Clean, Shape, Knot, Faulty}
 use Rattle.audit_report.specs.Reports.{IsReport, IsClean, ReportFits}
 
 -- the line at which the bytes are refused, or the report on the session that they spell
@@ -25,9 +26,21 @@ abbrev pub FindsClean : Audited → Type 0
 FindsClean (Refused line) = ⊥
 FindsClean (Reported report) = IsClean report
 
+-- there is a report, and by it a page has a fault
+abbrev pub FindsFault : Audited → Type 0
+FindsFault (Refused line) = ⊥
+FindsFault (Reported (Shape fault)) = ⊥
+FindsFault (Reported (Knot line)) = ⊥
+FindsFault (Reported (Faulty line reason order)) = Unit {0}
+FindsFault (Reported (Clean cert)) = ⊥
+
+-- some merging has a record whose demand fails
+abbrev pub IsUnsafe : Recorded → Type 0
+IsUnsafe s = IsSafe s → ⊥
+
 -- where the shape is right and there is a merging, the session is safe exactly where it is said to be clean
 abbrev pub IsSafeExactlyIf : Type 0 → Recorded → Type 0
-IsSafeExactlyIf Clean s = IsRightShape s → HasMerging s → (IsSafe s ↔ Clean)
+IsSafeExactlyIf Says s = IsRightShape s → HasMerging s → (IsSafe s ↔ Says)
 
 -- the report is within the limits of its text
 abbrev pub AuditedFits : Audited → Type 0

@@ -3,7 +3,7 @@
 ghost use Rattle.std.specs.Prelude.{IfOk};
 ghost use Rattle.audit_model.specs.World.{IsSafe};
 ghost use Rattle.cert_check.specs.Texts.{SpellsOneSession, OfSpelled};
-ghost use Rattle.audit_report.specs.Texts.{IsAudited, HasReport, FindsClean, IsSafeExactlyIf, AuditedFits};
+ghost use Rattle.audit_report.specs.Texts.{IsAudited, HasReport, FindsClean, FindsFault, IsSafeExactlyIf, IsUnsafe, AuditedFits};
 ghost use Rattle.audit_report.specs.inner.Read.{IsReportOn};
 
 use crate::auditing::audit;
@@ -26,6 +26,7 @@ fn reported(alloc: Global, session: &Session) -> Result<Audited, AllocError>
     ensures report { IfOk result (IsReportOn session.now) }
     ensures safe { IfOk result (λ audited. FindsClean audited → IsSafe session.now) }
     ensures exactly { IfOk result (λ audited. IsSafeExactlyIf (FindsClean audited) session.now) }
+    ensures faulty { IfOk result (λ audited. FindsFault audited → IsUnsafe session.now) }
     ensures fits { IfOk result AuditedFits }
 {
     match audit(alloc, session) {
@@ -37,7 +38,7 @@ fn reported(alloc: Global, session: &Session) -> Result<Audited, AllocError>
 /// The report on the session that a text spells, or the line at which the text is refused.
 ///
 /// Where there is a report the text spells exactly one session. Where this session has the right shape and a merging, it is
-/// safe exactly where the report is clean; and where the report is clean it is safe.
+/// safe exactly where the report is clean; where the report is clean it is safe, and where a page has a fault it is not.
 ///
 /// Nothing is assumed of who wrote the text. The only error is want of memory, which may come before the text is judged.
 pub fn audit_text(alloc: Global, session: &[u8]) -> Result<Audited, AllocError>
@@ -45,6 +46,7 @@ pub fn audit_text(alloc: Global, session: &[u8]) -> Result<Audited, AllocError>
     ensures one_session { IfOk result (λ audited. HasReport audited → SpellsOneSession session.now) }
     ensures safe { IfOk result (λ audited. FindsClean audited → OfSpelled session.now IsSafe) }
     ensures exactly { IfOk result (λ audited. OfSpelled session.now (IsSafeExactlyIf (FindsClean audited))) }
+    ensures faulty { IfOk result (λ audited. FindsFault audited → OfSpelled session.now IsUnsafe) }
     ensures fits { IfOk result AuditedFits }
 {
     session_texts_are_unambiguous();

@@ -1,12 +1,12 @@
--- The numbers of an audit say exactly whether it finds the session clean.
+-- The numbers of an audit say exactly whether it finds the session clean, and whether it finds a fault of a page.
 use Rattle.std.proofs.Common.{◌≡◌, ℕ, List, refl, arith}
 use Rattle.audit_report.specs.declared.report.Report.TheVariants as report
 use Rattle.audit_report.specs.declared.texts.Audited.{Audited}
 use Rattle.audit_report.specs.declared.texts.Audited.TheVariants.{Refused, Reported}
-use Rattle.audit_report.specs.Texts.{FindsClean, IsSafeExactlyIf}
+use Rattle.audit_report.specs.Texts.{FindsClean, FindsFault, IsSafeExactlyIf}
 use Rattle.cert_check.specs.Texts.{OfSpelled}
 use Rattle.postcopy_c.specs.declared.answer.PostcopyAnswer.{PostcopyAnswer}
-use Rattle.postcopy_c.specs.declared.kinds.TheConstants.{CLEAN}
+use Rattle.postcopy_c.specs.declared.kinds.TheConstants.{CLEAN, FAULTY}
 use Rattle.postcopy_c.specs.Numbers.{audited_numbers}
 
 has_clean : (a : Audited) (text_len : ℕ) → FindsClean a → (audited_numbers a text_len).kind ≡ CLEAN
@@ -29,3 +29,14 @@ pub exactly_by_number : (text : List ℕ) (a : Audited) (text_len : ℕ) (answer
 exactly_by_number text a text_len answer e h s spelled shape merging =
     let law = h s spelled shape merging in
     (λ safe. rw e (has_clean a text_len (law.0 safe)), λ kind. law.1 (is_clean a text_len (rw e at kind)))
+
+is_faulty : (a : Audited) (text_len : ℕ) → (audited_numbers a text_len).kind ≡ FAULTY → FindsFault a
+is_faulty (Refused line) text_len e = absurd (omega (arith, e))
+is_faulty (Reported (report.Clean cert)) text_len e = absurd (omega (arith, e))
+is_faulty (Reported (report.Shape fault)) text_len e = absurd (omega (arith, e))
+is_faulty (Reported (report.Knot line)) text_len e = absurd (omega (arith, e))
+is_faulty (Reported (report.Faulty line reason order)) text_len e = tt
+
+-- a page has a fault where the number is that of one
+pub faulty_by_number : (a : Audited) (text_len : ℕ) (answer : PostcopyAnswer) → answer ≡ audited_numbers a text_len → answer.kind ≡ FAULTY → FindsFault a
+faulty_by_number a text_len answer e kind = is_faulty a text_len (rw e at kind)

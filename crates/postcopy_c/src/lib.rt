@@ -6,7 +6,7 @@ ghost use Rattle.audit_model.specs.Mergings.{HasMerging};
 ghost use Rattle.audit_model.specs.World.{IsSafe};
 ghost use Rattle.audit_model.specs.Laws.{FindsResident, ReadsFlat, PlacedOnce, PlacedUntouched, ReleasedAsZeros};
 ghost use Rattle.cert_check.specs.Texts.{SpellsOneSession, OfSpelled, ReplaysClean};
-ghost use Rattle.audit_report.specs.Texts.{IsSafeExactlyIf};
+ghost use Rattle.audit_report.specs.Texts.{IsSafeExactlyIf, IsUnsafe};
 ghost use Rattle.postcopy_c.specs.Answers.{IsVerdictAnswer, IsAuditAnswer};
 
 mod answer;
@@ -15,7 +15,7 @@ mod reasons;
 mod telling;
 
 use crate::answer::{PostcopyAnswer, verdict_answer};
-use crate::kinds::{CLEAN, NO_MEMORY, SESSION_TEXT, YES};
+use crate::kinds::{CLEAN, FAULTY, NO_MEMORY, SESSION_TEXT, YES};
 use crate::telling::tell_audit;
 use audit_report::Wanted;
 use cert_check::check_texts;
@@ -49,6 +49,7 @@ pub extern "C" fn postcopy_certify(alloc: Global, session: &[u8], room: &mut [u8
     ensures one_session { result.kind ≢ SESSION_TEXT → result.kind ≢ NO_MEMORY → SpellsOneSession session.now }
     ensures safe { result.kind ≡ CLEAN → OfSpelled session.now IsSafe }
     ensures exactly { result.kind ≢ NO_MEMORY → OfSpelled session.now (IsSafeExactlyIf (result.kind ≡ CLEAN)) }
+    ensures faulty { result.kind ≡ FAULTY → OfSpelled session.now IsUnsafe }
 {
     tell_audit(alloc, session, Wanted::Certificate, room)
 }
@@ -60,6 +61,7 @@ pub extern "C" fn postcopy_audit(alloc: Global, session: &[u8], room: &mut [u8])
     ensures one_session { result.kind ≢ SESSION_TEXT → result.kind ≢ NO_MEMORY → SpellsOneSession session.now }
     ensures safe { result.kind ≡ CLEAN → OfSpelled session.now IsSafe }
     ensures exactly { result.kind ≢ NO_MEMORY → OfSpelled session.now (IsSafeExactlyIf (result.kind ≡ CLEAN)) }
+    ensures faulty { result.kind ≡ FAULTY → OfSpelled session.now IsUnsafe }
 {
     tell_audit(alloc, session, Wanted::Report, room)
 }

@@ -3,11 +3,11 @@
 ghost use Rattle.std.specs.Prelude.{◌≡◌, ◌≢◌, IfOk, IfErr};
 ghost use Rattle.audit_model.specs.World.{IsSafe};
 ghost use Rattle.cert_check.specs.Texts.{SpellsOneSession, OfSpelled};
-ghost use Rattle.audit_report.specs.Texts.{AuditedFits, IsSafeExactlyIf};
+ghost use Rattle.audit_report.specs.Texts.{AuditedFits, IsSafeExactlyIf, IsUnsafe};
 ghost use Rattle.postcopy_c.specs.Answers.{IsPut, IsTold, IsAuditAnswer};
 
 use crate::answer::{PostcopyAnswer, audited_answer, out_of_memory};
-use crate::kinds::{CLEAN, NO_MEMORY, SESSION_TEXT};
+use crate::kinds::{CLEAN, FAULTY, NO_MEMORY, SESSION_TEXT};
 use audit_report::{Audited, Wanted, audit_text, print_audited};
 use std::alloc::{AllocError, Global};
 
@@ -47,6 +47,7 @@ pub(crate) fn tell_audit(
     ensures one_session { result.kind ≢ SESSION_TEXT → result.kind ≢ NO_MEMORY → SpellsOneSession session.now }
     ensures safe { result.kind ≡ CLEAN → OfSpelled session.now IsSafe }
     ensures exactly { result.kind ≢ NO_MEMORY → OfSpelled session.now (IsSafeExactlyIf (result.kind ≡ CLEAN)) }
+    ensures faulty { result.kind ≡ FAULTY → OfSpelled session.now IsUnsafe }
 {
     let Ok(audited) = audit_text(alloc, session) else {
         return out_of_memory();

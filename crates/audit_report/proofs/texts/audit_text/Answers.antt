@@ -1,5 +1,5 @@
 use Rattle.audit_report.specs.Texts.{IsSafeExactlyIf}
-use Rattle.audit_report.proofs.Read.{audited_of, one_session_of, safe_of_text, exactly_of_text, of_refused}
+use Rattle.audit_report.proofs.Read.{audited_of, one_session_of, safe_of_text, exactly_of_text, faulty_of_text, of_refused}
 use Rattle.audit_report.proofs.texts.audit_text.Goals as goal
 
 pub returns-in-Ok-clause-audited : goal.returns-in-Ok-clause-audited
@@ -13,6 +13,9 @@ returns-in-Ok-clause-safe c = safe_of_text c.args.session.now c.in-Ok.recorded c
 
 pub returns-in-Ok-clause-exactly : goal.returns-in-Ok-clause-exactly
 returns-in-Ok-clause-exactly c = exactly_of_text c.args.session.now c.in-Ok.recorded c.reported.result c.session_texts_are_unambiguous.ensures c.in-Ok.ensures c.reported.ensures.exactly
+
+pub returns-in-Ok-clause-faulty : goal.returns-in-Ok-clause-faulty
+returns-in-Ok-clause-faulty c = faulty_of_text c.args.session.now c.in-Ok.recorded c.reported.result c.session_texts_are_unambiguous.ensures c.in-Ok.ensures c.reported.ensures.faulty
 
 pub returns-in_ok-refused_line-in-Err-clause-exactly : goal.returns-in_ok-refused_line-in-Err-clause-exactly
 returns-in_ok-refused_line-in-Err-clause-exactly c =
