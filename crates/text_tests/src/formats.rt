@@ -44,7 +44,8 @@ pub fn fault_in(alloc: Global, format: Format, text: &[u8]) -> Option<(u32, Faul
     }
 }
 
-fn is_session_text(alloc: Global, session: &Session, text: &[u8]) -> bool {
+/// Whether a session is written as this text.
+pub fn is_session_text(alloc: Global, session: &Session, text: &[u8]) -> bool {
     match write_session(alloc, session) {
         Ok(written) => written.as_slice() == text,
         Err(_) => false,
@@ -58,7 +59,8 @@ fn is_session_kept(alloc: Global, text: &[u8]) -> bool {
     }
 }
 
-fn is_cert_text(alloc: Global, cert: &Cert, text: &[u8]) -> bool {
+/// Whether a certificate is written as this text.
+pub fn is_cert_text(alloc: Global, cert: &Cert, text: &[u8]) -> bool {
     match write_cert(alloc, cert) {
         Ok(written) => written.as_slice() == text,
         Err(_) => false,

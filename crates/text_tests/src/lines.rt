@@ -71,10 +71,16 @@ impl LineReader for OneByte {
 }
 
 impl Rewind for OneByte {
-    fn back_to(&mut self, lines: u32) {
-        if lines == 0 {
-            self.byte = None;
-        }
+    fn empty(_alloc: Global) -> Self {
+        no_line()
+    }
+
+    fn count(&self) -> u32 {
+        if self.byte.is_some() { 1 } else { 0 }
+    }
+
+    fn undo(&mut self) {
+        self.byte = None;
     }
 }
 
@@ -120,7 +126,7 @@ fn feed_all(reader: &mut TextReader<OneByte>) -> Result<(), TextFault> {
 }
 
 fn reads_all_pieces(alloc: Global) -> bool {
-    let mut whole = TextReader::new(alloc, no_line());
+    let mut whole = TextReader::<OneByte>::new(alloc);
     let fed = feed_all(&mut whole);
     let answer = whole.finish();
     fed.is_ok() && matches!(answer, Ok(b'a'))
@@ -132,7 +138,7 @@ fn goes_on<T>(answer: &Result<T, TextFault>) -> bool {
 }
 
 fn stays_refused(alloc: Global) -> bool {
-    let mut faulty = TextReader::new(alloc, no_line());
+    let mut faulty = TextReader::<OneByte>::new(alloc);
     let first = faulty.feed(b"a");
     let second = faulty.feed(b"\nb\nc\n");
     let third = faulty.feed(b"d\n");
