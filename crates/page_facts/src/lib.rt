@@ -15,6 +15,7 @@ mod page_fault;
 mod right_entry;
 
 pub use facts::{PageFacts, PageTables, facts_of, tables_of};
+pub use machine::halt_place;
 pub use moved::Placed;
 pub use page_fault::{PageFault, first_page_fault};
 pub use right_entry::is_right_entry;

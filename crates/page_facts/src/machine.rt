@@ -50,7 +50,7 @@ pub(crate) fn guest_at_start(alloc: Global, session: &Session) -> Result<FlatGue
 }
 
 /// The place of the first `halt`, or the log's length where there is none.
-pub(crate) fn halt_place(guest: &[GuestRec]) -> usize
+pub fn halt_place(guest: &[GuestRec]) -> usize
     ensures place { result ≡ halt_place guest.now }
     ensures within { result ≤ length guest.now }
 {

@@ -1,0 +1,77 @@
+-- What a run of a migration leaves, and what is promised of it.
+use Rattle.std.specs.Prelude.{◌≡◌, ℕ, ◌<◌, ◌==◌, ◌++◌, List, map, length, Option, Some, None, slice_get, if◌then◌else◌}
+use Rattle.std.specs.List.{filter_map}
+use Rattle.migration_types.specs.declared.records.GuestRec.{GuestRec}
+use Rattle.migration_types.specs.declared.records.GuestRec.TheVariants.{Read, Write, Release}
+use Rattle.migration_types.specs.declared.records.SourceRec.TheVariants.{Done}
+use Rattle.migration_types.specs.Memory.{page_of}
+use Rattle.migration_types.specs.Sessions.{Recorded}
+use Rattle.migration_events.specs.declared.ops.Op.{Op}
+use Rattle.migration_events.specs.declared.ops.Op.TheVariants.{Read as ReadCell, Write as WriteCell, Release as ReleasePage}
+use Rattle.page_store.specs.Frames.{Frames, memory_of}
+use Rattle.audit_model.specs.Flat.{flat}
+use Rattle.guest_script.specs.declared.vcpus.Vcpu.{Vcpu}
+use Rattle.audit_report.specs.Reports.{IsReport, IsClean}
+use Rattle.host_checks.specs.declared.transcript.Answered.{Answered}
+use Rattle.host_checks.specs.declared.outcome.RunFault.{RunFault}
+use Rattle.host_checks.specs.declared.outcome.RunFault.TheVariants.{LogFull, Memory, AuditRefused, TranscriptDiffers, Link}
+
+abbrev pub answered : Op → ℕ → Answered
+answered op answer = record { op = op; answer = answer }
+
+-- the virtual processor and the answered operation that a record of the guest tells of
+abbrev pub told_by : GuestRec → Option (ℕ × Answered)
+told_by (Read vcpu page cell value) = Some (vcpu, answered (ReadCell page cell) value)
+told_by (Write vcpu page cell value) = Some (vcpu, answered (WriteCell page cell value) value)
+told_by (Release vcpu page) = Some (vcpu, answered (ReleasePage page) 0)
+told_by _ = None
+
+-- an answered operation, if it is this virtual processor's
+abbrev pub if_own : ℕ → Option (ℕ × Answered) → Option Answered
+if_own vcpu None = None
+if_own vcpu (Some told) = if told.0 == vcpu then Some told.1 else None
+
+-- a virtual processor's part of the guest's log
+abbrev pub part_of : ℕ → List GuestRec → List Answered
+part_of vcpu log = filter_map (λ r. if_own vcpu (told_by r)) log
+
+-- the operations of a transcript
+abbrev pub ops_of : List Answered → List Op
+ops_of transcript = map (λ a. a.op) transcript
+
+-- what a script asks of a virtual processor
+abbrev pub asked_of : Vcpu → List Op
+asked_of vcpu = vcpu.before_move ++ vcpu.after_move
+
+-- one transcript for each virtual processor, with its operations in order, each once
+abbrev pub AreOfScript : List Vcpu → List (List Answered) → Type 0
+AreOfScript vcpus transcripts = map ops_of transcripts ≡ map asked_of vcpus
+
+-- each transcript is its virtual processor's part of the guest's log
+abbrev pub AreOfLog : List GuestRec → List (List Answered) → Type 0
+AreOfLog log transcripts = (vcpu : ℕ) (transcript : List Answered) → slice_get transcripts vcpu ≡ Some transcript → transcript ≡ part_of vcpu log
+
+-- the source was told that every owed page is placed
+abbrev pub IsDone : Recorded → Type 0
+IsDone s = (n : ℕ) × (slice_get s.source n ≡ Some Done)
+
+-- each page is what one machine that never moved has after the guest's log
+pub record IsFlatStore (s : Recorded) (store : Frames) : Type 0 where
+  pub geometry : store.geometry ≡ s.geometry
+  pub pages : (page : ℕ) → page < s.geometry.pages → page_of s.geometry.cells (memory_of store) page ≡ page_of s.geometry.cells (flat s (length s.guest)) page
+
+-- a report with which an audit is refused is not that the session is clean
+abbrev pub IsRunFault : RunFault → Type 0
+IsRunFault LogFull = Unit {0}
+IsRunFault Memory = Unit {0}
+IsRunFault (AuditRefused report) = ¬ IsClean report
+IsRunFault TranscriptDiffers = Unit {0}
+IsRunFault Link = Unit {0}
+
+-- why what a run recorded is refused: its audit's report, something that differs, or want of memory
+abbrev pub IsRefused : Recorded → RunFault → Type 0
+IsRefused s LogFull = ⊥
+IsRefused s Memory = Unit {0}
+IsRefused s (AuditRefused report) = IsReport s report × ¬ IsClean report
+IsRefused s TranscriptDiffers = Unit {0}
+IsRefused s Link = ⊥

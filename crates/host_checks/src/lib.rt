@@ -1,0 +1,14 @@
+//! What a run of a migration leaves, and the checks that it has to pass: they are made on its logs, its frames and its
+//! transcripts alone, so nothing is assumed of how the run was made.
+#![tactic(auto)]
+
+mod limits;
+mod machine;
+mod outcome;
+mod settling;
+mod told;
+mod transcript;
+
+pub use outcome::{Migrated, RunFault};
+pub use settling::settle;
+pub use transcript::{Answered, Transcript};

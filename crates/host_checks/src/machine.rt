@@ -1,0 +1,116 @@
+//! What a run left against one machine that never moved.
+
+ghost use Rattle.std.specs.Prelude.{◌≡◌, ◌≢◌, ◌<◌, ◌≤◌, ℕ, false, length, slice_get, Some, IfOk, IsTrue};
+ghost use Rattle.migration_types.specs.Sessions.{IsSession};
+ghost use Rattle.migration_types.specs.Limits.{most_pages};
+ghost use Rattle.migration_types.specs.Memory.{page_of};
+ghost use Rattle.migration_types.specs.declared.cert.Entry.{Entry as Said};
+ghost use Rattle.migration_types.specs.declared.cert.Entry.TheVariants.{Nothing};
+ghost use Rattle.balloon_ledger.specs.Released.{released};
+ghost use Rattle.page_store.specs.Frames.{memory_of};
+ghost use Rattle.flat_machine.specs.Machines.{IsFlat};
+ghost use Rattle.audit_model.specs.Shape.{IsRightShape};
+ghost use Rattle.audit_model.specs.Certificates.{IsRightCertificate};
+ghost use Rattle.audit_model.specs.Mergings.{spelled};
+ghost use Rattle.migration_model.specs.Promise.{HasEachOwed};
+ghost use Rattle.host_checks.specs.Outcomes.{IsFlatStore};
+
+use audit_model::worlds_follow_cursors;
+use flat_machine::Machine;
+use migration_types::{Cert, Entry, PageNo, Session};
+use page_facts::halt_place;
+use page_store::Store;
+use std::alloc::{AllocError, Global};
+
+/// Does the guest's records from one place to another.
+fn run_to(session: &Session, machine: &mut Machine, from: usize, to: usize)
+    requires limits { IsSession session.now }
+    requires order { from ≤ to }
+    requires within { to ≤ length session.now.guest }
+    requires machine { IsFlat session.now from machine.old }
+    ensures { IsFlat session.now to machine.new }
+{
+    let guest = session.guest();
+    for n in from..to {
+        machine.step(&guest[n]);
+    }
+}
+
+/// Whether an entry says where its page was placed.
+fn says_where(entry: &Entry) -> bool
+    ensures { IsTrue result → entry.now ≢ Nothing }
+{
+    match entry {
+        Entry::Nothing => false,
+        Entry::Source { .. } => true,
+        Entry::Balloon { .. } => true,
+    }
+}
+
+/// Whether a page is released, or its entry says where it was placed.
+fn is_served(is_released: bool, entry: &Entry) -> bool
+    ensures { IsTrue result → is_released ≡ false → entry.now ≢ Nothing }
+{
+    is_released || says_where(entry)
+}
+
+/// Whether each page that the machine has not released has an entry that says where it was placed.
+fn owed_are_placed(machine: &Machine, entries: &[Entry]) -> bool
+    requires pages { length entries.now ≡ machine.now.ledger.geometry.pages }
+    requires few { length entries.now ≤ most_pages }
+    ensures { IsTrue result → (page : ℕ) (entry : Said) → slice_get entries.now page ≡ Some entry → released machine.now.ledger page ≡ false → entry ≢ Nothing }
+{
+    for page in 0..entries.len() {
+        let number = PageNo::new(page as u16);
+        if !is_served(machine.ledger.holds(number), &entries[page]) {
+            return false;
+        }
+    }
+    true
+}
+
+/// Whether two machines' frames have the same in each page.
+fn are_same(one: &Store, other: &Store) -> bool
+    requires { one.now.geometry ≡ other.now.geometry }
+    ensures { IsTrue result → (page : ℕ) → page < other.now.geometry.pages → page_of other.now.geometry.cells (memory_of one.now) page ≡ page_of other.now.geometry.cells (memory_of other.now) page }
+{
+    let geometry = one.geometry();
+    geometry.keeps_limits();
+    for page in 0..geometry.pages() {
+        let number = PageNo::new(page as u16);
+        if one.page(number) != other.page(number) {
+            return false;
+        }
+    }
+    true
+}
+
+/// Whether each owed page is resident at the end of the certificate's merging, and the frames are those of one machine
+/// that never moved, on each page. Takes one pass over the guest's log, and memory for the frames of one machine, which
+/// is the only error.
+pub(crate) fn is_whole(
+    alloc: Global,
+    session: &Session,
+    cert: &Cert,
+    store: &Store,
+) -> Result<bool, AllocError>
+    requires shape { IsRightShape session.now }
+    requires right { IsRightCertificate session.now cert.now }
+    ensures owed { IfOk result (λ b. IsTrue b → HasEachOwed session.now (spelled cert.now.runs)) }
+    ensures store { IfOk result (λ b. IsTrue b → IsFlatStore session.now store.now) }
+{
+    session.keeps_limits();
+    cert.keeps_limits();
+    worlds_follow_cursors();
+    if store.geometry() != session.geometry() {
+        return Ok(false);
+    }
+    let mut machine = Machine::start(alloc, session)?;
+    let halt = halt_place(session.guest());
+    run_to(session, &mut machine, 0, halt);
+    if !owed_are_placed(&machine, cert.entries()) {
+        return Ok(false);
+    }
+    run_to(session, &mut machine, halt, session.guest().len());
+    Ok(are_same(store, &machine.frames))
+}

@@ -1,0 +1,113 @@
+//! Transcripts against the guest's log.
+
+ghost use Rattle.std.specs.Prelude.{◌≡◌, ◌++◌, [], ◌∷◌, ℕ, List, length, slice_get, slice_index_or, Some, IfOk, IsTrue};
+ghost use Rattle.migration_types.specs.declared.records.GuestRec.{GuestRec as Rec};
+ghost use Rattle.host_checks.specs.declared.transcript.Answered.{Answered as Told};
+ghost use Rattle.host_checks.specs.Outcomes.{told_by, AreOfLog};
+ghost use Rattle.host_checks.specs.inner.Told.{AreTold};
+
+use crate::transcript::{Answered, Transcript, is_same};
+use migration_events::Op;
+use migration_types::GuestRec;
+use std::alloc::{AllocError, Global};
+
+/// The virtual processor and the answered operation that a record tells of, if it tells of one.
+fn told_by(rec: &GuestRec) -> Option<(u8, Answered)>
+    ensures { result ≡ told_by rec.now }
+{
+    match *rec {
+        GuestRec::Read {
+            vcpu,
+            page,
+            cell,
+            value,
+        } => Some((
+            vcpu,
+            Answered {
+                op: Op::Read { page, cell },
+                answer: value,
+            },
+        )),
+        GuestRec::Write {
+            vcpu,
+            page,
+            cell,
+            value,
+        } => Some((
+            vcpu,
+            Answered {
+                op: Op::Write { page, cell, value },
+                answer: value,
+            },
+        )),
+        GuestRec::Release { vcpu, page } => Some((
+            vcpu,
+            Answered {
+                op: Op::Release { page },
+                answer: 0,
+            },
+        )),
+        _ => None,
+    }
+}
+
+/// Whether two answered operations are the same.
+fn is_answer(one: &Answered, other: &Answered) -> bool
+    ensures { IsTrue result → one.now ≡ other.now }
+{
+    one.answer == other.answer && is_same(one.op, other.op)
+}
+
+/// Takes one record of the guest's log, where so many answers of each transcript were told before it: where it tells of
+/// an operation, that is the next of its virtual processor's transcript. Otherwise the answer is false.
+fn takes(rec: &GuestRec, transcripts: &[Transcript], told: &mut Vec<usize>) -> bool
+    requires { length told.old.items ≡ length transcripts.now }
+    ensures length { length told.new.items ≡ length transcripts.now }
+    ensures told { IsTrue result → (log : List Rec) → AreTold transcripts.now told.old.items log → AreTold transcripts.now told.new.items (log ++ rec.now ∷ []) }
+{
+    let Some((vcpu, answered)) = told_by(rec) else {
+        return true;
+    };
+    let vcpu = usize::from(vcpu);
+    if vcpu >= transcripts.len() {
+        return false;
+    }
+    let transcript = transcripts[vcpu].as_slice();
+    let at = told[vcpu];
+    if at >= transcript.len() || !is_answer(&transcript[at], &answered) {
+        return false;
+    }
+    told[vcpu] = at + 1;
+    true
+}
+
+/// Whether all answers of each transcript were told.
+fn are_all_told(transcripts: &[Transcript], told: &[usize]) -> bool
+    requires { length told.now ≡ length transcripts.now }
+    ensures { IsTrue result → (vcpu : ℕ) (transcript : List Told) → slice_get transcripts.now vcpu ≡ Some transcript → slice_index_or told.now vcpu 0 ≡ length transcript }
+{
+    for vcpu in 0..transcripts.len() {
+        if told[vcpu] != transcripts[vcpu].as_slice().len() {
+            return false;
+        }
+    }
+    true
+}
+
+/// Whether each transcript is its virtual processor's part of the guest's log, and the log tells of no other. Takes one
+/// pass over the log. An error: there is no memory for a number for each transcript.
+pub(crate) fn are_of_log(
+    alloc: Global,
+    log: &[GuestRec],
+    transcripts: &[Transcript],
+) -> Result<bool, AllocError>
+    ensures { IfOk result (λ b. IsTrue b → AreOfLog log.now transcripts.now) }
+{
+    let mut told = vec![in alloc; 0usize; transcripts.len()]?;
+    for rec in log {
+        if !takes(rec, transcripts, &mut told) {
+            return Ok(false);
+        }
+    }
+    Ok(are_all_told(transcripts, &told))
+}

@@ -1,0 +1,106 @@
+//! Transcripts.
+
+ghost use Rattle.std.specs.Prelude.{◌≡◌, ◌++◌, map, IsTrue};
+ghost use Rattle.host_checks.specs.Outcomes.{ops_of, asked_of, AreOfScript};
+
+use guest_script::Vcpu;
+use migration_events::Op;
+use migration_types::Seq;
+
+/// An operation of a virtual processor, and its answer: the value read, the value written, or 0 for a release.
+#[derive(Clone, Copy, Debug)]
+pub struct Answered {
+    pub op: Op,
+    pub answer: u64,
+}
+
+/// What a virtual processor did, in order, with the answers.
+pub type Transcript = Seq<Answered>;
+
+/// Whether two operations are the same.
+pub(crate) fn is_same(one: Op, other: Op) -> bool
+    ensures { IsTrue result → one ≡ other }
+{
+    match one {
+        Op::Read { page, cell } => is_read(page.number(), cell, other),
+        Op::Write { page, cell, value } => is_write(page.number(), cell, value, other),
+        Op::Release { page } => is_release(page.number(), other),
+    }
+}
+
+/// Whether the operation is the read of this cell.
+fn is_read(page: u16, cell: u16, op: Op) -> bool
+    ensures { IsTrue result → Op.Read page cell ≡ op }
+{
+    match op {
+        Op::Read { page: p, cell: c } => page == p.number() && cell == c,
+        _ => false,
+    }
+}
+
+/// Whether the operation is the write of this value into this cell.
+fn is_write(page: u16, cell: u16, value: u64, op: Op) -> bool
+    ensures { IsTrue result → Op.Write page cell value ≡ op }
+{
+    match op {
+        Op::Write {
+            page: p,
+            cell: c,
+            value: x,
+        } => page == p.number() && cell == c && value == x,
+        _ => false,
+    }
+}
+
+/// Whether the operation is the release of this page.
+fn is_release(page: u16, op: Op) -> bool
+    ensures { IsTrue result → Op.Release page ≡ op }
+{
+    match op {
+        Op::Release { page: p } => page == p.number(),
+        _ => false,
+    }
+}
+
+/// Whether answered operations are these, in order.
+fn are_ops(transcript: &[Answered], ops: &[Op]) -> bool
+    ensures { IsTrue result → ops_of transcript.now ≡ ops.now }
+{
+    if transcript.len() != ops.len() {
+        return false;
+    }
+    for k in 0..ops.len() {
+        if !is_same(transcript[k].op, ops[k]) {
+            return false;
+        }
+    }
+    true
+}
+
+/// Whether a transcript has a virtual processor's operations in order, each once.
+fn is_of_script(transcript: &Transcript, vcpu: &Vcpu) -> bool
+    ensures { IsTrue result → ops_of transcript.now ≡ asked_of vcpu.now }
+{
+    let answers = transcript.as_slice();
+    let before = vcpu.before_move.as_slice();
+    if answers.len() < before.len() {
+        return false;
+    }
+    let (first, last) = answers.split_at(before.len());
+    are_ops(first, before) && are_ops(last, vcpu.after_move.as_slice())
+}
+
+/// Whether there is one transcript for each virtual processor, with its operations in order, each once.
+pub(crate) fn are_of_script(transcripts: &[Transcript], vcpus: &[Vcpu]) -> bool
+    ensures { IsTrue result → AreOfScript vcpus.now transcripts.now }
+{
+    if transcripts.len() != vcpus.len() {
+        return false;
+    }
+    for k in 0..vcpus.len() {
+        if !is_of_script(&transcripts[k], &vcpus[k]) {
+            return false;
+        }
+    }
+    true
+}
