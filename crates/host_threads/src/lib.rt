@@ -1,0 +1,17 @@
+//! A migration in threads: one for each virtual processor of a script, and one each for the source, the link and the
+//! pager, over the parties' books, each under its lock; and the checks of what they leave.
+#![tactic(auto)]
+
+mod bell;
+mod gate;
+mod link;
+mod pager;
+mod run;
+mod shared;
+mod side;
+mod source;
+mod vcpu;
+
+pub use gate::{Gate, Open};
+pub use host_checks::{Answered, Migrated, RunFault, Transcript};
+pub use run::migrate;

@@ -1,0 +1,186 @@
+//! A run: its threads, and what is made of the books when they have ended.
+
+ghost use Rattle.std.specs.Prelude.{◌≡◌, IfOk, IfErr};
+ghost use Rattle.std.specs.List.{AllByRecursion};
+ghost use Rattle.page_store.specs.Frames.{IsPageOf};
+ghost use Rattle.guest_script.specs.Scenarios.{IsScenario};
+ghost use Rattle.audit_model.specs.Mergings.{spelled};
+ghost use Rattle.audit_model.specs.World.{IsSafe};
+ghost use Rattle.cert_check.specs.Verdicts.{IsVerdict};
+ghost use Rattle.cert_check.specs.declared.verdict.Verdict.TheVariants.{Yes};
+ghost use Rattle.migration_model.specs.Promise.{HasEachOwed};
+ghost use Rattle.host_checks.specs.Outcomes.{AreOfScript, AreOfLog, IsDone, IsFlatStore, IsRunFault};
+
+use crate::bell::{Bell, Fault};
+use crate::gate::Gate;
+use crate::link::run_link;
+use crate::pager::run_pager;
+use crate::shared::Shared;
+use crate::side::TargetSide;
+use crate::source::run_source;
+use crate::vcpu::run_vcpu;
+use active_push::SourceBook;
+use guest_script::Script;
+use host_checks::{Migrated, RunFault, Transcript, settle};
+use link_book::LinkBook;
+use migration_types::{GuestRec, Logs, Seq};
+use std::alloc::{AllocError, Global};
+use std::sync::{Mutex, Wait};
+use std::thread;
+use std::thread::Threads;
+use target_side::{GuestBook, PagerBook};
+
+/// The books before the first event.
+fn books_of(alloc: Global, script: &Script) -> Result<Shared, AllocError> {
+    script.keeps_limits();
+    let guest = GuestBook::new(alloc, script.geometry(), script.init())?;
+    let pager = PagerBook::new(alloc, script.geometry())?;
+    Ok(Shared {
+        source: Mutex::new(None),
+        link: Mutex::new(LinkBook::new(alloc)),
+        pager: Mutex::new(pager),
+        target: Mutex::new(TargetSide::Guest(guest)),
+        bell: Bell::new(),
+    })
+}
+
+/// Starts a thread for each virtual processor and one each for the source, the link and the pager, and joins them all.
+/// A thread that cannot be made stops the run.
+fn run_threads<R: Threads + Wait + Sync, G: Gate>(
+    rt: &R,
+    alloc: Global,
+    shared: &Shared,
+    script: &Script,
+    gate: &G,
+) -> Result<Vec<Transcript>, AllocError> {
+    let count = script.vcpus().len();
+    let mut transcripts = Vec::with_capacity(alloc, count)?;
+    thread::scope(thread::scope_env(), rt, |scope| {
+        let mut threads = Vec::new(alloc);
+        for (number, vcpu) in script.vcpus().iter().enumerate() {
+            let number = u8::try_from(number).unwrap_or(u8::MAX);
+            if threads.reserve(1).is_err() {
+                shared.bell.stop(rt, Fault::Memory);
+                break;
+            }
+            match scope.spawn(move || run_vcpu(rt, alloc, shared, gate, number, vcpu)) {
+                Ok(thread) => threads.push_reserved(thread),
+                Err(_) => shared.bell.stop(rt, Fault::Memory),
+            }
+        }
+        let source = scope
+            .spawn(move || run_source(rt, shared, gate, script))
+            .ok();
+        let link = scope.spawn(move || run_link(rt, shared, script)).ok();
+        let pager = scope.spawn(move || run_pager(rt, shared, gate, count)).ok();
+        if source.is_none() || link.is_none() || pager.is_none() {
+            shared.bell.stop(rt, Fault::Memory);
+        }
+        for thread in threads {
+            let transcript = thread.join(rt);
+            if transcripts.push(transcript).is_err() {
+                shared.bell.stop(rt, Fault::Memory);
+            }
+        }
+        for thread in [source, link, pager] {
+            if let Some(thread) = thread {
+                thread.join(rt);
+            }
+        }
+    });
+    Ok(transcripts)
+}
+
+/// What the books have recorded.
+fn logs_of(guest: Vec<GuestRec>, source: SourceBook, link: LinkBook, pager: PagerBook) -> Logs {
+    Logs {
+        guest: Seq::from_vec(guest),
+        source: Seq::from_vec(source.into_log()),
+        link: Seq::from_vec(link.into_log()),
+        pager: Seq::from_vec(pager.into_log()),
+    }
+}
+
+/// The checks of what the threads left.
+fn checked(
+    alloc: Global,
+    script: &Script,
+    shared: Shared,
+    transcripts: Vec<Transcript>,
+) -> Result<Migrated, RunFault>
+    ensures geometry { IfOk result (λ m. m.session.geometry ≡ script.now.geometry) }
+    ensures init { IfOk result (λ m. m.session.init ≡ script.now.init) }
+    ensures checked { IfOk result (λ m. IsVerdict m.session m.cert Yes) }
+    ensures safe { IfOk result (λ m. IsSafe m.session) }
+    ensures operations { IfOk result (λ m. AreOfScript script.now.vcpus m.transcripts) }
+    ensures answers { IfOk result (λ m. AreOfLog m.session.guest m.transcripts) }
+    ensures done { IfOk result (λ m. IsDone m.session) }
+    ensures owed { IfOk result (λ m. HasEachOwed m.session (spelled m.cert.runs)) }
+    ensures store { IfOk result (λ m. IsFlatStore m.session m.store) }
+    ensures refused { IfErr result IsRunFault }
+{
+    let Shared {
+        source,
+        link,
+        pager,
+        target,
+        bell,
+    } = shared;
+    match bell.into_fault() {
+        Some(Fault::LogFull) => return Err(RunFault::LogFull),
+        Some(Fault::Memory) => return Err(RunFault::Memory),
+        Some(Fault::Astray) | None => {}
+    }
+    let TargetSide::Target(target) = target.into_inner() else {
+        return Err(RunFault::TranscriptDiffers);
+    };
+    let Some(source) = source.into_inner() else {
+        return Err(RunFault::TranscriptDiffers);
+    };
+    let (guest, store) = target.into_parts();
+    let logs = logs_of(guest, source, link.into_inner(), pager.into_inner());
+    settle(alloc, script, logs, store, Seq::from_vec(transcripts))
+}
+
+/// Runs a script's migration in threads, one for each virtual processor and one each for the source, the link and the
+/// pager, over books under four locks, which are taken in the order source, link, pager, target; and then checks what it
+/// left. The link is in memory.
+///
+/// `Ok` comes only where all checks were made and passed: the session is of the script's machine and initial pages; the
+/// checker answers `Yes` to it with the certificate, so that every merging of its logs is safe; each transcript has the
+/// script's operations of its virtual processor in order, each once, and is that virtual processor's part of the guest's
+/// log; the source was told that every owed page is placed; each owed page is resident at the end of the certificate's
+/// merging; and each page of the frames is what one machine that never moved has.
+///
+/// # Errors
+///
+/// `LogFull` where a thread found no room in a log, or else `Memory` where one was refused memory or could not be made;
+/// nothing is checked then. Otherwise `AuditRefused` with a report that is not that the session is clean, or else
+/// `TranscriptDiffers` where another check fails, or `Memory` where there is none for the checks.
+///
+/// Nothing is promised of when a thread goes on, nor that the run ends.
+pub fn migrate<R: Threads + Wait + Sync, G: Gate>(
+    rt: &R,
+    alloc: Global,
+    script: &Script,
+    gate: &G,
+) -> Result<Migrated, RunFault>
+    ensures geometry { IfOk result (λ m. m.session.geometry ≡ script.now.geometry) }
+    ensures init { IfOk result (λ m. m.session.init ≡ script.now.init) }
+    ensures checked { IfOk result (λ m. IsVerdict m.session m.cert Yes) }
+    ensures safe { IfOk result (λ m. IsSafe m.session) }
+    ensures operations { IfOk result (λ m. AreOfScript script.now.vcpus m.transcripts) }
+    ensures answers { IfOk result (λ m. AreOfLog m.session.guest m.transcripts) }
+    ensures done { IfOk result (λ m. IsDone m.session) }
+    ensures owed { IfOk result (λ m. HasEachOwed m.session (spelled m.cert.runs)) }
+    ensures store { IfOk result (λ m. IsFlatStore m.session m.store) }
+    ensures refused { IfErr result IsRunFault }
+{
+    let Ok(shared) = books_of(alloc, script) else {
+        return Err(RunFault::Memory);
+    };
+    let Ok(transcripts) = run_threads(rt, alloc, &shared, script, gate) else {
+        return Err(RunFault::Memory);
+    };
+    checked(alloc, script, shared, transcripts)
+}

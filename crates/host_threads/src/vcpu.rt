@@ -1,0 +1,222 @@
+//! The thread of a virtual processor.
+
+ghost use Rattle.std.specs.Prelude.{◌≡◌, ◌<◌, true};
+ghost use Rattle.migration_events.specs.Ops.{OpFits};
+ghost use Rattle.target_book.specs.History.{IsAccess};
+
+use crate::bell::Fault;
+use crate::gate::Gate;
+use crate::shared::{Shared, of_target};
+use crate::side::TargetSide;
+use guest_script::Vcpu;
+use host_checks::{Answered, Transcript};
+use migration_events::Op;
+use migration_types::{Geometry, PageNo, Seq};
+use std::alloc::Global;
+use std::sync::Wait;
+use target_side::Access;
+
+/// Whether the machine has the page.
+fn has_page(geometry: Geometry, page: PageNo) -> bool
+    ensures { result ≡ true → page < geometry.pages }
+{
+    u32::from(page.number()) < geometry.pages()
+}
+
+/// Whether the machine has the page and the cell of an operation.
+fn fits(geometry: Geometry, op: &Op) -> bool
+    ensures { result ≡ true → OpFits geometry op.now }
+{
+    let op = *op;
+    match op {
+        Op::Read { page, cell } => has_page(geometry, page) && u32::from(cell) < geometry.cells(),
+        Op::Write {
+            page,
+            cell,
+            value: _,
+        } => has_page(geometry, page) && u32::from(cell) < geometry.cells(),
+        Op::Release { page } => has_page(geometry, page),
+    }
+}
+
+/// Whether it is a read or a write of a page and a cell that the machine has.
+fn is_access(geometry: Geometry, op: &Op) -> bool
+    ensures { result ≡ true → IsAccess geometry op.now }
+{
+    match op {
+        Op::Read { .. } | Op::Write { .. } => fits(geometry, op),
+        Op::Release { .. } => false,
+    }
+}
+
+/// What came of an operation.
+enum Step {
+    /// It was answered.
+    Answered(u64),
+    /// Its page was missed.
+    Missed,
+    /// It has to wait.
+    Waits,
+    /// The run has to stop.
+    Stops(Fault),
+}
+
+/// An operation at the source.
+fn step_at_source<R: Wait>(rt: &R, shared: &Shared, vcpu: u8, op: &Op) -> Step {
+    let mut side = shared.target.lock(rt);
+    match &mut *side {
+        TargetSide::Guest(book) => {
+            if !fits(book.geometry(), op) {
+                return Step::Stops(Fault::Astray);
+            }
+            match book.access(vcpu, *op) {
+                Ok(answer) => Step::Answered(answer),
+                Err(fault) => Step::Stops(of_target(fault)),
+            }
+        }
+        _ => Step::Stops(Fault::Astray),
+    }
+}
+
+/// An operation at the target. Where it is answered, the gate is lent the book.
+fn step_at_target<R: Wait, G: Gate>(rt: &R, shared: &Shared, gate: &G, vcpu: u8, op: &Op) -> Step {
+    let mut side = shared.target.lock(rt);
+    match &mut *side {
+        TargetSide::Guest(_) => Step::Waits,
+        TargetSide::Moving => Step::Stops(Fault::Astray),
+        TargetSide::Target(book) => {
+            if !is_access(book.geometry(), op) {
+                return Step::Stops(Fault::Astray);
+            }
+            match book.access(vcpu, *op) {
+                Ok(Access::Done(answer)) => {
+                    gate.held(vcpu, op.page(), book);
+                    Step::Answered(answer)
+                }
+                Ok(Access::Missed) => Step::Missed,
+                Ok(Access::Waiting) => Step::Waits,
+                Err(fault) => Step::Stops(of_target(fault)),
+            }
+        }
+    }
+}
+
+/// Does an operation at the target, however often it has to look. None: the run stops.
+fn answer_at_target<R: Wait, G: Gate>(
+    rt: &R,
+    shared: &Shared,
+    gate: &G,
+    vcpu: u8,
+    op: &Op,
+) -> Option<u64> {
+    for _ in rt.forever() {
+        let seen = shared.bell.now(rt);
+        if seen.is_stopped {
+            return None;
+        }
+        match step_at_target(rt, shared, gate, vcpu, op) {
+            Step::Answered(answer) => {
+                gate.answered(vcpu, op.page());
+                return Some(answer);
+            }
+            Step::Missed => shared.bell.ring(rt),
+            Step::Waits => {}
+            Step::Stops(fault) => {
+                shared.bell.stop(rt, fault);
+                return None;
+            }
+        }
+        shared.bell.wait_delivered(rt, &seen);
+    }
+    None
+}
+
+/// Does an operation at the source. None: the run stops.
+fn answer_at_source<R: Wait>(rt: &R, shared: &Shared, vcpu: u8, op: &Op) -> Option<u64> {
+    if shared.bell.is_stopped(rt) {
+        return None;
+    }
+    match step_at_source(rt, shared, vcpu, op) {
+        Step::Answered(answer) => Some(answer),
+        Step::Missed | Step::Waits => None,
+        Step::Stops(fault) => {
+            shared.bell.stop(rt, fault);
+            None
+        }
+    }
+}
+
+/// Does the operations before the move. False: the run stops.
+fn run_before<R: Wait>(
+    rt: &R,
+    shared: &Shared,
+    vcpu: u8,
+    ops: &[Op],
+    answers: &mut Vec<Answered>,
+) -> bool {
+    for op in ops {
+        if answers.reserve(1).is_err() {
+            shared.bell.stop(rt, Fault::Memory);
+            return false;
+        }
+        let Some(answer) = answer_at_source(rt, shared, vcpu, op) else {
+            return false;
+        };
+        answers.push_reserved(Answered { op: *op, answer });
+    }
+    true
+}
+
+/// Does the operations after the move. False: the run stops.
+fn run_after<R: Wait, G: Gate>(
+    rt: &R,
+    shared: &Shared,
+    gate: &G,
+    vcpu: u8,
+    ops: &[Op],
+    answers: &mut Vec<Answered>,
+) -> bool {
+    for op in ops {
+        if answers.reserve(1).is_err() {
+            shared.bell.stop(rt, Fault::Memory);
+            return false;
+        }
+        let Some(answer) = answer_at_target(rt, shared, gate, vcpu, op) else {
+            return false;
+        };
+        answers.push_reserved(Answered { op: *op, answer });
+    }
+    true
+}
+
+/// A virtual processor: its operations before the move, and then those after it. Answers what it did.
+pub(crate) fn run_vcpu<R: Wait, G: Gate>(
+    rt: &R,
+    alloc: Global,
+    shared: &Shared,
+    gate: &G,
+    vcpu: u8,
+    script: &Vcpu,
+) -> Transcript {
+    let mut answers = Vec::new(alloc);
+    if run_before(
+        rt,
+        shared,
+        vcpu,
+        script.before_move.as_slice(),
+        &mut answers,
+    ) {
+        shared.bell.arrive(rt);
+        if run_after(
+            rt,
+            shared,
+            gate,
+            vcpu,
+            script.after_move.as_slice(),
+            &mut answers,
+        ) {
+            shared.bell.end(rt);
+        }
+    }
+    Seq::from_vec(answers)
+}
