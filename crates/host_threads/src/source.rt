@@ -98,7 +98,10 @@ fn halt_guest(
     }
     match mem::replace(side, TargetSide::Moving) {
         TargetSide::Guest(guest) => part(guest, source, link, side, pivots),
-        _ => Turn::Stops(Fault::Astray),
+        other => {
+            let _ = mem::replace(side, other);
+            Turn::Stops(Fault::Astray)
+        }
     }
 }
 
