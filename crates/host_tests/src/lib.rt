@@ -1,0 +1,26 @@
+//! Tests of migrations in threads.
+#![tactic(auto)]
+
+ghost use Rattle.std.specs.Prelude.{◌≡◌, ◌<◌, map, IsTrue};
+
+#[cfg(test)]
+mod gates;
+#[cfg(test)]
+mod runs;
+
+use host_threads::Answered;
+
+/// Whether a transcript's answers are these.
+pub fn are_answers(transcript: &[Answered], answers: &[u64]) -> bool
+    ensures { IsTrue result → map (λ a. a.answer) transcript.now ≡ answers.now }
+{
+    if transcript.len() != answers.len() {
+        return false;
+    }
+    for k in 0..answers.len() {
+        if transcript[k].answer != answers[k] {
+            return false;
+        }
+    }
+    true
+}

@@ -1,0 +1,270 @@
+//! Runs of scripts.
+
+use crate::are_answers;
+use crate::gates::{Flagged, Flags};
+use guest_script::{Script, read_script};
+use host_threads::{Migrated, Open, RunFault, migrate};
+use migration_types::PageNo;
+use std::alloc::{AllocError, Global};
+use std::sync::{Mutex, Wait};
+use std::thread::Threads;
+
+/// Two virtual processors that read page 0 at the target, and one of them page 3 too.
+const TWO_READERS: &str = "postcopy-script 1
+pages 4
+cells 1
+init 2
+page 0 0000000000000005
+page 3 0000000000000008
+pivots 1
+window 4
+down -
+up -
+vcpus 2
+vcpu 0 2
+r 0 0
+r 3 0
+vcpu 0 1
+r 0 0
+end
+";
+
+/// Two that read page 1 over a link that loses, sends back and repeats.
+const BAD_LINK: &str = "postcopy-script 1
+pages 2
+cells 1
+init 1
+page 1 0000000000000007
+pivots 1
+window 4
+down ldbr
+up lr
+vcpus 2
+vcpu 0 1
+r 1 0
+vcpu 0 1
+r 1 0
+end
+";
+
+/// One that releases page 1 at the source and reads it at the target.
+const RELEASED: &str = "postcopy-script 1
+pages 2
+cells 1
+init 0
+pivots 1
+window 2
+down -
+up -
+vcpus 1
+vcpu 1 1
+z 1
+r 1 0
+end
+";
+
+/// One that writes at the source and at the target.
+const WRITTEN: &str = "postcopy-script 1
+pages 2
+cells 2
+init 1
+page 0 00000000000000050000000000000006
+pivots 2
+window 1
+down rrbb
+up r
+vcpus 1
+vcpu 2 3
+w 0 1 9
+r 0 1
+w 1 0 3
+r 0 0
+r 0 1
+end
+";
+
+/// A run of a script over any gate has these answers, of the first two virtual processors.
+fn has_answers(migrated: &Migrated, first: &[u64], second: &[u64]) -> bool {
+    let transcripts = migrated.transcripts.as_slice();
+    let is_first = match transcripts.get(0) {
+        Some(transcript) => are_answers(transcript.as_slice(), first),
+        None => false,
+    };
+    let is_second = match transcripts.get(1) {
+        Some(transcript) => are_answers(transcript.as_slice(), second),
+        None => second.is_empty(),
+    };
+    is_first && is_second
+}
+
+/// The value of a cell of the frames that a run left.
+fn has_value(migrated: &Migrated, page: u16, cell: u16, value: u64) -> bool {
+    let geometry = migrated.store.geometry();
+    u32::from(page) < geometry.pages()
+        && u32::from(cell) < geometry.cells()
+        && migrated.store.read(PageNo::new(page), cell) == value
+}
+
+/// Whether the gate sees two threads at once, and more than one lock.
+fn runs_at_once<R: Threads + Wait + Sync>(rt: &R, alloc: Global) -> bool {
+    let Ok(script) = read_script(alloc, TWO_READERS.as_bytes()) else {
+        return false;
+    };
+    let gate = Flagged {
+        rt,
+        flags: Mutex::new(Flags {
+            set: [false; 4],
+            gave_up: false,
+        }),
+    };
+    let is_right = match migrate(rt, alloc, &script, &gate) {
+        Ok(migrated) => has_answers(&migrated, &[5, 8], &[5]),
+        Err(_) => false,
+    };
+    let Flagged { flags, .. } = gate;
+    is_right && !flags.into_inner().gave_up
+}
+
+#[test]
+fn two_readers_at_once(rt: HostRuntime) {
+    assert!(rt; runs_at_once(&rt, rt.alloc()));
+}
+
+/// Whether a run of a script has these answers, and leaves this value in the first cell of page 1.
+fn comes_out<R: Threads + Wait + Sync>(
+    rt: &R,
+    alloc: Global,
+    text: &str,
+    answers: [&[u64]; 2],
+    value: u64,
+) -> bool {
+    let Ok(script) = read_script(alloc, text.as_bytes()) else {
+        return false;
+    };
+    match migrate(rt, alloc, &script, &Open) {
+        Ok(migrated) => {
+            has_answers(&migrated, answers[0], answers[1]) && has_value(&migrated, 1, 0, value)
+        }
+        Err(_) => false,
+    }
+}
+
+#[test]
+fn over_a_bad_link(rt: HostRuntime) {
+    assert!(rt; comes_out(&rt, rt.alloc(), BAD_LINK, [&[7], &[7]], 7));
+}
+
+#[test]
+fn a_released_page(rt: HostRuntime) {
+    assert!(rt; comes_out(&rt, rt.alloc(), RELEASED, [&[0, 0], &[]], 0));
+}
+
+#[test]
+fn writes_on_both_sides(rt: HostRuntime) {
+    assert!(rt; comes_out(&rt, rt.alloc(), WRITTEN, [&[9, 9, 3, 5, 9], &[]], 3));
+}
+
+/// Sixteen that read and write three pages over a link that loses, sends back and repeats.
+const SIXTEEN: &str = "postcopy-script 1
+pages 3
+cells 1
+init 1
+page 1 0000000000000007
+pivots 2
+window 2
+down lrbdlb
+up rlb
+vcpus 16
+";
+
+/// What each of the sixteen does.
+const ONE_OF_SIXTEEN: &str = "vcpu 2 3
+w 0 0 4
+r 1 0
+r 0 0
+w 2 0 6
+r 1 0
+";
+
+/// The script of the sixteen.
+fn sixteen(alloc: Global) -> Option<Script> {
+    let mut text = Vec::new(alloc);
+    text.extend_from_slice(SIXTEEN.as_bytes()).ok()?;
+    for _ in 0..16 {
+        text.extend_from_slice(ONE_OF_SIXTEEN.as_bytes()).ok()?;
+    }
+    text.extend_from_slice(b"end\n").ok()?;
+    read_script(alloc, text.as_slice()).ok()
+}
+
+/// Whether a run of the sixteen comes out.
+fn sixteen_come_out<R: Threads + Wait + Sync>(rt: &R, alloc: Global, script: &Script) -> bool {
+    match migrate(rt, alloc, script, &Open) {
+        Ok(migrated) => has_answers(&migrated, &[4, 7, 4, 6, 7], &[4, 7, 4, 6, 7]),
+        Err(_) => false,
+    }
+}
+
+/// Whether each of so many runs does.
+fn all_come_out<R: Threads + Wait + Sync>(rt: &R, alloc: Global, runs: u32) -> bool {
+    let Some(script) = sixteen(alloc) else {
+        return false;
+    };
+    for _ in 0..runs {
+        if !sixteen_come_out(rt, alloc, &script) {
+            return false;
+        }
+    }
+    true
+}
+
+#[test]
+fn a_thousand_runs(rt: HostRuntime) {
+    assert!(rt; all_come_out(&rt, rt.alloc(), 1_000));
+}
+
+/// The text of a script in which so many virtual processors read page 0 so often before the move.
+fn reads_text(alloc: Global, vcpus: u32, reads: u32) -> Result<Vec<u8>, AllocError> {
+    let mut text = Vec::new(alloc);
+    text.extend_from_slice(
+        b"postcopy-script 1\npages 1\ncells 1\ninit 0\npivots 1\nwindow 1\ndown -\nup -\n",
+    )?;
+    let counts = format!(in alloc; "vcpus {vcpus}\n")?;
+    text.extend_from_slice(counts.as_bytes())?;
+    for _ in 0..vcpus {
+        let count = format!(in alloc; "vcpu {reads} 0\n")?;
+        text.extend_from_slice(count.as_bytes())?;
+        for _ in 0..reads {
+            text.extend_from_slice(b"r 0 0\n")?;
+        }
+    }
+    text.extend_from_slice(b"end\n")?;
+    Ok(text)
+}
+
+/// The script of so many reads.
+fn reads_script(alloc: Global, vcpus: u32, reads: u32) -> Option<Script> {
+    let text = reads_text(alloc, vcpus, reads).ok()?;
+    read_script(alloc, text.as_slice()).ok()
+}
+
+/// Whether a run of a script finds a log full.
+fn is_full<R: Threads + Wait + Sync>(rt: &R, alloc: Global, script: &Script) -> bool {
+    match migrate(rt, alloc, script, &Open) {
+        Err(RunFault::LogFull) => true,
+        _ => false,
+    }
+}
+
+/// Whether more reads than a log has room for are refused as such.
+fn fills_the_log<R: Threads + Wait + Sync>(rt: &R, alloc: Global) -> bool {
+    match reads_script(alloc, 17, 65_536) {
+        Some(script) => is_full(rt, alloc, &script),
+        None => false,
+    }
+}
+
+#[test]
+fn more_reads_than_a_log_has_room_for(rt: HostRuntime) {
+    assert!(rt; fills_the_log(&rt, rt.alloc()));
+}
