@@ -96,7 +96,7 @@ impl<'a> Side<'a> {
         match self {
             Side::Home(home) => home.session(),
             Side::Away(away) => away.session(),
-            Side::Halting => Err(AllocError),
+            Side::Halting => unreachable!(),
         }
     }
 
@@ -110,7 +110,7 @@ impl<'a> Side<'a> {
         match self {
             Side::Home(home) => home.into_session(),
             Side::Away(away) => away.into_session(),
-            Side::Halting => Err(AllocError),
+            Side::Halting => unreachable!(),
         }
     }
 
