@@ -12,7 +12,7 @@ use crate::checking::judge_read;
 use crate::naming::{read_named, read_pair};
 use crate::reading::TextSource;
 use crate::replaying::replay_read;
-use crate::stepping::steps_texts;
+use crate::stepping::steps_read;
 use cert_text::{CertReader, RunsReader};
 use command_words::{OneText, TwoTexts};
 use migration_types::Session;
@@ -100,9 +100,8 @@ fn steps_named<'a, S: TextSource, I: Read>(
 ) -> Result<Answer, Fault<'a>>
     ensures { IfOk result (AnswersTo (AreNamed first.entry.now second.entry.now (S.bytes_of texts.now) (I.remaining input.old)) (IsTwoAnswer TwoTexts.Steps)) }
 {
-    let (script, events) =
-        read_pair::<Vec<u8>, Vec<u8>, S, I>(alloc, first, second, texts, input)?;
-    given(steps_texts(alloc, &script, &events))
+    let (script, events) = read_pair::<Vec<u8>, Vec<u8>, S, I>(alloc, first, second, texts, input)?;
+    given(steps_read(alloc, &script, &events))
 }
 
 /// The answer of a command on the texts under two names, which are read in this order.

@@ -63,13 +63,20 @@ fn with_events(alloc: Global, script: &Script, events: &[u8]) -> Result<Answer, 
 }
 
 /// What becomes of a script with events, by their texts.
-pub fn steps_texts(alloc: Global, script: &[u8], events: &[u8]) -> Result<Answer, AllocError>
+fn steps_texts(alloc: Global, script: &[u8], events: &[u8]) -> Result<Answer, AllocError>
     ensures { IfOk result (λ answer. IsStepsAnswer script.now events.now answer.text.items answer.status) }
 {
     match read_script(alloc, script) {
         Ok(script) => with_events(alloc, &script, events),
         Err(fault) => refused(alloc, b"script-text line ", fault.refused_line()?),
     }
+}
+
+/// What becomes of a script with events, by what was read of their texts, which is all of them.
+pub fn steps_read(alloc: Global, script: &Vec<u8>, events: &Vec<u8>) -> Result<Answer, AllocError>
+    ensures { (first second : List ℕ) → script.now.items ≡ first → events.now.items ≡ second → IfOk result (λ answer. IsStepsAnswer first second answer.text.items answer.status) }
+{
+    steps_texts(alloc, script, events)
 }
 
 /// A law: a session that `steps` writes is clean, so `audit` reports it as such, and `certify` writes its certificate. Runs

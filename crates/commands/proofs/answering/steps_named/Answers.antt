@@ -6,5 +6,5 @@ use Rattle.commands.proofs.answering.steps_named.Goals as goal
 pub returns : goal.returns
 returns g c =
     let n = c.in_ok-script.ensures in
-    given_answers (AreNamed c.args.first.now c.args.second.now (g.S.TextSource.bytes_of c.args.texts.now) (g.I.Read.remaining c.args.input.now)) (IsTwoAnswer Steps) n.0 c.steps_texts.result c.given.result n.1
-    (c.steps_texts.ensures n.0.0 n.0.1 n.2 n.3) c.given.ensures
+    given_answers (AreNamed c.args.first.now c.args.second.now (g.S.TextSource.bytes_of c.args.texts.now) (g.I.Read.remaining c.args.input.now)) (IsTwoAnswer Steps) n.0 c.steps_read.result c.given.result n.1
+    (c.steps_read.ensures n.0.0 n.0.1 n.2 n.3) c.given.ensures
