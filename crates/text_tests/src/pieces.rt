@@ -4,6 +4,7 @@ use crate::formats::{Format, is_cert_text, is_session_text, none_is_wrong};
 use crate::texts::{FIRST, KINDS, RUNS, SECOND, SENT};
 use crate::{fault_of, refusal_line};
 use cert_text::{CertReader, RunsReader};
+use migration_types::Run;
 use session_log::SessionReader;
 use std::alloc::Global;
 use text_lines::{FaultKind, Rewind, TextReader};
@@ -39,11 +40,19 @@ fn is_cert_of_pieces(alloc: Global, text: &[u8], size: usize) -> bool {
     }
 }
 
+/// How many records the last of four runs takes.
+fn last_count(runs: &[Run]) -> Option<u32> {
+    match runs {
+        [_, _, _, last] => Some(last.count),
+        _ => None,
+    }
+}
+
 fn are_runs_of_pieces(alloc: Global, text: &[u8], size: usize) -> bool {
     let mut reader = RunsReader::new(alloc);
     let fed = feed_by(&mut reader, text, size);
     match reader.finish() {
-        Ok(runs) => fed && runs.len() == 4 && runs[3].count == 1,
+        Ok(runs) => fed && last_count(runs.as_slice()) == Some(1),
         Err(_) => false,
     }
 }
