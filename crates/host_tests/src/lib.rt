@@ -1,8 +1,10 @@
-//! Tests of migrations in threads.
+//! Tests of migrations in threads, and of the core over a full log.
 #![tactic(auto)]
 
 ghost use Rattle.std.specs.Prelude.{◌≡◌, ◌<◌, map, IsTrue};
 
+#[cfg(test)]
+mod cores;
 #[cfg(test)]
 mod gates;
 #[cfg(test)]

@@ -243,7 +243,7 @@ fn reads_text(alloc: Global, vcpus: u32, reads: u32) -> Result<Vec<u8>, AllocErr
 }
 
 /// The script of so many reads.
-fn reads_script(alloc: Global, vcpus: u32, reads: u32) -> Option<Script> {
+pub fn reads_script(alloc: Global, vcpus: u32, reads: u32) -> Option<Script> {
     let text = reads_text(alloc, vcpus, reads).ok()?;
     read_script(alloc, text.as_slice()).ok()
 }
