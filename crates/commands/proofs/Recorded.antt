@@ -9,8 +9,11 @@ use Rattle.audit_model.specs.Mergings.{HasMerging}
 use Rattle.audit_report.specs.Reports.{IsReport}
 use Rattle.audit_report.specs.declared.report.Report.{Report}
 use Rattle.audit_report.specs.declared.report.Report.TheVariants as report
-use Rattle.commands.specs.declared.auditing.Wanted.{Wanted}
-use Rattle.commands.specs.Answers.{Audited, IsAudited, IsAuditAnswer, Refused, Reported, audited_status, report_status}
+use Rattle.audit_report.specs.Texts.{IsAudited}
+use Rattle.audit_report.specs.declared.texts.Audited.{Audited}
+use Rattle.audit_report.specs.declared.texts.Audited.TheVariants.{Refused, Reported}
+use Rattle.audit_report.specs.declared.wanted.Wanted.{Wanted}
+use Rattle.commands.specs.Answers.{IsAuditAnswer, audited_status, report_status}
 use Rattle.commands.specs.Steps.{AreSteps, EventsText, IsStepsAnswer, LogFull, Records, ScriptText, Steps as Stepped, steps_status, steps_text}
 
 -- the report on a session with no fault and with a merging

@@ -15,7 +15,9 @@ use Rattle.commands.specs.declared.answer.Fault.{Fault}
 use Rattle.commands.specs.declared.answer.Fault.TheVariants.{File, Output, Memory}
 use Rattle.commands.specs.declared.replaying.Outcome.{Outcome}
 use Rattle.commands.specs.declared.replaying.Outcome.TheVariants as outcome
-use Rattle.commands.specs.Answers.{Audited, Refused, Reported, audited_status, fault_status, report_status, verdict_status}
+use Rattle.audit_report.specs.declared.texts.Audited.{Audited}
+use Rattle.audit_report.specs.declared.texts.Audited.TheVariants.{Refused, Reported}
+use Rattle.commands.specs.Answers.{audited_status, fault_status, report_status, verdict_status}
 use Rattle.commands.specs.Replayed.{outcome_status}
 use Rattle.commands.specs.Steps.{LogFull, Records, ScriptText, EventsText, Steps as Stepped, steps_status}
 use Rattle.commands.specs.Told.{IsOneAnswer, IsTwoAnswer}

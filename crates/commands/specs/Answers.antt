@@ -1,22 +1,21 @@
 -- What a command answers to its texts: a text that it writes, and its status.
 use Rattle.std.specs.Prelude.{◌≡◌, ℕ, List, [], ◌∷◌, ◌++◌, codes}
 use Rattle.std.specs.Fmt.{decimal}
-use Rattle.text_lines.specs.Text.{ended, IsSpelling, IsRefusalLine}
-use Rattle.migration_types.specs.Sessions.{Recorded}
-use Rattle.session_log.specs.Grammar.{SpellsSession}
-use Rattle.cert_text.specs.Grammar.{cert_lines}
+use Rattle.text_lines.specs.Text.{ended}
 use Rattle.cert_check.specs.Texts.{IsTextVerdict}
 use Rattle.cert_check.specs.declared.verdict.Verdict.{Verdict}
 use Rattle.cert_check.specs.declared.verdict.Verdict.TheVariants.{SessionText, CertText, Shape, Pages, Runs, Page, Yes}
-use Rattle.audit_report.specs.Reports.{IsReport}
-use Rattle.audit_report.specs.ReportText.{first_line, report_text, shape_line}
+use Rattle.audit_report.specs.ReportText.{shape_line}
+use Rattle.audit_report.specs.Texts.{IsAudited}
+use Rattle.audit_report.specs.AuditedText.{audited_text}
+use Rattle.audit_report.specs.declared.wanted.Wanted.{Wanted}
+use Rattle.audit_report.specs.declared.texts.Audited.{Audited}
+use Rattle.audit_report.specs.declared.texts.Audited.TheVariants.{Refused, Reported}
 use Rattle.audit_report.specs.declared.report.Report.{Report}
 use Rattle.audit_report.specs.declared.report.Report.TheVariants as report
 use Rattle.commands.specs.declared.answer.Answer.{Answer}
 use Rattle.commands.specs.declared.answer.Fault.{Fault}
 use Rattle.commands.specs.declared.answer.Fault.TheVariants.{File, Output, Memory}
-use Rattle.commands.specs.declared.auditing.Wanted.{Wanted}
-use Rattle.commands.specs.declared.auditing.Wanted.TheVariants as wanted
 
 -- 4 for want of memory, and 3 for a text or an output that failed
 abbrev pub fault_status : Fault → ℕ
@@ -63,28 +62,6 @@ verdict_status (Page n) = 1
 abbrev pub IsVerdictAnswer : List ℕ → List ℕ → List ℕ → ℕ → Type 0
 IsVerdictAnswer session cert = IsAnswer (IsTextVerdict session cert) verdict_line verdict_status
 
--- what becomes of the audit of a text: the line at which it is refused, or a report
-pub data Audited : Type 0 where
-  Refused : ℕ → Audited
-  Reported : Report → Audited
-
--- a report on the session that the text spells, or the text's refusal line
-abbrev pub IsAudited : List ℕ → Audited → Type 0
-IsAudited session (Refused line) = IsRefusalLine SpellsSession session line
-IsAudited session (Reported report) = (recorded : Recorded) × IsSpelling SpellsSession recorded session × IsReport recorded report
-
--- the certificate's spelling where the session is clean, and else the first line of the report
-abbrev pub certificate_text : Report → List ℕ
-certificate_text (report.Clean cert) = ended (cert_lines cert)
-certificate_text (report.Shape fault) = ended (first_line (report.Shape fault) ∷ [])
-certificate_text (report.Knot line) = ended (first_line (report.Knot line) ∷ [])
-certificate_text (report.Faulty line reason order) = ended (first_line (report.Faulty line reason order) ∷ [])
-
--- what is wanted of a report
-abbrev pub wanted_text : Wanted → Report → List ℕ
-wanted_text wanted.Report r = report_text r
-wanted_text wanted.Certificate r = certificate_text r
-
 -- 0 for clean, and 1 for every other report
 abbrev pub report_status : Report → ℕ
 report_status (report.Clean cert) = 0
@@ -92,10 +69,7 @@ report_status (report.Shape fault) = 1
 report_status (report.Knot line) = 1
 report_status (report.Faulty line reason order) = 1
 
-abbrev pub audited_text : Wanted → Audited → List ℕ
-audited_text wanted (Refused line) = numbered (codes "session-text line ") line
-audited_text wanted (Reported r) = wanted_text wanted r
-
+-- and 1 for a text that is refused
 abbrev pub audited_status : Audited → ℕ
 audited_status (Refused line) = 1
 audited_status (Reported r) = report_status r

@@ -7,12 +7,13 @@ ghost use Rattle.commands.specs.Told.{AreNamed, IsNamed, IsOneAnswer, IsTwoAnswe
 ghost use Rattle.commands.specs.inner.Found.{AnswersTo};
 
 use crate::answer::{Answer, Fault};
-use crate::auditing::{Wanted, audit_read};
+use crate::auditing::audit_read;
 use crate::checking::judge_read;
 use crate::naming::{read_named, read_pair};
 use crate::reading::TextSource;
 use crate::replaying::replay_read;
 use crate::stepping::steps_read;
+use audit_report::Wanted;
 use cert_text::{CertReader, RunsReader};
 use command_words::{OneText, TwoTexts};
 use migration_types::Session;
