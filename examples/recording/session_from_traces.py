@@ -1,0 +1,198 @@
+#!/usr/bin/env python3
+"""Writes a session from the traces of a test guest, a source, a relay and a pager.
+
+    session_from_traces.py FOLDER [--cut] > session
+
+FOLDER has guest.trace, source.trace, link.trace and pager.trace. A line of a trace is a time, the event's name, what
+happened, and with what, as KEY=VALUE. A key that is a log's name tells of an event in that log's trace, and `of` tells of an
+earlier one in the same trace. The times are of four clocks that do not agree, and nothing here looks at them.
+
+A page has one cell: the sum, which is a hash of 64 bits of the whole page, and 0 for a page of zeros.
+
+Where an event tells of one that no trace has, there is a hole, and no session is written. With --cut that event is left out
+with all that follow it in its trace, until there is no hole.
+"""
+import argparse
+import sys
+
+LOGS = ("guest", "source", "link", "pager")
+
+# The records, by the log and by what happened. Other events become none.
+RECORDS = {
+    "guest": {
+        "read": "r {actor} {frame} 0 {value}",
+        "write": "w {actor} {frame} 0 {value}",
+        "free": "z {actor} {frame}",
+        "wait": "miss {actor} {frame}",
+        "stop": "halt",
+        "start": "resume {pager}",
+        "look": "see {pager}",
+        "woken": "see {pager}",
+    },
+    "source": {
+        "stopped": "halted {guest}",
+        "state": "state",
+        "page": "send {frame} {sum}",
+        "repeat": "again {of}",
+        "request": "ask {link}",
+        "finish": "done",
+    },
+    "link": {"down": "down {source}", "up": "up {pager}"},
+    "pager": {
+        "packet": "got {link}",
+        "ready": "ready",
+        "fault": "fault {guest}",
+        "join": "join {of}",
+        "request": "want {frame}",
+        "place": "place {frame} {of} {sum}",
+        "zero": "zero {frame}",
+        "drop": "skip {of}",
+        "complete": "all",
+    },
+}
+LOOKS = ("look", "woken")
+PLACEMENTS = ("place", "zero")
+
+
+class Hole(Exception):
+    """What the traces lack, in words."""
+
+
+class Event:
+    """What happened, by the trace of this log."""
+
+    def __init__(self, log, what, fields):
+        self.log, self.what, self.fields = log, what, fields
+
+    def told(self):
+        """The events that this one tells of: for each key, the log and the name."""
+        logs = {**{log: log for log in LOGS}, "of": self.log}
+        return {key: (logs[key], name) for key, name in self.fields.items() if key in logs}
+
+
+def trace(folder, log):
+    """The events of a trace by their names, in their order. A last line that was not written to its end is left out."""
+    events = {}
+    with open(f"{folder}/{log}.trace", encoding="ascii") as lines:
+        for number, line in enumerate(lines, 1):
+            if line.startswith("#") or not line.endswith("\n"):
+                continue
+            try:
+                _time, name, what, *fields = line.split()
+                event = Event(log, what, dict(field.split("=", 1) for field in fields))
+            except ValueError:
+                raise Hole(f"{log}.trace: line {number} is no event") from None
+            if name in events:
+                raise Hole(f"{log}.trace: line {number} names a second {name}")
+            events[name] = event
+    return events
+
+
+class Recording:
+    """Four traces, and what of them becomes a record."""
+
+    def __init__(self, folder, cut):
+        self.traces = {log: trace(folder, log) for log in LOGS}
+        self.cut_at_holes(cut)
+        begin = next(iter(self.traces["guest"].values()), None)
+        if begin is None or begin.what != "begin":
+            raise Hole("guest.trace: the first event is no begin")
+        first, last = (int(frame, 16) for frame in begin.fields["frames"].split("-"))
+        self.frames = range(first, last + 1)
+        self.actors = begin.fields["actors"].split(",")
+        self.traces["guest"] = self.with_placements(self.traces["guest"])
+        self.kept = {log: {name: event for name, event in self.traces[log].items() if self.is_kept(event)} for log in LOGS}
+        self.numbers = {(log, name): number for log in LOGS for number, name in enumerate(self.kept[log])}
+
+    def cut_at_holes(self, cut):
+        """Refuses traces with a hole, or cuts each in front of its first one."""
+        while hole := next(self.holes(), None):
+            log, name, told = hole
+            if not cut:
+                raise Hole(f"{log}.trace: {name} tells of {told[1]}, which {told[0]}.trace has not")
+            names = list(self.traces[log])
+            for lost in names[names.index(name):]:
+                del self.traces[log][lost]
+
+    def holes(self):
+        """The events that tell of one that no trace has: the log, the name, and the log and name of what is told."""
+        for log in LOGS:
+            earlier = set()
+            for name, event in self.traces[log].items():
+                for told in event.told().values():
+                    if told[1] not in (earlier if told[0] == log else self.traces[told[0]]):
+                        yield log, name, told
+                earlier.add(name)
+
+    def is_in_window(self, event):
+        return "frame" not in event.fields or int(event.fields["frame"], 16) in self.frames
+
+    def is_kept(self, event):
+        """Whether an event becomes a record: it is in the table, of a recorded frame if of any, and tells of such alone."""
+        return (
+            event.what in RECORDS[event.log]
+            and self.is_in_window(event)
+            and all(self.is_kept(self.traces[log][name]) for log, name in event.told().values())
+        )
+
+    def with_placements(self, guest):
+        """The guest's trace, where each look tells of the newest placement that the pager had made by then.
+
+        A look brings the name of the pager's last event, and what the guest hoped for is not asked: a look that shows no
+        placement, or none that an earlier one did not show, is left out.
+        """
+        placements, by_then = [None], {}
+        for name, event in self.traces["pager"].items():
+            if event.what in PLACEMENTS and self.is_kept(event):
+                placements.append(name)
+            by_then[name] = len(placements) - 1
+        seen, events = 0, {}
+        for name, event in guest.items():
+            if event.what in LOOKS:
+                shown = by_then[event.fields["pager"]]
+                if shown <= seen:
+                    continue
+                seen = shown
+                event = Event(event.log, event.what, {"pager": placements[shown]})
+            events[name] = event
+        return events
+
+    def record(self, event):
+        """The text of an event's record."""
+        values = {key: self.numbers[told] for key, told in event.told().items()}
+        if "frame" in event.fields:
+            values["frame"] = int(event.fields["frame"], 16) - self.frames.start
+        if "actor" in event.fields:
+            values["actor"] = self.actors.index(event.fields["actor"])
+        if "sum" in event.fields:
+            values["sum"], values["value"] = event.fields["sum"], int(event.fields["sum"], 16)
+        return RECORDS[event.log][event.what].format(**values)
+
+    def initial_pages(self):
+        """The lines of the pages that did not begin as zeros."""
+        found = [event.fields for event in self.traces["guest"].values() if event.what == "found" and self.is_in_window(event)]
+        sums = {int(fields["frame"], 16) - self.frames.start: fields["sum"] for fields in found if int(fields["sum"], 16) != 0}
+        return [f"page {page} {sums[page]}" for page in sorted(sums)]
+
+    def text(self):
+        """The session."""
+        initial = self.initial_pages()
+        lines = ["postcopy-session 1", f"pages {len(self.frames)}", "cells 1", f"init {len(initial)}", *initial]
+        for log in LOGS:
+            lines += [f"{log} {len(self.kept[log])}", *map(self.record, self.kept[log].values())]
+        return "\n".join([*lines, "end", ""])
+
+
+def main():
+    words = argparse.ArgumentParser(description="Writes a session from four traces.")
+    words.add_argument("folder")
+    words.add_argument("--cut", action="store_true", help="cut the traces in front of what tells of a missing event")
+    asked = words.parse_args()
+    try:
+        sys.stdout.write(Recording(asked.folder, asked.cut).text())
+    except (OSError, Hole) as fault:
+        sys.exit(f"session_from_traces.py: {fault}")
+
+
+if __name__ == "__main__":
+    main()
