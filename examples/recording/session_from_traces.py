@@ -102,6 +102,8 @@ class Recording:
         self.actors = begin.fields["actors"].split(",")
         self.traces["guest"] = self.with_placements(self.traces["guest"])
         self.kept = {log: {name: event for name, event in self.traces[log].items() if self.is_kept(event)} for log in LOGS}
+        if len(self.kept["source"]) == 1:
+            self.kept["source"] = {}  # a `halted` that is alone is not of the right shape
         self.numbers = {(log, name): number for log in LOGS for number, name in enumerate(self.kept[log])}
 
     def cut_at_holes(self, cut):
@@ -109,7 +111,8 @@ class Recording:
         while hole := next(self.holes(), None):
             log, name, told = hole
             if not cut:
-                raise Hole(f"{log}.trace: {name} tells of {told[1]}, which {told[0]}.trace has not")
+                where = f"{told[0]}.trace has not" + (" before it" if told[0] == log else "")
+                raise Hole(f"{log}.trace: {name} tells of {told[1]}, which {where}")
             names = list(self.traces[log])
             for lost in names[names.index(name):]:
                 del self.traces[log][lost]
@@ -169,15 +172,13 @@ class Recording:
         return RECORDS[event.log][event.what].format(**values)
 
     def initial_pages(self):
-        """The lines of the pages that did not begin as zeros."""
+        """How many pages did not begin as zeros, and a line for each."""
         found = [event.fields for event in self.traces["guest"].values() if event.what == "found" and self.is_in_window(event)]
         sums = {int(fields["frame"], 16) - self.frames.start: fields["sum"] for fields in found if int(fields["sum"], 16) != 0}
-        return [f"page {page} {sums[page]}" for page in sorted(sums)]
+        return [f"init {len(sums)}", *(f"page {page} {sums[page]}" for page in sorted(sums))]
 
     def text(self):
-        """The session."""
-        initial = self.initial_pages()
-        lines = ["postcopy-session 1", f"pages {len(self.frames)}", "cells 1", f"init {len(initial)}", *initial]
+        lines = ["postcopy-session 1", f"pages {len(self.frames)}", "cells 1", *self.initial_pages()]
         for log in LOGS:
             lines += [f"{log} {len(self.kept[log])}", *map(self.record, self.kept[log].values())]
         return "\n".join([*lines, "end", ""])
