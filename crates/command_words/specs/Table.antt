@@ -3,25 +3,29 @@ use Rattle.std.specs.Prelude.{List, map, codes, [], ◌∷◌}
 use Rattle.std.specs.Borrow.{Bor}
 use Rattle.clap.specs.Words.{Text}
 use Rattle.command_words.specs.declared.asked.Asked.{Asked}
-use Rattle.command_words.specs.declared.asked.Asked.TheVariants.{One, Two}
+use Rattle.command_words.specs.declared.asked.Asked.TheVariants.{One, Two, Migrate}
+use Rattle.command_words.specs.declared.asked.Carrier.TheVariants.{Memory}
 use Rattle.command_words.specs.declared.asked.OneText.TheVariants.{Certify, Audit}
 use Rattle.command_words.specs.declared.asked.TwoTexts.TheVariants.{Check, Replay, Steps}
 use Rattle.command_words.specs.declared.table.Word.{Word}
 use Rattle.command_words.specs.declared.table.Row.{Row}
 
--- `check SESSION CERT`, `certify SESSION`, `audit SESSION`, `replay SESSION RUNS`, `steps SCRIPT EVENTS`
+-- `check SESSION CERT`, `certify SESSION`, `audit SESSION`, `replay SESSION RUNS`, `steps SCRIPT EVENTS`,
+-- `migrate SCRIPT`
 abbrev pub table : List (Text × Asked Text)
 table =
     (codes "check", Two Check (codes "SESSION") (codes "CERT")) ∷
     (codes "certify", One Certify (codes "SESSION")) ∷
     (codes "audit", One Audit (codes "SESSION")) ∷
     (codes "replay", Two Replay (codes "SESSION") (codes "RUNS")) ∷
-    (codes "steps", Two Steps (codes "SCRIPT") (codes "EVENTS")) ∷ []
+    (codes "steps", Two Steps (codes "SCRIPT") (codes "EVENTS")) ∷
+    (codes "migrate", Migrate Memory (codes "SCRIPT")) ∷ []
 
 -- a command, with another word for each of its texts
 abbrev pub asked_map : {V W : Type 0} → (V → W) → Asked V → Asked W
 asked_map f (One task word) = One task (f word)
 asked_map f (Two task first second) = Two task (f first) (f second)
+asked_map f (Migrate carrier word) = Migrate carrier (f word)
 
 -- what is asked for, with the names of its texts
 abbrev pub asked_names : Asked (Bor Text) → Asked Text

@@ -6,7 +6,7 @@ use Rattle.std.specs.Borrow.{Bor}
 use Rattle.clap.specs.Simple.{on_top}
 use Rattle.clap.specs.Words.{App, Row, Rule, Text, first_of, new_app, new_rule, subcommand_of, with_rule, with_subcommand}
 use Rattle.command_words.specs.declared.asked.Asked.{Asked}
-use Rattle.command_words.specs.declared.asked.Asked.TheVariants.{One, Two}
+use Rattle.command_words.specs.declared.asked.Asked.TheVariants.{One, Two, Migrate}
 use Rattle.command_words.specs.declared.asked.TwoTexts.{TwoTexts}
 use Rattle.command_words.specs.Table.{table}
 
@@ -18,6 +18,7 @@ needed id = record (new_rule id) { required = true }
 abbrev pub with_words : App → Asked Text → App
 with_words app (One task word) = with_rule app (needed word)
 with_words app (Two task first second) = with_rule (with_rule app (needed first)) (needed second)
+with_words app (Migrate carrier word) = with_rule app (needed word)
 
 -- the command of a row of the table
 abbrev pub command_words : Text × Asked Text → App
@@ -49,6 +50,7 @@ both_names task (Some first) (Some second) = Some (Two task first second)
 abbrev pub given_in : List Row → Asked Text → Option (Asked Text)
 given_in rows (One task word) = option_map (λ name. One task name) (first_of word rows)
 given_in rows (Two task first second) = both_names task (first_of first rows) (first_of second rows)
+given_in rows (Migrate carrier word) = option_map (λ name. Migrate carrier name) (first_of word rows)
 
 -- what a command and what it was given ask for, by the table
 abbrev pub asked_in : Text × List Row → Option (Asked Text)
@@ -66,6 +68,7 @@ IsPlainName name = (name ≡ codes "-") ⊎ ((rest : Text) → name ≢ codes "-
 abbrev pub with_names : List Text → Asked Text → Option (Asked Text)
 with_names (name ∷ []) (One task word) = Some (One task name)
 with_names (first ∷ second ∷ []) (Two task word other) = Some (Two task first second)
+with_names (name ∷ []) (Migrate carrier word) = Some (Migrate carrier name)
 with_names names asked = None
 
 -- what the name of a command and the names of its texts ask for

@@ -20,11 +20,22 @@ pub enum TwoTexts {
     Steps,
 }
 
+/// What carries the packets of a migration.
+#[derive(Clone, Copy)]
+pub enum Carrier {
+    /// Queues in memory.
+    Memory,
+    /// A connection over the loopback.
+    Tcp,
+}
+
 /// A command, with a word for each of its texts.
 #[derive(Clone, Copy)]
 pub enum Asked<W> {
     One(OneText, W),
     Two(TwoTexts, W, W),
+    /// The migration of a script's guest, over what carries its packets.
+    Migrate(Carrier, W),
 }
 
 /// What the words ask for, with the names of its texts.

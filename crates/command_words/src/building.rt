@@ -47,7 +47,7 @@ fn command_of<'a>(alloc: Global, row: &Row) -> Result<Command<'a>, AllocError>
 {
     let command = Command::new(alloc, row.name).about(row.about);
     match &row.asked {
-        Asked::One(_, word) => with_word(alloc, command, word),
+        Asked::One(_, word) | Asked::Migrate(_, word) => with_word(alloc, command, word),
         Asked::Two(_, first, second) => {
             let command = with_word(alloc, command, first)?;
             with_word(alloc, command, second)

@@ -34,6 +34,10 @@ fn given<'a>(asks: &Asked<Word>, matches: &ArgMatches<'a>) -> Option<Job<'a>>
             let second = name_given(second, matches)?;
             Some(Asked::Two(*task, first, second))
         }
+        Asked::Migrate(carrier, word) => {
+            let name = name_given(word, matches)?;
+            Some(Asked::Migrate(*carrier, name))
+        }
     }
 }
 

@@ -3,7 +3,7 @@
 ghost use Rattle.std.specs.Prelude.{◌≡◌};
 ghost use Rattle.command_words.specs.Table.{rows_of, table};
 
-use crate::asked::{Asked, OneText, TwoTexts};
+use crate::asked::{Asked, Carrier, OneText, TwoTexts};
 
 /// A word of the command line that names a text.
 #[derive(Clone, Copy)]
@@ -48,7 +48,7 @@ const EVENTS: Word = Word {
     help: "The file of a list of events; - is standard input",
 };
 
-static COMMANDS: [Row; 5] = [
+static COMMANDS: [Row; 6] = [
     Row {
         name: "check",
         about: "Judges the certificate of a session, as in: postcopy check session cert",
@@ -73,6 +73,11 @@ static COMMANDS: [Row; 5] = [
         name: "steps",
         about: "Writes the session that events record of a script, as in: postcopy steps script events",
         asked: Asked::Two(TwoTexts::Steps, SCRIPT, EVENTS),
+    },
+    Row {
+        name: "migrate",
+        about: "Migrates the guest of a script and writes its session and certificate, as in: postcopy migrate script | postcopy",
+        asked: Asked::Migrate(Carrier::Memory, SCRIPT),
     },
 ];
 
