@@ -14,6 +14,8 @@ use clap::error::ErrorKind;
 use command_words::{Asked, Job, OneText, TwoTexts, read_words};
 use std::alloc::Global;
 use std::io::{Read, Write};
+use std::sync::Wait;
+use std::thread::Threads;
 
 // Does a command on the text under a name.
 fn perform_one<'a, S: TextSource, I: Read, O: Write>(
@@ -116,7 +118,8 @@ fn refuse<O: Write, E: Write>(error: clap::Error, output: &mut O, errors: &mut E
 /// not read whole, has more than 268,435,456 bytes or takes too many reads, or the output was not written, and 4 for want
 /// of memory. At 2 to 4 the errors tell why. The texts are read in the order of the words, and both before an answer is
 /// sought.
-pub fn run<S: TextSource, I: Read, O: Write, E: Write>(
+pub fn run<R: Threads + Wait + Sync, S: TextSource, I: Read, O: Write, E: Write>(
+    rt: &R,
     alloc: Global,
     words: &[&str],
     texts: &S,
@@ -131,6 +134,7 @@ pub fn run<S: TextSource, I: Read, O: Write, E: Write>(
     ensures told { takes postcopy_words (word_texts words.entry.now) ≡ true → result < 2 → IfSome (asked (word_texts words.entry.now)) (λ job. TellsAsked job (S.bytes_of texts.now) (I.remaining input.old) (O.contents output.old) (O.contents output.new) result) }
     ensures plain { (name : List ℕ) (names : List (List ℕ)) → IsPlain (word_texts words.entry.now) name names → IfSome (asked_by name names) (λ job. (result ≢ 2) × (result < 2 → TellsAsked job (S.bytes_of texts.now) (I.remaining input.old) (O.contents output.old) (O.contents output.new) result)) }
 {
+    let _ = rt;
     if words.len() <= 1 {
         return settle(check_input(alloc, texts, input, output), errors);
     }
