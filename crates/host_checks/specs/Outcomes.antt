@@ -60,11 +60,11 @@ pub record IsFlatStore (s : Recorded) (store : Frames) : Type 0 where
   pub geometry : store.geometry ≡ s.geometry
   pub pages : (page : ℕ) → page < s.geometry.pages → page_of s.geometry.cells (memory_of store) page ≡ page_of s.geometry.cells (flat s (length s.guest)) page
 
--- a report with which an audit is refused is not that the session is clean
+-- a report with which an audit is refused is that on a session, and is not that it is clean
 abbrev pub IsRunFault : RunFault → Type 0
 IsRunFault LogFull = Unit {0}
 IsRunFault Memory = Unit {0}
-IsRunFault (AuditRefused report) = ¬ IsClean report
+IsRunFault (AuditRefused report) = (s : Recorded) × IsReport s report × ¬ IsClean report
 IsRunFault TranscriptDiffers = Unit {0}
 IsRunFault Link = Unit {0}
 
