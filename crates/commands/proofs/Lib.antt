@@ -1,7 +1,7 @@
 pub mod Cuts
 pub mod Statuses
-pub mod Audits
-pub mod Stepped
+pub mod Said
+pub mod Migrated
 pub mod Recorded
 pub mod WhatIsRead
 pub mod Outcomes

@@ -12,13 +12,15 @@ use Rattle.command_words.specs.declared.asked.OneText.TheVariants.{Certify, Audi
 use Rattle.command_words.specs.declared.asked.TwoTexts.{TwoTexts}
 use Rattle.command_words.specs.declared.asked.TwoTexts.TheVariants.{Check, Replay, Steps}
 use Rattle.commands.specs.declared.answer.Fault.{Fault}
-use Rattle.commands.specs.declared.answer.Fault.TheVariants.{File, Output, Memory}
+use Rattle.commands.specs.declared.answer.Fault.TheVariants.{File, Link, Output, Memory}
 use Rattle.commands.specs.declared.replaying.Outcome.{Outcome}
 use Rattle.commands.specs.declared.replaying.Outcome.TheVariants as outcome
 use Rattle.audit_report.specs.declared.texts.Audited.{Audited}
 use Rattle.audit_report.specs.declared.texts.Audited.TheVariants.{Refused, Reported}
 use Rattle.commands.specs.Answers.{audited_status, fault_status, report_status, verdict_status}
 use Rattle.commands.specs.Replayed.{outcome_status}
+use Rattle.commands.specs.Migrations.{IsMigrateAnswer}
+use Rattle.commands.proofs.Migrated.{migration_few}
 use Rattle.commands.specs.Steps.{LogFull, Records, ScriptText, EventsText, Steps as Stepped, steps_status}
 use Rattle.commands.specs.Told.{IsOneAnswer, IsTwoAnswer}
 
@@ -65,6 +67,9 @@ two_few Check texts text status h = rw h.is_status (verdict_few h.value)
 two_few Replay texts text status h = rw h.is_status (outcome_few h.value)
 two_few Steps texts text status h = rw h.is_status (steps_few h.value)
 
+pub migrate_few : (script text : List ℕ) (status : ℕ) → IsMigrateAnswer script text status → status < 2
+migrate_few script text status h = rw h.is_status (migration_few h.value)
+
 -- the status that was written is the answer's
 pub few_written : (done : Result ℕ Fault) (own : ℕ) → own < 2 → IfOk done (λ status. status ≡ own) → IfOk done (λ status. status < 2)
 few_written (Ok status) own few e = rw e few
@@ -74,6 +79,7 @@ few_written (Err fault) own few e = tt
 settled : (done : Result ℕ Fault) (status : ℕ) (P : ℕ → Type 0) → MatchResult done (λ s. status ≡ s) (λ fault. status ≡ fault_status fault) → IfOk done (λ s. s < 2) → IfOk done P → (status ≢ 2) × (status < 2 → P status)
 settled (Ok s) status P e few p = (λ two. absurd (omega arith), λ lt. rw e p)
 settled (Err (File name)) status P h few p = (λ two. absurd (omega arith), λ lt. absurd (omega arith))
+settled (Err Link) status P h few p = (λ two. absurd (omega arith), λ lt. absurd (omega arith))
 settled (Err Output) status P h few p = (λ two. absurd (omega arith), λ lt. absurd (omega arith))
 settled (Err Memory) status P h few p = (λ two. absurd (omega arith), λ lt. absurd (omega arith))
 

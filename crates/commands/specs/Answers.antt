@@ -15,11 +15,12 @@ use Rattle.audit_report.specs.declared.report.Report.{Report}
 use Rattle.audit_report.specs.declared.report.Report.TheVariants as report
 use Rattle.commands.specs.declared.answer.Answer.{Answer}
 use Rattle.commands.specs.declared.answer.Fault.{Fault}
-use Rattle.commands.specs.declared.answer.Fault.TheVariants.{File, Output, Memory}
+use Rattle.commands.specs.declared.answer.Fault.TheVariants.{File, Link, Output, Memory}
 
--- 4 for want of memory, and 3 for a text or an output that failed
+-- 4 for want of memory, and 3 for a text, a link or an output that failed
 abbrev pub fault_status : Fault → ℕ
 fault_status (File name) = 3
+fault_status Link = 3
 fault_status Output = 3
 fault_status Memory = 4
 

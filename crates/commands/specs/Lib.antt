@@ -2,5 +2,6 @@ pub mod Cutting
 pub mod Answers
 pub mod Replayed
 pub mod Steps
+pub mod Migrations
 pub mod Told
 pub mod inner

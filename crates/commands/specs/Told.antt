@@ -3,7 +3,7 @@ use Rattle.std.specs.Prelude.{◌≡◌, ℕ, ◌≤◌, Bool, true, false, List
 use Rattle.std.specs.Str.{bytes_eq}
 use Rattle.std.specs.Io.KnownBytes.{Appends}
 use Rattle.command_words.specs.declared.asked.Asked.{Asked}
-use Rattle.command_words.specs.declared.asked.Asked.TheVariants.{One, Two}
+use Rattle.command_words.specs.declared.asked.Asked.TheVariants.{One, Two, Migrate}
 use Rattle.command_words.specs.declared.asked.OneText.{OneText}
 use Rattle.command_words.specs.declared.asked.OneText.TheVariants.{Certify, Audit}
 use Rattle.command_words.specs.declared.asked.TwoTexts.{TwoTexts}
@@ -13,6 +13,7 @@ use Rattle.commands.specs.Answers.{IsAuditAnswer, IsVerdictAnswer}
 use Rattle.commands.specs.Cutting.{IsCutAtEnd}
 use Rattle.commands.specs.Replayed.{IsReplayAnswer}
 use Rattle.commands.specs.Steps.{IsStepsAnswer}
+use Rattle.commands.specs.Migrations.{IsMigrateAnswer}
 
 -- the answer of a command on one text
 abbrev pub IsOneAnswer : OneText → List ℕ → List ℕ → ℕ → Type 0
@@ -73,3 +74,4 @@ pub record Tells {T : Type 0} (AreTexts : T → Type 0) (IsAnswerTo : T → List
 abbrev pub TellsAsked : Asked (List ℕ) → (List ℕ → Option (List ℕ)) → Option (List ℕ) → Option (List ℕ) → Option (List ℕ) → ℕ → Type 0
 TellsAsked (One task name) files input = Tells (IsNamed name files input) (IsOneAnswer task)
 TellsAsked (Two task first second) files input = Tells (AreNamed first second files input) (IsTwoAnswer task)
+TellsAsked (Migrate carrier name) files input = Tells (IsNamed name files input) IsMigrateAnswer

@@ -1,12 +1,13 @@
 //! Answers and faults, with their statuses.
 
-ghost use Rattle.std.specs.Prelude.{◌≡◌, IfOk};
+ghost use Rattle.std.specs.Prelude.{◌≡◌, [], ◌∷◌, Ok, IfOk};
 ghost use Rattle.std.specs.Io.KnownBytes.{Appends};
+ghost use Rattle.text_lines.specs.Text.{ended};
 ghost use Rattle.commands.specs.Answers.{Says, fault_status, numbered};
 
 use std::alloc::{AllocError, Global};
 use std::io::Write;
-use text_lines::push_keyed;
+use text_lines::{push_keyed, push_line};
 
 /// The status where all is well.
 pub const ACCEPTED: u8 = 0;
@@ -17,7 +18,7 @@ pub const REFUSED: u8 = 1;
 /// The status of words that are no command.
 pub const USAGE: u8 = 2;
 
-/// The status of a text that was not read, or of an output that was not written.
+/// The status of a text that was not read, of a link that failed, or of an output that was not written.
 pub const FAILED: u8 = 3;
 
 /// The status of want of memory.
@@ -35,6 +36,8 @@ pub struct Answer {
 pub enum Fault<'a> {
     /// The text under this name was not read whole.
     File(&'a str),
+    /// The link of a migration failed.
+    Link,
     /// The output was not written.
     Output,
     /// Memory was refused.
@@ -50,6 +53,10 @@ pub fn tell<E: Write>(fault: Fault<'_>, errors: &mut E) -> u8
             let _ = writeln!(errors, "file {name}");
             FAILED
         }
+        Fault::Link => {
+            let _ = errors.write_all(b"link\n");
+            FAILED
+        }
         Fault::Output => {
             let _ = errors.write_all(b"output\n");
             FAILED
@@ -59,6 +66,28 @@ pub fn tell<E: Write>(fault: Fault<'_>, errors: &mut E) -> u8
             MEMORY
         }
     }
+}
+
+/// An answer, or the fault that there is none.
+pub fn given(answer: Result<Answer, AllocError>) -> Result<Answer, Fault<'static>>
+    ensures { IfOk result (λ given. answer ≡ Ok given) }
+{
+    match answer {
+        Ok(answer) => Ok(answer),
+        Err(_) => Err(Fault::Memory),
+    }
+}
+
+/// The answer that says this alone, where all is not well.
+pub fn remark(alloc: Global, line: &[u8]) -> Result<Answer, AllocError>
+    ensures { IfOk result (λ answer. Says answer (ended (line.now ∷ [])) 1) }
+{
+    let mut text = Vec::new(alloc);
+    push_line(&mut text, line)?;
+    Ok(Answer {
+        text,
+        status: REFUSED,
+    })
 }
 
 /// The answer to a text that is refused at this line, which the key tells.

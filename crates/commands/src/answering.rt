@@ -1,35 +1,29 @@
 //! What each command answers to the texts under its names: an arm for each.
 
-ghost use Rattle.std.specs.Prelude.{◌≡◌, ℕ, List, Ok, IfOk};
+ghost use Rattle.std.specs.Prelude.{ℕ, List, IfOk};
 ghost use Rattle.text_lines.specs.Answer.{IsRead};
 ghost use Rattle.session_log.specs.Grammar.{SpellsSession};
+ghost use Rattle.commands.specs.Migrations.{IsMigrateAnswer};
 ghost use Rattle.commands.specs.Told.{AreNamed, IsNamed, IsOneAnswer, IsTwoAnswer};
 ghost use Rattle.commands.specs.inner.Found.{AnswersTo};
 
-use crate::answer::{Answer, Fault};
+use crate::answer::{Answer, Fault, given};
 use crate::auditing::audit_read;
 use crate::checking::judge_read;
+use crate::migrating::migrate_read;
 use crate::naming::{read_named, read_pair};
 use crate::reading::TextSource;
 use crate::replaying::replay_read;
 use crate::stepping::steps_read;
 use audit_report::Wanted;
 use cert_text::{CertReader, RunsReader};
-use command_words::{OneText, TwoTexts};
+use command_words::{Carrier, OneText, TwoTexts};
 use migration_types::Session;
 use session_log::SessionReader;
 use std::alloc::{AllocError, Global};
 use std::io::Read;
-
-// An answer, or the fault that there is none.
-fn given(answer: Result<Answer, AllocError>) -> Result<Answer, Fault<'static>>
-    ensures { IfOk result (λ given. answer ≡ Ok given) }
-{
-    match answer {
-        Ok(answer) => Ok(answer),
-        Err(_) => Err(Fault::Memory),
-    }
-}
+use std::sync::Wait;
+use std::thread::Threads;
 
 // The answer of a command on one text, by what was read of it.
 fn session_answer(
@@ -121,4 +115,19 @@ pub fn two_answer<'a, S: TextSource, I: Read>(
         TwoTexts::Replay => replay_named(alloc, first, second, texts, input),
         TwoTexts::Steps => steps_named(alloc, first, second, texts, input),
     }
+}
+
+/// What becomes of the script under a name, whose migration is run.
+pub fn migrate_named<'a, R: Threads + Wait + Sync, S: TextSource, I: Read>(
+    rt: &R,
+    alloc: Global,
+    carrier: Carrier,
+    name: &'a str,
+    texts: &S,
+    input: &mut I,
+) -> Result<Answer, Fault<'a>>
+    ensures { IfOk result (AnswersTo (IsNamed name.entry.now (S.bytes_of texts.now) (I.remaining input.old)) IsMigrateAnswer) }
+{
+    let script = read_named::<Vec<u8>, S, I>(alloc, name, texts, input)?;
+    migrate_read(rt, alloc, carrier, &script)
 }

@@ -5,13 +5,14 @@ ghost use Rattle.clap.specs.Words.{kind_of, takes};
 ghost use Rattle.command_words.specs.Table.{asked_names};
 ghost use Rattle.command_words.specs.Words.{IsPlain, asked, asked_by, postcopy_words, word_texts};
 ghost use Rattle.commands.specs.Answers.{fault_status};
+ghost use Rattle.commands.specs.Migrations.{IsMigrateAnswer};
 ghost use Rattle.commands.specs.Told.{AreNamed, AreOfInput, IsNamed, IsOneAnswer, IsTwoAnswer, Tells, TellsAsked};
 
 use crate::answer::{Fault, USAGE, tell, written};
-use crate::answering::{one_answer, two_answer};
+use crate::answering::{migrate_named, one_answer, two_answer};
 use crate::reading::TextSource;
 use clap::error::ErrorKind;
-use command_words::{Asked, Job, OneText, TwoTexts, read_words};
+use command_words::{Asked, Carrier, Job, OneText, TwoTexts, read_words};
 use std::alloc::Global;
 use std::io::{Read, Write};
 use std::sync::Wait;
@@ -63,8 +64,26 @@ fn check_input<S: TextSource, I: Read, O: Write>(
     perform_two(alloc, TwoTexts::Check, "-", "-", texts, input, output)
 }
 
+// Runs the migration of the script under a name.
+fn perform_migrate<'a, R: Threads + Wait + Sync, S: TextSource, I: Read, O: Write>(
+    rt: &R,
+    alloc: Global,
+    carrier: Carrier,
+    name: &'a str,
+    texts: &S,
+    input: &mut I,
+    output: &mut O,
+) -> Result<u8, Fault<'a>>
+    ensures few { IfOk result (λ status. status < 2) }
+    ensures told { IfOk result (Tells (IsNamed name.entry.now (S.bytes_of texts.now) (I.remaining input.old)) IsMigrateAnswer (O.contents output.old) (O.contents output.new)) }
+{
+    let answer = migrate_named(rt, alloc, carrier, name, texts, input)?;
+    written(&answer, output)
+}
+
 // Does what the words ask for.
-fn perform<'a, S: TextSource, I: Read, O: Write>(
+fn perform<'a, R: Threads + Wait + Sync, S: TextSource, I: Read, O: Write>(
+    rt: &R,
     alloc: Global,
     job: Job<'a>,
     texts: &S,
@@ -78,6 +97,9 @@ fn perform<'a, S: TextSource, I: Read, O: Write>(
         Asked::One(task, name) => perform_one(alloc, task, name, texts, input, output),
         Asked::Two(task, first, second) => {
             perform_two(alloc, task, first, second, texts, input, output)
+        }
+        Asked::Migrate(carrier, name) => {
+            perform_migrate(rt, alloc, carrier, name, texts, input, output)
         }
     }
 }
@@ -115,9 +137,12 @@ fn refuse<O: Write, E: Write>(error: clap::Error, output: &mut O, errors: &mut E
 ///
 /// The first of the words is the program's own name; with no other it checks the two texts of the input. The status is
 /// 0 where all is well or help was asked for, 1 for another answer, 2 where the words are no command, 3 where a text was
-/// not read whole, has more than 268,435,456 bytes or takes too many reads, or the output was not written, and 4 for want
-/// of memory. At 2 to 4 the errors tell why. The texts are read in the order of the words, and both before an answer is
-/// sought.
+/// not read whole, has more than 268,435,456 bytes or takes too many reads, where a migration's link failed, or the output
+/// was not written, and 4 for want of memory. At 2 to 4 the errors tell why. The texts are read in the order of the words,
+/// and both before an answer is sought.
+///
+/// The handle starts and joins the threads of a migration, for which alone it is used: with other words this waits for no
+/// other thread. Nothing is promised of when a migration ends.
 pub fn run<R: Threads + Wait + Sync, S: TextSource, I: Read, O: Write, E: Write>(
     rt: &R,
     alloc: Global,
@@ -134,12 +159,11 @@ pub fn run<R: Threads + Wait + Sync, S: TextSource, I: Read, O: Write, E: Write>
     ensures told { takes postcopy_words (word_texts words.entry.now) ≡ true → result < 2 → IfSome (asked (word_texts words.entry.now)) (λ job. TellsAsked job (S.bytes_of texts.now) (I.remaining input.old) (O.contents output.old) (O.contents output.new) result) }
     ensures plain { (name : List ℕ) (names : List (List ℕ)) → IsPlain (word_texts words.entry.now) name names → IfSome (asked_by name names) (λ job. (result ≢ 2) × (result < 2 → TellsAsked job (S.bytes_of texts.now) (I.remaining input.old) (O.contents output.old) (O.contents output.new) result)) }
 {
-    let _ = rt;
     if words.len() <= 1 {
         return settle(check_input(alloc, texts, input, output), errors);
     }
     match read_words(alloc, words) {
-        Ok(Some(job)) => settle(perform(alloc, job, texts, input, output), errors),
+        Ok(Some(job)) => settle(perform(rt, alloc, job, texts, input, output), errors),
         Ok(None) => settle(check_input(alloc, texts, input, output), errors),
         Err(error) => refuse(error, output, errors),
     }

@@ -1,6 +1,6 @@
 //! The session that events record of a script, as a text and a status.
 
-ghost use Rattle.std.specs.Prelude.{◌≡◌, ℕ, List, IfOk, codes};
+ghost use Rattle.std.specs.Prelude.{◌≡◌, ℕ, List, IfOk};
 ghost use Rattle.text_lines.specs.Text.{ended, IsSpelling};
 ghost use Rattle.session_log.specs.Grammar.{session_lines};
 ghost use Rattle.guest_script.specs.Events.{SpellsEvents};
@@ -9,26 +9,13 @@ ghost use Rattle.audit_report.specs.declared.wanted.Wanted.{Wanted as Asked};
 ghost use Rattle.commands.specs.Answers.{IsAuditAnswer, Says};
 ghost use Rattle.commands.specs.Steps.{IsStepsAnswer};
 
-use crate::answer::{ACCEPTED, Answer, REFUSED, refused};
+use crate::answer::{ACCEPTED, Answer, refused, remark};
 use guest_script::{Script, read_events, read_script};
 use migration_events::Event;
 use migration_types::Session;
 use session_core::{CoreFault, run};
 use session_log::write_session;
 use std::alloc::{AllocError, Global};
-use text_lines::push_line;
-
-/// The answer to events that a log has no room for.
-fn full(alloc: Global) -> Result<Answer, AllocError>
-    ensures { IfOk result (λ answer. Says answer (codes "log-full\n") 1) }
-{
-    let mut text = Vec::new(alloc);
-    push_line(&mut text, b"log-full")?;
-    Ok(Answer {
-        text,
-        status: REFUSED,
-    })
-}
 
 /// The answer that a session is.
 fn recorded(alloc: Global, session: &Session) -> Result<Answer, AllocError>
@@ -47,7 +34,7 @@ fn answer_to(alloc: Global, script: &Script, events: &[Event]) -> Result<Answer,
 {
     match run(alloc, script, events) {
         Ok(session) => recorded(alloc, &session),
-        Err(CoreFault::LogFull) => full(alloc),
+        Err(CoreFault::LogFull) => remark(alloc, b"log-full"),
         Err(CoreFault::Memory) => Err(AllocError),
     }
 }

@@ -1,5 +1,8 @@
-use Rattle.commands.proofs.Audits.{audit_told}
+use Rattle.audit_report.specs.Texts.{IsAudited}
+use Rattle.audit_report.specs.AuditedText.{audited_text}
+use Rattle.commands.specs.Answers.{audited_status}
+use Rattle.commands.proofs.Said.{says_right}
 use Rattle.commands.proofs.auditing.audit_read.Goals as goal
 
 pub returns-in-Ok : goal.returns-in-Ok
-returns-in-Ok c = λ text read. audit_told c.args.wanted text c.in-Ok.audited c.told.result (c.in-Ok.ensures.audited text read) c.told.ensures
+returns-in-Ok c = λ text read. says_right (IsAudited text) (audited_text c.args.wanted) audited_status c.in-Ok.audited c.told.result (c.in-Ok.ensures.audited text read) c.told.ensures

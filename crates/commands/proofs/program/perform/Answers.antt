@@ -5,3 +5,6 @@ returns-in-One-clause-told g c = rw c.in-One.is c.perform_one.ensures.told
 
 pub returns-in-Two-clause-told : goal.returns-in-Two-clause-told
 returns-in-Two-clause-told g c = rw c.in-Two.is c.perform_two.ensures.told
+
+pub returns-in-Migrate-clause-told : goal.returns-in-Migrate-clause-told
+returns-in-Migrate-clause-told g c = rw c.in-Migrate.is c.perform_migrate.ensures.told

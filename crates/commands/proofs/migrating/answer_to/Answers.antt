@@ -1,0 +1,14 @@
+use Rattle.commands.specs.Migrations.{IsMigrateAnswer, Records}
+use Rattle.commands.proofs.Said.{given_holds}
+use Rattle.commands.proofs.Migrated.{migration_told}
+use Rattle.commands.proofs.migrating.answer_to.Goals as goal
+
+pub returns-in-Ok : goal.returns-in-Ok
+returns-in-Ok g c = λ text script.
+    let m = c.in-Ok.migrated in
+    given_holds (λ a. IsMigrateAnswer text a.text.items a.status) c.certified.result c.given.result
+    (migration_told text (Records m.session m.cert) c.certified.result (c.args.script.now, script, c.in-Ok.ensures.migrated) c.certified.ensures)
+    c.given.ensures
+
+pub returns-in-Err : goal.returns-in-Err
+returns-in-Err g c = c.stopped.ensures c.args.script.now

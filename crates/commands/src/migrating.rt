@@ -1,0 +1,129 @@
+//! The migration of a script, as a text and a status.
+
+ghost use Rattle.std.specs.Prelude.{◌≡◌, ℕ, List, IfOk, IfErr};
+ghost use Rattle.text_lines.specs.Answer.{Refused};
+ghost use Rattle.text_lines.specs.Text.{IsSpelling};
+ghost use Rattle.audit_report.specs.Reports.{ReportFits};
+ghost use Rattle.audit_report.specs.ReportText.{report_text};
+ghost use Rattle.guest_script.specs.Scenarios.{Scenario};
+ghost use Rattle.guest_script.specs.Scripts.{SpellsScript};
+ghost use Rattle.host_checks.specs.Outcomes.{IsRunFault};
+ghost use Rattle.commands.specs.Answers.{Says};
+ghost use Rattle.commands.specs.Migrations.{IsMigrateAnswer, IsMigrationOf, certified_text};
+
+use crate::answer::{ACCEPTED, Answer, Fault, REFUSED, given, refused, remark};
+use audit_report::{Report, print_report};
+use cert_text::write_cert;
+use command_words::Carrier;
+use guest_script::{Script, read_script};
+use host_threads::{Migrated, Open, RunFault, migrate};
+use session_log::write_session;
+use std::alloc::{AllocError, Global};
+use std::sync::Wait;
+use std::thread::Threads;
+use text_lines::TextFault;
+
+/// Runs the migration of a script over a carrier.
+fn carried<R: Threads + Wait + Sync>(
+    rt: &R,
+    alloc: Global,
+    carrier: Carrier,
+    script: &Script,
+) -> Result<Migrated, RunFault>
+    ensures migrated { IfOk result (λ m. IsMigrationOf script.now m.session m.cert) }
+    ensures refused { IfErr result IsRunFault }
+{
+    match carrier {
+        Carrier::Memory => migrate(rt, alloc, script, &Open),
+        Carrier::Tcp => Err(RunFault::Link),
+    }
+}
+
+/// The answer that a migration is: the text of its session, and behind it that of its certificate.
+fn certified(alloc: Global, migrated: &Migrated) -> Result<Answer, AllocError>
+    ensures { IfOk result (λ answer. Says answer (certified_text migrated.now.session migrated.now.cert) 0) }
+{
+    let mut text = write_session(alloc, &migrated.session)?;
+    let cert = write_cert(alloc, &migrated.cert)?;
+    text.extend_from_slice(&cert)?;
+    Ok(Answer {
+        text,
+        status: ACCEPTED,
+    })
+}
+
+/// The answer that a report is.
+fn reported(alloc: Global, report: &Report) -> Result<Answer, AllocError>
+    requires { ReportFits report.now }
+    ensures { IfOk result (λ answer. Says answer (report_text report.now) 1) }
+{
+    let text = print_report(alloc, report)?;
+    Ok(Answer {
+        text,
+        status: REFUSED,
+    })
+}
+
+/// The answer to a run that was refused.
+fn stopped(alloc: Global, fault: &RunFault) -> Result<Answer, Fault<'static>>
+    requires { IsRunFault fault.now }
+    ensures { (s : Scenario) (text : List ℕ) → IsSpelling SpellsScript s text → IfOk result (λ answer. IsMigrateAnswer text answer.text.items answer.status) }
+{
+    match fault {
+        RunFault::LogFull => given(remark(alloc, b"log-full")),
+        RunFault::Memory => Err(Fault::Memory),
+        RunFault::AuditRefused(report) => given(reported(alloc, report)),
+        RunFault::TranscriptDiffers => given(remark(alloc, b"transcript-differs")),
+        RunFault::Link => Err(Fault::Link),
+    }
+}
+
+/// What becomes of a script, whatever its text is.
+fn answer_to<R: Threads + Wait + Sync>(
+    rt: &R,
+    alloc: Global,
+    carrier: Carrier,
+    script: &Script,
+) -> Result<Answer, Fault<'static>>
+    ensures { (text : List ℕ) → IsSpelling SpellsScript script.now text → IfOk result (λ answer. IsMigrateAnswer text answer.text.items answer.status) }
+{
+    match carried(rt, alloc, carrier, script) {
+        Ok(migrated) => given(certified(alloc, &migrated)),
+        Err(fault) => stopped(alloc, &fault),
+    }
+}
+
+/// The answer to a script's text that is not read.
+fn unread(alloc: Global, fault: TextFault) -> Result<Answer, AllocError>
+    ensures { (text : List ℕ) → Refused SpellsScript text fault.line fault.kind → IfOk result (λ answer. IsMigrateAnswer text answer.text.items answer.status) }
+{
+    refused(alloc, b"script-text line ", fault.refused_line()?)
+}
+
+/// What becomes of a script, by its text.
+fn migrate_text<R: Threads + Wait + Sync>(
+    rt: &R,
+    alloc: Global,
+    carrier: Carrier,
+    script: &[u8],
+) -> Result<Answer, Fault<'static>>
+    ensures { IfOk result (λ answer. IsMigrateAnswer script.now answer.text.items answer.status) }
+{
+    match read_script(alloc, script) {
+        Ok(script) => answer_to(rt, alloc, carrier, &script),
+        Err(fault) => given(unread(alloc, fault)),
+    }
+}
+
+/// What becomes of a script, by what was read of its text, which is all of it. Its migration is run in threads, with a gate
+/// that never waits. The faults: there is no memory, or the link failed.
+pub fn migrate_read<R: Threads + Wait + Sync>(
+    rt: &R,
+    alloc: Global,
+    carrier: Carrier,
+    script: &Vec<u8>,
+) -> Result<Answer, Fault<'static>>
+    ensures { (text : List ℕ) → script.now.items ≡ text → IfOk result (λ answer. IsMigrateAnswer text answer.text.items answer.status) }
+{
+    migrate_text(rt, alloc, carrier, script)
+}
