@@ -2,6 +2,9 @@ pub mod Cuts
 pub mod Statuses
 pub mod Said
 pub mod Migrated
+pub mod Closed
+pub mod CutOnce
+pub mod Judged
 pub mod Recorded
 pub mod WhatIsRead
 pub mod Outcomes

@@ -24,7 +24,7 @@ clean_status s f merges (report.Knot line) is = absurd (is.1.has_no_merging merg
 clean_status s f merges (report.Faulty line reason order) is = absurd (f.clean reason is.1.name is.1.is_first.is_fault)
 
 -- and the audit of its text
-audited_clean : (s : Recorded) (text : List ℕ) → IsFaultless s → HasMerging s → IsSpelling SpellsSession s text → (a : Audited) → IsAudited text a → audited_status a ≡ 0
+pub audited_clean : (s : Recorded) (text : List ℕ) → IsFaultless s → HasMerging s → IsSpelling SpellsSession s text → (a : Audited) → IsAudited text a → audited_status a ≡ 0
 audited_clean s text f merges spelled (Refused line) refused = absurd (refused.spells_nothing s spelled)
 audited_clean s text f merges spelled (Reported r) (other, is_other, is) =
     let same : other ≡ s = sessions_unambiguous.one_value other s text is_other spelled in

@@ -1,8 +1,8 @@
 -- What becomes of a script whose migration is run.
 use Rattle.std.specs.Prelude.{◌≡◌, ℕ, List, ◌++◌, codes}
 use Rattle.text_lines.specs.Text.{ended, IsSpelling, IsRefusalLine}
-use Rattle.migration_types.specs.Certs.{Certified}
-use Rattle.migration_types.specs.Sessions.{Recorded}
+use Rattle.migration_types.specs.Certs.{Certified, IsCert}
+use Rattle.migration_types.specs.Sessions.{Recorded, IsSession}
 use Rattle.session_log.specs.Grammar.{session_lines}
 use Rattle.cert_text.specs.Grammar.{cert_lines}
 use Rattle.audit_model.specs.Mergings.{spelled}
@@ -43,13 +43,14 @@ pub data Migration : Type 0 where
   TranscriptDiffers : Migration
   Records : Recorded → Certified → Migration
 
--- What becomes of the text. Of a run that was refused there is nothing but the report.
+-- What becomes of the text. Of a run that was refused nothing is told but the report. What was recorded is within all
+-- limits, so that its text is read.
 abbrev pub IsMigration : List ℕ → Migration → Type 0
 IsMigration script (ScriptText line) = IsRefusalLine SpellsScript script line
 IsMigration script LogFull = (s : Scenario) × IsSpelling SpellsScript s script
 IsMigration script (AuditRefused report) = (s : Scenario) × IsSpelling SpellsScript s script × (session : Recorded) × IsReport session report × ¬ IsClean report
 IsMigration script TranscriptDiffers = (s : Scenario) × IsSpelling SpellsScript s script
-IsMigration script (Records session cert) = (s : Scenario) × IsSpelling SpellsScript s script × IsMigrationOf s session cert
+IsMigration script (Records session cert) = (s : Scenario) × IsSpelling SpellsScript s script × IsMigrationOf s session cert × IsSession session × IsCert cert
 
 -- the text of a session, and behind it that of its certificate
 abbrev pub certified_text : Recorded → Certified → List ℕ

@@ -16,6 +16,7 @@ mod taking;
 
 pub use answer::{Fault, USAGE, tell};
 pub use checking::{push_verdict, status_of};
+pub use migrating::migrations_are_judged_yes;
 pub use program::run;
 pub use reading::TextSource;
 pub use stepping::recorded_sessions_are_clean;

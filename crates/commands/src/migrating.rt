@@ -8,12 +8,14 @@ ghost use Rattle.audit_report.specs.ReportText.{report_text};
 ghost use Rattle.guest_script.specs.Scenarios.{Scenario};
 ghost use Rattle.guest_script.specs.Scripts.{SpellsScript};
 ghost use Rattle.host_checks.specs.Outcomes.{IsRunFault};
-ghost use Rattle.commands.specs.Answers.{Says};
+ghost use Rattle.audit_report.specs.declared.wanted.Wanted.{Wanted as Asked};
+ghost use Rattle.commands.specs.Answers.{IsAuditAnswer, IsVerdictAnswer, Says};
+ghost use Rattle.commands.specs.Cutting.{IsCutAtEnd};
 ghost use Rattle.commands.specs.Migrations.{IsMigrateAnswer, IsMigrationOf, certified_text};
 
 use crate::answer::{ACCEPTED, Answer, Fault, REFUSED, given, refused, remark};
 use audit_report::{Report, print_report};
-use cert_text::write_cert;
+use cert_text::{cert_texts_are_unambiguous, write_cert};
 use command_words::Carrier;
 use guest_script::{Script, read_script};
 use host_threads::{Migrated, Open, RunFault, migrate};
@@ -88,7 +90,11 @@ fn answer_to<R: Threads + Wait + Sync>(
     ensures { (text : List ℕ) → IsSpelling SpellsScript script.now text → IfOk result (λ answer. IsMigrateAnswer text answer.text.items answer.status) }
 {
     match carried(rt, alloc, carrier, script) {
-        Ok(migrated) => given(certified(alloc, &migrated)),
+        Ok(migrated) => {
+            migrated.session.keeps_limits();
+            migrated.cert.keeps_limits();
+            given(certified(alloc, &migrated))
+        }
         Err(fault) => stopped(alloc, &fault),
     }
 }
@@ -126,4 +132,13 @@ pub fn migrate_read<R: Threads + Wait + Sync>(
     ensures { (text : List ℕ) → script.now.items ≡ text → IfOk result (λ answer. IsMigrateAnswer text answer.text.items answer.status) }
 {
     migrate_text(rt, alloc, carrier, script)
+}
+
+/// A law: what `migrate` writes with status 0 is the text of a session and that of its certificate, so that `check`, which
+/// cuts it as it cuts an input, answers `yes` to it, and `audit` of the session's text that it is clean. Runs nothing.
+pub fn migrations_are_judged_yes()
+    ensures judged { (script text first second answer : List ℕ) (status : ℕ) → IsMigrateAnswer script text 0 → IsCutAtEnd text first second → IsVerdictAnswer first second answer status → status ≡ 0 }
+    ensures clean { (wanted : Asked) (script text first second answer : List ℕ) (status : ℕ) → IsMigrateAnswer script text 0 → IsCutAtEnd text first second → IsAuditAnswer wanted first answer status → status ≡ 0 }
+{
+    cert_texts_are_unambiguous();
 }

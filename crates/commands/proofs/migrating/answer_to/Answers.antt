@@ -7,7 +7,7 @@ pub returns-in-Ok : goal.returns-in-Ok
 returns-in-Ok g c = λ text script.
     let m = c.in-Ok.migrated in
     given_holds (λ a. IsMigrateAnswer text a.text.items a.status) c.certified.result c.given.result
-    (migration_told text (Records m.session m.cert) c.certified.result (c.args.script.now, script, c.in-Ok.ensures.migrated) c.certified.ensures)
+    (migration_told text (Records m.session m.cert) c.certified.result (c.args.script.now, script, c.in-Ok.ensures.migrated, c.keeps_limits.ensures, c.keeps_limits-in-Ok.ensures) c.certified.ensures)
     c.given.ensures
 
 pub returns-in-Err : goal.returns-in-Err
