@@ -1,2 +1,3 @@
 pub mod Rows
+pub mod Unplaced
 pub mod Plain

@@ -7,7 +7,8 @@ use Rattle.std.proofs.lemmas.Slice.Eq.{bytes_eq-Decides}
 use Rattle.clap.specs.Words.{Text, takes}
 use Rattle.clap.proofs.OnLiterals.{clap_on_literals}
 use Rattle.command_words.specs.declared.asked.Asked.{Asked}
-use Rattle.command_words.specs.declared.asked.Asked.TheVariants.{One, Two}
+use Rattle.command_words.specs.declared.asked.Asked.TheVariants.{One, Two, Migrate}
+use Rattle.command_words.specs.declared.asked.Carrier.TheVariants.{Memory}
 use Rattle.command_words.specs.declared.asked.OneText.{OneText}
 use Rattle.command_words.specs.declared.asked.OneText.TheVariants.{Certify, Audit}
 use Rattle.command_words.specs.declared.asked.TwoTexts.{TwoTexts}
@@ -78,6 +79,12 @@ taken_two Steps program _ _ (Other a front d) Dash = record { taken = simp d; gi
 taken_two Steps program _ _ (Other a front d) Empty = record { taken = simp d; given = simp d }
 taken_two Steps program _ _ (Other a front d) (Other b rest e) = record { taken = simp (d, e); given = simp (d, e) }
 
+taken_migrate : (program name : Text) → Form name → IsTaken (program ∷ codes "migrate" ∷ name ∷ []) (Migrate Memory name)
+unfolding clap_on_literals
+taken_migrate program _ Dash = record { taken = refl; given = refl }
+taken_migrate program _ Empty = record { taken = refl; given = refl }
+taken_migrate program _ (Other b rest e) = record { taken = simp e; given = simp e }
+
 -- a command with so many names, which are plain, is taken
 one_taken : (task : OneText) (program word : Text) (names : List Text) (job : Asked Text) → AllByRecursion IsPlainName names → with_names names (One task word) ≡ Some job → IsTaken (program ∷ one_name task ∷ names) job
 one_taken task program word [] job plain e = let none : None ≡ Some job = e in absurd cc
@@ -95,26 +102,35 @@ two_taken task program word other (first ∷ second ∷ []) job plain e =
     subst (IsTaken (program ∷ two_name task ∷ first ∷ second ∷ [])) same (taken_two task program first second (form_of first plain.0) (form_of second plain.1.0))
 two_taken task program word other (first ∷ second ∷ third ∷ rest) job plain e = let none : None ≡ Some job = e in absurd cc
 
+migrate_taken : (program word : Text) (names : List Text) (job : Asked Text) → AllByRecursion IsPlainName names → with_names names (Migrate Memory word) ≡ Some job → IsTaken (program ∷ codes "migrate" ∷ names) job
+migrate_taken program word [] job plain e = let none : None ≡ Some job = e in absurd cc
+migrate_taken program word (name ∷ []) job plain e =
+    let same : Migrate Memory name ≡ job = cc in
+    subst (IsTaken (program ∷ codes "migrate" ∷ name ∷ [])) same (taken_migrate program name (form_of name plain.0))
+migrate_taken program word (name ∷ other ∷ []) job plain e = let none : None ≡ Some job = e in absurd cc
+migrate_taken program word (name ∷ other ∷ third ∷ rest) job plain e = let none : None ≡ Some job = e in absurd cc
+
 -- the row of a name is the first that has it
 row_taken : (program name : Text) (names : List Text) (job : Asked Text) → AllByRecursion IsPlainName names
-    → (check certify audit replay steps : Bool)
-    → (check ≡ true → codes "check" ≡ name) → (certify ≡ true → codes "certify" ≡ name) → (audit ≡ true → codes "audit" ≡ name) → (replay ≡ true → codes "replay" ≡ name) → (steps ≡ true → codes "steps" ≡ name)
-    → option_and_then (λ (row : Text × Asked Text). with_names names row.1) (cond check (Some (codes "check", Two Check (codes "SESSION") (codes "CERT"))) (cond certify (Some (codes "certify", One Certify (codes "SESSION"))) (cond audit (Some (codes "audit", One Audit (codes "SESSION"))) (cond replay (Some (codes "replay", Two Replay (codes "SESSION") (codes "RUNS"))) (cond steps (Some (codes "steps", Two Steps (codes "SCRIPT") (codes "EVENTS"))) None))))) ≡ Some job
+    → (check certify audit replay steps migrate : Bool)
+    → (check ≡ true → codes "check" ≡ name) → (certify ≡ true → codes "certify" ≡ name) → (audit ≡ true → codes "audit" ≡ name) → (replay ≡ true → codes "replay" ≡ name) → (steps ≡ true → codes "steps" ≡ name) → (migrate ≡ true → codes "migrate" ≡ name)
+    → option_and_then (λ (row : Text × Asked Text). with_names names row.1) (cond check (Some (codes "check", Two Check (codes "SESSION") (codes "CERT"))) (cond certify (Some (codes "certify", One Certify (codes "SESSION"))) (cond audit (Some (codes "audit", One Audit (codes "SESSION"))) (cond replay (Some (codes "replay", Two Replay (codes "SESSION") (codes "RUNS"))) (cond steps (Some (codes "steps", Two Steps (codes "SCRIPT") (codes "EVENTS"))) (cond migrate (Some (codes "migrate", Migrate Memory (codes "SCRIPT"))) None)))))) ≡ Some job
     → IsTaken (program ∷ name ∷ names) job
 unfolding one_name two_name
-row_taken program name names job plain true certify audit replay steps a b c d f e = subst (λ (x : Text). IsTaken (program ∷ x ∷ names) job) (a refl) (two_taken Check program _ _ names job plain e)
-row_taken program name names job plain false true audit replay steps a b c d f e = subst (λ (x : Text). IsTaken (program ∷ x ∷ names) job) (b refl) (one_taken Certify program _ names job plain e)
-row_taken program name names job plain false false true replay steps a b c d f e = subst (λ (x : Text). IsTaken (program ∷ x ∷ names) job) (c refl) (one_taken Audit program _ names job plain e)
-row_taken program name names job plain false false false true steps a b c d f e = subst (λ (x : Text). IsTaken (program ∷ x ∷ names) job) (d refl) (two_taken Replay program _ _ names job plain e)
-row_taken program name names job plain false false false false true a b c d f e = subst (λ (x : Text). IsTaken (program ∷ x ∷ names) job) (f refl) (two_taken Steps program _ _ names job plain e)
-row_taken program name names job plain false false false false false a b c d f e = let none : None ≡ Some job = e in absurd cc
+row_taken program name names job plain true certify audit replay steps migrate a b c d f g e = subst (λ (x : Text). IsTaken (program ∷ x ∷ names) job) (a refl) (two_taken Check program _ _ names job plain e)
+row_taken program name names job plain false true audit replay steps migrate a b c d f g e = subst (λ (x : Text). IsTaken (program ∷ x ∷ names) job) (b refl) (one_taken Certify program _ names job plain e)
+row_taken program name names job plain false false true replay steps migrate a b c d f g e = subst (λ (x : Text). IsTaken (program ∷ x ∷ names) job) (c refl) (one_taken Audit program _ names job plain e)
+row_taken program name names job plain false false false true steps migrate a b c d f g e = subst (λ (x : Text). IsTaken (program ∷ x ∷ names) job) (d refl) (two_taken Replay program _ _ names job plain e)
+row_taken program name names job plain false false false false true migrate a b c d f g e = subst (λ (x : Text). IsTaken (program ∷ x ∷ names) job) (f refl) (two_taken Steps program _ _ names job plain e)
+row_taken program name names job plain false false false false false true a b c d f g e = subst (λ (x : Text). IsTaken (program ∷ x ∷ names) job) (g refl) (migrate_taken program _ names job plain e)
+row_taken program name names job plain false false false false false false a b c d f g e = let none : None ≡ Some job = e in absurd cc
 
 same_text : (a b : Text) → bytes_eq a b ≡ true → a ≡ b
 same_text a b e = (bytes_eq-Decides a b).0 e
 
 -- plain words of a command are taken, and ask for it
 pub taken_plain : (words : List Text) (name : Text) (names : List Text) (job : Asked Text) → IsPlain words name names → asked_by name names ≡ Some job → IsTaken words job
-taken_plain words name names job h e = rw h.words_are (row_taken h.program name names job h.plain _ _ _ _ _ (same_text (codes "check") name) (same_text (codes "certify") name) (same_text (codes "audit") name) (same_text (codes "replay") name) (same_text (codes "steps") name) e)
+taken_plain words name names job h e = rw h.words_are (row_taken h.program name names job h.plain _ _ _ _ _ _ (same_text (codes "check") name) (same_text (codes "certify") name) (same_text (codes "audit") name) (same_text (codes "replay") name) (same_text (codes "steps") name) (same_text (codes "migrate") name) e)
 
 -- a word or none is not taken, as a command has to be there
 pub bare_not_taken : (words : List Text) → length words ≤ 1 → takes postcopy_words words ≡ false

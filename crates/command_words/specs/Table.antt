@@ -1,10 +1,12 @@
 -- The table of commands: the name of each, and the words that name its texts.
-use Rattle.std.specs.Prelude.{List, map, codes, [], ◌∷◌}
+use Rattle.std.specs.Prelude.{List, Option, map, find, codes, [], ◌∷◌}
+use Rattle.std.specs.Str.{bytes_eq}
 use Rattle.std.specs.Borrow.{Bor}
 use Rattle.clap.specs.Words.{Text}
 use Rattle.command_words.specs.declared.asked.Asked.{Asked}
 use Rattle.command_words.specs.declared.asked.Asked.TheVariants.{One, Two, Migrate}
-use Rattle.command_words.specs.declared.asked.Carrier.TheVariants.{Memory}
+use Rattle.command_words.specs.declared.asked.Carrier.{Carrier}
+use Rattle.command_words.specs.declared.asked.Carrier.TheVariants.{Memory, Tcp}
 use Rattle.command_words.specs.declared.asked.OneText.TheVariants.{Certify, Audit}
 use Rattle.command_words.specs.declared.asked.TwoTexts.TheVariants.{Check, Replay, Steps}
 use Rattle.command_words.specs.declared.table.Word.{Word}
@@ -20,6 +22,19 @@ table =
     (codes "replay", Two Replay (codes "SESSION") (codes "RUNS")) ∷
     (codes "steps", Two Steps (codes "SCRIPT") (codes "EVENTS")) ∷
     (codes "migrate", Migrate Memory (codes "SCRIPT")) ∷ []
+
+-- the name of what carries a migration
+abbrev pub carrier_name : Carrier → Text
+carrier_name Memory = codes "memory"
+carrier_name Tcp = codes "tcp"
+
+-- what may carry a migration
+abbrev pub carriers : List Carrier
+carriers = Memory ∷ []
+
+-- what has this name, of what may carry a migration
+abbrev pub carrier_named : Text → Option Carrier
+carrier_named name = find (λ carrier. bytes_eq (carrier_name carrier) name) carriers
 
 -- a command, with another word for each of its texts
 abbrev pub asked_map : {V W : Type 0} → (V → W) → Asked V → Asked W

@@ -1,5 +1,5 @@
 -- The words of the command line.
-use Rattle.std.specs.Prelude.{◌≡◌, ◌≢◌, [], ◌∷◌, ◌++◌, ◌⊎◌, List, Option, Some, None, true, codes, fold, find, map, option_and_then, option_map}
+use Rattle.std.specs.Prelude.{◌≡◌, ◌≢◌, [], ◌∷◌, ◌++◌, ◌⊎◌, List, Option, Some, None, true, codes, fold, find, map, option_and_then, option_map, unwrap_or}
 use Rattle.std.specs.List.{AllByRecursion}
 use Rattle.std.specs.Str.{bytes_eq}
 use Rattle.std.specs.Borrow.{Bor}
@@ -7,34 +7,53 @@ use Rattle.clap.specs.Simple.{on_top}
 use Rattle.clap.specs.Words.{App, Row, Rule, Text, first_of, new_app, new_rule, subcommand_of, with_rule, with_subcommand}
 use Rattle.command_words.specs.declared.asked.Asked.{Asked}
 use Rattle.command_words.specs.declared.asked.Asked.TheVariants.{One, Two, Migrate}
+use Rattle.clap.specs.declared.builder.value_parser.ValueParser.{ValueParser}
+use Rattle.clap.specs.declared.builder.value_parser.ValueParser.TheVariants as parser
+use Rattle.command_words.specs.declared.asked.Carrier.{Carrier}
 use Rattle.command_words.specs.declared.asked.TwoTexts.{TwoTexts}
-use Rattle.command_words.specs.Table.{table}
+use Rattle.command_words.specs.Table.{carriers, carrier_name, carrier_named, table}
 
 -- a word that has to be there
 abbrev pub needed : Text → Rule
 needed id = record (new_rule id) { required = true }
 
--- a command with a word for each of its texts
-abbrev pub with_words : App → Asked Text → App
-with_words app (One task word) = with_rule app (needed word)
-with_words app (Two task first second) = with_rule (with_rule app (needed first)) (needed second)
-with_words app (Migrate carrier word) = with_rule app (needed word)
+-- the option that names a carrier by this parser; where it is not there, this carrier is meant
+abbrev pub link_rule : ValueParser → Carrier → Rule
+link_rule names carrier = record (new_rule (codes "link")) { long = Some (codes "link"); value_names = 1; parser = Some names; defaults = carrier_name carrier ∷ [] }
+
+-- a command with a word for each of its texts, and its option
+abbrev pub with_words : ValueParser → App → Asked Text → App
+with_words names app (One task word) = with_rule app (needed word)
+with_words names app (Two task first second) = with_rule (with_rule app (needed first)) (needed second)
+with_words names app (Migrate carrier word) = with_rule (with_rule app (needed word)) (link_rule names carrier)
 
 -- the command of a row of the table
-abbrev pub command_words : Text × Asked Text → App
-command_words row = with_words (new_app row.0) row.1
+abbrev pub command_words : ValueParser → Text × Asked Text → App
+command_words names row = with_words names (new_app row.0) row.1
 
 -- `postcopy`, which has a version and wants a command
 abbrev pub program_words : App
 program_words = on_top (λ s. record s { has_version = true; subcommand_required = true }) (new_app (codes "postcopy"))
 
 -- with the command of one more row
-abbrev pub with_command : App → Text × Asked Text → App
-with_command app row = with_subcommand app (command_words row).top
+abbrev pub with_command : ValueParser → App → Text × Asked Text → App
+with_command names app row = with_subcommand app (command_words names row).top
+
+-- `postcopy` with the commands of the table, and this parser of the names of carriers
+abbrev pub line_words : ValueParser → App
+line_words names = fold (with_command names) program_words table
+
+-- what lies at no place in memory
+abbrev pub placeless : {X : Type 0} → X → Bor X
+placeless x = record { ref_ptr = (0, 0); now = x }
+
+-- the parser that takes these texts
+abbrev pub one_of : List Text → ValueParser
+one_of texts = parser.Names (placeless (map placeless texts))
 
 -- `postcopy` with one of the commands of the table
 abbrev pub postcopy_words : App
-postcopy_words = fold with_command program_words table
+postcopy_words = line_words (one_of (map carrier_name carriers))
 
 -- the words behind references
 abbrev pub word_texts : List (Bor Text) → List Text
@@ -46,11 +65,15 @@ both_names task None second = None
 both_names task (Some first) None = None
 both_names task (Some first) (Some second) = Some (Two task first second)
 
+-- the carrier that is named among what was given, or else this one
+abbrev pub carrier_in : List Row → Carrier → Carrier
+carrier_in rows otherwise = unwrap_or (option_and_then carrier_named (first_of (codes "link") rows)) otherwise
+
 -- what a command asks for with the names among what it was given
 abbrev pub given_in : List Row → Asked Text → Option (Asked Text)
 given_in rows (One task word) = option_map (λ name. One task name) (first_of word rows)
 given_in rows (Two task first second) = both_names task (first_of first rows) (first_of second rows)
-given_in rows (Migrate carrier word) = option_map (λ name. Migrate carrier name) (first_of word rows)
+given_in rows (Migrate carrier word) = option_map (λ name. Migrate (carrier_in rows carrier) name) (first_of word rows)
 
 -- what a command and what it was given ask for, by the table
 abbrev pub asked_in : Text × List Row → Option (Asked Text)

@@ -1,5 +1,8 @@
 //! What a command is asked with.
 
+ghost use Rattle.std.specs.Prelude.{◌≡◌};
+ghost use Rattle.command_words.specs.Table.{carrier_name};
+
 /// A command on one text.
 #[derive(Clone, Copy)]
 pub enum OneText {
@@ -27,6 +30,18 @@ pub enum Carrier {
     Memory,
     /// A connection over the loopback.
     Tcp,
+}
+
+impl Carrier {
+    /// The name that the option `--link` gives it.
+    pub fn name(self) -> &'static str
+        ensures { result.now ≡ carrier_name self }
+    {
+        match self {
+            Carrier::Memory => "memory",
+            Carrier::Tcp => "tcp",
+        }
+    }
 }
 
 /// A command, with a word for each of its texts.

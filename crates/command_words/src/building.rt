@@ -2,12 +2,13 @@
 
 ghost use Rattle.std.specs.Prelude.{◌≡◌, IfOk, false};
 ghost use Rattle.command_words.specs.Table.{row_of};
-ghost use Rattle.command_words.specs.Words.{command_words, needed, postcopy_words, program_words};
+ghost use Rattle.command_words.specs.Words.{command_words, line_words, link_rule, needed, program_words};
 ghost use Rattle.clap.specs.Words.{app_of, rule_of, with_rule};
 ghost use Rattle.clap.specs.declared.builder.command.Command.TheViews.{out-Command as fields_of};
 
-use crate::asked::Asked;
-use crate::table::{Row, Word, commands};
+use crate::asked::{Asked, Carrier};
+use crate::table::{LINK, Row, Word, commands};
+use clap::builder::ValueParser;
 use clap::{Arg, Command};
 use std::alloc::{AllocError, Global};
 
@@ -40,17 +41,45 @@ fn with_word<'a>(
     command.arg(arg)
 }
 
-// The command of a row.
-fn command_of<'a>(alloc: Global, row: &Row) -> Result<Command<'a>, AllocError>
-    ensures app { IfOk result (λ c. app_of c ≡ command_words (row_of row.now)) }
+// The command with the option that names a carrier by this parser; where it is not there, this carrier is meant.
+fn with_link<'a>(
+    alloc: Global,
+    command: Command<'a>,
+    names: ValueParser<'a>,
+    carrier: Carrier,
+) -> Result<Command<'a>, AllocError>
+    requires { (fields_of command).has_globals ≡ false }
+    ensures app { IfOk result (λ c. app_of c ≡ with_rule (app_of command.entry) (link_rule names.entry carrier)) }
+    ensures local { IfOk result (λ c. (fields_of c).has_globals ≡ false) }
+{
+    let arg = Arg::new(alloc, LINK)
+        .long(LINK)
+        .value_name("CARRIER")
+        .help("What carries the packets of the migration")
+        .value_parser(names)
+        .default_value(carrier.name());
+    command.arg(arg)
+}
+
+// The command of a row, where this parser reads the name of a carrier.
+fn command_of<'a>(
+    alloc: Global,
+    names: ValueParser<'a>,
+    row: &Row,
+) -> Result<Command<'a>, AllocError>
+    ensures app { IfOk result (λ c. app_of c ≡ command_words names.entry (row_of row.now)) }
     ensures local { IfOk result (λ c. (fields_of c).has_globals ≡ false) }
 {
     let command = Command::new(alloc, row.name).about(row.about);
     match &row.asked {
-        Asked::One(_, word) | Asked::Migrate(_, word) => with_word(alloc, command, word),
+        Asked::One(_, word) => with_word(alloc, command, word),
         Asked::Two(_, first, second) => {
             let command = with_word(alloc, command, first)?;
             with_word(alloc, command, second)
+        }
+        Asked::Migrate(carrier, word) => {
+            let command = with_word(alloc, command, word)?;
+            with_link(alloc, command, names, *carrier)
         }
     }
 }
@@ -67,13 +96,16 @@ fn program<'a>(alloc: Global) -> Command<'a>
         .subcommand_required(true)
 }
 
-/// The command line of the program.
-pub(crate) fn command_line<'a>(alloc: Global) -> Result<Command<'a>, AllocError>
-    ensures { IfOk result (λ c. app_of c ≡ postcopy_words) }
+/// The command line of the program, where this parser reads the name of a carrier.
+pub(crate) fn command_line<'a>(
+    alloc: Global,
+    names: ValueParser<'a>,
+) -> Result<Command<'a>, AllocError>
+    ensures { IfOk result (λ c. app_of c ≡ line_words names.entry) }
 {
     let mut line = program(alloc);
     for row in commands() {
-        let command = command_of(alloc, row)?;
+        let command = command_of(alloc, names, row)?;
         line = line.subcommand(command)?;
     }
     Ok(line)

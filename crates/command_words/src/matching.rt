@@ -3,21 +3,32 @@
 ghost use Rattle.std.specs.Prelude.{◌≡◌, IfOk, IfErr, option_and_then, option_map, true, find};
 ghost use Rattle.std.specs.Str.{bytes_eq};
 ghost use Rattle.command_words.specs.Table.{asked_names, word_names};
-ghost use Rattle.command_words.specs.Words.{asked, asked_in, given_in, postcopy_words, word_texts};
+ghost use Rattle.command_words.specs.Words.{asked, asked_in, carrier_in, given_in, postcopy_words, word_texts};
 ghost use Rattle.clap.specs.Words.{first_of, found_of, kind_of, rows_of, takes, subcommand_rows_of};
 
-use crate::asked::{Asked, Job};
+use crate::asked::{Asked, Carrier, Job};
 use crate::building::command_line;
-use crate::table::{Row, Word, commands};
+use crate::table::{LINK, Row, Word, carrier_named, carrier_names, commands};
 use clap::ArgMatches;
+use clap::builder::ValueParser;
 use clap::error::ErrorKind;
 use std::alloc::Global;
 
-// The name that a word was given.
-fn name_given<'a>(word: &Word, matches: &ArgMatches<'a>) -> Option<&'a str>
-    ensures { option_map (λ name. name.now) result ≡ first_of word.now.name.now (rows_of (found_of matches.now)) }
+// What was given for a word or an option.
+fn name_given<'a>(id: &str, matches: &ArgMatches<'a>) -> Option<&'a str>
+    ensures { option_map (λ name. name.now) result ≡ first_of id.now (rows_of (found_of matches.now)) }
 {
-    matches.get_str(word.name)
+    matches.get_str(id)
+}
+
+// What carries a migration: what was named, or else this.
+fn carrier_given(otherwise: Carrier, matches: &ArgMatches<'_>) -> Carrier
+    ensures { result ≡ carrier_in (rows_of (found_of matches.now)) otherwise }
+{
+    match name_given(LINK, matches) {
+        Some(name) => carrier_named(name).unwrap_or(otherwise),
+        None => otherwise,
+    }
 }
 
 // What a command asks for, with the names that its words were given.
@@ -26,17 +37,17 @@ fn given<'a>(asks: &Asked<Word>, matches: &ArgMatches<'a>) -> Option<Job<'a>>
 {
     match asks {
         Asked::One(task, word) => {
-            let name = name_given(word, matches)?;
+            let name = name_given(word.name, matches)?;
             Some(Asked::One(*task, name))
         }
         Asked::Two(task, first, second) => {
-            let first = name_given(first, matches)?;
-            let second = name_given(second, matches)?;
+            let first = name_given(first.name, matches)?;
+            let second = name_given(second.name, matches)?;
             Some(Asked::Two(*task, first, second))
         }
         Asked::Migrate(carrier, word) => {
-            let name = name_given(word, matches)?;
-            Some(Asked::Migrate(*carrier, name))
+            let name = name_given(word.name, matches)?;
+            Some(Asked::Migrate(carrier_given(*carrier, matches), name))
         }
     }
 }
@@ -74,7 +85,7 @@ pub fn read_words<'a>(alloc: Global, words: &'a [&'a str]) -> Result<Option<Job<
     ensures ok { IfOk result (λ r. option_map asked_names r ≡ asked (word_texts words.entry.now)) }
     ensures err { IfErr result (λ e. takes postcopy_words (word_texts words.entry.now) ≡ true → kind_of e ≡ ErrorKind.OutOfMemory) }
 {
-    let line = command_line(alloc)?;
+    let line = command_line(alloc, ValueParser::Names(carrier_names()))?;
     match line.try_get_matches_from(words) {
         Ok(matches) => Ok(job_in(&matches)),
         Err(error) => Err(error),

@@ -1,7 +1,7 @@
 //! The table of commands.
 
-ghost use Rattle.std.specs.Prelude.{◌≡◌};
-ghost use Rattle.command_words.specs.Table.{rows_of, table};
+ghost use Rattle.std.specs.Prelude.{◌≡◌, map};
+ghost use Rattle.command_words.specs.Table.{carriers, carrier_name, carrier_named, rows_of, table};
 
 use crate::asked::{Asked, Carrier, OneText, TwoTexts};
 
@@ -47,6 +47,30 @@ const EVENTS: Word = Word {
     name: "EVENTS",
     help: "The file of a list of events; - is standard input",
 };
+
+/// The option that names what carries a migration.
+pub const LINK: &str = "link";
+
+static CARRIERS: [Carrier; 1] = [Carrier::Memory];
+
+static CARRIER_NAMES: [&str; 1] = ["memory"];
+
+/// The names of what may carry a migration.
+pub fn carrier_names() -> &'static [&'static str]
+    ensures { map (λ name. name.now) result.now ≡ map carrier_name carriers }
+{
+    &CARRIER_NAMES
+}
+
+/// What has this name, of what may carry a migration.
+pub fn carrier_named(name: &str) -> Option<Carrier>
+    ensures { result ≡ carrier_named name.now }
+{
+    CARRIERS
+        .iter()
+        .find(|carrier| carrier.name() == name)
+        .copied()
+}
 
 static COMMANDS: [Row; 6] = [
     Row {

@@ -4,4 +4,4 @@ use Rattle.clap.proofs.WalkLemmas.{first_value-rows}
 use Rattle.command_words.proofs.matching.name_given.Goals as goal
 
 pub returns : goal.returns
-returns c = c.get_str.ensures ∙ first_value-rows (found_of c.args.matches.now) c.args.word.now.name.now
+returns c = c.get_str.ensures ∙ first_value-rows (found_of c.args.matches.now) c.args.id.now
