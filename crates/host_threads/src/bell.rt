@@ -9,6 +9,8 @@ pub(crate) enum Fault {
     LogFull,
     /// There is no memory, or no thread could be made.
     Memory,
+    /// The link failed.
+    Link,
     /// A book, a packet or an operation is not of the script's machine, or a book is not where it should be.
     Astray,
 }

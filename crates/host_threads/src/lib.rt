@@ -3,15 +3,20 @@
 #![tactic(auto)]
 
 mod bell;
+mod carry;
 mod gate;
 mod link;
+mod loopback;
 mod pager;
+mod relay;
 mod run;
 mod shared;
 mod side;
 mod source;
 mod vcpu;
+mod way;
 
 pub use gate::{Gate, Open};
 pub use host_checks::{Answered, Migrated, RunFault, Transcript};
-pub use run::migrate;
+pub use relay::{Relay, RelayFault};
+pub use run::{migrate, migrate_over, migrate_tcp};

@@ -12,19 +12,24 @@ ghost use Rattle.migration_model.specs.Promise.{HasEachOwed};
 ghost use Rattle.host_checks.specs.Outcomes.{AreOfScript, AreOfLog, IsDone, IsFlatStore, IsRunFault};
 
 use crate::bell::{Bell, Fault};
+use crate::carry::Echo;
 use crate::gate::Gate;
 use crate::link::run_link;
+use crate::loopback::loopback;
 use crate::pager::run_pager;
+use crate::relay::Relay;
 use crate::shared::Shared;
 use crate::side::TargetSide;
 use crate::source::run_source;
 use crate::vcpu::run_vcpu;
+use crate::way::{NoRelay, Way};
 use active_push::SourceBook;
 use guest_script::Script;
 use host_checks::{Migrated, RunFault, Transcript, settle};
 use link_book::LinkBook;
 use migration_types::{GuestRec, Logs, Seq};
 use std::alloc::{AllocError, Global};
+use std::net::{Net, TcpListener, TcpStream};
 use std::sync::{Mutex, Wait};
 use std::thread;
 use std::thread::Threads;
@@ -46,12 +51,13 @@ fn books_of(alloc: Global, script: &Script) -> Result<Shared, AllocError> {
 
 /// Starts a thread for each virtual processor and one each for the source, the link and the pager, and joins them all.
 /// A thread that cannot be made stops the run.
-fn run_threads<R: Threads + Wait + Sync, G: Gate>(
+fn run_threads<R: Threads + Wait + Sync, G: Gate, L: Relay + Drop>(
     rt: &R,
     alloc: Global,
     shared: &Shared,
     script: &Script,
     gate: &G,
+    way: Way<L>,
 ) -> Result<Vec<Transcript>, AllocError> {
     let count = script.vcpus().len();
     let mut transcripts = Vec::with_capacity(alloc, count)?;
@@ -71,7 +77,7 @@ fn run_threads<R: Threads + Wait + Sync, G: Gate>(
         let source = scope
             .spawn(move || run_source(rt, shared, gate, script))
             .ok();
-        let link = scope.spawn(move || run_link(rt, shared, script)).ok();
+        let link = scope.spawn(move || run_link(rt, shared, script, way)).ok();
         let pager = scope.spawn(move || run_pager(rt, shared, gate, count)).ok();
         if source.is_none() || link.is_none() || pager.is_none() {
             shared.bell.stop(rt, Fault::Memory);
@@ -129,6 +135,7 @@ fn checked(
     match bell.into_fault() {
         Some(Fault::LogFull) => return Err(RunFault::LogFull),
         Some(Fault::Memory) => return Err(RunFault::Memory),
+        Some(Fault::Link) => return Err(RunFault::Link),
         Some(Fault::Astray) | None => {}
     }
     let TargetSide::Target(target) = target.into_inner() else {
@@ -140,6 +147,34 @@ fn checked(
     let (guest, store) = target.into_parts();
     let logs = logs_of(guest, source, link.into_inner(), pager.into_inner());
     settle(alloc, script, logs, store, Seq::from_vec(transcripts))
+}
+
+/// A run over this way, and the checks of what it left.
+fn run<R: Threads + Wait + Sync, G: Gate, L: Relay + Drop>(
+    rt: &R,
+    alloc: Global,
+    script: &Script,
+    gate: &G,
+    way: Way<L>,
+) -> Result<Migrated, RunFault>
+    ensures geometry { IfOk result (λ m. m.session.geometry ≡ script.now.geometry) }
+    ensures init { IfOk result (λ m. m.session.init ≡ script.now.init) }
+    ensures checked { IfOk result (λ m. IsVerdict m.session m.cert Yes) }
+    ensures safe { IfOk result (λ m. IsSafe m.session) }
+    ensures operations { IfOk result (λ m. AreOfScript script.now.vcpus m.transcripts) }
+    ensures answers { IfOk result (λ m. AreOfLog m.session.guest m.transcripts) }
+    ensures done { IfOk result (λ m. IsDone m.session) }
+    ensures owed { IfOk result (λ m. HasEachOwed m.session (spelled m.cert.runs)) }
+    ensures store { IfOk result (λ m. IsFlatStore m.session m.store) }
+    ensures refused { IfErr result IsRunFault }
+{
+    let Ok(shared) = books_of(alloc, script) else {
+        return Err(RunFault::Memory);
+    };
+    let Ok(transcripts) = run_threads(rt, alloc, &shared, script, gate, way) else {
+        return Err(RunFault::Memory);
+    };
+    checked(alloc, script, shared, transcripts)
 }
 
 /// Runs a script's migration in threads, one for each virtual processor and one each for the source, the link and the
@@ -176,11 +211,60 @@ pub fn migrate<R: Threads + Wait + Sync, G: Gate>(
     ensures store { IfOk result (λ m. IsFlatStore m.session m.store) }
     ensures refused { IfErr result IsRunFault }
 {
-    let Ok(shared) = books_of(alloc, script) else {
-        return Err(RunFault::Memory);
-    };
-    let Ok(transcripts) = run_threads(rt, alloc, &shared, script, gate) else {
-        return Err(RunFault::Memory);
-    };
-    checked(alloc, script, shared, transcripts)
+    run(rt, alloc, script, gate, Way::<NoRelay>::InMemory)
+}
+
+/// The same as [`migrate`] over a relay, for the packets of both directions. Under the link's lock, before a packet is
+/// delivered, its bytes are written to the relay, 4,096 at most at a time, and read back before the next are written;
+/// what came back, read as one stream, has to be that packet. A packet that is lost or sent to the back passes at a
+/// later turn, or never.
+///
+/// # Errors
+///
+/// As of `migrate`; and `Link` where a call of the relay fails, or answers 0 or more than it was asked for, or another
+/// packet comes back, or none, or several; nothing is checked then. Where threads met several of `LogFull`, `Memory` and
+/// `Link`, the first of these is answered.
+pub fn migrate_over<R: Threads + Wait + Sync, G: Gate, L: Relay + Drop>(
+    rt: &R,
+    alloc: Global,
+    script: &Script,
+    gate: &G,
+    relay: L,
+) -> Result<Migrated, RunFault>
+    ensures geometry { IfOk result (λ m. m.session.geometry ≡ script.now.geometry) }
+    ensures init { IfOk result (λ m. m.session.init ≡ script.now.init) }
+    ensures checked { IfOk result (λ m. IsVerdict m.session m.cert Yes) }
+    ensures safe { IfOk result (λ m. IsSafe m.session) }
+    ensures operations { IfOk result (λ m. AreOfScript script.now.vcpus m.transcripts) }
+    ensures answers { IfOk result (λ m. AreOfLog m.session.guest m.transcripts) }
+    ensures done { IfOk result (λ m. IsDone m.session) }
+    ensures owed { IfOk result (λ m. HasEachOwed m.session (spelled m.cert.runs)) }
+    ensures store { IfOk result (λ m. IsFlatStore m.session m.store) }
+    ensures refused { IfErr result IsRunFault }
+{
+    let echo = Echo::new(alloc, script.geometry());
+    run(rt, alloc, script, gate, Way::Over(relay, echo))
+}
+
+/// The same as [`migrate_over`], over the two ends of a connection over the loopback address. `Link` too where there is
+/// none to be had, and where the bytes do not come within 10 seconds.
+pub fn migrate_tcp<
+    R: Threads + Wait + Sync + Net<Listener = TcpListener, Stream = TcpStream>,
+    G: Gate,
+>(rt: &R, alloc: Global, script: &Script, gate: &G) -> Result<Migrated, RunFault>
+    ensures geometry { IfOk result (λ m. m.session.geometry ≡ script.now.geometry) }
+    ensures init { IfOk result (λ m. m.session.init ≡ script.now.init) }
+    ensures checked { IfOk result (λ m. IsVerdict m.session m.cert Yes) }
+    ensures safe { IfOk result (λ m. IsSafe m.session) }
+    ensures operations { IfOk result (λ m. AreOfScript script.now.vcpus m.transcripts) }
+    ensures answers { IfOk result (λ m. AreOfLog m.session.guest m.transcripts) }
+    ensures done { IfOk result (λ m. IsDone m.session) }
+    ensures owed { IfOk result (λ m. HasEachOwed m.session (spelled m.cert.runs)) }
+    ensures store { IfOk result (λ m. IsFlatStore m.session m.store) }
+    ensures refused { IfErr result IsRunFault }
+{
+    match loopback(rt) {
+        Ok(ends) => migrate_over(rt, alloc, script, gate, ends),
+        Err(_) => Err(RunFault::Link),
+    }
 }

@@ -1,0 +1,18 @@
+//! Relays.
+
+/// A relay that failed. It tells no more.
+#[derive(Clone, Copy, Debug, PartialEq, Eq)]
+pub struct RelayFault;
+
+/// What a link's packets go through: bytes are taken in at one end and come back at the other, in order.
+///
+/// Nothing is believed of what it answers: a run over a relay that does anything else ends with `RunFault::Link`, unless
+/// it ends before a packet shows it. Each call may wait, and the link waits with it.
+pub trait Relay: Send {
+    /// Takes some of these bytes, the first ones, and answers how many. It is lent at least one.
+    fn write(&mut self, bytes: &[u8]) -> Result<usize, RelayFault>;
+
+    /// Puts the next bytes that came back at the front, and answers how many. It is lent room for at least one, and for
+    /// no more than were taken and are not back.
+    fn read(&mut self, into: &mut [u8]) -> Result<usize, RelayFault>;
+}
