@@ -30,7 +30,7 @@ carrier_name Tcp = codes "tcp"
 
 -- what may carry a migration
 abbrev pub carriers : List Carrier
-carriers = Memory ∷ []
+carriers = Memory ∷ Tcp ∷ []
 
 -- what has this name, of what may carry a migration
 abbrev pub carrier_named : Text → Option Carrier

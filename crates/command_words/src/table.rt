@@ -51,9 +51,9 @@ const EVENTS: Word = Word {
 /// The option that names what carries a migration.
 pub const LINK: &str = "link";
 
-static CARRIERS: [Carrier; 1] = [Carrier::Memory];
+static CARRIERS: [Carrier; 2] = [Carrier::Memory, Carrier::Tcp];
 
-static CARRIER_NAMES: [&str; 1] = ["memory"];
+static CARRIER_NAMES: [&str; 2] = ["memory", "tcp"];
 
 /// The names of what may carry a migration.
 pub fn carrier_names() -> &'static [&'static str]
