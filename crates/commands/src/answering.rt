@@ -22,6 +22,7 @@ use migration_types::Session;
 use session_log::SessionReader;
 use std::alloc::{AllocError, Global};
 use std::io::Read;
+use std::net::{Net, TcpListener, TcpStream};
 use std::sync::Wait;
 use std::thread::Threads;
 
@@ -118,7 +119,12 @@ pub fn two_answer<'a, S: TextSource, I: Read>(
 }
 
 /// What becomes of the script under a name, whose migration is run.
-pub fn migrate_named<'a, R: Threads + Wait + Sync, S: TextSource, I: Read>(
+pub fn migrate_named<
+    'a,
+    R: Threads + Wait + Sync + Net<Listener = TcpListener, Stream = TcpStream>,
+    S: TextSource,
+    I: Read,
+>(
     rt: &R,
     alloc: Global,
     carrier: Carrier,

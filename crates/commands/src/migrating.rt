@@ -18,15 +18,16 @@ use audit_report::{Report, print_report};
 use cert_text::{cert_texts_are_unambiguous, write_cert};
 use command_words::Carrier;
 use guest_script::{Script, read_script};
-use host_threads::{Migrated, Open, RunFault, migrate};
+use host_threads::{Migrated, Open, RunFault, migrate, migrate_tcp};
 use session_log::write_session;
 use std::alloc::{AllocError, Global};
+use std::net::{Net, TcpListener, TcpStream};
 use std::sync::Wait;
 use std::thread::Threads;
 use text_lines::TextFault;
 
 /// Runs the migration of a script over a carrier.
-fn carried<R: Threads + Wait + Sync>(
+fn carried<R: Threads + Wait + Sync + Net<Listener = TcpListener, Stream = TcpStream>>(
     rt: &R,
     alloc: Global,
     carrier: Carrier,
@@ -37,7 +38,7 @@ fn carried<R: Threads + Wait + Sync>(
 {
     match carrier {
         Carrier::Memory => migrate(rt, alloc, script, &Open),
-        Carrier::Tcp => Err(RunFault::Link),
+        Carrier::Tcp => migrate_tcp(rt, alloc, script, &Open),
     }
 }
 
@@ -81,7 +82,7 @@ fn stopped(alloc: Global, fault: &RunFault) -> Result<Answer, Fault<'static>>
 }
 
 /// What becomes of a script, whatever its text is.
-fn answer_to<R: Threads + Wait + Sync>(
+fn answer_to<R: Threads + Wait + Sync + Net<Listener = TcpListener, Stream = TcpStream>>(
     rt: &R,
     alloc: Global,
     carrier: Carrier,
@@ -107,7 +108,7 @@ fn unread(alloc: Global, fault: TextFault) -> Result<Answer, AllocError>
 }
 
 /// What becomes of a script, by its text.
-fn migrate_text<R: Threads + Wait + Sync>(
+fn migrate_text<R: Threads + Wait + Sync + Net<Listener = TcpListener, Stream = TcpStream>>(
     rt: &R,
     alloc: Global,
     carrier: Carrier,
@@ -123,7 +124,7 @@ fn migrate_text<R: Threads + Wait + Sync>(
 
 /// What becomes of a script, by what was read of its text, which is all of it. Its migration is run in threads, with a gate
 /// that never waits. The faults: there is no memory, or the link failed.
-pub fn migrate_read<R: Threads + Wait + Sync>(
+pub fn migrate_read<R: Threads + Wait + Sync + Net<Listener = TcpListener, Stream = TcpStream>>(
     rt: &R,
     alloc: Global,
     carrier: Carrier,

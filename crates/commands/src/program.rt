@@ -15,6 +15,7 @@ use clap::error::ErrorKind;
 use command_words::{Asked, Carrier, Job, OneText, TwoTexts, read_words};
 use std::alloc::Global;
 use std::io::{Read, Write};
+use std::net::{Net, TcpListener, TcpStream};
 use std::sync::Wait;
 use std::thread::Threads;
 
@@ -65,7 +66,13 @@ fn check_input<S: TextSource, I: Read, O: Write>(
 }
 
 // Runs the migration of the script under a name.
-fn perform_migrate<'a, R: Threads + Wait + Sync, S: TextSource, I: Read, O: Write>(
+fn perform_migrate<
+    'a,
+    R: Threads + Wait + Sync + Net<Listener = TcpListener, Stream = TcpStream>,
+    S: TextSource,
+    I: Read,
+    O: Write,
+>(
     rt: &R,
     alloc: Global,
     carrier: Carrier,
@@ -82,7 +89,13 @@ fn perform_migrate<'a, R: Threads + Wait + Sync, S: TextSource, I: Read, O: Writ
 }
 
 // Does what the words ask for.
-fn perform<'a, R: Threads + Wait + Sync, S: TextSource, I: Read, O: Write>(
+fn perform<
+    'a,
+    R: Threads + Wait + Sync + Net<Listener = TcpListener, Stream = TcpStream>,
+    S: TextSource,
+    I: Read,
+    O: Write,
+>(
     rt: &R,
     alloc: Global,
     job: Job<'a>,
@@ -141,9 +154,15 @@ fn refuse<O: Write, E: Write>(error: clap::Error, output: &mut O, errors: &mut E
 /// was not written, and 4 for want of memory. At 2 to 4 the errors tell why. The texts are read in the order of the words,
 /// and both before an answer is sought.
 ///
-/// The handle starts and joins the threads of a migration, for which alone it is used: with other words this waits for no
-/// other thread. Nothing is promised of when a migration ends.
-pub fn run<R: Threads + Wait + Sync, S: TextSource, I: Read, O: Write, E: Write>(
+/// The handle starts and joins threads, and opens the connection of a migration over TCP. Nothing is promised of when a
+/// migration ends.
+pub fn run<
+    R: Threads + Wait + Sync + Net<Listener = TcpListener, Stream = TcpStream>,
+    S: TextSource,
+    I: Read,
+    O: Write,
+    E: Write,
+>(
     rt: &R,
     alloc: Global,
     words: &[&str],
