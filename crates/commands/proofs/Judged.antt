@@ -20,12 +20,10 @@ use Rattle.cert_check.specs.Verdicts.{IsVerdict}
 use Rattle.cert_check.specs.Texts.{IsJudged, IsTextVerdict}
 use Rattle.cert_check.specs.declared.verdict.Verdict.{Verdict}
 use Rattle.cert_check.specs.declared.verdict.Verdict.TheVariants as verdict
-use Rattle.audit_report.specs.Texts.{IsAudited}
-use Rattle.audit_report.specs.declared.texts.Audited.{Audited}
 use Rattle.audit_report.specs.declared.wanted.Wanted.{Wanted}
-use Rattle.commands.specs.Answers.{IsAuditAnswer, IsVerdictAnswer, audited_status, verdict_status}
+use Rattle.commands.specs.Answers.{IsAuditAnswer, IsVerdictAnswer, verdict_status}
 use Rattle.commands.specs.Cutting.{HasNoEnd, IsCutAtEnd}
-use Rattle.commands.specs.Migrations.{AuditRefused, IsMigrateAnswer, IsMigration, IsMigrationOf, LogFull, Migration, Records, ScriptText, TranscriptDiffers, certified_text, migration_status, migration_text}
+use Rattle.commands.specs.Migrations.{AuditRefused, IsMigrateAnswer, IsMigration, LogFull, Migration, Records, ScriptText, TranscriptDiffers, certified_text, migration_status, migration_text}
 use Rattle.commands.proofs.Closed.{closed_session}
 use Rattle.commands.proofs.CutOnce.{cut_once}
 use Rattle.commands.proofs.Recorded.{audited_clean}
