@@ -1,4 +1,4 @@
-//! Tests of migrations in threads, and of the core over a full log.
+//! Tests of migrations in threads, over links that fail too, and of the core over a full log.
 #![tactic(auto)]
 
 ghost use Rattle.std.specs.Prelude.{◌≡◌, ◌<◌, map, IsTrue};
@@ -7,6 +7,8 @@ ghost use Rattle.std.specs.Prelude.{◌≡◌, ◌<◌, map, IsTrue};
 mod cores;
 #[cfg(test)]
 mod gates;
+#[cfg(test)]
+mod relays;
 #[cfg(test)]
 mod runs;
 

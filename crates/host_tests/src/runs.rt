@@ -3,9 +3,10 @@
 use crate::are_answers;
 use crate::gates::{Flagged, Flags};
 use guest_script::{Script, read_script};
-use host_threads::{Migrated, Open, RunFault, migrate};
+use host_threads::{Gate, Migrated, Open, RunFault, migrate, migrate_tcp};
 use migration_types::PageNo;
 use std::alloc::{AllocError, Global};
+use std::net::{Net, TcpListener, TcpStream};
 use std::sync::{Mutex, Wait};
 use std::thread::Threads;
 
@@ -29,7 +30,25 @@ r 0 0
 end
 ";
 
-/// Two that read page 1 over a link that loses, sends back and repeats.
+/// Two that read page 1 at the target, over a link that delivers all.
+pub(crate) const TWO_MISSES: &str = "postcopy-script 1
+pages 2
+cells 1
+init 1
+page 1 0000000000000007
+pivots 1
+window 4
+down -
+up -
+vcpus 2
+vcpu 0 1
+r 1 0
+vcpu 0 1
+r 1 0
+end
+";
+
+/// The same two over a link that loses, sends back and repeats.
 const BAD_LINK: &str = "postcopy-script 1
 pages 2
 cells 1
@@ -84,7 +103,7 @@ end
 ";
 
 /// A run of a script over any gate has these answers, of the first two virtual processors.
-fn has_answers(migrated: &Migrated, first: &[u64], second: &[u64]) -> bool {
+pub(crate) fn has_answers(migrated: &Migrated, first: &[u64], second: &[u64]) -> bool {
     let transcripts = migrated.transcripts.as_slice();
     let is_first = match transcripts.get(0) {
         Some(transcript) => are_answers(transcript.as_slice(), first),
@@ -105,8 +124,33 @@ fn has_value(migrated: &Migrated, page: u16, cell: u16, value: u64) -> bool {
         && migrated.store.read(PageNo::new(page), cell) == value
 }
 
+/// What carries a run's packets.
+#[derive(Clone, Copy)]
+enum Carrier {
+    Memory,
+    Loopback,
+}
+
+/// A run of a script over this link.
+fn run<R: Threads + Wait + Sync + Net<Listener = TcpListener, Stream = TcpStream>, G: Gate>(
+    rt: &R,
+    alloc: Global,
+    script: &Script,
+    gate: &G,
+    carrier: Carrier,
+) -> Result<Migrated, RunFault> {
+    match carrier {
+        Carrier::Memory => migrate(rt, alloc, script, gate),
+        Carrier::Loopback => migrate_tcp(rt, alloc, script, gate),
+    }
+}
+
 /// Whether the gate sees two threads at once, and more than one lock.
-fn runs_at_once<R: Threads + Wait + Sync>(rt: &R, alloc: Global) -> bool {
+fn runs_at_once<R: Threads + Wait + Sync + Net<Listener = TcpListener, Stream = TcpStream>>(
+    rt: &R,
+    alloc: Global,
+    carrier: Carrier,
+) -> bool {
     let Ok(script) = read_script(alloc, TWO_READERS.as_bytes()) else {
         return false;
     };
@@ -117,7 +161,7 @@ fn runs_at_once<R: Threads + Wait + Sync>(rt: &R, alloc: Global) -> bool {
             gave_up: false,
         }),
     };
-    let is_right = match migrate(rt, alloc, &script, &gate) {
+    let is_right = match run(rt, alloc, &script, &gate, carrier) {
         Ok(migrated) => has_answers(&migrated, &[5, 8], &[5]),
         Err(_) => false,
     };
@@ -127,13 +171,19 @@ fn runs_at_once<R: Threads + Wait + Sync>(rt: &R, alloc: Global) -> bool {
 
 #[test]
 fn two_readers_at_once(rt: HostRuntime) {
-    assert!(rt; runs_at_once(&rt, rt.alloc()));
+    assert!(rt; runs_at_once(&rt, rt.alloc(), Carrier::Memory));
+}
+
+#[test]
+fn two_readers_at_once_over_loopback(rt: HostRuntime) {
+    assert!(rt; runs_at_once(&rt, rt.alloc(), Carrier::Loopback));
 }
 
 /// Whether a run of a script has these answers, and leaves this value in the first cell of page 1.
-fn comes_out<R: Threads + Wait + Sync>(
+fn comes_out<R: Threads + Wait + Sync + Net<Listener = TcpListener, Stream = TcpStream>>(
     rt: &R,
     alloc: Global,
+    carrier: Carrier,
     text: &str,
     answers: [&[u64]; 2],
     value: u64,
@@ -141,7 +191,7 @@ fn comes_out<R: Threads + Wait + Sync>(
     let Ok(script) = read_script(alloc, text.as_bytes()) else {
         return false;
     };
-    match migrate(rt, alloc, &script, &Open) {
+    match run(rt, alloc, &script, &Open, carrier) {
         Ok(migrated) => {
             has_answers(&migrated, answers[0], answers[1]) && has_value(&migrated, 1, 0, value)
         }
@@ -151,17 +201,37 @@ fn comes_out<R: Threads + Wait + Sync>(
 
 #[test]
 fn over_a_bad_link(rt: HostRuntime) {
-    assert!(rt; comes_out(&rt, rt.alloc(), BAD_LINK, [&[7], &[7]], 7));
+    for carrier in [Carrier::Memory, Carrier::Loopback] {
+        assert!(rt; comes_out(&rt, rt.alloc(), carrier, BAD_LINK, [&[7], &[7]], 7));
+    }
 }
 
 #[test]
 fn a_released_page(rt: HostRuntime) {
-    assert!(rt; comes_out(&rt, rt.alloc(), RELEASED, [&[0, 0], &[]], 0));
+    assert!(rt;
+        comes_out(
+            &rt,
+            rt.alloc(),
+            Carrier::Memory,
+            RELEASED,
+            [&[0, 0], &[]],
+            0
+        )
+    );
 }
 
 #[test]
 fn writes_on_both_sides(rt: HostRuntime) {
-    assert!(rt; comes_out(&rt, rt.alloc(), WRITTEN, [&[9, 9, 3, 5, 9], &[]], 3));
+    assert!(rt;
+        comes_out(
+            &rt,
+            rt.alloc(),
+            Carrier::Memory,
+            WRITTEN,
+            [&[9, 9, 3, 5, 9], &[]],
+            3
+        )
+    );
 }
 
 /// Sixteen that read and write three pages over a link that loses, sends back and repeats.
