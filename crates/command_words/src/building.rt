@@ -24,7 +24,7 @@ Status:
   0  all is well
   1  another answer
   2  words that are no command
-  3  a file or an output that failed
+  3  a file, a link or an output that failed
   4  want of memory";
 
 // The command with one more word that has to be there.

@@ -10,12 +10,21 @@ use std::cell::Cell;
 use std::io;
 use std::io::{ErrorKind, Read, Write};
 use std::process::Abort;
+use std::sync::Wait;
+use std::thread::Threads;
 use texts::{
     ACCEPTED_LINE, BOTH, CERT, CLEAN_REPORT, EMPTY_CERT_LINE, EMPTY_SESSION_LINE, HANDOVER,
     RECORDED, SAFE_RUNS, SCRIPT_AND_EVENTS, SESSION, TEXTS,
 };
 
+mod migrations;
 mod texts;
+mod usage;
+
+// What the program is run with.
+trait Host: Threads + Wait + Sync + AllocGlobal {}
+
+impl<R: Threads + Wait + Sync + AllocGlobal> Host for R {}
 
 // Texts in memory, which count how often they were asked for.
 #[derive(Drop)]
@@ -83,14 +92,15 @@ struct Outcome {
 }
 
 // Runs the program on these words after its name, over the two texts and an input.
-fn ran_over<I: Read>(alloc: Global, words: &[&str], input: &mut I) -> Outcome {
+fn ran_over<R: Host, I: Read>(rt: &R, words: &[&str], input: &mut I) -> Outcome {
+    let alloc = rt.alloc();
     let shelf = Shelf {
         texts: TEXTS.as_slice(),
         asked: Cell::new(0),
     };
     let mut output = Vec::new(alloc);
     let mut errors = Vec::new(alloc);
-    let status = run(alloc, words, &shelf, input, &mut output, &mut errors);
+    let status = run(rt, alloc, words, &shelf, input, &mut output, &mut errors);
     Outcome {
         status,
         output,
@@ -99,9 +109,9 @@ fn ran_over<I: Read>(alloc: Global, words: &[&str], input: &mut I) -> Outcome {
     }
 }
 
-fn ran(alloc: Global, words: &[&str], input: &[u8]) -> Outcome {
+fn ran<R: Host>(rt: &R, words: &[&str], input: &[u8]) -> Outcome {
     let mut input = input;
-    ran_over(alloc, words, &mut input)
+    ran_over(rt, words, &mut input)
 }
 
 // Whether a run ended with this status, and wrote this.
@@ -128,8 +138,8 @@ struct Case(
 );
 
 // Whether a run is the case's.
-fn is_right(alloc: Global, case: &Case) -> bool {
-    let found = ran(alloc, case.0, case.1);
+fn is_right<R: Host>(rt: &R, case: &Case) -> bool {
+    let found = ran(rt, case.0, case.1);
     let is_asked_so = match case.5 {
         Some(asked) => found.asked == asked,
         None => true,
@@ -138,9 +148,9 @@ fn is_right(alloc: Global, case: &Case) -> bool {
 }
 
 // The words of a case that is wrong.
-fn wrong_case(alloc: Global, cases: &[Case]) -> Option<&'static [&'static str]> {
+fn wrong_case<R: Host>(rt: &R, cases: &[Case]) -> Option<&'static [&'static str]> {
     for case in cases {
-        if !is_right(alloc, case) {
+        if !is_right(rt, case) {
             return Some(case.0);
         }
     }
@@ -212,7 +222,7 @@ static VERDICTS: [Case; 10] = [
 
 #[test]
 fn verdicts(rt: HostRuntime) {
-    none_is_wrong(&rt, wrong_case(rt.alloc(), VERDICTS.as_slice()));
+    none_is_wrong(&rt, wrong_case(&rt, VERDICTS.as_slice()));
 }
 
 // Mergings of sessions.
@@ -277,7 +287,7 @@ static REPLAYS: [Case; 7] = [
 
 #[test]
 fn replays(rt: HostRuntime) {
-    none_is_wrong(&rt, wrong_case(rt.alloc(), REPLAYS.as_slice()));
+    none_is_wrong(&rt, wrong_case(&rt, REPLAYS.as_slice()));
 }
 
 // Scripts with events.
@@ -318,7 +328,7 @@ static STEPS: [Case; 4] = [
 
 #[test]
 fn steps(rt: HostRuntime) {
-    none_is_wrong(&rt, wrong_case(rt.alloc(), STEPS.as_slice()));
+    none_is_wrong(&rt, wrong_case(&rt, STEPS.as_slice()));
 }
 
 // Files that are not there: none is asked for behind one.
@@ -383,7 +393,7 @@ static MISSING: [Case; 7] = [
 
 #[test]
 fn missing_files(rt: HostRuntime) {
-    none_is_wrong(&rt, wrong_case(rt.alloc(), MISSING.as_slice()));
+    none_is_wrong(&rt, wrong_case(&rt, MISSING.as_slice()));
 }
 
 // Sessions and what is no session.
@@ -425,7 +435,7 @@ static AUDITS: [Case; 5] = [
 
 #[test]
 fn audits(rt: HostRuntime) {
-    none_is_wrong(&rt, wrong_case(rt.alloc(), AUDITS.as_slice()));
+    none_is_wrong(&rt, wrong_case(&rt, AUDITS.as_slice()));
 }
 
 // Both words that ask for the version.
@@ -450,105 +460,7 @@ static VERSIONS: [Case; 2] = [
 
 #[test]
 fn version(rt: HostRuntime) {
-    none_is_wrong(&rt, wrong_case(rt.alloc(), VERSIONS.as_slice()));
-}
-
-// Words that are no command.
-static NO_COMMANDS: [&[&str]; 5] = [
-    &["postcopy", "check", "session"],
-    &["postcopy", "check", "session", "cert", "cert"],
-    &["postcopy", "send", "session", "cert"],
-    &["postcopy", "--"],
-    &["postcopy", "check", "--fast", "session", "cert"],
-];
-
-fn is_refused(alloc: Global, words: &[&str]) -> bool {
-    let found = ran(alloc, words, BOTH);
-    found.status == 2
-        && found.output.is_empty()
-        && found.errors.as_slice().starts_with(b"error: ")
-        && found.asked == 0
-}
-
-fn wrong_usage(alloc: Global) -> Option<&'static [&'static str]> {
-    for words in &NO_COMMANDS {
-        if !is_refused(alloc, *words) {
-            return Some(*words);
-        }
-    }
-    None
-}
-
-#[test]
-fn usage(rt: HostRuntime) {
-    none_is_wrong(&rt, wrong_usage(rt.alloc()));
-}
-
-// Words that ask for help.
-static HELPS: [&[&str]; 4] = [
-    &["postcopy", "--help"],
-    &["postcopy", "-h"],
-    &["postcopy", "help"],
-    &["postcopy", "check", "--help"],
-];
-
-fn is_helped(alloc: Global, words: &[&str]) -> bool {
-    let found = ran(alloc, words, BOTH);
-    found.status == 0 && !found.output.is_empty() && found.errors.is_empty() && found.asked == 0
-}
-
-fn wrong_help(alloc: Global) -> Option<&'static [&'static str]> {
-    for words in &HELPS {
-        if !is_helped(alloc, *words) {
-            return Some(*words);
-        }
-    }
-    None
-}
-
-#[test]
-fn help(rt: HostRuntime) {
-    none_is_wrong(&rt, wrong_help(rt.alloc()));
-}
-
-// What the help tells.
-static TOLD: [&str; 11] = [
-    "0  all is well",
-    "1  another answer",
-    "2  words that are no command",
-    "3  a file or an output that failed",
-    "4  want of memory",
-    "A file named - is standard input",
-    "postcopy check session cert",
-    "postcopy certify session",
-    "postcopy audit session",
-    "postcopy replay session runs",
-    "postcopy steps script events",
-];
-
-// What a help does not tell.
-fn untold_in(help: &[u8]) -> Option<&'static str> {
-    let Ok(text) = str::from_utf8(help) else {
-        return Some("a text");
-    };
-    for told in &TOLD {
-        if !text.contains(*told) {
-            return Some(*told);
-        }
-    }
-    None
-}
-
-fn untold(alloc: Global) -> Option<&'static str> {
-    let found = ran(alloc, HELPS[0], BOTH);
-    untold_in(found.output.as_slice())
-}
-
-#[test]
-fn help_tells(rt: HostRuntime) {
-    if let Some(told) = untold(rt.alloc()) {
-        panic!(rt; "without {told}");
-    }
+    none_is_wrong(&rt, wrong_case(&rt, VERSIONS.as_slice()));
 }
 
 // No memory is left to open a text, or to read it.
@@ -576,19 +488,22 @@ impl TextSource for Starved {
 }
 
 // Words of each command.
-static COMMANDS: [&[&str]; 6] = [
+static COMMANDS: [&[&str]; 7] = [
     &["postcopy"],
     &["postcopy", "check", "session", "cert"],
     &["postcopy", "certify", "session"],
     &["postcopy", "audit", "-"],
     &["postcopy", "replay", "-", "-"],
     &["postcopy", "steps", "script", "-"],
+    &["postcopy", "migrate", "script"],
 ];
 
-fn wants_memory(alloc: Global, words: &[&str], opens: bool) -> bool {
+fn wants_memory<R: Host>(rt: &R, words: &[&str], opens: bool) -> bool {
+    let alloc = rt.alloc();
     let mut output = Vec::new(alloc);
     let mut errors = Vec::new(alloc);
     let status = run(
+        rt,
         alloc,
         words,
         &Starved { opens },
@@ -599,9 +514,9 @@ fn wants_memory(alloc: Global, words: &[&str], opens: bool) -> bool {
     status == 4 && output.is_empty() && errors.as_slice() == b"out of memory\n".as_slice()
 }
 
-fn wrong_starved(alloc: Global) -> Option<&'static [&'static str]> {
+fn wrong_starved<R: Host>(rt: &R) -> Option<&'static [&'static str]> {
     for words in &COMMANDS {
-        if !wants_memory(alloc, *words, false) || !wants_memory(alloc, *words, true) {
+        if !wants_memory(rt, *words, false) || !wants_memory(rt, *words, true) {
             return Some(*words);
         }
     }
@@ -610,34 +525,36 @@ fn wrong_starved(alloc: Global) -> Option<&'static [&'static str]> {
 
 #[test]
 fn want_of_memory(rt: HostRuntime) {
-    none_is_wrong(&rt, wrong_starved(rt.alloc()));
+    none_is_wrong(&rt, wrong_starved(&rt));
 }
 
 // Words for which something is written to the output.
-static WRITING: [&[&str]; 7] = [
+static WRITING: [&[&str]; 8] = [
     &["postcopy", "check", "session", "cert"],
     &["postcopy", "certify", "session"],
     &["postcopy", "audit", "session"],
     &["postcopy", "replay", "handover", "safe-runs"],
     &["postcopy", "steps", "script", "events"],
+    &["postcopy", "migrate", "script"],
     &["postcopy", "--help"],
     &["postcopy", "--version"],
 ];
 
-fn tells_of_output(alloc: Global, words: &[&str]) -> bool {
+fn tells_of_output<R: Host>(rt: &R, words: &[&str]) -> bool {
+    let alloc = rt.alloc();
     let shelf = Shelf {
         texts: TEXTS.as_slice(),
         asked: Cell::new(0),
     };
     let mut input = b"".as_slice();
     let mut errors = Vec::new(alloc);
-    let status = run(alloc, words, &shelf, &mut input, &mut Full, &mut errors);
+    let status = run(rt, alloc, words, &shelf, &mut input, &mut Full, &mut errors);
     status == 3 && errors.as_slice() == b"output\n".as_slice()
 }
 
-fn wrong_output(alloc: Global) -> Option<&'static [&'static str]> {
+fn wrong_output<R: Host>(rt: &R) -> Option<&'static [&'static str]> {
     for words in &WRITING {
-        if !tells_of_output(alloc, *words) {
+        if !tells_of_output(rt, *words) {
             return Some(*words);
         }
     }
@@ -646,18 +563,19 @@ fn wrong_output(alloc: Global) -> Option<&'static [&'static str]> {
 
 #[test]
 fn an_output_that_fails(rt: HostRuntime) {
-    none_is_wrong(&rt, wrong_output(rt.alloc()));
+    none_is_wrong(&rt, wrong_output(&rt));
 }
 
 // Whether a run whose errors are not told has this status, and no output.
-fn ends_untold(alloc: Global, words: &[&str], wanted: u8) -> bool {
+fn ends_untold<R: Host>(rt: &R, words: &[&str], wanted: u8) -> bool {
+    let alloc = rt.alloc();
     let shelf = Shelf {
         texts: TEXTS.as_slice(),
         asked: Cell::new(0),
     };
     let mut input = b"".as_slice();
     let mut output = Vec::new(alloc);
-    let status = run(alloc, words, &shelf, &mut input, &mut output, &mut Full);
+    let status = run(rt, alloc, words, &shelf, &mut input, &mut output, &mut Full);
     status == wanted && output.is_empty()
 }
 
@@ -667,25 +585,25 @@ static NO_NAME: [&str; 3] = ["postcopy", "check", "session"];
 
 #[test]
 fn errors_that_are_not_told(rt: HostRuntime) {
-    assert!(rt; ends_untold(rt.alloc(), NO_FILE.as_slice(), 3));
-    assert!(rt; ends_untold(rt.alloc(), NO_NAME.as_slice(), 2));
+    assert!(rt; ends_untold(&rt, NO_FILE.as_slice(), 3));
+    assert!(rt; ends_untold(&rt, NO_NAME.as_slice(), 2));
 }
 
 // Words for which the input is read.
 static READING: [&[&str]; 2] = [&["postcopy"], &["postcopy", "check", "session", "-"]];
 
-fn tells_of_input(alloc: Global, words: &[&str]) -> bool {
+fn tells_of_input<R: Host>(rt: &R, words: &[&str]) -> bool {
     let mut input = Slow {
         text: BOTH,
         fails: true,
     };
-    let found = ran_over(alloc, words, &mut input);
+    let found = ran_over(rt, words, &mut input);
     is_outcome(&found, 3, b"", b"file -\n")
 }
 
-fn wrong_input(alloc: Global) -> Option<&'static [&'static str]> {
+fn wrong_input<R: Host>(rt: &R) -> Option<&'static [&'static str]> {
     for words in &READING {
-        if !tells_of_input(alloc, *words) {
+        if !tells_of_input(rt, *words) {
             return Some(*words);
         }
     }
@@ -694,7 +612,7 @@ fn wrong_input(alloc: Global) -> Option<&'static [&'static str]> {
 
 #[test]
 fn an_input_that_fails(rt: HostRuntime) {
-    none_is_wrong(&rt, wrong_input(rt.alloc()));
+    none_is_wrong(&rt, wrong_input(&rt));
 }
 
 // Gives so many bytes, of which the first is LF, each time as many as are asked for or one. It leaves the others as they are.
@@ -727,9 +645,9 @@ static LIMITS: [(usize, bool, bool); 4] = [
 ];
 
 // Whether an input of so many bytes is read, or refused.
-fn is_limit_kept(alloc: Global, left: usize, one_by_one: bool, fits: bool) -> bool {
+fn is_limit_kept<R: Host>(rt: &R, left: usize, one_by_one: bool, fits: bool) -> bool {
     let mut input = Plenty { left, one_by_one };
-    let found = ran_over(alloc, AUDIT.as_slice(), &mut input);
+    let found = ran_over(rt, AUDIT.as_slice(), &mut input);
     if fits {
         is_outcome(&found, 1, EMPTY_SESSION_LINE, b"")
     } else {
@@ -738,9 +656,9 @@ fn is_limit_kept(alloc: Global, left: usize, one_by_one: bool, fits: bool) -> bo
 }
 
 // A count of bytes that is not read, or refused, as it is to be.
-fn wrong_limit(alloc: Global) -> Option<usize> {
+fn wrong_limit<R: Host>(rt: &R) -> Option<usize> {
     for (left, one_by_one, fits) in &LIMITS {
-        if !is_limit_kept(alloc, *left, *one_by_one, *fits) {
+        if !is_limit_kept(rt, *left, *one_by_one, *fits) {
             return Some(*left);
         }
     }
@@ -750,7 +668,7 @@ fn wrong_limit(alloc: Global) -> Option<usize> {
 // An input of 268,435,456 bytes is read, and one in 1,048,576 reads, the last of which finds its end; no greater one is.
 #[test]
 fn limits_of_an_input(rt: HostRuntime) {
-    if let Some(left) = wrong_limit(rt.alloc()) {
+    if let Some(left) = wrong_limit(&rt) {
         panic!(rt; "at {left}");
     }
 }

@@ -1,0 +1,82 @@
+//! What the program answers to the script of a migration. Which records it writes is told by its threads.
+
+use super::texts::SCRIPT;
+use super::{Case, Host, is_outcome, none_is_wrong, ran, wrong_case};
+
+// What a session of the script begins with, and the read of its guest.
+const HEAD: &[u8] = b"postcopy-session 1\npages 1\ncells 1\ninit 0\nguest ";
+
+const READ: &str = "\nr 0 0 0 0\n";
+
+// Words for which the script's guest is migrated.
+static MIGRATING: [&[&str]; 3] = [
+    &["postcopy", "migrate", "script"],
+    &["postcopy", "migrate", "-"],
+    &["postcopy", "migrate", "--link", "memory", "script"],
+];
+
+fn has_read(text: &[u8]) -> bool {
+    match str::from_utf8(text) {
+        Ok(text) => text.contains(READ),
+        Err(_) => false,
+    }
+}
+
+// Whether a session of the script and its certificate are written, and pass the check.
+fn is_certified<R: Host>(rt: &R, words: &[&str]) -> bool {
+    let found = ran(rt, words, SCRIPT);
+    let text = found.output.as_slice();
+    let checked = ran(rt, &["postcopy"], text);
+    found.status == 0
+        && found.errors.is_empty()
+        && text.starts_with(HEAD)
+        && has_read(text)
+        && is_outcome(&checked, 0, b"yes\n", b"")
+}
+
+fn wrong_migration<R: Host>(rt: &R) -> Option<&'static [&'static str]> {
+    for words in &MIGRATING {
+        if !is_certified(rt, *words) {
+            return Some(*words);
+        }
+    }
+    None
+}
+
+#[test]
+fn migrations(rt: HostRuntime) {
+    none_is_wrong(&rt, wrong_migration(&rt));
+}
+
+// What is no script, and a script that is not there.
+static REFUSALS: [Case; 3] = [
+    Case(
+        &["postcopy", "migrate", "session"],
+        b"",
+        1,
+        b"script-text line 1\n",
+        b"",
+        Some(1),
+    ),
+    Case(
+        &["postcopy", "migrate", "-"],
+        b"postcopy-script 1\npages 0\n",
+        1,
+        b"script-text line 2\n",
+        b"",
+        Some(0),
+    ),
+    Case(
+        &["postcopy", "migrate", "x"],
+        SCRIPT,
+        3,
+        b"",
+        b"file x\n",
+        Some(1),
+    ),
+];
+
+#[test]
+fn refusals(rt: HostRuntime) {
+    none_is_wrong(&rt, wrong_case(&rt, REFUSALS.as_slice()));
+}

@@ -1,0 +1,106 @@
+//! What the program answers to words that are no command, and what its help tells.
+
+use super::texts::BOTH;
+use super::{Host, none_is_wrong, ran};
+
+// Words that are no command.
+static NO_COMMANDS: [&[&str]; 7] = [
+    &["postcopy", "check", "session"],
+    &["postcopy", "check", "session", "cert", "cert"],
+    &["postcopy", "send", "session", "cert"],
+    &["postcopy", "--"],
+    &["postcopy", "check", "--fast", "session", "cert"],
+    &["postcopy", "migrate"],
+    &["postcopy", "migrate", "script", "--link", "paper"],
+];
+
+fn is_refused<R: Host>(rt: &R, words: &[&str]) -> bool {
+    let found = ran(rt, words, BOTH);
+    found.status == 2
+        && found.output.is_empty()
+        && found.errors.as_slice().starts_with(b"error: ")
+        && found.asked == 0
+}
+
+fn wrong_usage<R: Host>(rt: &R) -> Option<&'static [&'static str]> {
+    for words in &NO_COMMANDS {
+        if !is_refused(rt, *words) {
+            return Some(*words);
+        }
+    }
+    None
+}
+
+#[test]
+fn usage(rt: HostRuntime) {
+    none_is_wrong(&rt, wrong_usage(&rt));
+}
+
+// Words that ask for help.
+static HELPS: [&[&str]; 5] = [
+    &["postcopy", "--help"],
+    &["postcopy", "-h"],
+    &["postcopy", "help"],
+    &["postcopy", "check", "--help"],
+    &["postcopy", "migrate", "--help"],
+];
+
+fn is_helped<R: Host>(rt: &R, words: &[&str]) -> bool {
+    let found = ran(rt, words, BOTH);
+    found.status == 0 && !found.output.is_empty() && found.errors.is_empty() && found.asked == 0
+}
+
+fn wrong_help<R: Host>(rt: &R) -> Option<&'static [&'static str]> {
+    for words in &HELPS {
+        if !is_helped(rt, *words) {
+            return Some(*words);
+        }
+    }
+    None
+}
+
+#[test]
+fn help(rt: HostRuntime) {
+    none_is_wrong(&rt, wrong_help(&rt));
+}
+
+// What the help tells.
+static TOLD: [&str; 12] = [
+    "0  all is well",
+    "1  another answer",
+    "2  words that are no command",
+    "3  a file, a link or an output that failed",
+    "4  want of memory",
+    "A file named - is standard input",
+    "postcopy check session cert",
+    "postcopy certify session",
+    "postcopy audit session",
+    "postcopy replay session runs",
+    "postcopy steps script events",
+    "postcopy migrate script",
+];
+
+// What a help does not tell.
+fn untold_in(help: &[u8]) -> Option<&'static str> {
+    let Ok(text) = str::from_utf8(help) else {
+        return Some("a text");
+    };
+    for told in &TOLD {
+        if !text.contains(*told) {
+            return Some(*told);
+        }
+    }
+    None
+}
+
+fn untold<R: Host>(rt: &R) -> Option<&'static str> {
+    let found = ran(rt, HELPS[0], BOTH);
+    untold_in(found.output.as_slice())
+}
+
+#[test]
+fn help_tells(rt: HostRuntime) {
+    if let Some(told) = untold(&rt) {
+        panic!(rt; "without {told}");
+    }
+}
