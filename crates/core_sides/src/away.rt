@@ -1,23 +1,21 @@
 //! The side from the halt on.
 
-ghost use Rattle.std.specs.Prelude.{◌≡◌, true, false, [], None, Some, slice_get, IfOk, IsTrue, OnOk, OnErr, IsErrOf};
+ghost use Rattle.std.specs.Prelude.{◌≡◌, true, false, [], None, Some, slice_get, IfOk, OnOk, OnErr, IsErrOf};
 ghost use Rattle.migration_types.specs.Sessions.{IsSession};
 ghost use Rattle.link_book.specs.declared.Arrival.{Arrival as Arrived};
-ghost use Rattle.link_book.specs.LinkPart.{with_back, with_front, with_up, if_packet};
 ghost use Rattle.target_side.specs.PagerLists.{IsPacketOf};
 ghost use Rattle.migration_model.specs.Machine.{away_session};
 ghost use Rattle.migration_model.specs.Events.{away_event, has_room};
 ghost use Rattle.core_sides.specs.Sides.{away_of, IsAway};
 
+use crate::CoreFault;
 use crate::copies::copies;
-use crate::faults::CoreFault;
 use crate::left::Left;
 use active_push::SourceBook;
 use guest_script::Script;
 use link_book::LinkBook;
 use migration_events::{Direction, Event, Fate};
 use migration_types::{GuestRec, LinkRec, Logs, PagerRec, Seq, Session, SourceRec};
-use page_stream::Packet;
 use std::alloc::{AllocError, Global};
 use std::marker::Model;
 use target_side::{Access, PagerBook, TargetBook};
@@ -77,12 +75,7 @@ impl<'a> Away<'a> {
         ensures full { IsErrOf result CoreFault.LogFull → has_room (away_session (away_event Event.Push (away_of self.old))) ≡ false }
         ensures err { OnErr result (away_of self.new ≡ away_of self.old) }
     {
-        if self.link.down_len() >= self.script.window() as usize {
-            return Ok(());
-        }
-        self.link.room()?;
-        let packet = self.source.push()?;
-        offer_back(&mut self.link, packet);
+        book_events::push(&mut self.source, &mut self.link, self.script.window())?;
         Ok(())
     }
 
@@ -93,13 +86,7 @@ impl<'a> Away<'a> {
         ensures full { IsErrOf result CoreFault.LogFull → has_room (away_session (away_event Event.Serve (away_of self.old))) ≡ false }
         ensures err { OnErr result (away_of self.new ≡ away_of self.old) }
     {
-        self.link.room()?;
-        let Some((number, packet)) = self.link.peek_up() else {
-            return Ok(());
-        };
-        let offered = self.source.serve(number, packet)?;
-        self.link.pop_up();
-        offer_front(&mut self.link, offered);
+        book_events::serve(&mut self.source, &mut self.link)?;
         Ok(())
     }
 
@@ -110,9 +97,7 @@ impl<'a> Away<'a> {
         ensures full { IsErrOf result CoreFault.LogFull → has_room (away_session (away_event Event.SourceTick (away_of self.old))) ≡ false }
         ensures err { OnErr result (away_of self.new ≡ away_of self.old) }
     {
-        self.link.room()?;
-        let packet = self.source.tick()?;
-        offer_back(&mut self.link, packet);
+        book_events::source_tick(&mut self.source, &mut self.link)?;
         Ok(())
     }
 
@@ -135,11 +120,7 @@ impl<'a> Away<'a> {
         ensures full { IsErrOf result CoreFault.LogFull → has_room (away_session (away_event Event.PagerPop (away_of self.old))) ≡ false }
         ensures err { OnErr result (away_of self.new ≡ away_of self.old) }
     {
-        let Some((number, packet)) = self.link.peek_down() else {
-            return Ok(());
-        };
-        self.pager.pop(number, packet)?;
-        self.link.pop_down();
+        book_events::pager_pop(&mut self.link, &mut self.pager)?;
         Ok(())
     }
 
@@ -151,7 +132,7 @@ impl<'a> Away<'a> {
         ensures full { IsErrOf result CoreFault.LogFull → has_room (away_session (away_event Event.PagerFault (away_of self.old))) ≡ false }
         ensures err { OnErr result (away_of self.new ≡ away_of self.old) }
     {
-        self.pager.next_fault(&mut self.target)?;
+        book_events::pager_fault(&mut self.pager, &mut self.target)?;
         Ok(())
     }
 
@@ -162,9 +143,7 @@ impl<'a> Away<'a> {
         ensures full { IsErrOf result CoreFault.LogFull → has_room (away_session (away_event Event.PagerFlush (away_of self.old))) ≡ false }
         ensures err { OnErr result (away_of self.new ≡ away_of self.old) }
     {
-        self.link.room()?;
-        let packet = self.pager.flush();
-        offer_up(&mut self.link, packet);
+        book_events::pager_flush(&mut self.link, &mut self.pager)?;
         Ok(())
     }
 
@@ -175,7 +154,7 @@ impl<'a> Away<'a> {
         ensures full { IsErrOf result CoreFault.LogFull → has_room (away_session (away_event Event.PagerDeliver (away_of self.old))) ≡ false }
         ensures err { OnErr result (away_of self.new ≡ away_of self.old) }
     {
-        self.pager.deliver(&mut self.target)?;
+        book_events::pager_deliver(&mut self.pager, &mut self.target)?;
         Ok(())
     }
 
@@ -186,9 +165,7 @@ impl<'a> Away<'a> {
         ensures full { IsErrOf result CoreFault.LogFull → has_room (away_session (away_event Event.PagerTick (away_of self.old))) ≡ false }
         ensures err { OnErr result (away_of self.new ≡ away_of self.old) }
     {
-        self.link.room()?;
-        let packet = self.pager.tick()?;
-        offer_up(&mut self.link, packet);
+        book_events::pager_tick(&mut self.link, &mut self.pager)?;
         Ok(())
     }
 
@@ -273,35 +250,5 @@ impl<'a> Away<'a> {
         self.link.keeps_limits();
         self.pager.keeps_limits();
         self.target.keeps_history();
-    }
-}
-
-/// Offers a packet, if there is one, behind the others that are under way down.
-fn offer_back(link: &mut LinkBook, packet: Option<Packet>)
-    requires { IsTrue link.old.has_room }
-    ensures { link.new.part ≡ if_packet with_back packet link.old.part }
-{
-    if let Some(packet) = packet {
-        link.offer_down(packet, false);
-    }
-}
-
-/// Offers a packet, if there is one, ahead of the others that are under way down.
-fn offer_front(link: &mut LinkBook, packet: Option<Packet>)
-    requires { IsTrue link.old.has_room }
-    ensures { link.new.part ≡ if_packet with_front packet link.old.part }
-{
-    if let Some(packet) = packet {
-        link.offer_down(packet, true);
-    }
-}
-
-/// Offers a packet, if there is one, behind the others that are under way up.
-fn offer_up(link: &mut LinkBook, packet: Option<Packet>)
-    requires { IsTrue link.old.has_room }
-    ensures { link.new.part ≡ if_packet with_up packet link.old.part }
-{
-    if let Some(packet) = packet {
-        link.offer_up(packet);
     }
 }

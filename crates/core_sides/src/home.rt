@@ -3,16 +3,13 @@
 ghost use Rattle.std.specs.Prelude.{◌≡◌, true, false, slice_get, IfOk, IfErr, OnOk, OnErr, IsErrOf};
 ghost use Rattle.migration_types.specs.Sessions.{IsSession};
 ghost use Rattle.guest_book.specs.Books.{guest_session};
-ghost use Rattle.link_book.specs.LinkPart.{new_link};
-ghost use Rattle.target_side.specs.PagerPart.{new_pager};
-ghost use Rattle.target_side.specs.PagerLists.{part_of as pager_of};
 ghost use Rattle.migration_model.specs.Machine.{Before, IsScript, home_session, away_session};
 ghost use Rattle.migration_model.specs.Events.{start, home_step, all_at_move, halted, has_room};
 ghost use Rattle.core_sides.specs.Sides.{home_of, away_of, scripted_of, IsHome};
 
+use crate::CoreFault;
 use crate::away::Away;
 use crate::copies::copies;
-use crate::faults::CoreFault;
 use crate::left::{Left, all_left};
 use guest_book::GuestBook;
 use guest_script::Script;
@@ -96,7 +93,7 @@ impl<'a> Home<'a> {
         ensures full { IfErr result (λ e. e.1 ≡ CoreFault.LogFull → has_room (away_session (halted (home_of self.entry))) ≡ false) }
         ensures err { IfErr result (λ e. e.0 ≡ self.entry) }
     {
-        let Ok((link, pager)) = nothing_under_way(self.alloc, self.script.geometry()) else {
+        let Ok(pager) = PagerBook::new(self.alloc, self.script.geometry()) else {
             return Err((self, CoreFault::Memory));
         };
         let Home {
@@ -106,20 +103,17 @@ impl<'a> Home<'a> {
             guest,
         } = self;
         script.keeps_limits();
-        match guest.halt(script.pivots()) {
-            Ok((source, target, packet)) => {
-                let mut link = link;
-                link.offer_down(packet, false);
-                Ok(Away {
-                    alloc,
-                    script,
-                    vcpus,
-                    source,
-                    link,
-                    pager,
-                    target,
-                })
-            }
+        let mut link = LinkBook::new(alloc);
+        match book_events::halt(guest, &mut link, script.pivots()) {
+            Ok((source, target)) => Ok(Away {
+                alloc,
+                script,
+                vcpus,
+                source,
+                link,
+                pager,
+                target,
+            }),
             Err((guest, fault)) => {
                 let home = Home {
                     alloc,
@@ -127,7 +121,7 @@ impl<'a> Home<'a> {
                     vcpus,
                     guest,
                 };
-                Err((home, CoreFault::from(fault)))
+                Err((home, fault))
             }
         }
     }
@@ -174,17 +168,6 @@ impl<'a> Home<'a> {
     {
         self.guest.keeps_limits();
     }
-}
-
-/// The link's and the pager's book at the halt, with room for the packet of the state.
-fn nothing_under_way(alloc: Global, geometry: Geometry) -> Result<(LinkBook, PagerBook), AllocError>
-    ensures link { IfOk result (λ books. books.0 ≡ record { part = new_link; has_room = true }) }
-    ensures pager { IfOk result (λ books. pager_of books.1 ≡ new_pager geometry) }
-{
-    let pager = PagerBook::new(alloc, geometry)?;
-    let mut link = LinkBook::new(alloc);
-    link.room()?;
-    Ok((link, pager))
 }
 
 /// What was recorded where nobody but the guest recorded anything.

@@ -4,10 +4,9 @@
 
 mod away;
 mod copies;
-mod faults;
 mod home;
 mod left;
 
 pub use away::Away;
-pub use faults::CoreFault;
+pub use book_events::EventFault as CoreFault;
 pub use home::Home;

@@ -3,7 +3,7 @@ use Rattle.migration_events.specs.declared.events.Event.{Event}
 use Rattle.migration_model.specs.Events.{books_event, has_room, if_room, recorded, step}
 use Rattle.migration_model.specs.Machine.{Books, Machine, new_names, session_of}
 use Rattle.migration_types.specs.Receipts.{Name}
-use Rattle.core_sides.specs.declared.faults.CoreFault.{CoreFault}
+use Rattle.book_events.specs.declared.faults.EventFault.{EventFault}
 use Rattle.migration_model.proofs.Reached.{step_reached}
 use Rattle.migration_model.specs.Promise.{IsReached}
 use Rattle.std.proofs.Common.{Err, List, None, Ok, OnErr, OnOk, Result, Some, ap, cond, false, subst, sym, true, ◌++◌, ◌∙◌, ◌≡◌}
@@ -19,6 +19,6 @@ pub refused : (e : Event) (old : Books) (order : List Name) → has_room (sessio
 refused e old order full = ap (λ t. cond t (Some (recorded old order (books_event e old))) None) full
 
 -- where an event is taken the core after it is reached, and where it is refused the core is as it was
-pub stays_reached : (e : Event) (old new : Machine) (r : Result (Unit {0}) CoreFault) → IsReached old → OnOk r (step e old ≡ Some new) → OnErr r (new ≡ old) → IsReached new
+pub stays_reached : (e : Event) (old new : Machine) (r : Result (Unit {0}) EventFault) → IsReached old → OnOk r (step e old ≡ Some new) → OnErr r (new ≡ old) → IsReached new
 stays_reached e old new (Ok x) reached ok err = step_reached e old new reached ok
 stays_reached e old new (Err fault) reached ok err = subst IsReached (sym err) reached

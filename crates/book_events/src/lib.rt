@@ -1,0 +1,15 @@
+//! The events of a migration that concern two books or three, each on the books that it names and on no other: what the
+//! core does one after another, and threads do under the books' locks.
+#![tactic(auto)]
+
+mod came;
+mod faults;
+mod halting;
+mod paging;
+mod sending;
+
+pub use came::Came;
+pub use faults::EventFault;
+pub use halting::halt;
+pub use paging::{pager_deliver, pager_fault, pager_flush, pager_pop, pager_tick};
+pub use sending::{push, serve, source_tick};

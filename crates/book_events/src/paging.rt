@@ -1,0 +1,102 @@
+//! The pager's events, on the link's and the pager's books, or on the pager's and the target's.
+
+ghost use Rattle.std.specs.Prelude.{◌≡◌, [], None, Some, slice_get, IfOk, OnOk, OnErr, IsErrOf};
+ghost use Rattle.link_book.specs.declared.Arrival.{Arrival};
+ghost use Rattle.target_book.specs.Kept.{geometry_of, part_of as target_of};
+ghost use Rattle.target_side.specs.PagerLists.{part_of, IsPacketOf};
+ghost use Rattle.migration_events.specs.declared.events.Event.{Event};
+ghost use Rattle.book_events.specs.Parts.{receiving, placing, IsMade, IsFull, Tells};
+
+use crate::came::Came;
+use crate::faults::EventFault;
+use link_book::LinkBook;
+use target_side::{PagerBook, TargetBook};
+
+/// PagerPop: the pager takes the oldest packet that has arrived, if there is one, which is one that the source of such a
+/// machine sends. `EventFault::LogFull` only where its log has no room for the records. On an error nothing changes.
+pub fn pager_pop(link: &mut LinkBook, pager: &mut PagerBook) -> Result<Came, EventFault>
+    requires { (x : Arrival) → slice_get link.old.part.down_arrivals 0 ≡ Some x → IsPacketOf pager.old.geometry x.packet }
+    ensures ok { OnOk result (IsMade Event.PagerPop (receiving link.old.part (part_of pager.old)) (receiving link.new.part (part_of pager.new))) }
+    ensures told { IfOk result (λ came. Tells came (receiving link.old.part (part_of pager.old)) (receiving link.new.part (part_of pager.new))) }
+    ensures machine { pager.new.geometry ≡ pager.old.geometry }
+    ensures full { IsErrOf result EventFault.LogFull → IsFull Event.PagerPop (receiving link.old.part (part_of pager.old)) }
+    ensures err { OnErr result ((link.new.part ≡ link.old.part) × (part_of pager.new ≡ part_of pager.old)) }
+{
+    let Some((number, packet)) = link.peek_down() else {
+        return Ok(Came::Nothing);
+    };
+    pager.pop(number, packet)?;
+    link.pop_down();
+    Ok(Came::Made)
+}
+
+/// PagerFlush: the pager offers the oldest packet that it has not offered, if there is one. The only error is want of
+/// memory, and then nothing changes.
+pub fn pager_flush(link: &mut LinkBook, pager: &mut PagerBook) -> Result<Came, EventFault>
+    ensures ok { OnOk result (IsMade Event.PagerFlush (receiving link.old.part (part_of pager.old)) (receiving link.new.part (part_of pager.new))) }
+    ensures told { IfOk result (λ came. Tells came (receiving link.old.part (part_of pager.old)) (receiving link.new.part (part_of pager.new))) }
+    ensures machine { pager.new.geometry ≡ pager.old.geometry }
+    ensures full { IsErrOf result EventFault.LogFull → IsFull Event.PagerFlush (receiving link.old.part (part_of pager.old)) }
+    ensures err { OnErr result ((link.new.part ≡ link.old.part) × (part_of pager.new ≡ part_of pager.old)) }
+{
+    link.room()?;
+    let Some(packet) = pager.flush() else {
+        return Ok(Came::Nothing);
+    };
+    link.offer_up(packet);
+    Ok(Came::Made)
+}
+
+/// PagerTick: once the state has come, the pager asks once more for a page that is not placed, or says that all are.
+/// `EventFault::LogFull` only where its log has no room for the record. On an error nothing changes.
+pub fn pager_tick(link: &mut LinkBook, pager: &mut PagerBook) -> Result<Came, EventFault>
+    ensures ok { OnOk result (IsMade Event.PagerTick (receiving link.old.part (part_of pager.old)) (receiving link.new.part (part_of pager.new))) }
+    ensures told { IfOk result (λ came. Tells came (receiving link.old.part (part_of pager.old)) (receiving link.new.part (part_of pager.new))) }
+    ensures machine { pager.new.geometry ≡ pager.old.geometry }
+    ensures full { IsErrOf result EventFault.LogFull → IsFull Event.PagerTick (receiving link.old.part (part_of pager.old)) }
+    ensures err { OnErr result ((link.new.part ≡ link.old.part) × (part_of pager.new ≡ part_of pager.old)) }
+{
+    link.room()?;
+    let Some(packet) = pager.tick()? else {
+        return Ok(Came::Nothing);
+    };
+    link.offer_up(packet);
+    Ok(Came::Made)
+}
+
+/// PagerFault: the pager learns of the oldest miss that it has not taken, if there is one. The books are of one machine,
+/// and a miss comes only once the state has. `EventFault::LogFull` only where the pager's log has no room for the
+/// records. On an error nothing changes.
+pub fn pager_fault(pager: &mut PagerBook, target: &mut TargetBook) -> Result<Came, EventFault>
+    requires machine { geometry_of target.old ≡ pager.old.geometry }
+    requires ready { pager.old.released ≡ None → (target_of target.old).misses ≡ [] }
+    ensures ok { OnOk result (IsMade Event.PagerFault (placing (part_of pager.old) (target_of target.old)) (placing (part_of pager.new) (target_of target.new))) }
+    ensures told { IfOk result (λ came. Tells came (placing (part_of pager.old) (target_of target.old)) (placing (part_of pager.new) (target_of target.new))) }
+    ensures machine { (pager.new.geometry ≡ pager.old.geometry) × (geometry_of target.new ≡ geometry_of target.old) }
+    ensures full { IsErrOf result EventFault.LogFull → IsFull Event.PagerFault (placing (part_of pager.old) (target_of target.old)) }
+    ensures err { OnErr result ((part_of pager.new ≡ part_of pager.old) × (target_of target.new ≡ target_of target.old)) }
+{
+    if target.next_miss().is_none() {
+        return Ok(Came::Nothing);
+    }
+    pager.next_fault(target)?;
+    Ok(Came::Made)
+}
+
+/// PagerDeliver: once the state has come, the pager lets the guest resume, and from then on places the oldest page that
+/// has come, if there is one. The books are of one machine. `EventFault::LogFull` only where a log has no room for the
+/// record. On an error nothing changes.
+pub fn pager_deliver(pager: &mut PagerBook, target: &mut TargetBook) -> Result<Came, EventFault>
+    requires machine { geometry_of target.old ≡ pager.old.geometry }
+    ensures ok { OnOk result (IsMade Event.PagerDeliver (placing (part_of pager.old) (target_of target.old)) (placing (part_of pager.new) (target_of target.new))) }
+    ensures told { IfOk result (λ came. Tells came (placing (part_of pager.old) (target_of target.old)) (placing (part_of pager.new) (target_of target.new))) }
+    ensures machine { (pager.new.geometry ≡ pager.old.geometry) × (geometry_of target.new ≡ geometry_of target.old) }
+    ensures full { IsErrOf result EventFault.LogFull → IsFull Event.PagerDeliver (placing (part_of pager.old) (target_of target.old)) }
+    ensures err { OnErr result ((part_of pager.new ≡ part_of pager.old) × (target_of target.new ≡ target_of target.old)) }
+{
+    if !pager.is_ready() || (target.is_resumed() && pager.next_page().is_none()) {
+        return Ok(Came::Nothing);
+    }
+    pager.deliver(target)?;
+    Ok(Came::Made)
+}

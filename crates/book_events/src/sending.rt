@@ -1,0 +1,92 @@
+//! The events on the source's and the link's books.
+
+ghost use Rattle.std.specs.Prelude.{◌≡◌, IsTrue, IfOk, OnOk, OnErr, IsErrOf, if◌then◌else◌};
+ghost use Rattle.active_push.specs.Books.{part_of};
+ghost use Rattle.link_book.specs.LinkPart.{with_back, with_front};
+ghost use Rattle.migration_events.specs.declared.events.Event.{Event};
+ghost use Rattle.book_events.specs.Parts.{pushing, sending, IsMade, IsFull, Tells};
+ghost use Rattle.book_events.specs.inner.Offers.{Carries};
+
+use crate::came::Came;
+use crate::faults::EventFault;
+use active_push::SourceBook;
+use link_book::LinkBook;
+use page_stream::Packet;
+
+/// Push: the source sends the page that bubbling chooses, where fewer packets than the window are under way down.
+/// `EventFault::LogFull` only where the source's log has no room for the record. On an error nothing changes.
+pub fn push(source: &mut SourceBook, link: &mut LinkBook, window: u32) -> Result<Came, EventFault>
+    ensures ok { OnOk result (IsMade Event.Push (pushing window (part_of source.old) link.old.part) (pushing window (part_of source.new) link.new.part)) }
+    ensures told { IfOk result (λ came. Tells came (pushing window (part_of source.old) link.old.part) (pushing window (part_of source.new) link.new.part)) }
+    ensures machine { source.new.frames.geometry ≡ source.old.frames.geometry }
+    ensures full { IsErrOf result EventFault.LogFull → IsFull Event.Push (pushing window (part_of source.old) link.old.part) }
+    ensures err { OnErr result ((part_of source.new ≡ part_of source.old) × (link.new.part ≡ link.old.part)) }
+{
+    if link.down_len() >= window as usize {
+        return Ok(Came::Nothing);
+    }
+    link.room()?;
+    let Some(packet) = source.push()? else {
+        return Ok(Came::Nothing);
+    };
+    Ok(offer(link, packet, false))
+}
+
+/// Serve: the source takes the oldest packet that has arrived, if there is one, and sends the page that it wants ahead
+/// of the others. `EventFault::LogFull` only where the source's log has no room for the records. On an error nothing
+/// changes.
+pub fn serve(source: &mut SourceBook, link: &mut LinkBook) -> Result<Came, EventFault>
+    ensures ok { OnOk result (IsMade Event.Serve (sending (part_of source.old) link.old.part) (sending (part_of source.new) link.new.part)) }
+    ensures told { IfOk result (λ came. Tells came (sending (part_of source.old) link.old.part) (sending (part_of source.new) link.new.part)) }
+    ensures machine { source.new.frames.geometry ≡ source.old.frames.geometry }
+    ensures full { IsErrOf result EventFault.LogFull → IsFull Event.Serve (sending (part_of source.old) link.old.part) }
+    ensures err { OnErr result ((part_of source.new ≡ part_of source.old) × (link.new.part ≡ link.old.part)) }
+{
+    link.room()?;
+    let Some((number, packet)) = link.peek_up() else {
+        return Ok(Came::Nothing);
+    };
+    let offered = source.serve(number, packet)?;
+    link.pop_up();
+    match offered {
+        Some(packet) => Ok(offer(link, packet, true)),
+        None => Ok(Came::Made),
+    }
+}
+
+/// SourceTick: the source sends the state once more, as long as nobody asked it for anything. `EventFault::LogFull` only
+/// where its log has no room for the record. On an error nothing changes.
+pub fn source_tick(source: &mut SourceBook, link: &mut LinkBook) -> Result<Came, EventFault>
+    ensures ok { OnOk result (IsMade Event.SourceTick (sending (part_of source.old) link.old.part) (sending (part_of source.new) link.new.part)) }
+    ensures told { IfOk result (λ came. Tells came (sending (part_of source.old) link.old.part) (sending (part_of source.new) link.new.part)) }
+    ensures machine { source.new.frames.geometry ≡ source.old.frames.geometry }
+    ensures full { IsErrOf result EventFault.LogFull → IsFull Event.SourceTick (sending (part_of source.old) link.old.part) }
+    ensures err { OnErr result ((part_of source.new ≡ part_of source.old) × (link.new.part ≡ link.old.part)) }
+{
+    link.room()?;
+    let Some(packet) = source.tick()? else {
+        return Ok(Came::Nothing);
+    };
+    Ok(offer(link, packet, false))
+}
+
+/// Offers a packet before the others that are under way down, or behind them.
+fn offer(link: &mut LinkBook, packet: Packet, front: bool) -> Came
+    requires { IsTrue link.old.has_room }
+    ensures link { link.new.part ≡ if front then with_front packet link.old.part else with_back packet link.old.part }
+    ensures told { Carries result packet }
+{
+    let came = carried(&packet);
+    link.offer_down(packet, front);
+    came
+}
+
+/// What offering a packet comes to.
+fn carried(packet: &Packet) -> Came
+    ensures { Carries result packet.now }
+{
+    match packet {
+        Packet::Page { page, .. } => Came::Offered(*page),
+        _ => Came::Made,
+    }
+}
