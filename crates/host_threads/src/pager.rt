@@ -1,13 +1,18 @@
 //! The pager's thread.
 
 ghost use Rattle.std.specs.Prelude.{◌≡◌, true};
-ghost use Rattle.target_side.specs.PagerLists.{IsPacketOf};
+ghost use Rattle.target_book.specs.Kept.{part_of as target_of};
+ghost use Rattle.target_side.specs.PagerLists.{part_of, IsPacketOf};
+ghost use Rattle.book_events.specs.Parts.{receiving, placing};
+ghost use Rattle.host_threads.specs.Turns.{IsTurn};
 
 use crate::bell::Fault;
 use crate::gate::Gate;
-use crate::shared::{Shared, Turn, of_target};
+use crate::shared::{Shared, Turn, told, told_to_all};
 use crate::side::TargetSide;
+use book_events::{pager_deliver, pager_fault, pager_flush, pager_pop, pager_tick};
 use link_book::LinkBook;
+use migration_events::Event;
 use migration_types::{Geometry, PageNo};
 use page_stream::{Packet, fits};
 use std::sync::Wait;
@@ -20,116 +25,61 @@ fn is_packet_of(geometry: Geometry, packet: &Packet) -> bool
     fits(geometry, packet)
 }
 
+/// An event on the link's and the pager's books: PagerPop, PagerFlush or PagerTick. A packet of another machine is not
+/// taken. The pager ticks only where nothing is under way.
+fn exchange(link: &mut LinkBook, pager: &mut PagerBook, event: Event) -> Turn
+    ensures { IsTurn result event (receiving link.old.part (part_of pager.old)) (receiving link.new.part (part_of pager.new)) }
+{
+    match event {
+        Event::PagerPop => pop_next(link, pager),
+        Event::PagerFlush => told(pager_flush(link, pager)),
+        Event::PagerTick if link.quiet() => told(pager_tick(link, pager)),
+        _ => Turn::Idle,
+    }
+}
+
 /// Takes the oldest packet that has come down, if there is one.
-fn pop_next(link: &mut LinkBook, pager: &mut PagerBook) -> Turn {
-    let Some((number, packet)) = link.peek_down() else {
+fn pop_next(link: &mut LinkBook, pager: &mut PagerBook) -> Turn
+    ensures { IsTurn result Event.PagerPop (receiving link.old.part (part_of pager.old)) (receiving link.new.part (part_of pager.new)) }
+{
+    let Some((_, packet)) = link.peek_down() else {
         return Turn::Idle;
     };
     if !is_packet_of(pager.geometry(), packet) {
         return Turn::Stops(Fault::Astray);
     }
-    match pager.pop(number, packet) {
-        Ok(()) => {
-            let _ = link.pop_down();
-            Turn::Did
-        }
-        Err(fault) => Turn::Stops(of_target(fault)),
-    }
+    told(pager_pop(link, pager))
 }
 
-/// Offers the oldest packet of the pager's that is not offered yet, if there is one.
-fn flush_next(link: &mut LinkBook, pager: &mut PagerBook) -> Turn {
-    if link.room().is_err() {
-        return Turn::Stops(Fault::Memory);
-    }
-    match pager.flush() {
-        Some(packet) => {
-            link.offer_up(packet);
-            Turn::Did
-        }
-        None => Turn::Idle,
-    }
-}
-
-/// Asks once more, where nothing is under way.
-fn tick_once(link: &mut LinkBook, pager: &mut PagerBook) -> Turn {
-    if !link.quiet() {
-        return Turn::Idle;
-    }
-    if link.room().is_err() {
-        return Turn::Stops(Fault::Memory);
-    }
-    match pager.tick() {
-        Ok(Some(packet)) => {
-            link.offer_up(packet);
-            Turn::Did
-        }
-        Ok(None) => Turn::Idle,
-        Err(fault) => Turn::Stops(of_target(fault)),
-    }
-}
-
-/// Learns of the oldest miss that was not taken, if there is one.
-fn learn_next(pager: &mut PagerBook, target: &mut TargetBook) -> Turn {
+/// An event on the pager's and the target's books: PagerFault or PagerDeliver.
+fn attend(pager: &mut PagerBook, target: &mut TargetBook, event: Event) -> Turn
+    ensures { IsTurn result event (placing (part_of pager.old) (target_of target.old)) (placing (part_of pager.new) (target_of target.new)) }
+{
     if target.geometry() != pager.geometry() {
         return Turn::Stops(Fault::Astray);
     }
-    if !pager.is_ready() || target.next_miss().is_none() {
-        return Turn::Idle;
-    }
-    match pager.next_fault(target) {
-        Ok(()) => Turn::Served,
-        Err(fault) => Turn::Stops(of_target(fault)),
+    match event {
+        Event::PagerFault if pager.is_ready() => told_to_all(pager_fault(pager, target)),
+        Event::PagerDeliver => told_to_all(pager_deliver(pager, target)),
+        _ => Turn::Idle,
     }
 }
 
-/// Lets the guest resume, or places the oldest page that has come, if there is one.
-fn deliver_next(pager: &mut PagerBook, target: &mut TargetBook) -> Turn {
-    if target.geometry() != pager.geometry() {
-        return Turn::Stops(Fault::Astray);
-    }
-    if !pager.is_ready() || (target.is_resumed() && pager.next_page().is_none()) {
-        return Turn::Idle;
-    }
-    match pager.deliver(target) {
-        Ok(_) => Turn::Served,
-        Err(fault) => Turn::Stops(of_target(fault)),
-    }
-}
-
-/// PagerPop.
-fn pop<R: Wait>(rt: &R, shared: &Shared) -> Turn {
+/// PagerPop, PagerFlush or PagerTick.
+fn exchange_once<R: Wait>(rt: &R, shared: &Shared, event: Event) -> Turn {
     let mut link = shared.link.lock(rt);
     let mut pager = shared.pager.lock(rt);
-    pop_next(&mut link, &mut pager)
+    exchange(&mut link, &mut pager, event)
 }
 
-/// PagerFlush.
-fn flush<R: Wait>(rt: &R, shared: &Shared) -> Turn {
-    let mut link = shared.link.lock(rt);
-    let mut pager = shared.pager.lock(rt);
-    flush_next(&mut link, &mut pager)
-}
-
-/// PagerFault.
-fn fault<R: Wait>(rt: &R, shared: &Shared) -> Turn {
+/// PagerFault or PagerDeliver, where there is a target's book.
+fn attend_once<R: Wait>(rt: &R, shared: &Shared, event: Event) -> Turn {
     let mut pager = shared.pager.lock(rt);
     let mut side = shared.target.lock(rt);
     match &mut *side {
         TargetSide::Guest(_) => Turn::Idle,
         TargetSide::Moving => Turn::Stops(Fault::Astray),
-        TargetSide::Target(target) => learn_next(&mut pager, target),
-    }
-}
-
-/// PagerDeliver.
-fn deliver<R: Wait>(rt: &R, shared: &Shared) -> Turn {
-    let mut pager = shared.pager.lock(rt);
-    let mut side = shared.target.lock(rt);
-    match &mut *side {
-        TargetSide::Guest(_) => Turn::Idle,
-        TargetSide::Moving => Turn::Stops(Fault::Astray),
-        TargetSide::Target(target) => deliver_next(&mut pager, target),
+        TargetSide::Target(target) => attend(&mut pager, target, event),
     }
 }
 
@@ -146,9 +96,7 @@ fn tick<R: Wait>(rt: &R, shared: &Shared) -> Turn {
     if asks_nothing(rt, shared) {
         return Turn::Idle;
     }
-    let mut link = shared.link.lock(rt);
-    let mut pager = shared.pager.lock(rt);
-    tick_once(&mut link, &mut pager)
+    exchange_once(rt, shared, Event::PagerTick)
 }
 
 /// The oldest page that has come, if there is one.
@@ -159,7 +107,7 @@ fn next_page<R: Wait>(rt: &R, shared: &Shared) -> Option<PageNo> {
 /// PagerDeliver. The first time the guest resumes, and from then on the gate is told before of the page.
 fn place<R: Wait, G: Gate>(rt: &R, shared: &Shared, gate: &G, is_resumed: &mut bool) -> Turn {
     if !*is_resumed {
-        let turn = deliver(rt, shared);
+        let turn = attend_once(rt, shared, Event::PagerDeliver);
         *is_resumed = matches!(turn, Turn::Served);
         return turn;
     }
@@ -167,21 +115,21 @@ fn place<R: Wait, G: Gate>(rt: &R, shared: &Shared, gate: &G, is_resumed: &mut b
         return Turn::Idle;
     };
     gate.placing(page);
-    deliver(rt, shared)
+    attend_once(rt, shared, Event::PagerDeliver)
 }
 
 /// What there is to do on the pager's and the target's books: a miss to learn of, or else a page to place.
 fn serve<R: Wait, G: Gate>(rt: &R, shared: &Shared, gate: &G, is_resumed: &mut bool) -> Turn {
-    match fault(rt, shared) {
+    match attend_once(rt, shared, Event::PagerFault) {
         Turn::Idle => place(rt, shared, gate, is_resumed),
         other => other,
     }
 }
 
 /// What there is to do on the link's and the pager's books: a packet to take, or else one to offer.
-fn exchange<R: Wait>(rt: &R, shared: &Shared) -> Turn {
-    match pop(rt, shared) {
-        Turn::Idle => flush(rt, shared),
+fn take_or_offer<R: Wait>(rt: &R, shared: &Shared) -> Turn {
+    match exchange_once(rt, shared, Event::PagerPop) {
+        Turn::Idle => exchange_once(rt, shared, Event::PagerFlush),
         other => other,
     }
 }
@@ -194,7 +142,7 @@ pub(crate) fn run_pager<R: Wait, G: Gate>(rt: &R, shared: &Shared, gate: &G, vcp
         if seen.is_over(vcpus) {
             break;
         }
-        let exchanged = exchange(rt, shared);
+        let exchanged = take_or_offer(rt, shared);
         let Some(has_exchanged) = shared.tell(rt, exchanged) else {
             break;
         };

@@ -1,8 +1,15 @@
-//! The books, each under its lock.
+//! The books, each under its lock, and what a thread tells of its turn with them.
+
+ghost use Rattle.std.specs.Prelude.{IfOk, OnOk, OnErr};
+ghost use Rattle.migration_events.specs.declared.events.Event.{Event};
+ghost use Rattle.migration_model.specs.Machine.{Away};
+ghost use Rattle.book_events.specs.Parts.{IsMade, IsSame, Tells};
+ghost use Rattle.host_threads.specs.Turns.{IsTurn};
 
 use crate::bell::{Bell, Fault};
 use crate::side::TargetSide;
-use active_push::{SourceBook, SourceFault};
+use active_push::SourceBook;
+use book_events::{Came, EventFault};
 use link_book::{LinkBook, LinkFault};
 use migration_types::PageNo;
 use std::sync::{Mutex, Wait};
@@ -55,26 +62,51 @@ impl Shared {
     }
 }
 
-/// The fault of a run in which the source's book refused a call.
-pub(crate) fn of_source(fault: SourceFault) -> Fault {
-    match fault {
-        SourceFault::LogFull => Fault::LogFull,
-        SourceFault::Memory => Fault::Memory,
+/// What is told of an event.
+pub(crate) fn told(came: Result<Came, EventFault>) -> Turn
+    ensures { (e : Event) (old new : Away → Away) → OnOk came (IsMade e old new) → IfOk came (λ c. Tells c old new) → OnErr came (IsSame old new) → IsTurn result e old new }
+{
+    match came {
+        Ok(came) => turn_of(came),
+        Err(fault) => Turn::Stops(of_event(fault)),
     }
 }
 
-/// The same for the link's book.
+/// What is told of an event that was not refused.
+fn turn_of(came: Came) -> Turn
+    ensures { (e : Event) (old new : Away → Away) → IsMade e old new → Tells came old new → IsTurn result e old new }
+{
+    match came {
+        Came::Nothing => Turn::Idle,
+        Came::Made => Turn::Did,
+        Came::Offered(page) => Turn::Offered(page),
+    }
+}
+
+/// The same of an event on the pager's and the target's books.
+pub(crate) fn told_to_all(came: Result<Came, EventFault>) -> Turn
+    ensures { (e : Event) (old new : Away → Away) → OnOk came (IsMade e old new) → IfOk came (λ c. Tells c old new) → OnErr came (IsSame old new) → IsTurn result e old new }
+{
+    match told(came) {
+        Turn::Did => Turn::Served,
+        other => other,
+    }
+}
+
+/// The fault of a run in which an event was refused.
+pub(crate) fn of_event(fault: EventFault) -> Fault {
+    match fault {
+        EventFault::LogFull => Fault::LogFull,
+        EventFault::Memory => Fault::Memory,
+    }
+}
+
+/// The same where the link's book refused a turn.
 pub(crate) fn of_link(fault: LinkFault) -> Fault {
-    match fault {
-        LinkFault::LogFull => Fault::LogFull,
-        LinkFault::Memory => Fault::Memory,
-    }
+    of_event(EventFault::from(fault))
 }
 
-/// The same for the guest's, the target's and the pager's books.
+/// The same where the guest's or the target's book refused an operation.
 pub(crate) fn of_target(fault: TargetFault) -> Fault {
-    match fault {
-        TargetFault::LogFull => Fault::LogFull,
-        TargetFault::Memory => Fault::Memory,
-    }
+    of_event(EventFault::from(fault))
 }

@@ -1,84 +1,34 @@
 //! The source's thread.
 
-ghost use Rattle.std.specs.Prelude.{◌≤◌, IsTrue};
+ghost use Rattle.std.specs.Prelude.{◌≡◌, ◌≢◌, ◌≤◌};
+ghost use Rattle.active_push.specs.Books.{part_of};
+ghost use Rattle.book_events.specs.Parts.{pushing};
+ghost use Rattle.host_threads.specs.Turns.{IsTurn};
+ghost use Rattle.host_threads.specs.Sides.{Halts};
 
 use crate::bell::Fault;
 use crate::gate::Gate;
-use crate::shared::{Shared, Turn, of_source, of_target};
+use crate::shared::{Shared, Turn, of_event, told};
 use crate::side::TargetSide;
 use active_push::SourceBook;
+use book_events::{push, serve, source_tick};
 use guest_script::Script;
 use link_book::LinkBook;
+use migration_events::Event;
 use migration_types::PageNo;
-use page_stream::Packet;
-use std::mem;
+use std::mem::{self, drop};
 use std::sync::Wait;
-use target_side::GuestBook;
 
-/// What offering a packet comes to: the page that it carries, if it carries one.
-fn offers(packet: &Packet) -> Turn {
-    match packet {
-        Packet::Page { page, .. } => Turn::Offered(*page),
-        _ => Turn::Did,
-    }
-}
-
-/// Offers the packet that a call of the source's book answered, for which there is room.
-fn offer(link: &mut LinkBook, packet: Option<Packet>, front: bool) -> Turn
-    requires { IsTrue link.old.has_room }
+/// An event on the source's and the link's books: Push, Serve or SourceTick. The source ticks only where nothing is
+/// under way and it is not done.
+fn act(book: &mut SourceBook, link: &mut LinkBook, event: Event, window: u32) -> Turn
+    ensures { IsTurn result event (pushing window (part_of book.old) link.old.part) (pushing window (part_of book.new) link.new.part) }
 {
-    let Some(packet) = packet else {
-        return Turn::Did;
-    };
-    let turn = offers(&packet);
-    link.offer_down(packet, front);
-    turn
-}
-
-/// The next page of the script's pushing, where the way down has room for one more in its window.
-fn push_page(book: &mut SourceBook, link: &mut LinkBook, window: u32) -> Turn {
-    if link.down_len() >= window as usize {
-        return Turn::Idle;
-    }
-    if link.room().is_err() {
-        return Turn::Stops(Fault::Memory);
-    }
-    match book.push() {
-        Ok(None) => Turn::Idle,
-        Ok(packet) => offer(link, packet, false),
-        Err(fault) => Turn::Stops(of_source(fault)),
-    }
-}
-
-/// Serves the oldest packet that has come up, if there is one.
-fn serve_next(book: &mut SourceBook, link: &mut LinkBook) -> Turn {
-    if link.room().is_err() {
-        return Turn::Stops(Fault::Memory);
-    }
-    let Some((number, packet)) = link.peek_up() else {
-        return Turn::Idle;
-    };
-    match book.serve(number, packet) {
-        Ok(packet) => {
-            let _ = link.pop_up();
-            offer(link, packet, true)
-        }
-        Err(fault) => Turn::Stops(of_source(fault)),
-    }
-}
-
-/// Sends the state once more, where nothing is under way, nobody has asked for anything, and the source is not done.
-fn tick_once(book: &mut SourceBook, link: &mut LinkBook) -> Turn {
-    if book.is_done() || !link.quiet() {
-        return Turn::Idle;
-    }
-    if link.room().is_err() {
-        return Turn::Stops(Fault::Memory);
-    }
-    match book.tick() {
-        Ok(None) => Turn::Idle,
-        Ok(packet) => offer(link, packet, false),
-        Err(fault) => Turn::Stops(of_source(fault)),
+    match event {
+        Event::Push => told(push(book, link, window)),
+        Event::Serve => told(serve(book, link)),
+        Event::SourceTick if !book.is_done() && link.quiet() => told(source_tick(book, link)),
+        _ => Turn::Idle,
     }
 }
 
@@ -92,42 +42,16 @@ fn halt_guest(
 ) -> Turn
     requires some { 1 ≤ pivots }
     requires few { pivots ≤ 16 }
+    ensures did { result ≡ Turn.Did → Halts pivots side.old link.old.part source.new side.new link.new.part }
+    ensures stays { result ≢ Turn.Did → (source.new ≡ source.old) × (side.new ≡ side.old) × (link.new.part ≡ link.old.part) }
 {
-    if link.room().is_err() {
-        return Turn::Stops(Fault::Memory);
-    }
-    match mem::replace(side, TargetSide::Moving) {
-        TargetSide::Guest(guest) => part(guest, source, link, side, pivots),
-        other => {
-            let _ = mem::replace(side, other);
-            Turn::Stops(Fault::Astray)
-        }
-    }
-}
-
-/// Parts the guest's book, for whose packet there is room.
-fn part(
-    guest: GuestBook,
-    source: &mut Option<SourceBook>,
-    link: &mut LinkBook,
-    side: &mut TargetSide,
-    pivots: u32,
-) -> Turn
-    requires some { 1 ≤ pivots }
-    requires few { pivots ≤ 16 }
-    requires room { IsTrue link.old.has_room }
-{
-    match guest.halt(pivots) {
-        Ok((book, target, packet)) => {
-            let _ = mem::replace(side, TargetSide::Target(target));
-            let _ = mem::replace(source, Some(book));
-            link.offer_down(packet, false);
+    match side.halt(link, pivots) {
+        Ok(Some(book)) => {
+            drop(mem::replace(source, Some(book)));
             Turn::Did
         }
-        Err((guest, fault)) => {
-            let _ = mem::replace(side, TargetSide::Guest(guest));
-            Turn::Stops(of_target(fault))
-        }
+        Ok(None) => Turn::Stops(Fault::Astray),
+        Err(fault) => Turn::Stops(of_event(fault)),
     }
 }
 
@@ -140,51 +64,29 @@ fn halt<R: Wait>(rt: &R, shared: &Shared, script: &Script) -> Turn {
     halt_guest(&mut source, &mut link, &mut side, script.pivots())
 }
 
-/// Push.
-fn push<R: Wait>(rt: &R, shared: &Shared, window: u32) -> Turn {
+/// Push, Serve or SourceTick, where there is a source's book.
+fn act_once<R: Wait>(rt: &R, shared: &Shared, event: Event, window: u32) -> Turn {
     let mut source = shared.source.lock(rt);
     let mut link = shared.link.lock(rt);
-    match &mut *source {
-        Some(book) => push_page(book, &mut link, window),
-        None => Turn::Idle,
+    let Some(book) = &mut *source else {
+        return Turn::Idle;
+    };
+    let turn = act(book, &mut link, event, window);
+    if book.is_done() {
+        shared.bell.finish(rt);
     }
-}
-
-/// Serve.
-fn serve<R: Wait>(rt: &R, shared: &Shared) -> Turn {
-    let mut source = shared.source.lock(rt);
-    let mut link = shared.link.lock(rt);
-    match &mut *source {
-        Some(book) => {
-            let turn = serve_next(book, &mut link);
-            if book.is_done() {
-                shared.bell.finish(rt);
-            }
-            turn
-        }
-        None => Turn::Idle,
-    }
-}
-
-/// SourceTick.
-fn tick<R: Wait>(rt: &R, shared: &Shared) -> Turn {
-    let mut source = shared.source.lock(rt);
-    let mut link = shared.link.lock(rt);
-    match &mut *source {
-        Some(book) => tick_once(book, &mut link),
-        None => Turn::Idle,
-    }
+    turn
 }
 
 /// What there is to do after the halt: to serve, or else to push, or else to tick.
 fn turn<R: Wait>(rt: &R, shared: &Shared, window: u32) -> Turn {
-    match serve(rt, shared) {
-        Turn::Idle => match push(rt, shared, window) {
-            Turn::Idle => tick(rt, shared),
-            other => other,
-        },
-        other => other,
+    for event in [Event::Serve, Event::Push, Event::SourceTick] {
+        match act_once(rt, shared, event, window) {
+            Turn::Idle => {}
+            other => return other,
+        }
     }
+    Turn::Idle
 }
 
 /// The page that was offered, if one was.

@@ -2,7 +2,10 @@
 
 ghost use Rattle.std.specs.Prelude.{◌≡◌, ◌<◌, true};
 ghost use Rattle.migration_events.specs.Ops.{OpFits};
+ghost use Rattle.guest_book.specs.Books.{part_of as guest_of};
+ghost use Rattle.target_book.specs.Kept.{part_of as target_of};
 ghost use Rattle.target_book.specs.History.{IsAccess};
+ghost use Rattle.host_threads.specs.Operations.{IsGuestStep, IsTargetStep};
 
 use crate::bell::Fault;
 use crate::gate::Gate;
@@ -14,7 +17,7 @@ use migration_events::Op;
 use migration_types::{Geometry, PageNo, Seq};
 use std::alloc::Global;
 use std::sync::Wait;
-use target_side::Access;
+use target_side::{Access, GuestBook, TargetBook};
 
 /// Whether the machine has the page.
 fn has_page(geometry: Geometry, page: PageNo) -> bool
@@ -61,19 +64,39 @@ enum Step {
     Stops(Fault),
 }
 
+/// An operation on the guest's book.
+fn step_guest(book: &mut GuestBook, vcpu: u8, op: &Op) -> Step
+    ensures { IsGuestStep result vcpu op.now (guest_of book.old) (guest_of book.new) }
+{
+    if !fits(book.geometry(), op) {
+        return Step::Stops(Fault::Astray);
+    }
+    match book.access(vcpu, *op) {
+        Ok(answer) => Step::Answered(answer),
+        Err(fault) => Step::Stops(of_target(fault)),
+    }
+}
+
+/// An operation on the target's book.
+fn step_target(book: &mut TargetBook, vcpu: u8, op: &Op) -> Step
+    ensures { IsTargetStep result vcpu op.now (target_of book.old) (target_of book.new) }
+{
+    if !is_access(book.geometry(), op) {
+        return Step::Stops(Fault::Astray);
+    }
+    match book.access(vcpu, *op) {
+        Ok(Access::Done(answer)) => Step::Answered(answer),
+        Ok(Access::Missed) => Step::Missed,
+        Ok(Access::Waiting) => Step::Waits,
+        Err(fault) => Step::Stops(of_target(fault)),
+    }
+}
+
 /// An operation at the source.
 fn step_at_source<R: Wait>(rt: &R, shared: &Shared, vcpu: u8, op: &Op) -> Step {
     let mut side = shared.target.lock(rt);
     match &mut *side {
-        TargetSide::Guest(book) => {
-            if !fits(book.geometry(), op) {
-                return Step::Stops(Fault::Astray);
-            }
-            match book.access(vcpu, *op) {
-                Ok(answer) => Step::Answered(answer),
-                Err(fault) => Step::Stops(of_target(fault)),
-            }
-        }
+        TargetSide::Guest(book) => step_guest(book, vcpu, op),
         _ => Step::Stops(Fault::Astray),
     }
 }
@@ -85,18 +108,11 @@ fn step_at_target<R: Wait, G: Gate>(rt: &R, shared: &Shared, gate: &G, vcpu: u8,
         TargetSide::Guest(_) => Step::Waits,
         TargetSide::Moving => Step::Stops(Fault::Astray),
         TargetSide::Target(book) => {
-            if !is_access(book.geometry(), op) {
-                return Step::Stops(Fault::Astray);
+            let step = step_target(book, vcpu, op);
+            if let Step::Answered(_) = &step {
+                gate.held(vcpu, op.page(), book);
             }
-            match book.access(vcpu, *op) {
-                Ok(Access::Done(answer)) => {
-                    gate.held(vcpu, op.page(), book);
-                    Step::Answered(answer)
-                }
-                Ok(Access::Missed) => Step::Missed,
-                Ok(Access::Waiting) => Step::Waits,
-                Err(fault) => Step::Stops(of_target(fault)),
-            }
+            step
         }
     }
 }
@@ -146,33 +162,20 @@ fn answer_at_source<R: Wait>(rt: &R, shared: &Shared, vcpu: u8, op: &Op) -> Opti
     }
 }
 
-/// Does the operations before the move. False: the run stops.
-fn run_before<R: Wait>(
-    rt: &R,
-    shared: &Shared,
-    vcpu: u8,
-    ops: &[Op],
-    answers: &mut Vec<Answered>,
-) -> bool {
-    for op in ops {
-        if answers.reserve(1).is_err() {
-            shared.bell.stop(rt, Fault::Memory);
-            return false;
-        }
-        let Some(answer) = answer_at_source(rt, shared, vcpu, op) else {
-            return false;
-        };
-        answers.push_reserved(Answered { op: *op, answer });
-    }
-    true
+/// Where a virtual processor is.
+#[derive(Clone, Copy)]
+enum Place {
+    Source,
+    Target,
 }
 
-/// Does the operations after the move. False: the run stops.
-fn run_after<R: Wait, G: Gate>(
+/// Does operations at one place. False: the run stops.
+fn run_ops<R: Wait, G: Gate>(
     rt: &R,
     shared: &Shared,
     gate: &G,
     vcpu: u8,
+    place: Place,
     ops: &[Op],
     answers: &mut Vec<Answered>,
 ) -> bool {
@@ -181,7 +184,11 @@ fn run_after<R: Wait, G: Gate>(
             shared.bell.stop(rt, Fault::Memory);
             return false;
         }
-        let Some(answer) = answer_at_target(rt, shared, gate, vcpu, op) else {
+        let answer = match place {
+            Place::Source => answer_at_source(rt, shared, vcpu, op),
+            Place::Target => answer_at_target(rt, shared, gate, vcpu, op),
+        };
+        let Some(answer) = answer else {
             return false;
         };
         answers.push_reserved(Answered { op: *op, answer });
@@ -199,22 +206,10 @@ pub(crate) fn run_vcpu<R: Wait, G: Gate>(
     script: &Vcpu,
 ) -> Transcript {
     let mut answers = Vec::new(alloc);
-    if run_before(
-        rt,
-        shared,
-        vcpu,
-        script.before_move.as_slice(),
-        &mut answers,
-    ) {
+    let (before, after) = (script.before_move.as_slice(), script.after_move.as_slice());
+    if run_ops(rt, shared, gate, vcpu, Place::Source, before, &mut answers) {
         shared.bell.arrive(rt);
-        if run_after(
-            rt,
-            shared,
-            gate,
-            vcpu,
-            script.after_move.as_slice(),
-            &mut answers,
-        ) {
+        if run_ops(rt, shared, gate, vcpu, Place::Target, after, &mut answers) {
             shared.bell.end(rt);
         }
     }
