@@ -4,3 +4,4 @@ pub mod Logs
 pub mod Histories
 pub mod Keeping
 pub mod Books
+pub mod Told

@@ -1,4 +1,5 @@
 pub mod TargetPart
 pub mod History
+pub mod Told
 pub mod Kept
 pub mod inner

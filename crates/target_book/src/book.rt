@@ -1,10 +1,12 @@
 //! The book, with its history.
 
-ghost use Rattle.std.specs.Prelude.{◌≡◌, ◌<◌, ◌≤◌, [], ◌∷◌, ◌++◌, length, map, drop, slice_get, None, false, IfSome, IfOk, IfErr, OnOk, OnErr, IsErrOf};
+ghost use Rattle.std.specs.Prelude.{◌≡◌, ℕ, ◌<◌, ◌≤◌, [], ◌∷◌, ◌++◌, length, map, drop, slice_get, None, false, IfSome, IfOk, IfErr, OnOk, OnErr, IsErrOf};
 ghost use Rattle.std.specs.List.{AllByRecursion};
 ghost use Rattle.migration_types.specs.Limits.{most_records};
 ghost use Rattle.target_book.specs.TargetPart.{halted_target, target_access, resumes, with_placed, with_zeroed, with_misses};
 ghost use Rattle.target_book.specs.History.{Did, Placed, IsHistoryOf, IsBeforeHalt, IsAccess};
+ghost use Rattle.target_book.specs.Told.{IsEarlier, IsOfHistory, IsPlacedOnce, AreSeen, AreOfPlacements};
+ghost use Rattle.migration_types.specs.declared.records.GuestRec.TheVariants.{Resume};
 ghost use Rattle.target_book.specs.Kept.{part_of, geometry_of, HaveGrown};
 
 use crate::state::State;
@@ -196,9 +198,16 @@ impl TargetBook {
         self.state.frames.geometry()
     }
 
-    /// Tells callers what the book keeps: it holds what follows from its history, and its log is within its limit.
+    /// Tells callers what the book keeps: it holds what follows from its history, and its log is within its limit. In
+    /// the history each page is placed at most once; once the guest has resumed, each read and write is of a page that
+    /// was placed before and whose placement, or a later one, the guest has looked at, and each read gives what was last
+    /// written after the placement, or else what was placed; and each look is at an earlier placement.
     pub fn keeps_history(&self)
         ensures history { IsHistoryOf (part_of self.now) self.now.history }
+        ensures book { IsOfHistory (part_of self.now) self.now.history }
+        ensures once { IsPlacedOnce self.now.history }
+        ensures seen { (n ready : ℕ) (resumed : IsEarlier self.now.history n (Did (Resume ready))) → AreSeen self.now.history n ready resumed }
+        ensures looks { AreOfPlacements self.now.history }
         ensures few { length (part_of self.now).log ≤ most_records }
     {
         let _ = &self.state;
