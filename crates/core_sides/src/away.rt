@@ -202,7 +202,7 @@ impl<'a> Away<'a> {
         requires { IsSession (away_session (away_of self.now)) }
         ensures { IfOk result (λ s. s ≡ away_session (away_of self.now)) }
     {
-        let init = copies(self.alloc, self.script.init())?;
+        let init = self.script.copied_init(self.alloc)?;
         let guest = Vec::from_slice(self.alloc, self.guest_log())?;
         let source = copies(self.alloc, self.source_log())?;
         let link = Vec::from_slice(self.alloc, self.link_log())?;
@@ -222,7 +222,7 @@ impl<'a> Away<'a> {
         requires { IsSession (away_session (away_of self)) }
         ensures { IfOk result (λ s. s ≡ away_session (away_of self.entry)) }
     {
-        let init = copies(self.alloc, self.script.init())?;
+        let init = self.script.copied_init(self.alloc)?;
         let Away {
             source,
             link,

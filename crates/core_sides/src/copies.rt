@@ -2,7 +2,7 @@
 
 ghost use Rattle.std.specs.Prelude.{◌≡◌, IfOk};
 
-use migration_types::{Contents, InitPage, PagerRec, Seq, SourceRec};
+use migration_types::{Contents, PagerRec, Seq, SourceRec};
 use std::alloc::{AllocError, Global};
 
 /// What is copied with memory of its own.
@@ -22,16 +22,6 @@ pub(crate) fn copies<T: Copied>(alloc: Global, items: &[T]) -> Result<Seq<T>, Al
         copies.push(copy)?;
     }
     Ok(Seq::from_vec(copies))
-}
-
-impl Copied for InitPage {
-    fn copied(&self, alloc: Global) -> Result<InitPage, AllocError> {
-        let cells = Contents::copied(alloc, self.cells.as_slice())?;
-        Ok(InitPage {
-            page: self.page,
-            cells,
-        })
-    }
 }
 
 impl Copied for SourceRec {

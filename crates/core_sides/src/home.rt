@@ -9,7 +9,6 @@ ghost use Rattle.core_sides.specs.Sides.{home_of, away_of, scripted_of, IsHome};
 
 use crate::CoreFault;
 use crate::away::Away;
-use crate::copies::copies;
 use crate::left::{Left, all_left};
 use guest_book::GuestBook;
 use guest_script::Script;
@@ -138,7 +137,7 @@ impl<'a> Home<'a> {
         requires { IsSession (home_session (home_of self.now)) }
         ensures { IfOk result (λ s. s ≡ home_session (home_of self.now)) }
     {
-        let init = copies(self.alloc, self.script.init())?;
+        let init = self.script.copied_init(self.alloc)?;
         let guest = Vec::from_slice(self.alloc, self.guest.guest_log())?;
         Ok(guest_session(
             self.alloc,
@@ -154,7 +153,7 @@ impl<'a> Home<'a> {
         requires { IsSession (home_session (home_of self)) }
         ensures { IfOk result (λ s. s ≡ home_session (home_of self.entry)) }
     {
-        let init = copies(self.alloc, self.script.init())?;
+        let init = self.script.copied_init(self.alloc)?;
         let Home { alloc, guest, .. } = self;
         let geometry = guest.geometry();
         let log = Seq::from_vec(guest.into_log());

@@ -1,13 +1,14 @@
 //! Scripts.
 
-ghost use Rattle.std.specs.Prelude.{◌≡◌, MatchOption, MatchResult, OnErr};
+ghost use Rattle.std.specs.Prelude.{◌≡◌, IfOk, MatchOption, MatchResult, OnErr};
 ghost use Rattle.guest_script.specs.Scenarios.{IsScenario, Scenario};
 ghost use Rattle.guest_script.specs.ScriptFaults.{IsScriptFault};
 
 use crate::script_fault::{ScriptFault, first_vcpu_fault, first_wrong_page};
 use crate::vcpus::{MOST_FATES, MOST_PIVOTS, MOST_VCPUS, MOST_WINDOW, Vcpu};
 use migration_events::Fate;
-use migration_types::{Geometry, InitPage, Seq};
+use migration_types::{Contents, Geometry, InitPage, Seq};
+use std::alloc::{AllocError, Global};
 use std::marker::Model;
 
 /// What a guest does and how its migration goes, within all limits: a machine and its first memory, how many pivots are
@@ -139,6 +140,22 @@ impl Script {
         ensures { result.now ≡ self.now.init }
     {
         self.init.as_slice()
+    }
+
+    /// The same, copied. An error: there is no memory for it.
+    pub fn copied_init(&self, alloc: Global) -> Result<Seq<InitPage>, AllocError>
+        ensures { IfOk result (λ pages. pages ≡ self.now.init) }
+    {
+        let init = self.init.as_slice();
+        let mut pages = Vec::with_capacity(alloc, init.len())?;
+        for given in init {
+            let cells = Contents::copied(alloc, given.cells.as_slice())?;
+            pages.push(InitPage {
+                page: given.page,
+                cells,
+            })?;
+        }
+        Ok(Seq::from_vec(pages))
     }
 
     /// How many pivots are kept at most, 1 to 16.

@@ -10,10 +10,10 @@ ghost use Rattle.host_checks.specs.inner.Limits.{AreShort, AreOfMachine};
 use crate::outcome::RunFault;
 use guest_script::Script;
 use migration_types::{
-    Contents, Geometry, GuestRec, InitPage, LAST_RECORD, LAST_VCPU, LinkRec, Logs, MOST_RECORDS,
-    PageNo, PagerRec, Seq, Session, SourceRec,
+    Contents, Geometry, GuestRec, LAST_RECORD, LAST_VCPU, LinkRec, Logs, MOST_RECORDS, PageNo,
+    PagerRec, Session, SourceRec,
 };
-use std::alloc::{AllocError, Global};
+use std::alloc::Global;
 
 /// Whether a record's number is within the limit.
 fn is_number(number: u32) -> bool
@@ -170,21 +170,6 @@ fn are_of_machine(geometry: Geometry, logs: &Logs) -> bool
         && pager_log_fits(geometry, logs.pager.as_slice())
 }
 
-/// A copy of the pages that do not begin as zeros. An error: there is no memory for it.
-fn copied(alloc: Global, init: &[InitPage]) -> Result<Seq<InitPage>, AllocError>
-    ensures { IfOk result (λ pages. pages ≡ init.now) }
-{
-    let mut pages = Vec::with_capacity(alloc, init.len())?;
-    for given in init {
-        let cells = Contents::copied(alloc, given.cells.as_slice())?;
-        pages.push(InitPage {
-            page: given.page,
-            cells,
-        })?;
-    }
-    Ok(Seq::from_vec(pages))
-}
-
 /// The session of a script's machine with these logs. Refused: a record is beyond a session's limits, or there is no
 /// memory.
 pub(crate) fn session_of(alloc: Global, script: &Script, logs: Logs) -> Result<Session, RunFault>
@@ -196,7 +181,7 @@ pub(crate) fn session_of(alloc: Global, script: &Script, logs: Logs) -> Result<S
     if !are_short(&logs) || !are_of_machine(geometry, &logs) {
         return Err(RunFault::TranscriptDiffers);
     }
-    let Ok(init) = copied(alloc, script.init()) else {
+    let Ok(init) = script.copied_init(alloc) else {
         return Err(RunFault::Memory);
     };
     Ok(Session::new(geometry, init, logs))
