@@ -1,6 +1,6 @@
 -- What the calls of the source's book leave, and what they offer.
 use Rattle.std.proofs.Common.{◌≡◌, ◌≢◌, ℕ, ◌+◌, ◌<◌, ◌⊎◌, inl, inr, Bool, true, false, cond, not, List, [], ◌∷◌, ◌++◌, length, take, Option, Some, None, refl, sym, ap, ◌∙◌, subst, arith}
-use Rattle.std.specs.Prelude.{count_by, is_some, ◌==◌, Contains}
+use Rattle.std.specs.Prelude.{count_by, is_some, option_and_then, slice_get, ◌==◌, Contains}
 use Rattle.std.specs.List.{range_with_len, list_any}
 use Rattle.std.proofs.lemmas.Bool.{and_parts, ltb-true, eqb-true}
 use Rattle.migration_types.specs.declared.records.SourceRec.{SourceRec}
@@ -16,10 +16,12 @@ use Rattle.std.proofs.lemmas.Cmp.{nat_eq_equiv}
 use Rattle.std.proofs.lemmas.List.Recursion.{is_count_by}
 use Rattle.std.proofs.lemmas.Map.Views.{Contains-from_any, list_any-from_Contains}
 use Rattle.page_tables.specs.Tables.{values, pages_of, with_value}
+use Rattle.balloon_ledger.specs.Released.{released, pages_below}
 use Rattle.bubbling.specs.Edges.{at_page}
 use Rattle.bubbling.specs.Bubbling.{Ring, Bubbling, IsNextPushed, in_turn, turned, faulted, unsent as unsent_in}
 use Rattle.active_push.specs.SourcePart.{SourcePart, Offer, silent, owes, unsent, nearer, nearest, pushes, sends, source_push, with_pivot}
 use Rattle.active_push.specs.Books.{SourceKept, part_of, IsSourceLog, IsSourceBook}
+use Rattle.active_push.specs.inner.Sent.{contents_in}
 use Rattle.active_push.specs.inner.Wanted.{HasNext}
 use Rattle.active_push.proofs.Logs.{length_suc}
 use Rattle.active_push.proofs.Keeping.{contents_of, sent_at, sends_keeps, sends_unsent}
@@ -30,11 +32,12 @@ pub part_is : (k : SourceKept) (log : List SourceRec) (sent : ℕ → Option ℕ
 part_is k log sent ring was_asked is_done a b c d e = λ i. record (part_of k) { log = a i; sent = b i; ring = c i; was_asked = d i; is_done = e i }
 
 -- what stands for a part that is kept is kept
-pub book_is : (k : SourceKept) (b : SourcePart) → part_of k ≡ b → k.ledger.geometry ≡ k.frames.geometry → k.bubbles.geometry ≡ k.frames.geometry → pages_of k.sent ≡ k.frames.geometry.pages → unsent_in k.bubbles ≡ unsent b → IsSourceLog b → IsSourceBook k
-book_is k b e ledger bubbles table set log = record {
+pub book_is : (k : SourceKept) (b : SourcePart) → part_of k ≡ b → k.ledger.geometry ≡ k.frames.geometry → k.bubbles.geometry ≡ k.frames.geometry → pages_of k.sent ≡ k.frames.geometry.pages → k.released ≡ pages_below k.frames.geometry.pages (released k.ledger) → unsent_in k.bubbles ≡ unsent b → IsSourceLog b → IsSourceBook k
+book_is k b e ledger bubbles table kept set log = record {
   ledger = ledger;
   bubbles = bubbles;
   table = table;
+  released_are = kept;
   unsent_is = set ∙ ap unsent (sym e);
   log = subst IsSourceLog (sym e) log;
 }
@@ -137,9 +140,9 @@ unsent_parts b set page e is =
     go (Some n) e = absurd (cc)
 
 -- what stands for a part with a `send` is kept
-pub sent_book : (k : SourceKept) (b : SourcePart) (page : ℕ) (ring : Ring) (was_asked : Bool) → part_of k ≡ sent_at page ring was_asked b → k.ledger.geometry ≡ k.frames.geometry → k.bubbles.geometry ≡ k.frames.geometry → pages_of k.sent ≡ k.frames.geometry.pages → unsent_in k.bubbles ≡ without_page page (unsent b) → owes b page ≡ true → b.sent page ≡ None → length b.log < most_records → IsSourceLog b → IsSourceBook k
-sent_book k b page ring was_asked e ledger bubbles table set owed fresh room log =
-    book_is k (sent_at page ring was_asked b) e ledger bubbles table (set ∙ sym (sends_unsent page ring was_asked b owed fresh room log)) (sends_keeps page ring was_asked b owed fresh room log)
+pub sent_book : (k : SourceKept) (b : SourcePart) (page : ℕ) (ring : Ring) (was_asked : Bool) → part_of k ≡ sent_at page ring was_asked b → k.ledger.geometry ≡ k.frames.geometry → k.bubbles.geometry ≡ k.frames.geometry → pages_of k.sent ≡ k.frames.geometry.pages → k.released ≡ pages_below k.frames.geometry.pages (released k.ledger) → unsent_in k.bubbles ≡ without_page page (unsent b) → owes b page ≡ true → b.sent page ≡ None → length b.log < most_records → IsSourceLog b → IsSourceBook k
+sent_book k b page ring was_asked e ledger bubbles table kept set owed fresh room log =
+    book_is k (sent_at page ring was_asked b) e ledger bubbles table kept (set ∙ sym (sends_unsent page ring was_asked b owed fresh room log)) (sends_keeps page ring was_asked b owed fresh room log)
 
 -- the part with a `send`
 pub sent_part : (k : SourceKept) (b : SourcePart) (page : ℕ) (ring : Ring) (was_asked : Bool) (contents : List ℕ) → part_of k ≡ record b { log = k.log; sent = values k.sent; ring = k.bubbles.ring; was_asked = k.was_asked } → k.log ≡ b.log ++ Send page contents ∷ [] → contents ≡ contents_of b page → values k.sent ≡ with_value page (Some (length b.log)) b.sent → k.bubbles.ring ≡ ring → k.was_asked ≡ was_asked → part_of k ≡ sent_at page ring was_asked b
@@ -160,3 +163,7 @@ blank_fits n cells memory page xs ys is same fits = go (ap length is ∙ length-
     go : length ys ≡ cells → (n ≡ 1) ⊎ (length xs ≡ n) → (length ys ≡ 1) ⊎ (length xs ≡ length ys)
     go len (inl one) = inl (omega arith)
     go len (inr long) = inr (omega arith)
+
+-- what a page's `send` carries is what its frames have
+pub sent_there : (b : SourcePart) (page sending : ℕ) (found : Option (List ℕ)) → IsSourceLog b → b.sent page ≡ Some sending → found ≡ option_and_then contents_in (slice_get b.log sending) → found ≡ Some (contents_of b page)
+sent_there b page sending found k e is = is ∙ ap (option_and_then contents_in) (k.sent page sending e)

@@ -6,11 +6,12 @@ use Rattle.migration_types.specs.Limits.{most_records}
 use Rattle.migration_types.specs.Memory.{page_of}
 use Rattle.page_store.specs.Frames.{Frames, memory_of}
 use Rattle.page_tables.specs.Tables.{Values, values, pages_of}
-use Rattle.balloon_ledger.specs.Released.{Marks, released}
+use Rattle.balloon_ledger.specs.Released.{Marks, released, pages_below}
 use Rattle.bubbling.specs.Bubbling.{Bubbling, unsent as unsent_in}
 use Rattle.active_push.specs.SourcePart.{SourcePart, owes, unsent}
 
--- the log, the machine as the guest left it, the number of each page's `send`, and the pages that are to be pushed
+-- The log, the machine as the guest left it, the number of each page's `send`, the pages that are to be pushed, and the
+-- released pages.
 pub record SourceKept : Type 0 where
   pub log : List SourceRec
   pub frames : Frames
@@ -19,6 +20,7 @@ pub record SourceKept : Type 0 where
   pub bubbles : Bubbling
   pub was_asked : Bool
   pub is_done : Bool
+  pub released : List ℕ
 
 -- what a book stands for in the events
 abbrev pub part_of : SourceKept → SourcePart
@@ -49,10 +51,12 @@ pub record IsSourceLog (b : SourcePart) : Type 0 where
   pub sent : (page number : ℕ) → b.sent page ≡ Some number → slice_get b.log number ≡ Some (Send page (page_of b.geometry.cells b.memory page))
   pub sends : (page number : ℕ) (contents : List ℕ) → slice_get b.log number ≡ Some (Send page contents) → IsOnlySend b page number contents
 
--- all is of one machine, and the pages that are to be pushed are those that are not sent
+-- all is of one machine, the pages that are to be pushed are those that are not sent, and the list of the released pages is
+-- the ledger's
 pub record IsSourceBook (b : SourceKept) : Type 0 where
   pub ledger : b.ledger.geometry ≡ b.frames.geometry
   pub bubbles : b.bubbles.geometry ≡ b.frames.geometry
   pub table : pages_of b.sent ≡ b.frames.geometry.pages
   pub unsent_is : unsent_in b.bubbles ≡ unsent (part_of b)
+  pub released_are : b.released ≡ pages_below b.frames.geometry.pages (released b.ledger)
   pub log : IsSourceLog (part_of b)

@@ -13,7 +13,7 @@ use crate::SourceFault;
 use crate::records::{self, Copies};
 use balloon_ledger::Ledger;
 use bubbling::Bubbles;
-use migration_types::{Contents, Geometry, PageNo, Seq, SourceRec};
+use migration_types::{Geometry, PageNo, Shared, SourceRec};
 use page_store::Store;
 use page_stream::Packet;
 use page_tables::Table;
@@ -38,6 +38,8 @@ pub struct SourceBook {
     bubbles: Bubbles,
     was_asked: bool,
     is_done: bool,
+    /// The released pages, as each packet with the processor state carries them.
+    released: Shared<PageNo>,
 }
 
 impl Model for SourceBook {
@@ -45,9 +47,9 @@ impl Model for SourceBook {
 
     ghost Value = { SourceKept };
 
-    ghost view = { λ b. record { log = b.log.items; frames = b.frames; ledger = b.ledger; sent = b.sent; bubbles = b.bubbles; was_asked = b.was_asked; is_done = b.is_done } };
+    ghost view = { λ b. record { log = b.log.items; frames = b.frames; ledger = b.ledger; sent = b.sent; bubbles = b.bubbles; was_asked = b.was_asked; is_done = b.is_done; released = b.released } };
 
-    ghost invariant = { λ b. IsSourceBook (record { log = b.log.items; frames = b.frames; ledger = b.ledger; sent = b.sent; bubbles = b.bubbles; was_asked = b.was_asked; is_done = b.is_done }) };
+    ghost invariant = { λ b. IsSourceBook (record { log = b.log.items; frames = b.frames; ledger = b.ledger; sent = b.sent; bubbles = b.bubbles; was_asked = b.was_asked; is_done = b.is_done; released = b.released }) };
 }
 
 impl SourceBook {
@@ -83,10 +85,11 @@ impl SourceBook {
             bubbles: opening.bubbles,
             was_asked: false,
             is_done: false,
+            released: opening.released,
         };
         let packet = Packet::State {
             number: STATE,
-            released: Seq::from_vec(opening.released),
+            released: opening.packet,
         };
         Ok((book, packet))
     }
@@ -155,16 +158,13 @@ impl SourceBook {
             return Ok(None);
         }
         records::look_for_room(&self.log, 1)?;
-        let Ok(released) = self.ledger.released_list() else {
+        let Ok(released) = self.released.another() else {
             return Err(SourceFault::Memory);
         };
         records::make_room(&mut self.log, 1)?;
         let number = self.log.len() as u32;
         self.log.push_reserved(SourceRec::Again { sending: STATE });
-        Ok(Some(Packet::State {
-            number,
-            released: Seq::from_vec(released),
-        }))
+        Ok(Some(Packet::State { number, released }))
     }
 
     /// Takes a want of a page.
@@ -211,13 +211,16 @@ impl SourceBook {
         sending: u32,
     ) -> Result<Option<Packet>, SourceFault>
         requires owed { owes (part_of self.old) page ≡ true }
+        requires sent { (part_of self.old).sent page ≡ Some sending }
         ensures ok { IfOk result (λ offered. record { book = part_of self.new; packet = offered } ≡ wanted_again up sending page (part_of self.old)) }
         ensures full { IsErrOf result SourceFault.LogFull → most_records < length self.old.log + 2 }
         ensures err { OnErr result (part_of self.new ≡ part_of self.old) }
     {
         records::look_for_room(&self.log, 2)?;
-        let Ok(contents) = Contents::copied(self.alloc, self.frames.page(page)) else {
-            return Err(SourceFault::Memory);
+        let contents = match records::sent_again(self.alloc, &mut self.log, sending) {
+            Ok(Some(contents)) => contents,
+            Ok(None) => unreachable!(),
+            Err(_) => return Err(SourceFault::Memory),
         };
         records::make_room(&mut self.log, 2)?;
         self.log.push_reserved(SourceRec::Ask { up });
@@ -330,7 +333,9 @@ struct Opening {
     log: Vec<SourceRec>,
     sent: Table<Option<u32>>,
     bubbles: Bubbles,
-    released: Vec<PageNo>,
+    released: Shared<PageNo>,
+    /// The same released pages, for the packet.
+    packet: Shared<PageNo>,
 }
 
 /// The log with the halt and the state, no page sent, all that is owed to be pushed, and the released pages. An error:
@@ -352,11 +357,13 @@ fn opened(
     log.push_reserved(SourceRec::State);
     let sent = Table::no_numbers(alloc, geometry.pages())?;
     let bubbles = Bubbles::new(alloc, geometry, pivots, ledger)?;
-    let released = ledger.released_list()?;
+    let released = Shared::from_vec(ledger.released_list()?)?;
+    let packet = released.another()?;
     Ok(Opening {
         log,
         sent,
         bubbles,
         released,
+        packet,
     })
 }

@@ -1,7 +1,8 @@
 //! Records and packets with the contents of a page, and the memory for them.
 
-ghost use Rattle.std.specs.Prelude.{◌≡◌, ◌+◌, ◌<◌, ◌≤◌, ◌⊎◌, ◌++◌, ◌∷◌, [], Some, length, vec_len, vec_capacity, IfOk, OnOk, IsErrOf};
+ghost use Rattle.std.specs.Prelude.{◌≡◌, ◌+◌, ◌<◌, ◌≤◌, ◌⊎◌, ◌++◌, ◌∷◌, [], Some, slice_get, option_and_then, length, vec_len, vec_capacity, IfOk, OnOk, IsErrOf};
 ghost use Rattle.migration_types.specs.Limits.{most_records};
+ghost use Rattle.active_push.specs.inner.Sent.{contents_in};
 ghost use Rattle.page_tables.specs.Tables.{values, with_value, pages_of, IsWith};
 
 use crate::SourceFault;
@@ -71,6 +72,38 @@ pub fn copied_twice(alloc: Global, values: &[u64]) -> Result<Copies, AllocError>
     let record = Contents::copied(alloc, values)?;
     let packet = Contents::copied(alloc, values)?;
     Ok(Copies { record, packet })
+}
+
+/// The contents that a record sends, once more, which are shared with it from then on; `None` where it is no `send`. The
+/// record stays as it was. An error: there is no memory to share them.
+fn shared_of(alloc: Global, rec: &mut SourceRec) -> Result<Option<Contents>, AllocError>
+    ensures same { rec.new ≡ rec.old }
+    ensures ok { IfOk result (λ found. found ≡ contents_in rec.old) }
+{
+    match rec {
+        SourceRec::Send { page: _, contents } => {
+            contents.share(alloc)?;
+            let shared = contents.another(alloc)?;
+            Ok(Some(shared))
+        }
+        _ => Ok(None),
+    }
+}
+
+/// The contents of the `send` at this place once more, which are shared with it from then on; `None` where none stands
+/// there. An error: there is no memory to share them.
+pub fn sent_again(
+    alloc: Global,
+    log: &mut Vec<SourceRec>,
+    sending: u32,
+) -> Result<Option<Contents>, AllocError>
+    ensures same { log.new.items ≡ log.old.items }
+    ensures ok { IfOk result (λ found. found ≡ option_and_then contents_in (slice_get log.old.items sending)) }
+{
+    match log.get_mut(sending as usize) {
+        Some(rec) => shared_of(alloc, rec),
+        None => Ok(None),
+    }
 }
 
 /// Sends a page for the first time: its record, its number, and the packet.

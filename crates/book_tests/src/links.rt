@@ -3,7 +3,7 @@
 use crate::want;
 use link_book::{LinkBook, LinkFault};
 use migration_events::{Direction, Fate};
-use migration_types::{LinkRec, PageNo, Seq};
+use migration_types::{LinkRec, PageNo, Shared};
 use page_stream::Packet;
 use std::alloc::{AllocError, Global};
 use std::test::Fail;
@@ -59,7 +59,7 @@ fn recorded(log: &[LinkRec], at: usize, asking: u32) -> bool {
 /// States with the numbers 2 and 3 behind one another, and 4 before them.
 fn offer_three(alloc: Global, book: &mut LinkBook) -> Result<(), AllocError> {
     for (number, front) in [(2, false), (3, false), (4, true)] {
-        let released = Seq::from_vec(Vec::new(alloc));
+        let released = Shared::from_vec(Vec::new(alloc))?;
         offer_down(book, Packet::State { number, released }, front)?;
     }
     Ok(())

@@ -4,7 +4,7 @@
 ghost use Rattle.std.specs.Prelude.{◌<◌};
 
 use crate::want;
-use migration_types::{Contents, Geometry, PageNo, Seq};
+use migration_types::{Contents, Geometry, PageNo, Shared};
 use page_stream::{Packet, PumpFault, Stream, StreamFaultKind, encode, fits, pump};
 use std::alloc::{AllocError, Global};
 use std::io;
@@ -40,7 +40,7 @@ fn is_written(alloc: Global, packet: &Packet, bytes: &[u8]) -> bool {
 fn state(alloc: Global, pages: &[PageNo]) -> Result<Packet, AllocError> {
     Ok(Packet::State {
         number: 1,
-        released: Seq::from_vec(Vec::from_slice(alloc, pages)?),
+        released: Shared::from_vec(Vec::from_slice(alloc, pages)?)?,
     })
 }
 

@@ -1,7 +1,7 @@
 //! Two virtual processors that miss one page, on a machine of two pages of one cell, and what a full log refuses.
 
 use migration_events::Op;
-use migration_types::{Contents, Geometry, MOST_RECORDS, PageNo, PagerRec, Seq};
+use migration_types::{Contents, Geometry, MOST_RECORDS, PageNo, PagerRec, Shared};
 use page_stream::Packet;
 use std::alloc::Global;
 use std::test::Fail;
@@ -10,9 +10,12 @@ use target_side::PagerBook;
 
 /// The state comes, with no released page, and the guest resumes.
 fn begins(alloc: Global, pager: &mut PagerBook, target: &mut TargetBook) -> bool {
+    let Ok(released) = Shared::from_vec(Vec::new(alloc)) else {
+        return false;
+    };
     let state = Packet::State {
         number: 1,
-        released: Seq::from_vec(Vec::new(alloc)),
+        released,
     };
     pager.pop(0, &state).is_ok() && delivers(pager, target, &[]) && target.is_resumed()
 }

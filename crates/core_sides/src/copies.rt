@@ -2,7 +2,7 @@
 
 ghost use Rattle.std.specs.Prelude.{◌≡◌, IfOk};
 
-use migration_types::{Contents, PagerRec, Seq, SourceRec};
+use migration_types::{PagerRec, Seq, SourceRec};
 use std::alloc::{AllocError, Global};
 
 /// What is copied with memory of its own.
@@ -30,7 +30,7 @@ impl Copied for SourceRec {
             SourceRec::Halted { halt } => Ok(SourceRec::Halted { halt: *halt }),
             SourceRec::State => Ok(SourceRec::State),
             SourceRec::Send { page, contents } => {
-                let contents = Contents::copied(alloc, contents.as_slice())?;
+                let contents = contents.another(alloc)?;
                 Ok(SourceRec::Send {
                     page: *page,
                     contents,
@@ -56,7 +56,7 @@ impl Copied for PagerRec {
                 got,
                 contents,
             } => {
-                let contents = Contents::copied(alloc, contents.as_slice())?;
+                let contents = contents.another(alloc)?;
                 Ok(PagerRec::Place {
                     page: *page,
                     got: *got,

@@ -4,9 +4,10 @@ ghost use Rattle.std.specs.Prelude.{◌≡◌, [], ◌∷◌, IfOk};
 
 use std::alloc::{AllocError, Global};
 use std::marker::Model;
+use std::sync::ArcSlice;
 
 /// The values of a page's cells, cell 0 first, which contracts see as a list. A single value takes no memory of its
-/// own.
+/// own, and those that are shared are there once, however many contents there are of them.
 #[derive(Drop)]
 pub struct Contents {
     stored: Stored,
@@ -17,6 +18,7 @@ pub struct Contents {
 enum Stored {
     One([u64; 1]),
     Many(Vec<u64>),
+    Shared(ArcSlice<u64>),
 }
 
 impl Model for Contents {
@@ -47,6 +49,40 @@ impl Contents {
         }
     }
 
+    /// Makes the values such as several contents can share. On an error, that there is no memory for it, they stay as they
+    /// were.
+    pub fn share(&mut self, alloc: Global) -> Result<(), AllocError>
+        ensures { self.new ≡ self.old }
+    {
+        if let Stored::Many(values) = &self.stored {
+            let shared = ArcSlice::from_slice(alloc, values)?;
+            self.stored = Stored::Shared(shared);
+        }
+        Ok(())
+    }
+
+    /// The same contents once more. Shared values are not copied, and the copy of others is to be shared. An error: there
+    /// is no memory for the copy.
+    pub fn another(&self, alloc: Global) -> Result<Self, AllocError>
+        ensures { IfOk result (λ c. c ≡ self.now) }
+    {
+        match &self.stored {
+            Stored::One(value) => Ok(Contents::one(value[0])),
+            Stored::Many(values) => {
+                let shared = ArcSlice::from_slice(alloc, values)?;
+                Ok(Contents {
+                    stored: Stored::Shared(shared),
+                })
+            }
+            Stored::Shared(values) => {
+                let shared = values.clone()?;
+                Ok(Contents {
+                    stored: Stored::Shared(shared),
+                })
+            }
+        }
+    }
+
     /// A copy of these values. An error: there is no memory for it.
     pub fn copied(alloc: Global, values: &[u64]) -> Result<Self, AllocError>
         ensures { IfOk result (λ c. c ≡ values.now) }
@@ -64,6 +100,7 @@ impl Contents {
         match &self.stored {
             Stored::One(value) => value,
             Stored::Many(values) => values,
+            Stored::Shared(values) => values.as_slice(),
         }
     }
 }

@@ -9,7 +9,7 @@ ghost use Rattle.page_stream.specs.Bytes.{number_bytes, cell_bytes, body_of, Ris
 ghost use Rattle.page_stream.specs.inner.Fronts.{IsNoFields, AreFields};
 
 use crate::Packet;
-use migration_types::{Contents, Geometry, LAST_RECORD, PageNo, Seq};
+use migration_types::{Contents, Geometry, LAST_RECORD, PageNo, Shared};
 use std::alloc::{AllocError, Global};
 
 /// The number of 4 bytes at the front, and what follows it.
@@ -95,10 +95,10 @@ fn state_of(
             }
             match pages_of(alloc, geometry, rest)? {
                 None => Ok(None),
-                Some(pages) => Ok(Some(Packet::State {
-                    number,
-                    released: Seq::from_vec(pages),
-                })),
+                Some(pages) => {
+                    let released = Shared::from_vec(pages)?;
+                    Ok(Some(Packet::State { number, released }))
+                }
             }
         }
     }

@@ -10,7 +10,7 @@ ghost use Rattle.target_side.specs.PagerLists.{part_of, IsKept};
 use crate::Incoming;
 use crate::log::append;
 use fault_queue::FaultQueue;
-use migration_types::{Geometry, PageNo, PagerRec, Seq};
+use migration_types::{Geometry, PageNo, PagerRec, Shared};
 use page_stream::Packet;
 use page_tables::Table;
 use std::alloc::{AllocError, Global};
@@ -34,7 +34,7 @@ pub struct PagerBook {
     geometry: Geometry,
     log: Vec<PagerRec>,
     /// The released pages, once the state has come.
-    released: Option<Seq<PageNo>>,
+    released: Option<Shared<PageNo>>,
     /// The same pages, as marks.
     marks: Table<bool>,
     placed: Table<bool>,

@@ -12,4 +12,5 @@ pub record IsOpening (e : Extent) (ledger : Marks) (halt most : ℕ) (o : Openin
   pub table : pages_of o.sent ≡ e.pages
   pub sent : values o.sent ≡ all_at None
   pub bubbles : IsStart e most (rest_of e.pages (released ledger)) o.bubbles
-  pub released_are : o.released.items ≡ pages_below e.pages (released ledger)
+  pub released_are : o.released ≡ pages_below e.pages (released ledger)
+  pub packet_is : o.packet ≡ pages_below e.pages (released ledger)

@@ -10,7 +10,7 @@ use super::PagerBook;
 use crate::Incoming;
 use crate::log::{append, make_room};
 use crate::marks::mark_all;
-use migration_types::{Contents, PageNo, PagerRec, Seq};
+use migration_types::{Contents, PageNo, PagerRec, Shared};
 use page_stream::Packet;
 use target_book::TargetFault;
 
@@ -28,18 +28,18 @@ impl PagerBook {
             Packet::State {
                 number: _,
                 released,
-            } => self.pop_state(link_number, released.as_slice()),
+            } => self.pop_state(link_number, released),
             Packet::Page {
                 number: _,
                 page,
                 contents,
-            } => self.pop_page(link_number, *page, contents.as_slice()),
+            } => self.pop_page(link_number, *page, contents),
             Packet::Want { .. } | Packet::All { .. } => Ok(()),
         }
     }
 
     /// Takes the state, or drops it where it has come already.
-    fn pop_state(&mut self, link_number: u32, released: &[PageNo]) -> Result<(), TargetFault>
+    fn pop_state(&mut self, link_number: u32, released: &Shared<PageNo>) -> Result<(), TargetFault>
         requires { AllByRecursion (λ p. p < self.old.geometry.pages) released.now }
         ensures ok { (n : ℕ) → OnOk result (part_of self.new ≡ pager_pop link_number (Packet.State n released.now) (part_of self.old)) }
         ensures full { (n : ℕ) → IsErrOf result TargetFault.LogFull → most_records < length (pager_pop link_number (Packet.State n released.now) (part_of self.old)).log }
@@ -51,13 +51,13 @@ impl PagerBook {
             append(&mut self.log, PagerRec::Skip { got });
             return Ok(());
         }
-        let Ok(pages) = Vec::from_slice(self.alloc, released) else {
+        let Ok(pages) = released.another() else {
             return Err(TargetFault::Memory);
         };
-        mark_all(&mut self.marks, released);
+        mark_all(&mut self.marks, released.as_slice());
         append(&mut self.log, PagerRec::Got { down: link_number });
         append(&mut self.log, PagerRec::Ready);
-        self.released = Some(Seq::from_vec(pages));
+        self.released = Some(pages);
         Ok(())
     }
 
@@ -66,12 +66,12 @@ impl PagerBook {
         &mut self,
         link_number: u32,
         page: PageNo,
-        values: &[u64],
+        contents: &Contents,
     ) -> Result<(), TargetFault>
         requires page { page < self.old.geometry.pages }
-        requires cells { length values.now ≡ self.old.geometry.cells }
-        ensures ok { (n : ℕ) → OnOk result (part_of self.new ≡ pager_pop link_number (Packet.Page n page values.now) (part_of self.old)) }
-        ensures full { (n : ℕ) → IsErrOf result TargetFault.LogFull → most_records < length (pager_pop link_number (Packet.Page n page values.now) (part_of self.old)).log }
+        requires cells { length contents.now ≡ self.old.geometry.cells }
+        ensures ok { (n : ℕ) → OnOk result (part_of self.new ≡ pager_pop link_number (Packet.Page n page contents.now) (part_of self.old)) }
+        ensures full { (n : ℕ) → IsErrOf result TargetFault.LogFull → most_records < length (pager_pop link_number (Packet.Page n page contents.now) (part_of self.old)).log }
         ensures err { OnErr result (self.new ≡ self.old) }
     {
         if self.released.is_none() {
@@ -81,7 +81,7 @@ impl PagerBook {
         if self.inbox.reserve(1).is_err() {
             return Err(TargetFault::Memory);
         }
-        let Ok(contents) = Contents::copied(self.alloc, values) else {
+        let Ok(contents) = contents.another(self.alloc) else {
             return Err(TargetFault::Memory);
         };
         let got = append(&mut self.log, PagerRec::Got { down: link_number });

@@ -9,13 +9,13 @@ returns-then-rest-count c = only_state c.args.geometry c.args.number c.args.fiel
     let s = same_number c.in-Some.count (length rel) c.in-Some.rest.now (flat_map number_bytes rel) c.in-Some.ensures.1 (omega (arith, rises_few c.args.geometry.pages rel r, c.keeps_limits.ensures.few_pages)) (sym c.in-Some.ensures.0 ∙ e) in
     absurd (omega (arith, s.0, ap length s.1, length_numbers rel, c.if-rest-count.true)))
 
-pub returns-in-Some-2 : goal.returns-in-Some-2
-returns-in-Some-2 c =
+pub returns-in_ok-released-in-Some-2 : goal.returns-in_ok-released-in-Some-2
+returns-in_ok-released-in-Some-2 c =
     let h = (rw c.in-Some-2.is at c.in_ok-pages_of-in-Some.ensures) in
     let count : c.in-Some.count ≡ length c.in-Some-2.pages.items = omega (arith, ap length h.1, length_numbers c.in-Some-2.pages.items, c.if-rest-count.false) in
     record {
-      fits = record { number = c.requires; fields = rw c.from_vec.ensures h.0 };
+      fits = record { number = c.requires; fields = rw c.in_ok-released-in-Some-2.ensures h.0 };
       kind_is = refl;
       number_is = refl;
-      fields_are = rw c.from_vec.ensures (c.in-Some.ensures.0 ∙ rw (← count) (ap (λ (t : List ℕ). number_bytes c.in-Some.count ++ t) h.1));
+      fields_are = rw c.in_ok-released-in-Some-2.ensures (c.in-Some.ensures.0 ∙ rw (← count) (ap (λ (t : List ℕ). number_bytes c.in-Some.count ++ t) h.1));
     }

@@ -1,5 +1,5 @@
 use Rattle.std.proofs.Common.{◌∙◌, ap, false}
-use Rattle.balloon_ledger.specs.Released.{released}
+use Rattle.balloon_ledger.specs.Released.{released, pages_below}
 use Rattle.migration_types.specs.Extents.{Extent}
 use Rattle.page_store.specs.Frames.{memory_of}
 use Rattle.bubbling.specs.Bubbling.{rest_of}
@@ -18,5 +18,6 @@ invariant_of-book c =
     c.requires.geometry
     (start.geometry ∙ e)
     (o.table ∙ ap (λ (g : Extent). g.pages) e)
+    (o.released_are ∙ ap (λ (g : Extent). pages_below g.pages (released c.args.ledger)) e)
     (start.unsent_is ∙ ap (λ (g : Extent). rest_of g.pages (released c.args.ledger)) e ∙ halted_unsent c.args.store.geometry (memory_of c.args.store) (released c.args.ledger) c.args.pivots c.args.halt)
     (halted_keeps c.args.store.geometry (memory_of c.args.store) (released c.args.ledger) c.args.pivots c.args.halt)

@@ -40,6 +40,7 @@ invariant_of-self-2 c =
     sent_book k b page (turned b.ring) b.was_asked e c.self.invariant.ledger
     (state.geometry ∙ c.self.invariant.bubbles)
     (c.send.ensures.sent.pages ∙ c.self.invariant.table)
+    c.self.invariant.released_are
     (state.unsent_is ∙ ap (without_page page) c.self.invariant.unsent_is)
     parts.0 parts.1 (omega (arith, room)) c.self.invariant.log
 

@@ -34,6 +34,7 @@ invariant_of-self-2 c =
     sent_book k asked page ring true e c.self.invariant.ledger
     (marked.geometry ∙ ap (λ (x : Bubbling). x.geometry) pivot ∙ c.self.invariant.bubbles)
     (c.send.ensures.sent.pages ∙ c.self.invariant.table)
+    c.self.invariant.released_are
     (marked.unsent_is ∙ ap (λ (x : Bubbling). without_page page (unsent_in x)) pivot ∙ ap (without_page page) c.self.invariant.unsent_is)
     owed fresh (omega (arith, room, length_suc b.log (Ask up)))
     (logged_keeps (Ask up) b.ring true b.is_done b (λ page contents e. absurd (cc)) (omega (arith, room)) c.self.invariant.log)

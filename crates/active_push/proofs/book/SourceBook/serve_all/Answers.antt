@@ -17,6 +17,6 @@ invariant_of-self-2 c =
     let log = c.push_reserved-2.ensures.items ∙ ap (λ (xs : List SourceRec). xs ++ Done ∷ []) (c.push_reserved.ensures.items ∙ ap (λ (xs : List SourceRec). xs ++ Ask up ∷ []) c.make_room.ensures.items) in
     let room = c.in_ok-look_for_room.ensures.room in
     book_is _ (logged Done b.ring true true asked) (λ i. record b { log = log i; was_asked = true; is_done = true })
-    c.self.invariant.ledger c.self.invariant.bubbles c.self.invariant.table c.self.invariant.unsent_is
+    c.self.invariant.ledger c.self.invariant.bubbles c.self.invariant.table c.self.invariant.released_are c.self.invariant.unsent_is
     (logged_keeps Done b.ring true true asked (λ page contents e. absurd (cc)) (omega (arith, room, length_suc b.log (Ask up)))
     (logged_keeps (Ask up) b.ring true b.is_done b (λ page contents e. absurd (cc)) (omega (arith, room)) c.self.invariant.log))

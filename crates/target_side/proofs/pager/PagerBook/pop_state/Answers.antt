@@ -1,4 +1,4 @@
-use Rattle.std.proofs.Common.{◌≡◌, ℕ, ◌+◌, ◌<◌, ◌≤◌, ◌++◌, ◌∷◌, [], true, false, List, length, refl, sym, ap, ◌∙◌, subst, arith}
+use Rattle.std.proofs.Common.{◌≡◌, ℕ, ◌+◌, ◌<◌, ◌≤◌, ◌++◌, ◌∷◌, [], true, false, List, length, sym, ap, ◌∙◌, subst, arith}
 use Rattle.std.specs.Prelude.{is_some}
 use Rattle.std.specs.List.{AllByRecursion}
 use Rattle.std.proofs.lemmas.Grind.{common_steps}
@@ -29,16 +29,16 @@ mark_all-requires-clause-none c =
 
 pub mark_all-requires-clause-fit : goal.mark_all-requires-clause-fit
 mark_all-requires-clause-fit c =
-    subst (λ (n : ℕ). AllByRecursion (λ p. p < n) c.args.released.now)
+    rw c.as_slice.ensures (subst (λ (n : ℕ). AllByRecursion (λ p. p < n) c.args.released.now)
     (sym (ap (λ (v : PagerLists). v.geometry.pages) c.self.view_is) ∙ sym c.self.invariant.marked_pages)
-    c.requires
+    c.requires)
 
 pub invariant_of-self-2 : goal.invariant_of-self-2
 invariant_of-self-2 c =
     let away : is_some c.self.inside.released ≡ false = grind (arith, common_steps) in
-    let list : c.from_vec.result ≡ c.args.released.now = c.from_vec.ensures ∙ c.in-Ok.ensures.items in
+    let list : c.in-Ok.pages ≡ c.as_slice.result.now = c.in-Ok.ensures ∙ sym c.as_slice.ensures in
     record {
-      kept = popped_first _ c.args.link_number c.from_vec.result c.append-3.new.log.items away
+      kept = popped_first _ c.args.link_number c.in-Ok.pages c.append-3.new.log.items away
           (c.append-3.ensures.items
           ∙ ap (λ l. l ++ Ready ∷ []) c.append-2.ensures.items
           ∙ ap (λ (l : List PagerRec). (l ++ Got c.args.link_number ∷ []) ++ Ready ∷ []) c.make_room.ensures.same)
@@ -48,5 +48,5 @@ invariant_of-self-2 c =
       marked_pages = c.mark_all.ensures.pages ∙ c.self.invariant.marked_pages;
       marked = c.mark_all.ensures.marked ∙ sym (ap (λ (xs : List ℕ). λ (page : ℕ). is_listed page xs) list);
       in_range = c.self.invariant.in_range;
-      settled = λ p lt. still_settled c.self.inside.released c.from_vec.result (values c.self.inside.placed) p away (c.self.invariant.settled p lt);
+      settled = λ p lt. still_settled c.self.inside.released c.in-Ok.pages (values c.self.inside.placed) p away (c.self.invariant.settled p lt);
     }
