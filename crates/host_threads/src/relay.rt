@@ -6,8 +6,8 @@ pub struct RelayFault;
 
 /// What a link's packets go through: bytes are taken in at one end and come back at the other, in order.
 ///
-/// Nothing is believed of what it answers: a run over a relay that does anything else ends with `RunFault::Link`, unless
-/// it ends before a packet shows it. Each call may wait, and the link waits with it.
+/// Nothing is believed of what it answers: its counts are looked at, and what came back is compared with what was sent.
+/// Each call may wait, and the link waits with it.
 pub trait Relay: Send {
     /// Takes some of these bytes, the first ones, and answers how many. It is lent at least one.
     fn write(&mut self, bytes: &[u8]) -> Result<usize, RelayFault>;
