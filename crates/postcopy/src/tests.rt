@@ -9,6 +9,7 @@ use std::alloc::Global;
 use std::cell::Cell;
 use std::io;
 use std::io::{ErrorKind, Read, Write};
+use std::net::{Net, TcpListener, TcpStream};
 use std::process::Abort;
 use std::sync::Wait;
 use std::thread::Threads;
@@ -22,9 +23,12 @@ mod texts;
 mod usage;
 
 // What the program is run with.
-trait Host: Threads + Wait + Sync + AllocGlobal {}
+trait Host: Threads + Wait + Net<Listener = TcpListener, Stream = TcpStream> + Sync + AllocGlobal {}
 
-impl<R: Threads + Wait + Sync + AllocGlobal> Host for R {}
+impl<R> Host for R
+where
+    R: Threads + Wait + Net<Listener = TcpListener, Stream = TcpStream> + Sync + AllocGlobal,
+{}
 
 // Texts in memory, which count how often they were asked for.
 #[derive(Drop)]

@@ -9,10 +9,11 @@ const HEAD: &[u8] = b"postcopy-session 1\npages 1\ncells 1\ninit 0\nguest ";
 const READ: &str = "\nr 0 0 0 0\n";
 
 // Words for which the script's guest is migrated.
-static MIGRATING: [&[&str]; 3] = [
+static MIGRATING: [&[&str]; 4] = [
     &["postcopy", "migrate", "script"],
     &["postcopy", "migrate", "-"],
     &["postcopy", "migrate", "--link", "memory", "script"],
+    &["postcopy", "migrate", "script", "--link=tcp"],
 ];
 
 fn has_read(text: &[u8]) -> bool {
