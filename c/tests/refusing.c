@@ -1,0 +1,113 @@
+/* Stands before the system's calls, by LD_PRELOAD, and lets them fail. REFUSING is '-', or '<call> <first> <last> <how>': of the
+   calls of malloc and realloc ('memory'), read, write or open, those with these numbers, from 1 on, answer
+
+       memory   no memory
+       short    as asked, for one byte
+       none     nothing, as at an end
+       <n>      the error with this number
+
+   At the end it writes, to descriptor 99, how many calls of each there were, and how many of them were refused. */
+#define _GNU_SOURCE
+#include <dlfcn.h>
+#include <errno.h>
+#include <fcntl.h>
+#include <stdarg.h>
+#include <stdio.h>
+#include <stdlib.h>
+#include <string.h>
+#include <unistd.h>
+
+enum { MEMORY, READ, WRITE, OPEN, CALLS };
+enum { WHOLE, SHORT = -1, NONE = -2 };
+
+static const char *const names[CALLS] = {"memory", "read", "write", "open"};
+static long count[CALLS], first, last, refused;
+static int chosen = CALLS, how, running;
+
+static void *(*real_malloc)(size_t);
+static void *(*real_realloc)(void *, size_t);
+static ssize_t (*real_read)(int, void *, size_t);
+static ssize_t (*real_write)(int, const void *, size_t);
+static int (*real_open)(const char *, int, ...);
+
+static void find(void *at, const char *name) {
+    void *found = dlsym(RTLD_NEXT, name);
+    if (!found) abort();
+    memcpy(at, &found, sizeof found);
+}
+
+__attribute__((constructor)) static void begin(void) {
+    char call[16] = "", kind[16] = "";
+    const char *words = getenv("REFUSING");
+    find(&real_malloc, "malloc");
+    find(&real_realloc, "realloc");
+    find(&real_read, "read");
+    find(&real_write, "write");
+    find(&real_open, "open");
+    if (words && sscanf(words, "%15s %ld %ld %15s", call, &first, &last, kind) == 4) {
+        for (chosen = 0; chosen < CALLS && strcmp(call, names[chosen]); chosen++) {}
+        how = !strcmp(kind, "short") ? SHORT : !strcmp(kind, "none") ? NONE : !strcmp(kind, "memory") ? ENOMEM : atoi(kind);
+        if (chosen == CALLS) abort();
+    }
+    running = 1;
+}
+
+__attribute__((destructor)) static void end(void) {
+    char line[128];
+    running = 0;
+    int len = snprintf(line, sizeof line, "%ld %ld %ld %ld %ld\n", count[0], count[1], count[2], count[3], refused);
+    if (real_write(99, line, (size_t)len) < 0) errno = 0;
+}
+
+/* What is to become of a call of this kind. */
+static int fate(int call) {
+    if (!running) return WHOLE;
+    long number = ++count[call];
+    if (call != chosen || number < first || number > last) return WHOLE;
+    refused++;
+    return how;
+}
+
+void *malloc(size_t size) {
+    if (!real_malloc) find(&real_malloc, "malloc");
+    if (fate(MEMORY) == WHOLE) return real_malloc(size);
+    errno = ENOMEM;
+    return NULL;
+}
+
+void *realloc(void *at, size_t size) {
+    if (!real_realloc) find(&real_realloc, "realloc");
+    if (fate(MEMORY) == WHOLE) return real_realloc(at, size);
+    errno = ENOMEM;
+    return NULL;
+}
+
+/* The bytes of a read or a write, or an error. */
+static ssize_t moved(int met, size_t len, size_t *asked) {
+    *asked = met == SHORT && len ? 1 : len;
+    if (met == NONE) return 0;
+    if (met > 0) return errno = met, -1;
+    return 1;
+}
+
+ssize_t read(int fd, void *into, size_t len) {
+    size_t asked;
+    ssize_t met = moved(fate(READ), len, &asked);
+    return met <= 0 ? met : real_read(fd, into, asked);
+}
+
+ssize_t write(int fd, const void *from, size_t len) {
+    size_t asked;
+    ssize_t met = moved(fate(WRITE), len, &asked);
+    return met <= 0 ? met : real_write(fd, from, asked);
+}
+
+int open(const char *name, int flags, ...) {
+    va_list more;
+    va_start(more, flags);
+    mode_t mode = flags & O_CREAT ? va_arg(more, mode_t) : 0;
+    va_end(more);
+    int met = fate(OPEN);
+    if (met > 0) return errno = met, -1;
+    return real_open(name, flags, mode);
+}

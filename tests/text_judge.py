@@ -1,0 +1,152 @@
+"""At which line a text is refused, slowly and plainly: by the tables of docs/FORMATS.md, line by line and word by word."""
+import re
+
+LOGS = ("guest", "source", "link", "pager")
+MOST_RECORDS = 2**20
+NUMBER = re.compile("0|[1-9][0-9]*")
+
+# What stands behind a record's kind: a virtual processor, a page, a cell, a value, a record's number, a page's contents.
+RECORDS = {
+    "guest": {"r": "vpcx", "w": "vpcx", "z": "vp", "miss": "vp", "halt": "", "resume": "n", "see": "n"},
+    "source": {"halted": "n", "state": "", "send": "ph", "again": "n", "ask": "n", "done": ""},
+    "link": {"down": "n", "up": "n"},
+    "pager": {"got": "n", "ready": "", "fault": "n", "join": "n", "want": "p", "place": "pnh", "zero": "p", "skip": "n", "all": ""},
+}
+FATES = ("deliver", "lose", "repeat", "back")
+EVENTS = {"halt", "push", "serve", "source-tick", "pop", "flush", "pager-tick", "fault", "deliver"}
+EVENTS |= {f"link {direction} {fate}" for direction in ("down", "up") for fate in FATES}
+
+
+class Refused(Exception):
+    """A line is not one that the text may have there."""
+
+
+def demand(is_well):
+    if not is_well:
+        raise Refused
+
+
+def number(word, least, most):
+    # A word of more digits than any limit has is not read, however long it is.
+    demand(NUMBER.fullmatch(word) and len(word) <= 20 and least <= int(word) <= most)
+    return int(word)
+
+
+def keyed(line, key, least, most):
+    words = line.split(" ")
+    demand(len(words) == 2 and words[0] == key)
+    return number(words[1], least, most)
+
+
+def contents(word, cells):
+    demand(len(word) == 16 * cells and re.fullmatch("[0-9a-f]*", word))
+
+
+def field(kind, word, pages, cells):
+    if kind == "h":
+        contents(word, cells)
+    else:
+        number(word, 0, {"v": 63, "p": pages - 1, "c": cells - 1, "x": 2**64 - 1, "n": MOST_RECORDS - 1}[kind])
+
+
+def fielded(line, kinds, pages, cells):
+    """A line whose first word is one of these kinds, with the fields of that kind."""
+    kind, *words = line.split(" ")
+    demand(kind in kinds and len(words) == len(kinds[kind]))
+    for which, word in zip(kinds[kind], words):
+        field(which, word, pages, cells)
+
+
+def machine(line):
+    """The lines of a machine with its initial pages. What comes back is its pages and cells."""
+    pages = keyed(line(), "pages", 1, 65536)
+    cells = keyed(line(), "cells", 1, min(512, 2**20 // pages))
+    least = 0
+    for to_come in reversed(range(keyed(line(), "init", 0, pages))):
+        words = line().split(" ")
+        demand(len(words) == 3 and words[0] == "page")
+        least = number(words[1], least, pages - 1 - to_come) + 1
+        contents(words[2], cells)
+        demand(words[2].strip("0"))
+    return pages, cells
+
+
+def session(line):
+    demand(line() == "postcopy-session 1")
+    pages, cells = machine(line)
+    for log in LOGS:
+        for _ in range(keyed(line(), log, 0, MOST_RECORDS)):
+            fielded(line(), RECORDS[log], pages, cells)
+
+
+def runs(line):
+    before = None
+    for _ in range(keyed(line(), "runs", 0, 4 * MOST_RECORDS)):
+        words = line().split(" ")
+        demand(len(words) == 3 and words[0] == "run" and words[1] in LOGS and words[1] != before)
+        number(words[2], 1, MOST_RECORDS)
+        before = words[1]
+
+
+def runs_alone(line):
+    demand(line() == "postcopy-runs 1")
+    runs(line)
+
+
+def certificate(line):
+    demand(line() == "postcopy-certificate 1")
+    for page in range(keyed(line(), "pages", 1, 65536)):
+        words = line().split(" ")
+        demand(words[:2] == ["page", str(page)] and len(words) > 2 and len(words) - 3 == {"none": 0, "source": 4, "balloon": 3}.get(words[2]))
+        numbers = words[3:-2] if words[-2:] == ["-", "-"] else words[3:]
+        for word in numbers:
+            number(word, 0, MOST_RECORDS - 1)
+    runs(line)
+
+
+def script(line):
+    demand(line() == "postcopy-script 1")
+    pages, cells = machine(line)
+    keyed(line(), "pivots", 1, 16)
+    keyed(line(), "window", 1, 65536)
+    for direction in ("down", "up"):
+        demand(re.fullmatch(f"{direction} (-|[dlrb]{{1,4096}})", line()))
+    late = {"r": "pc", "w": "pcx"}
+    for _ in range(keyed(line(), "vcpus", 1, 64)):
+        words = line().split(" ")
+        demand(len(words) == 3 and words[0] == "vcpu")
+        before, after = (number(word, 0, 65536) for word in words[1:])
+        for _ in range(before):
+            fielded(line(), {**late, "z": "p"}, pages, cells)
+        for _ in range(after):
+            fielded(line(), late, pages, cells)
+
+
+def events(line):
+    demand(line() == "postcopy-events 1")
+    for _ in range(keyed(line(), "events", 0, MOST_RECORDS)):
+        event = line()
+        if event not in EVENTS:
+            keyed(event, "guest", 0, 63)
+
+
+TEXTS = {"session": session, "certificate": certificate, "runs": runs_alone, "script": script, "events": events}
+
+
+def refusal_line(kind, text):
+    """The line at which a text of this kind is refused, or None."""
+    *ended, rest = text.decode("latin-1").split("\n")
+    at = 0
+
+    def line():
+        nonlocal at
+        at += 1
+        demand(at <= len(ended))
+        return ended[at - 1]
+
+    try:
+        TEXTS[kind](line)
+        demand(line() == "end")
+    except Refused:
+        return at
+    return None if at == len(ended) and rest == "" else at + 1
