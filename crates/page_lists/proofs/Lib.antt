@@ -1,0 +1,4 @@
+pub mod Counting
+pub mod Placing
+pub mod Listed
+pub mod Reading

@@ -1,0 +1,3 @@
+pub mod Paged
+pub mod Places
+pub mod Lists
