@@ -7,3 +7,4 @@ pub mod Looked
 pub mod LeastReason
 pub mod FirstOfAll
 pub mod Faulting
+pub mod Framing

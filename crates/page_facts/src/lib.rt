@@ -7,6 +7,7 @@
 #![tactic(auto)]
 
 mod facts;
+mod frame;
 mod frontier;
 mod guest;
 mod machine;
@@ -15,6 +16,7 @@ mod page_fault;
 mod right_entry;
 
 pub use facts::{PageFacts, PageTables, facts_of, tables_of};
+pub use frame::{Frame, frame_for};
 pub use machine::halt_place;
 pub use moved::Placed;
 pub use page_fault::{PageFault, first_page_fault};
