@@ -1,4 +1,3 @@
 pub mod Found
-pub mod Looking
 pub mod Making
 pub mod Certifying

@@ -22,10 +22,10 @@ use Rattle.page_facts.specs.Facts.{IsFacts}
 use Rattle.page_facts.specs.inner.EntryTests.{is_place, is_absent, sees_from, places_from, zeroes, covers, is_once, is_right_of}
 use Rattle.page_facts.proofs.Before.{some_true, some_false, first_none, first_some, IsFirstAt}
 use Rattle.page_facts.proofs.RightEntry.{place_some, absent_none, place_at, zero_at, send_at, sees_at, IsPlaceAt, right_from, right_test}
-use Rattle.cert_maker.specs.inner.Looks.{first_look}
+use Rattle.page_facts.specs.Looks.{first_look}
 use Rattle.cert_maker.specs.Made.{IsEarliest, NamesEarliest}
 use Rattle.cert_maker.specs.inner.Entries.{repeated, send_of, access_and_look, first_of, entry_at, placed_entry, entry_of}
-use Rattle.cert_maker.proofs.Looking.{earlier_some}
+use Rattle.page_facts.proofs.Looking.{earlier_some}
 
 -- looks and the page's first placement
 module _ (s : Recorded) (page place : ℕ) (first : first_before (λ m. is_placement_of page) s.pager (length s.pager) ≡ Some place) where

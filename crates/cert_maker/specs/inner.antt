@@ -1,4 +1,3 @@
 -- What serves proofs alone.
 pub mod Entries
-pub mod Looks
 pub mod Ready

@@ -1,7 +1,6 @@
 //! The maker of certificates: an order of a session's records, and a certificate over an order.
 #![tactic(auto)]
 
-mod looks;
 mod made_entries;
 mod maker;
 mod order;

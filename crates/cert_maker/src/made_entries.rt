@@ -5,7 +5,7 @@ ghost use Rattle.migration_types.specs.Sessions.{IsSession};
 ghost use Rattle.audit_model.specs.Names.{if_there};
 ghost use Rattle.page_facts.specs.Facts.{IsFacts, AreTables};
 ghost use Rattle.page_facts.specs.Tables.{IsTable};
-ghost use Rattle.cert_maker.specs.inner.Looks.{first_look};
+ghost use Rattle.page_facts.specs.Looks.{first_look};
 ghost use Rattle.cert_maker.specs.inner.Entries.{send_of, first_of, entry_at, entry_of, IsMadeEntry, HasNoEntry, AreMade, HasBarePage};
 
 use crate::looks::first_looks;

@@ -18,7 +18,7 @@ use Rattle.page_facts.specs.declared.machine.FlatGuest.{FlatGuest}
 use Rattle.page_facts.specs.declared.guest.Judge.{Judge}
 use Rattle.page_facts.specs.Tables.{some_before, first_before, IsTable}
 use Rattle.page_facts.specs.Machines.{GuestPage, late_after, IsMachine, IsStepped}
-use Rattle.page_facts.specs.Judged.{is_wrong_read, is_late_access, wrong_by, accessed_by, IsJudged, IsJudgedOn}
+use Rattle.page_facts.specs.Judged.{is_wrong_read, is_late_access, wrong_by, accessed_by, AreAccesses, IsJudged, IsJudgedOn}
 
 pub guest_page : (e : Extent) (r : GuestRec) → GuestRecFits e r → GuestPage e.pages r
 guest_page e (Read v q d x) f = f.1
@@ -122,6 +122,14 @@ late_more : (h : Home) (r : GuestRec) → late_after r (is_target h) ≡ is_targ
 late_more h Halt = refl
 late_more h (Resume i) = refl
 late_more h _ = refl
+
+pub accesses_more : (s : Recorded) (n : ℕ) (r : GuestRec) (late : Bool) (old new : Values (Option ℕ)) → slice_get s.guest n ≡ Some r → late ≡ is_target (home s n) → AreAccesses s n old → IsWith old new (accessed_by late n r (values old)) → AreAccesses s (n + 1) new
+accesses_more s n r late old new is e was on = numbers_more (is_late_access s) s.guest n r s.geometry.pages old new _ is was on (accessed_here s n r late (values old) e)
+
+pub late_next : (s : Recorded) (n : ℕ) (r : GuestRec) (late : Bool) → slice_get s.guest n ≡ Some r → late ≡ is_target (home s n) → late_after r late ≡ is_target (home s (n + 1))
+late_next s n r late is e =
+    let one : suc n ≡ n + 1 = omega arith in
+    ap (λ b. late_after r b) e ∙ late_more (home s n) r ∙ ap (λ o. is_target (changed home_after o (home s n))) (sym is) ∙ ap (λ k. is_target (home s k)) one
 
 -- the guest at the next record
 pub machine_more : (s : Recorded) (n : ℕ) (r : GuestRec) (old new : FlatGuest) → slice_get s.guest n ≡ Some r → IsMachine s n old → IsStepped r old new → IsMachine s (n + 1) new

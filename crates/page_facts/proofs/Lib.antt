@@ -7,4 +7,8 @@ pub mod Looked
 pub mod LeastReason
 pub mod FirstOfAll
 pub mod Faulting
+pub mod Looking
 pub mod Framing
+pub mod Listing
+pub mod Within
+pub mod OfPage

@@ -12,7 +12,7 @@ use Rattle.migration_types.specs.Sessions.{Recorded}
 use Rattle.audit_model.specs.Flat.{flat, in_ledger, home, is_target, at_halt}
 use Rattle.audit_model.specs.Certificates.{is_access_of}
 use Rattle.page_store.specs.Frames.{memory_of}
-use Rattle.page_tables.specs.Tables.{values, IsWith}
+use Rattle.page_tables.specs.Tables.{Values, values, IsWith}
 use Rattle.page_facts.specs.Tables.{some_before, first_before, noted, marked_if, IsTable}
 use Rattle.page_facts.specs.Machines.{IsMachine, IsStepped}
 use Rattle.page_facts.specs.declared.guest.Judge.{Judge}
@@ -46,6 +46,10 @@ abbrev pub accessed_by : Bool → ℕ → GuestRec → (ℕ → Option ℕ) → 
 accessed_by late n (Read vcpu p c value) at = if late then noted p n at else at
 accessed_by late n (Write vcpu p c value) at = if late then noted p n at else at
 accessed_by late n _ at = at
+
+-- the first read or write of each page after handover, before record n
+abbrev pub AreAccesses : Recorded → ℕ → Values (Option ℕ) → Type 0
+AreAccesses s n table = IsTable s.geometry.pages table (λ p. first_before (is_late_access s p) s.guest n)
 
 -- what the pass has before record n
 pub record IsJudged (s : Recorded) (n : ℕ) (j : Judge) : Type 0 where

@@ -4,4 +4,7 @@ pub mod Judged
 pub mod Moved
 pub mod Facts
 pub mod Frames
+pub mod Looks
+pub mod Findings
+pub mod PageFaults
 pub mod inner

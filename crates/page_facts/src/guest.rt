@@ -6,9 +6,9 @@ ghost use Rattle.flat_machine.specs.Machines.{HasFor};
 ghost use Rattle.page_store.specs.Frames.{memory_of};
 ghost use Rattle.page_tables.specs.Tables.{pages_of, values, IsWith};
 ghost use Rattle.page_facts.specs.Machines.{GuestPage};
-ghost use Rattle.page_facts.specs.Judged.{wrong_by, accessed_by, IsJudged, IsJudgedOn};
+ghost use Rattle.page_facts.specs.Judged.{wrong_by, accessed_by, AreAccesses, IsJudged, IsJudgedOn};
 
-use crate::machine::{FlatGuest, guest_at_start, step};
+use crate::machine::{FlatGuest, guest_at_start, late_after, step};
 use migration_types::{GuestRec, Session};
 use page_store::Store;
 use page_tables::Table;
@@ -54,6 +54,25 @@ fn note_access(first: &mut Table<Option<u32>>, rec: &GuestRec, late: bool, n: u3
         GuestRec::Write { page, .. } => first.note(page, n),
         _ => {}
     }
+}
+
+/// The guest's first read or write of each page after handover. Takes each record of the guest once, and memory for a
+/// number for each page. An error: there is no memory for them.
+pub(crate) fn first_accesses(
+    alloc: Global,
+    session: &Session,
+) -> Result<Table<Option<u32>>, AllocError>
+    requires { IsSession session.now }
+    ensures { IfOk result (AreAccesses session.now (length session.now.guest)) }
+{
+    let mut first = Table::no_numbers(alloc, session.geometry().pages())?;
+    let mut late = false;
+    let guest = session.guest();
+    for n in 0..guest.len() {
+        note_access(&mut first, &guest[n], late, n as u32);
+        late = late_after(&guest[n], late);
+    }
+    Ok(first)
 }
 
 /// Does one record of the guest.

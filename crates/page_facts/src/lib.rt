@@ -7,17 +7,22 @@
 #![tactic(auto)]
 
 mod facts;
+mod findings;
 mod frame;
 mod frontier;
 mod guest;
+mod looks;
 mod machine;
 mod moved;
 mod page_fault;
 mod right_entry;
+mod session_lists;
 
 pub use facts::{PageFacts, PageTables, facts_of, tables_of};
+pub use findings::{Findings, judge_page};
 pub use frame::{Frame, frame_for};
 pub use machine::halt_place;
 pub use moved::Placed;
 pub use page_fault::{PageFault, first_page_fault};
 pub use right_entry::is_right_entry;
+pub use session_lists::{SessionLists, lists_for};

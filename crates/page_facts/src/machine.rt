@@ -19,7 +19,7 @@ pub(crate) struct FlatGuest {
 }
 
 /// Whether the guest is at the target after this record.
-fn late_after(rec: &GuestRec, late: bool) -> bool
+pub(crate) fn late_after(rec: &GuestRec, late: bool) -> bool
     ensures { result ≡ late_after rec.now late }
 {
     match rec {

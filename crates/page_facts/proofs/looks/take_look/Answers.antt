@@ -1,8 +1,8 @@
 use Rattle.std.proofs.Common.{◌≡◌, ◌+◌, ◌<◌, ◌≤◌, ◌⊎◌, inl, inr, List, length, refl, ap, arith}
 use Rattle.migration_types.specs.declared.records.PagerRec.{PagerRec}
-use Rattle.cert_maker.proofs.Looking.{look_further, look_same, noted_start}
-use Rattle.cert_maker.proofs.looks.take_look.Goals as goal
-use Rattle.cert_maker.proofs.looks.take_look.Goals.{then-seen-records, else-seen-records}
+use Rattle.page_facts.proofs.Looking.{look_further, look_same, noted_start}
+use Rattle.page_facts.proofs.looks.take_look.Goals as goal
+use Rattle.page_facts.proofs.looks.take_look.Goals.{then-seen-records, else-seen-records}
 
 pub note_reached-requires-clause-noted : goal.note_reached-requires-clause-noted
 note_reached-requires-clause-noted c = noted_start c.args.session.now c.args.n c.args.looks.now c.requires.looks

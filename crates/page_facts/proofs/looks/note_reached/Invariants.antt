@@ -1,5 +1,5 @@
-use Rattle.cert_maker.specs.inner.Looks.{AreNoted}
-use Rattle.cert_maker.proofs.looks.note_reached.Given as goal
+use Rattle.page_facts.specs.Looks.{AreNoted}
+use Rattle.page_facts.proofs.looks.note_reached.Given as goal
 
 abbrev pub invariant-loop-place : goal.invariant-loop-place
 invariant-loop-place l = AreNoted l.session l.n l.place l.first

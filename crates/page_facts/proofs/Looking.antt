@@ -18,8 +18,8 @@ use Rattle.page_facts.specs.Moved.{PagerPage, placed_by}
 use Rattle.page_facts.proofs.Judging.{here_by}
 use Rattle.page_facts.proofs.Before.{some_true, some_false}
 use Rattle.page_facts.proofs.Moving.{pager_page, places, placed_here}
-use Rattle.cert_maker.specs.declared.looks.Looks.{Looks}
-use Rattle.cert_maker.specs.inner.Looks.{look_of, first_look, is_placed, AreNoted, AreLooks, AreLooksOf}
+use Rattle.page_facts.specs.declared.looks.Looks.{Looks}
+use Rattle.page_facts.specs.Looks.{look_of, first_look, is_placed, AreNoted, AreLooks, AreLooksOf}
 
 -- ---- earlier records
 

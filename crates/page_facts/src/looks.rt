@@ -7,7 +7,7 @@ ghost use Rattle.audit_model.specs.Faults.{looks_at};
 ghost use Rattle.page_tables.specs.Tables.{pages_of, values, IsWith};
 ghost use Rattle.page_facts.specs.Moved.{PagerPage, placed_by};
 ghost use Rattle.page_facts.specs.Tables.{or_here, IsTable};
-ghost use Rattle.cert_maker.specs.inner.Looks.{look_of, first_look, AreNoted, AreLooks, AreLooksOf};
+ghost use Rattle.page_facts.specs.Looks.{look_of, first_look, AreNoted, AreLooks, AreLooksOf};
 
 use migration_types::{GuestRec, PagerRec, Session};
 use page_tables::Table;

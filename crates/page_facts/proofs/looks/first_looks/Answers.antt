@@ -1,11 +1,11 @@
 use Rattle.std.proofs.Common.{◌+◌, refl, sym, ap, ◌∙◌, subst, arith}
 use Rattle.migration_types.specs.Extents.{Extent}
 use Rattle.page_facts.proofs.Reading.{read_at}
-use Rattle.cert_maker.specs.declared.looks.Looks.{Looks}
-use Rattle.cert_maker.specs.inner.Looks.{AreLooks}
-use Rattle.cert_maker.proofs.Looking.{looks_more, looks_kept}
-use Rattle.cert_maker.proofs.looks.first_looks.Goals as goal
-use Rattle.cert_maker.proofs.looks.first_looks.Goals.{in-Some, in_default}
+use Rattle.page_facts.specs.declared.looks.Looks.{Looks}
+use Rattle.page_facts.specs.Looks.{AreLooks}
+use Rattle.page_facts.proofs.Looking.{looks_more, looks_kept}
+use Rattle.page_facts.proofs.looks.first_looks.Goals as goal
+use Rattle.page_facts.proofs.looks.first_looks.Goals.{in-Some, in_default}
 
 pub loop-n-init : goal.loop-n-init
 loop-n-init c = record {

@@ -1,8 +1,8 @@
 use Rattle.std.proofs.Common.{List, length, ap, arith}
 use Rattle.migration_types.specs.declared.records.PagerRec.{PagerRec}
 use Rattle.page_facts.proofs.Reading.{read_at}
-use Rattle.cert_maker.proofs.Looking.{noted_more}
-use Rattle.cert_maker.proofs.looks.note_reached.Goals as goal
+use Rattle.page_facts.proofs.Looking.{noted_more}
+use Rattle.page_facts.proofs.looks.note_reached.Goals as goal
 
 pub loop-place-preserved : goal.loop-place-preserved
 loop-place-preserved c =

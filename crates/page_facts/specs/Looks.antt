@@ -7,7 +7,7 @@ use Rattle.audit_model.specs.Shape.{is_placement_of}
 use Rattle.audit_model.specs.Faults.{looks_at}
 use Rattle.page_tables.specs.Tables.{Values}
 use Rattle.page_facts.specs.Tables.{some_before, or_here, first_before, IsTable}
-use Rattle.cert_maker.specs.declared.looks.Looks.{Looks}
+use Rattle.page_facts.specs.declared.looks.Looks.{Looks}
 
 abbrev pub look_of : GuestRec → Option ℕ
 look_of (See placement) = Some placement
