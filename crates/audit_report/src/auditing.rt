@@ -84,8 +84,8 @@ fn report(alloc: Global, session: &Session) -> Result<Report, AllocError>
 /// merging in which the demand of that record fails: of the found order, or, for an early access to a page that is
 /// placed, of the order in which the page's first placement comes as late as it can, with all that depends on it.
 ///
-/// Takes a few passes over the records and the runs. The only error is want of memory, for the frames of one machine, a
-/// few numbers for each page, and the runs.
+/// Takes a few passes over the records and the runs. The only error is want of memory, for a few numbers for each page, one
+/// for each record that is of a page, the cells of one page, and the runs.
 pub fn audit(alloc: Global, session: &Session) -> Result<Report, AllocError>
     ensures report { IfOk result (IsReport session.now) }
     ensures safe { IfOk result (λ report. IsClean report → IsSafe session.now) }

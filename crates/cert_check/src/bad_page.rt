@@ -2,23 +2,31 @@
 
 ghost use Rattle.std.specs.Prelude.{◌≡◌, length, IfOk, MatchOption};
 ghost use Rattle.migration_types.specs.Sessions.{IsSession};
-ghost use Rattle.page_facts.specs.Facts.{AreTables};
+ghost use Rattle.page_facts.specs.Findings.{AreSessionLists};
+ghost use Rattle.page_facts.specs.Frames.{one_page};
 ghost use Rattle.cert_check.specs.Verdicts.{AreRightEntries, IsFirstBadPage};
 
 use migration_types::{Entry, PageNo, Session};
-use page_facts::{PageTables, facts_of, is_right_entry, tables_of};
+use page_facts::{Frame, SessionLists, facts_of, frame_for, is_right_entry, judge_page, lists_for};
 use std::alloc::{AllocError, Global};
 
-/// The first page whose entry is not right, by the tables of the session.
-fn first_in(session: &Session, tables: &PageTables, entries: &[Entry]) -> Option<usize>
+/// The first page whose entry is not right, by the lists of the session, one page after the other.
+fn first_in(
+    session: &Session,
+    lists: &SessionLists,
+    frame: &mut Frame,
+    entries: &[Entry],
+) -> Option<usize>
     requires limits { IsSession session.now }
     requires pages { length entries.now ≡ session.now.geometry.pages }
-    requires tables { AreTables session.now tables.now }
+    requires lists { AreSessionLists session.now lists.now }
+    requires frame { frame.old.cells.geometry ≡ one_page session.now.geometry.cells }
     ensures { MatchOption result (AreRightEntries session.now entries.now) (IsFirstBadPage session.now entries.now) }
 {
     for page in 0..entries.len() {
         let number = PageNo::new(page as u16);
-        let facts = facts_of(session, tables, number);
+        let findings = judge_page(session, lists, frame, number);
+        let facts = facts_of(session, &findings, number);
         if !is_right_entry(session, number, &facts, &entries[page]) {
             return Some(page);
         }
@@ -26,8 +34,8 @@ fn first_in(session: &Session, tables: &PageTables, entries: &[Entry]) -> Option
     None
 }
 
-/// The first page whose entry is not right. Takes one pass over each log and one over the entries, and memory for the
-/// frames of one machine and a few numbers for each page.
+/// The first page whose entry is not right. Takes a few passes over each log and one over the entries, and memory for a
+/// few numbers for each page, one for each record that is of a page, and the cells of one page.
 pub(crate) fn first_bad_page(
     alloc: Global,
     session: &Session,
@@ -37,6 +45,7 @@ pub(crate) fn first_bad_page(
     ensures { IfOk result (λ page. MatchOption page (AreRightEntries session.now entries.now) (IsFirstBadPage session.now entries.now)) }
 {
     session.keeps_limits();
-    let tables = tables_of(alloc, session)?;
-    Ok(first_in(session, &tables, entries))
+    let lists = lists_for(alloc, session)?;
+    let mut frame = frame_for(alloc, session)?;
+    Ok(first_in(session, &lists, &mut frame, entries))
 }

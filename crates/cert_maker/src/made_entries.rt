@@ -3,16 +3,17 @@
 ghost use Rattle.std.specs.Prelude.{◌≡◌, ◌<◌, length, slice_get, IfOk, MatchOption};
 ghost use Rattle.migration_types.specs.Sessions.{IsSession};
 ghost use Rattle.audit_model.specs.Names.{if_there};
-ghost use Rattle.page_facts.specs.Facts.{IsFacts, AreTables};
-ghost use Rattle.page_facts.specs.Tables.{IsTable};
+ghost use Rattle.page_facts.specs.Facts.{IsFacts};
+ghost use Rattle.page_facts.specs.Findings.{AreSessionLists};
+ghost use Rattle.page_facts.specs.Frames.{one_page};
 ghost use Rattle.page_facts.specs.Looks.{first_look};
 ghost use Rattle.cert_maker.specs.inner.Entries.{send_of, first_of, entry_at, entry_of, IsMadeEntry, HasNoEntry, AreMade, HasBarePage};
 
-use crate::looks::first_looks;
 use audit_model::delivery;
 use migration_types::{Entry, First, PageNo, PagerRec, Seq, Session, SourceRec};
-use page_facts::{PageFacts, PageTables, facts_of, is_right_entry, tables_of};
-use page_tables::Table;
+use page_facts::{
+    Frame, PageFacts, SessionLists, facts_of, frame_for, is_right_entry, judge_page, lists_for,
+};
 use std::alloc::{AllocError, Global};
 
 /// The `send` whose contents came with a `got` of the pager, itself or by an `again`.
@@ -80,24 +81,25 @@ fn made_entry(
     if is_right { Some(entry) } else { None }
 }
 
-/// A right entry for each page, by the tables of the session. None: a page has no right entry.
+/// A right entry for each page, by the lists of the session. None: a page has no right entry.
 fn entries_in(
     alloc: Global,
     session: &Session,
-    tables: &PageTables,
-    looks: &Table<Option<u32>>,
+    lists: &SessionLists,
+    frame: &mut Frame,
 ) -> Result<Option<Seq<Entry>>, AllocError>
     requires limits { IsSession session.now }
-    requires tables { AreTables session.now tables.now }
-    requires looks { IsTable session.now.geometry.pages looks.now (first_look session.now (length session.now.guest)) }
+    requires lists { AreSessionLists session.now lists.now }
+    requires frame { frame.old.cells.geometry ≡ one_page session.now.geometry.cells }
     ensures { IfOk result (λ o. MatchOption o (HasBarePage session.now) (AreMade session.now)) }
 {
     let pages = session.geometry().pages() as usize;
     let mut entries = Vec::with_capacity(alloc, pages)?;
     for page in 0..pages {
         let number = PageNo::new(page as u16);
-        let facts = facts_of(session, tables, number);
-        let Some(entry) = made_entry(session, number, &facts, looks.at(number)) else {
+        let findings = judge_page(session, lists, frame, number);
+        let facts = facts_of(session, &findings, number);
+        let Some(entry) = made_entry(session, number, &facts, findings.look) else {
             return Ok(None);
         };
         entries.push(entry)?;
@@ -105,14 +107,14 @@ fn entries_in(
     Ok(Some(Seq::from_vec(entries)))
 }
 
-/// A right entry for each page, with the earliest look that serves. None: a page has no right entry. Takes two passes
-/// over the logs of the guest and the pager and one over the source's, memory for the frames of one machine and a few
-/// numbers for each page. An error: there is no memory for them.
+/// A right entry for each page, with the earliest look that serves. None: a page has no right entry. Takes a few passes
+/// over each log, and memory for a few numbers for each page, one for each record that is of a page, and the cells of one
+/// page. An error: there is no memory for them.
 pub(crate) fn entries_of(alloc: Global, session: &Session) -> Result<Option<Seq<Entry>>, AllocError>
     ensures { IfOk result (λ o. MatchOption o (HasBarePage session.now) (AreMade session.now)) }
 {
     session.keeps_limits();
-    let tables = tables_of(alloc, session)?;
-    let looks = first_looks(alloc, session)?;
-    entries_in(alloc, session, &tables, &looks)
+    let lists = lists_for(alloc, session)?;
+    let mut frame = frame_for(alloc, session)?;
+    entries_in(alloc, session, &lists, &mut frame)
 }

@@ -22,8 +22,8 @@ pub enum MakeFault {
 }
 
 /// The right certificate of a session with these runs. Each entry with a first access names the earliest look that
-/// covers the page's placement. Takes one pass over the runs and a few over the records, and memory for the frames of
-/// one machine, the entries, and a few numbers for each page. On an error the runs are dropped.
+/// covers the page's placement. Takes one pass over the runs and a few over the records, and memory for the entries,
+/// a few numbers for each page, one for each record that is of a page, and the cells of one page. On an error the runs are dropped.
 pub fn make(alloc: Global, session: &Session, runs: Seq<Run>) -> Result<Cert, MakeFault>
     requires { AreRuns runs }
     ensures { MatchResult result (IsMade session.now runs) (IsRefused session.now runs) }

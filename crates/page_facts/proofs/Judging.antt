@@ -4,21 +4,16 @@ use Rattle.std.specs.Prelude.{slice_get, ◌==◌}
 use Rattle.migration_types.specs.declared.records.GuestRec.{GuestRec}
 use Rattle.migration_types.specs.declared.records.GuestRec.TheVariants.{Read, Write, Release, Miss, Halt, Resume, See}
 use Rattle.migration_types.specs.Extents.{Extent}
-use Rattle.migration_types.specs.Memory.{Memory}
 use Rattle.migration_types.specs.Sessions.{Recorded, GuestRecFits}
 use Rattle.audit_model.specs.declared.home.Home.{Home}
 use Rattle.audit_model.specs.Flat.{changed, flat, home_after, home, is_target}
 use Rattle.audit_model.specs.Shape.{passes}
 use Rattle.audit_model.specs.Certificates.{is_access_of}
-use Rattle.flat_machine.proofs.Stepping.{flat_next}
-use Rattle.page_store.specs.Frames.{memory_of}
 use Rattle.page_tables.specs.Tables.{Values, values, or_here, IsWith}
 use Rattle.page_tables.proofs.Noting.{noted_none}
-use Rattle.page_facts.specs.declared.machine.FlatGuest.{FlatGuest}
-use Rattle.page_facts.specs.declared.guest.Judge.{Judge}
 use Rattle.page_facts.specs.Tables.{some_before, first_before, IsTable}
-use Rattle.page_facts.specs.Machines.{GuestPage, late_after, IsMachine, IsStepped}
-use Rattle.page_facts.specs.Judged.{is_wrong_read, is_late_access, wrong_by, accessed_by, AreAccesses, IsJudged, IsJudgedOn}
+use Rattle.page_facts.specs.Machines.{GuestPage, late_after}
+use Rattle.page_facts.specs.Judged.{is_late_access, accessed_by, AreAccesses}
 
 pub guest_page : (e : Extent) (r : GuestRec) → GuestRecFits e r → GuestPage e.pages r
 guest_page e (Read v q d x) f = f.1
@@ -72,18 +67,6 @@ module _ {A : Type 0} (test : ℕ → ℕ → A → Bool) (log : List A) (n : �
 
 -- ---- the tables of the guest's log
 
-wrong_here : (s : Recorded) (n : ℕ) (r : GuestRec) (m : Memory) (f : ℕ → Bool) → m ≡ flat s n → wrong_by m r f ≡ or_by (is_wrong_read s) n r f
-wrong_here s n r m f e = ap (λ (k : Memory). wrong_by k r f) e ∙ go r
-  where
-    go : (r : GuestRec) → wrong_by (flat s n) r f ≡ or_by (is_wrong_read s) n r f
-    go (Read v q c x) = refl
-    go (Write v q c x) = refl
-    go (Release v q) = refl
-    go (Miss v q) = refl
-    go Halt = refl
-    go (Resume i) = refl
-    go (See k) = refl
-
 accessed_here : (s : Recorded) (n : ℕ) (r : GuestRec) (late : Bool) (f : ℕ → Option ℕ) → late ≡ is_target (home s n) → accessed_by late n r f ≡ here_by (is_late_access s) n r f
 accessed_here s n r late f e = go r late ∙ ap (λ b. by b r) e
   where
@@ -130,20 +113,3 @@ pub late_next : (s : Recorded) (n : ℕ) (r : GuestRec) (late : Bool) → slice_
 late_next s n r late is e =
     let one : suc n ≡ n + 1 = omega arith in
     ap (λ b. late_after r b) e ∙ late_more (home s n) r ∙ ap (λ o. is_target (changed home_after o (home s n))) (sym is) ∙ ap (λ k. is_target (home s k)) one
-
--- the guest at the next record
-pub machine_more : (s : Recorded) (n : ℕ) (r : GuestRec) (old new : FlatGuest) → slice_get s.guest n ≡ Some r → IsMachine s n old → IsStepped r old new → IsMachine s (n + 1) new
-machine_more s n r old new is was on =
-    let one : suc n ≡ n + 1 = omega arith in
-    subst (λ k. IsMachine s k new) one (record {
-      flat = flat_next s n r old.machine new.machine is was.flat on.machine;
-      late = on.late ∙ ap (λ b. late_after r b) was.late ∙ late_more (home s n) r ∙ ap (λ o. is_target (changed home_after o (home s n))) (sym is);
-    })
-
--- what the pass has at the next record
-pub judged_more : (s : Recorded) (n : ℕ) (r : GuestRec) (old new : Judge) → slice_get s.guest n ≡ Some r → IsJudged s n old → IsJudgedOn r n old new → IsJudged s (n + 1) new
-judged_more s n r old new is was on = record {
-  guest = machine_more s n r old.guest new.guest is was.guest on.guest;
-  wrong = marks_more (is_wrong_read s) s.guest n r s.geometry.pages old.wrong new.wrong _ is was.wrong on.wrong (wrong_here s n r (memory_of old.guest.machine.frames) (values old.wrong) was.guest.flat.memory);
-  first = numbers_more (is_late_access s) s.guest n r s.geometry.pages old.first new.first _ is was.first on.first (accessed_here s n r old.guest.late (values old.first) was.guest.late);
-}

@@ -3,12 +3,11 @@ pub mod Before
 pub mod Judging
 pub mod Moving
 pub mod RightEntry
-pub mod Looked
 pub mod LeastReason
 pub mod FirstOfAll
-pub mod Faulting
 pub mod Looking
 pub mod Framing
 pub mod Listing
 pub mod Within
 pub mod OfPage
+pub mod OverPages

@@ -148,7 +148,7 @@ module _ (s : Recorded) (page : ℕ) where
   read_only n (See k) t = absurd (cc)
 
   -- an access to the page that no look before it covers
-  comes_early : ℕ → GuestRec → Bool
+  abbrev comes_early : ℕ → GuestRec → Bool
   comes_early n r = is_access_of page r && is_uncovered s page n
 
   access_only : (r : GuestRec) → is_access_of page r ≡ true → of_page guest_page page r ≡ true
@@ -334,7 +334,7 @@ module _ (s : Recorded) (page : ℕ) where
         go (Pager, n) at = p n at
 
     -- the logs before this one have no fault of the page
-    CleanBefore : LogName → Type 0
+    abbrev CleanBefore : LogName → Type 0
     CleanBefore log = (name : Name) → page_at s name ≡ Some page → log_index name.0 < log_index log → reason_at s name ≡ None
 
     found_in : (log : LogName) (x : PageFault) → CleanBefore log → IsFirstIn s page log x → IsFirstFault s page x

@@ -3,10 +3,9 @@ use Rattle.std.specs.Prelude.{◌≡◌, ℕ, length}
 use Rattle.migration_types.specs.Sessions.{Recorded}
 use Rattle.audit_model.specs.Shape.{is_placement_of}
 use Rattle.page_facts.specs.declared.facts.PageFacts.{PageFacts}
-use Rattle.page_facts.specs.declared.facts.PageTables.{PageTables}
-use Rattle.page_facts.specs.Tables.{some_before, first_before, IsTable}
+use Rattle.page_facts.specs.Tables.{some_before, first_before}
 use Rattle.page_facts.specs.Judged.{is_wrong_read, is_wrong_send, is_altered, is_late_access}
-use Rattle.page_facts.specs.Moved.{is_again, AreSent, IsPlaced}
+use Rattle.page_facts.specs.Moved.{is_again}
 
 -- what the whole logs say of a page
 pub record IsFacts (s : Recorded) (page : ℕ) (f : PageFacts) : Type 0 where
@@ -16,10 +15,3 @@ pub record IsFacts (s : Recorded) (page : ℕ) (f : PageFacts) : Type 0 where
   pub again : f.again ≡ some_before (is_again s page) s.pager (length s.pager)
   pub altered : f.altered ≡ some_before (is_altered s page) s.pager (length s.pager)
   pub access : f.access ≡ first_before (is_late_access s page) s.guest (length s.guest)
-
--- the same for each page of the machine
-pub record AreTables (s : Recorded) (t : PageTables) : Type 0 where
-  pub wrong_reads : IsTable s.geometry.pages t.wrong_reads (λ p. some_before (is_wrong_read s p) s.guest (length s.guest))
-  pub wrong_sends : AreSent s (length s.source) t.wrong_sends
-  pub placed : IsPlaced s (length s.pager) t.placed
-  pub accesses : IsTable s.geometry.pages t.accesses (λ p. first_before (is_late_access s p) s.guest (length s.guest))

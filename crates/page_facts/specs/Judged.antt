@@ -1,4 +1,4 @@
--- What the pass over the guest's log keeps: the machine, and a few tables.
+-- Tests of a page's records, and the first use of each page.
 use Rattle.std.specs.Prelude.{ℕ, Bool, false, not, ◌==◌, ◌&&◌, ◌||◌, Option, if◌then◌else◌}
 use Rattle.std.specs.Str.{bytes_eq}
 use Rattle.migration_types.specs.declared.records.GuestRec.{GuestRec}
@@ -7,15 +7,12 @@ use Rattle.migration_types.specs.declared.records.SourceRec.{SourceRec}
 use Rattle.migration_types.specs.declared.records.SourceRec.TheVariants.{Send}
 use Rattle.migration_types.specs.declared.records.PagerRec.{PagerRec}
 use Rattle.migration_types.specs.declared.records.PagerRec.TheVariants.{Place, Zero}
-use Rattle.migration_types.specs.Memory.{Memory, page_of}
+use Rattle.migration_types.specs.Memory.{page_of}
 use Rattle.migration_types.specs.Sessions.{Recorded}
 use Rattle.audit_model.specs.Flat.{flat, in_ledger, home, is_target, at_halt}
 use Rattle.audit_model.specs.Certificates.{is_access_of}
-use Rattle.page_store.specs.Frames.{memory_of}
-use Rattle.page_tables.specs.Tables.{Values, values, IsWith}
-use Rattle.page_facts.specs.Tables.{some_before, first_before, noted, marked_if, IsTable}
-use Rattle.page_facts.specs.Machines.{IsMachine, IsStepped}
-use Rattle.page_facts.specs.declared.guest.Judge.{Judge}
+use Rattle.page_tables.specs.Tables.{Values}
+use Rattle.page_facts.specs.Tables.{first_before, noted, IsTable}
 
 -- a read of the page whose value is not the flat answer
 abbrev pub is_wrong_read : Recorded → ℕ → ℕ → GuestRec → Bool
@@ -37,11 +34,7 @@ is_altered s page n (Place p got content) = (p == page) && not (bytes_eq content
 is_altered s page n (Zero p) = (p == page) && not (in_ledger s (at_halt s) p)
 is_altered s page n _ = false
 
--- the tables after a record
-abbrev pub wrong_by : Memory → GuestRec → (ℕ → Bool) → ℕ → Bool
-wrong_by m (Read vcpu p c value) marks = marked_if (not (value == m p c)) p marks
-wrong_by m _ marks = marks
-
+-- the table after a record
 abbrev pub accessed_by : Bool → ℕ → GuestRec → (ℕ → Option ℕ) → ℕ → Option ℕ
 accessed_by late n (Read vcpu p c value) at = if late then noted p n at else at
 accessed_by late n (Write vcpu p c value) at = if late then noted p n at else at
@@ -50,15 +43,3 @@ accessed_by late n _ at = at
 -- the first read or write of each page after handover, before record n
 abbrev pub AreAccesses : Recorded → ℕ → Values (Option ℕ) → Type 0
 AreAccesses s n table = IsTable s.geometry.pages table (λ p. first_before (is_late_access s p) s.guest n)
-
--- what the pass has before record n
-pub record IsJudged (s : Recorded) (n : ℕ) (j : Judge) : Type 0 where
-  pub guest : IsMachine s n j.guest
-  pub wrong : IsTable s.geometry.pages j.wrong (λ p. some_before (is_wrong_read s p) s.guest n)
-  pub first : IsTable s.geometry.pages j.first (λ p. first_before (is_late_access s p) s.guest n)
-
--- one record more
-pub record IsJudgedOn (r : GuestRec) (n : ℕ) (old new : Judge) : Type 0 where
-  pub guest : IsStepped r old.guest new.guest
-  pub wrong : IsWith old.wrong new.wrong (wrong_by (memory_of old.guest.machine.frames) r (values old.wrong))
-  pub first : IsWith old.first new.first (accessed_by old.guest.late n r (values old.first))

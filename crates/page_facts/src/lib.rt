@@ -1,15 +1,15 @@
-//! What the four logs of a session say of each page, found in one pass over each log with one memory.
+//! What the four logs of a session say of each page, by the records of that page.
 //!
 //! A checker, a maker of certificates and an audit all judge a page by the same few facts: whether a read of it gave
 //! another value than one machine would, what was sent of it, where it was placed, and when it was first used after
-//! handover. [`tables_of`] finds them for all pages at once, and [`first_page_fault`] finds the first record that is a
-//! fault of its page.
+//! handover. [`lists_for`] builds once where the records of each page are, [`judge_page`] finds the facts of a page by its
+//! records alone, with its cells in a frame that fits a cache, and [`fault_of`] its first fault. [`first_page_fault`] finds
+//! the first of all pages.
 #![tactic(auto)]
 
 mod facts;
 mod findings;
 mod frame;
-mod frontier;
 mod guest;
 mod looks;
 mod machine;
@@ -18,11 +18,10 @@ mod page_fault;
 mod right_entry;
 mod session_lists;
 
-pub use facts::{PageFacts, PageTables, facts_of, tables_of};
+pub use facts::{PageFacts, facts_of};
 pub use findings::{Findings, judge_page};
 pub use frame::{Frame, frame_for};
 pub use machine::halt_place;
-pub use moved::Placed;
-pub use page_fault::{PageFault, first_page_fault};
+pub use page_fault::{PageFault, fault_of, first_page_fault};
 pub use right_entry::is_right_entry;
 pub use session_lists::{SessionLists, lists_for};

@@ -15,7 +15,10 @@ loop-page-preserved c =
     let s = c.args.session.now in
     let n = c.loop-page.page in
     let xs = c.args.entries.now in
-    right_more s xs n (get_or xs n no_entry) (slice_get-get_or xs n no_entry c.loop-page-test.true) c.loop-page.invariant (subst (λ (p : ℕ). IsRightEntry s p (get_or xs n no_entry)) c.new-number.ensures (c.if-not-is_right_entry.ensures.0 refl))
+    record {
+      right = right_more s xs n (get_or xs n no_entry) (slice_get-get_or xs n no_entry c.loop-page-test.true) c.loop-page.invariant.right (subst (λ (p : ℕ). IsRightEntry s p (get_or xs n no_entry)) c.new-number.ensures (c.if-not-is_right_entry.ensures.0 refl));
+      frame = c.judge_page-findings.ensures.frame;
+    }
 
 pub returns : goal.returns
-returns c = λ page e is. let lt = slice_get_within c.args.entries.now page e is in c.loop-page.invariant page e (omega (arith, lt, c.loop-page-test.false)) is
+returns c = λ page e is. let lt = slice_get_within c.args.entries.now page e is in c.loop-page.invariant.right page e (omega (arith, lt, c.loop-page-test.false)) is

@@ -6,7 +6,7 @@ use Rattle.cert_maker.proofs.Certifying.{each_more, pushed_length}
 use Rattle.cert_maker.proofs.made_entries.entries_in.Goals as goal
 
 pub made_entry-requires-clause-look : goal.made_entry-requires-clause-look
-made_entry-requires-clause-look c = c.at.ensures ∙ ap (λ (f : ℕ → Option ℕ). f c.new-number.result) c.requires.looks.values_are
+made_entry-requires-clause-look c = c.judge_page-findings.ensures.findings.look
 
 pub loop-page-preserved : goal.loop-page-preserved
 loop-page-preserved c =
@@ -17,6 +17,7 @@ loop-page-preserved c =
     record {
       count = pushed_length old _ c.in-Some.entry items ∙ omega (arith, count);
       each = each_more s old _ c.in-Some.entry items c.loop-page.invariant.each (subst (λ (p : ℕ). IsMadeEntry s p c.in-Some.entry) (c.new-number.ensures ∙ sym count) c.in-Some.ensures);
+      frame = c.judge_page-findings.ensures.frame;
     }
 
 pub returns : goal.returns
