@@ -7,7 +7,9 @@ ghost use Rattle.page_facts.specs.Facts.{IsFacts};
 use crate::texts::{Logs, session_of};
 use audit_model::PageReason;
 use migration_types::{Entry, First, LogName, PageNo, Session};
-use page_facts::{PageFacts, PageFault, facts_of, first_page_fault, is_right_entry, tables_of};
+use page_facts::{
+    PageFacts, PageFault, facts_of, first_page_fault, frame_for, is_right_entry, judge_page, lists_for,
+};
 use std::alloc::Global;
 
 /// A session in which page 0 is sent, placed, looked at and read.
@@ -343,8 +345,10 @@ fn facts_in(alloc: Global, session: &Session, page: PageNo) -> Option<PageFacts>
     if page.index() >= session.geometry().pages() as usize {
         return None;
     }
-    let tables = tables_of(alloc, session).ok()?;
-    Some(facts_of(session, &tables, page))
+    let lists = lists_for(alloc, session).ok()?;
+    let mut frame = frame_for(alloc, session).ok()?;
+    let findings = judge_page(session, &lists, &mut frame, page);
+    Some(facts_of(session, &findings, page))
 }
 
 /// Whether an entry of a page of a session is right, or not, as it is said to be.
