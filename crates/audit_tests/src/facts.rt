@@ -8,7 +8,8 @@ use crate::texts::{Logs, session_of};
 use audit_model::PageReason;
 use migration_types::{Entry, First, LogName, PageNo, Session};
 use page_facts::{
-    PageFacts, PageFault, facts_of, first_page_fault, frame_for, is_right_entry, judge_page, lists_for,
+    PageFacts, PageFault, facts_of, first_page_fault, frame_for, is_right_entry, judge_page,
+    lists_for,
 };
 use std::alloc::Global;
 

@@ -1,5 +1,5 @@
 -- The first fault of a log is the first of the session where the logs before it have none.
-use Rattle.std.proofs.Common.{◌≡◌, ℕ, ◌<◌, ◌≤◌, ◌⊎◌, inl, inr, true, false, length, Option, Some, None, refl, sym, ap, ◌∙◌, subst, arith}
+use Rattle.std.proofs.Common.{◌≡◌, ℕ, ◌<◌, ◌≤◌, ◌⊎◌, inl, inr, true, false, length, Option, Some, None, refl, sym, ap, subst, arith}
 use Rattle.std.specs.Option.{MatchOption}
 use Rattle.std.proofs.lemmas.Bool.{cases_lt, cases_order}
 use Rattle.std.proofs.lemmas.Option.{slice_get_past}
@@ -15,10 +15,8 @@ use Rattle.audit_model.specs.Reasons.{page_rank}
 use Rattle.audit_model.specs.FirstFault.{IsFirstPageFault}
 use Rattle.audit_model.specs.inner.PageFaultTests.{is_wrong_read, is_early, is_given, is_stale, is_second, is_altered, is_unfit, fault_test}
 use Rattle.audit_model.proofs.PageFaultTests.{fault_Decides}
-use Rattle.log_passes.specs.declared.Found.{Found}
-use Rattle.log_passes.specs.Passes.{HaveNone, IsFirstFrom}
 use Rattle.page_facts.specs.declared.page_fault.PageFault.{PageFault}
-use Rattle.page_facts.specs.inner.FirstOfLog.{or_else, reason_at, IsCleanBelow, IsCleanLog, IsFirstOfLog, AreMovedClean, IsFirstMoved}
+use Rattle.page_facts.specs.inner.FirstOfLog.{or_else, reason_at, IsCleanLog, IsFirstOfLog, AreMovedClean, IsFirstMoved}
 use Rattle.page_facts.proofs.LeastReason.{least_rank, least_is}
 
 -- what the least reason at a record says of its faults
@@ -47,32 +45,6 @@ within s log n t e = go (cases_lt n (log_length s log))
     go : (n < log_length s log) ⊎ (log_length s log ≤ n) → n < log_length s log
     go (inl l) = l
     go (inr l) = let none = past_end s log n l in absurd (cc)
-
--- what is known below the next record, and at the end
-pub below_start : (s : Recorded) (log : LogName) → IsCleanBelow s log 0
-below_start s log n lt = absurd (omega arith)
-
--- what a pass over a log found, from a place on
-pub of_none : (s : Recorded) (log : LogName) (from to : ℕ) → IsCleanBelow s log from → HaveNone (λ n. reason_at s (log, n)) from to → IsCleanBelow s log to
-of_none s log from to below none n lt = go (cases_lt n from)
-  where
-    go : (n < from) ⊎ (from ≤ n) → reason_at s (log, n) ≡ None
-    go (inl l) = below n l
-    go (inr l) = none n l lt
-
-pub of_first : (s : Recorded) (log : LogName) (from : ℕ) (found : Found PageReason) (f : PageFault) → f.log ≡ log → f.place ≡ found.place → f.reason ≡ found.reason → IsCleanBelow s log from → IsFirstFrom (λ n. reason_at s (log, n)) from found.place found.reason → IsFirstOfLog s log f
-of_first s log from found f log_is place reason below first = record {
-  is_log = log_is;
-  is_reason = ap (λ n. reason_at s (log, n)) place ∙ first.is_reason ∙ ap (λ (r : PageReason). Some r) (sym reason);
-  is_clean_below = subst (λ n. IsCleanBelow s log n) (sym place) (of_none s log from found.place below first.none_before);
-}
-
-pub clean_log : (s : Recorded) (log : LogName) (k : ℕ) → log_length s log ≤ k → IsCleanBelow s log k → IsCleanLog s log
-clean_log s log k whole below n = go (cases_lt n k)
-  where
-    go : (n < k) ⊎ (k ≤ n) → reason_at s (log, n) ≡ None
-    go (inl l) = below n l
-    go (inr l) = past_end s log n (omega arith)
 
 -- the first of a log beside another fault
 abbrev IsAfter : Recorded → PageReason → Name → PageReason → Name → Type 0

@@ -1,5 +1,5 @@
 -- One page of the machine at the next record of the page, and over the records of other pages.
-use Rattle.std.proofs.Common.{◌≡◌, ℕ, zero, suc, ◌+◌, ◌<◌, ◌≤◌, ◌⊎◌, inl, inr, Bool, true, false, cond, not, ◌&&◌, List, [], ◌∷◌, length, Option, Some, None, refl, sym, ap, ◌∙◌, subst, arith, eq-eqb}
+use Rattle.std.proofs.Common.{◌≡◌, ℕ, zero, suc, ◌+◌, ◌<◌, ◌≤◌, ◌⊎◌, inl, inr, Bool, true, false, cond, not, ◌&&◌, List, [], ◌∷◌, length, Option, Some, None, refl, sym, ap, ◌∙◌, subst, arith}
 use Rattle.std.specs.Prelude.{slice_get, slice_index, ◌==◌}
 use Rattle.std.proofs.lemmas.Bool.{cases_lt, eqb-true}
 use Rattle.std.proofs.lemmas.Option.{slice_get_within, slice_get-get_or}
@@ -14,7 +14,7 @@ use Rattle.audit_model.specs.Shape.{passes}
 use Rattle.page_store.specs.Frames.{Frames, memory_of}
 use Rattle.page_tables.proofs.Noting.{noted_none}
 use Rattle.page_lists.specs.Paged.{init_page, guest_page}
-use Rattle.page_lists.specs.Places.{is_page, of_page, count_before, ArePlaces}
+use Rattle.page_lists.specs.Places.{of_page, count_before, ArePlaces}
 use Rattle.page_lists.proofs.Counting.{counted, count_rises, count_strict, none_between, not_before}
 use Rattle.page_lists.proofs.Listed.{passed}
 use Rattle.page_facts.specs.Tables.{or_here, first_before}

@@ -1,17 +1,17 @@
--- One record more of the pass over the guest's log.
-use Rattle.std.proofs.Common.{◌≡◌, ℕ, suc, ◌+◌, Bool, true, false, ◌&&◌, ◌||◌, List, Option, Some, refl, sym, ap, ◌∙◌, subst, arith}
+-- One record more of the tables that a pass over a log keeps.
+use Rattle.std.proofs.Common.{◌≡◌, ℕ, suc, ◌+◌, Bool, true, false, ◌&&◌, List, Option, Some, refl, sym, ap, ◌∙◌, arith}
 use Rattle.std.specs.Prelude.{slice_get, ◌==◌}
 use Rattle.migration_types.specs.declared.records.GuestRec.{GuestRec}
 use Rattle.migration_types.specs.declared.records.GuestRec.TheVariants.{Read, Write, Release, Miss, Halt, Resume, See}
 use Rattle.migration_types.specs.Extents.{Extent}
 use Rattle.migration_types.specs.Sessions.{Recorded, GuestRecFits}
 use Rattle.audit_model.specs.declared.home.Home.{Home}
-use Rattle.audit_model.specs.Flat.{changed, flat, home_after, home, is_target}
+use Rattle.audit_model.specs.Flat.{changed, home_after, home, is_target}
 use Rattle.audit_model.specs.Shape.{passes}
 use Rattle.audit_model.specs.Certificates.{is_access_of}
 use Rattle.page_tables.specs.Tables.{Values, values, or_here, IsWith}
 use Rattle.page_tables.proofs.Noting.{noted_none}
-use Rattle.page_facts.specs.Tables.{some_before, first_before, IsTable}
+use Rattle.page_facts.specs.Tables.{first_before, IsTable}
 use Rattle.page_facts.specs.Machines.{GuestPage, late_after}
 use Rattle.page_facts.specs.Judged.{is_late_access, accessed_by, AreAccesses}
 
@@ -27,37 +27,19 @@ guest_page e (See k) f = tt
 -- ---- tables of what earlier records say
 
 -- what the records before this place say of each page
-abbrev pub some_at : {A : Type 0} → (ℕ → ℕ → A → Bool) → List A → ℕ → ℕ → Bool
-some_at test log n page = some_before (test page) log n
-
 abbrev pub first_at : {A : Type 0} → (ℕ → ℕ → A → Bool) → List A → ℕ → ℕ → Option ℕ
 first_at test log n page = first_before (test page) log n
 
 -- and this record too
-abbrev pub or_by : {A : Type 0} → (ℕ → ℕ → A → Bool) → ℕ → A → (ℕ → Bool) → ℕ → Bool
-or_by test n r marks page = test page n r || marks page
-
 abbrev pub here_by : {A : Type 0} → (ℕ → ℕ → A → Bool) → ℕ → A → (ℕ → Option ℕ) → ℕ → Option ℕ
 here_by test n r at page = or_here (at page) (test page n r) n
 
 module _ {A : Type 0} (test : ℕ → ℕ → A → Bool) (log : List A) (n : ℕ) (r : A) where
-  some_next : slice_get log n ≡ Some r → or_by test n r (some_at test log n) ≡ some_at test log (n + 1)
-  some_next is =
-      let one : suc n ≡ n + 1 = omega arith in
-      let next : or_by test n r (some_at test log n) ≡ some_at test log (suc n) = λ i p. ap (λ o. passes (test p n) o || some_before (test p) log n) (sym is) i in
-      next ∙ ap (λ k. some_at test log k) one
-
   pub first_next : slice_get log n ≡ Some r → here_by test n r (first_at test log n) ≡ first_at test log (n + 1)
   first_next is =
       let one : suc n ≡ n + 1 = omega arith in
       let next : here_by test n r (first_at test log n) ≡ first_at test log (suc n) = λ i p. ap (λ o. or_here (first_before (test p) log n) (passes (test p n) o) n) (sym is) i in
       next ∙ ap (λ k. first_at test log k) one
-
-  pub marks_more : (pages : ℕ) (old new : Values Bool) (at : ℕ → Bool) → slice_get log n ≡ Some r → IsTable pages old (some_at test log n) → IsWith old new at → at ≡ or_by test n r (values old) → IsTable pages new (some_at test log (n + 1))
-  marks_more pages old new at is was on here = record {
-    pages_are = on.pages ∙ was.pages_are;
-    values_are = on.values_are ∙ here ∙ ap (λ (f : ℕ → Bool). or_by test n r f) was.values_are ∙ some_next is;
-  }
 
   pub numbers_more : (pages : ℕ) (old new : Values (Option ℕ)) (at : ℕ → Option ℕ) → slice_get log n ≡ Some r → IsTable pages old (first_at test log n) → IsWith old new at → at ≡ here_by test n r (values old) → IsTable pages new (first_at test log (n + 1))
   numbers_more pages old new at is was on here = record {

@@ -1,6 +1,6 @@
 -- The first record that passes a test, by the places of a page's records.
-use Rattle.std.proofs.Common.{◌≡◌, ℕ, suc, ◌+◌, ◌<◌, ◌≤◌, ◌⊎◌, inl, inr, Bool, true, false, not, ◌&&◌, ◌||◌, List, length, Option, Some, None, refl, sym, ap, ◌∙◌, subst, arith}
-use Rattle.std.specs.Prelude.{slice_get, slice_index_or, ◌==◌, is_some}
+use Rattle.std.proofs.Common.{◌≡◌, ℕ, ◌+◌, ◌<◌, ◌≤◌, ◌⊎◌, inl, inr, Bool, true, false, not, ◌&&◌, ◌||◌, List, length, Option, Some, None, refl, sym, ap, ◌∙◌, arith}
+use Rattle.std.specs.Prelude.{slice_get, ◌==◌, is_some}
 use Rattle.std.specs.Str.{bytes_eq}
 use Rattle.std.proofs.lemmas.Bool.{cases_lt, cases_order, eqb-true, and_parts}
 use Rattle.std.proofs.lemmas.Option.{slice_get-get_or, slice_get_within}
@@ -21,7 +21,7 @@ use Rattle.page_lists.proofs.Listed.{passed, listed_at}
 use Rattle.page_facts.specs.Tables.{some_before, first_before}
 use Rattle.page_facts.specs.Judged.{is_wrong_send, is_altered}
 use Rattle.page_facts.specs.Moved.{differs, is_again}
-use Rattle.page_facts.specs.Frames.{one_page, IsFrame}
+use Rattle.page_facts.specs.Frames.{IsFrame}
 use Rattle.page_facts.specs.declared.frame.Frame.{Frame}
 use Rattle.page_facts.specs.Findings.{sends_wrong, places_wrong, AreClear}
 use Rattle.page_facts.proofs.Before.{some_true, some_false, first_none, first_some, IsFirstAt}

@@ -1,8 +1,7 @@
 -- The first fault of a page, by its findings.
-use Rattle.std.proofs.Common.{◌≡◌, ◌≢◌, ℕ, suc, ◌+◌, ◌<◌, ◌≤◌, ◌⊎◌, inl, inr, Bool, true, false, cond, not, ◌&&◌, ◌||◌, List, length, Option, Some, None, refl, sym, ap, ◌∙◌, subst, arith, eq-eqb}
+use Rattle.std.proofs.Common.{◌≡◌, ℕ, ◌<◌, ◌≤◌, ◌⊎◌, inl, inr, Bool, true, false, cond, not, ◌&&◌, ◌||◌, List, length, Option, Some, None, refl, sym, ap, ◌∙◌, subst, arith, eq-eqb}
 use Rattle.std.specs.Prelude.{slice_get, ◌==◌, nat_lt, is_some}
 use Rattle.std.specs.Option.{MatchOption}
-use Rattle.std.specs.Str.{bytes_eq}
 use Rattle.std.proofs.lemmas.Bool.{cases_lt, eqb-true, and_parts, and_from, ltb-true, lt-ltb, le-ltb}
 use Rattle.std.proofs.lemmas.Option.{slice_get_within}
 use Rattle.migration_types.specs.declared.records.LogName.{LogName}
@@ -26,7 +25,7 @@ use Rattle.audit_model.specs.Faults.{looks_at, has_looked}
 use Rattle.audit_model.specs.inner.PageFaultTests.{is_uncovered, is_flat_page, is_wrong_read, is_early, is_given, is_stale, is_second, is_altered, is_unfit}
 use Rattle.page_lists.specs.Paged.{guest_page, source_page, pager_page}
 use Rattle.page_lists.specs.Places.{of_page}
-use Rattle.page_facts.specs.Tables.{some_before, first_before}
+use Rattle.page_facts.specs.Tables.{first_before}
 use Rattle.page_facts.specs.Judged.{is_wrong_send, is_late_access, is_wrong_read as reads_wrong, is_altered as is_placed_wrong}
 use Rattle.page_facts.specs.Moved.{is_again}
 use Rattle.page_facts.specs.Looks.{first_look}
@@ -35,8 +34,8 @@ use Rattle.page_facts.specs.declared.findings.Findings.{Findings}
 use Rattle.page_facts.specs.declared.page_fault.PageFault.{PageFault}
 use Rattle.page_facts.specs.inner.Frontier.{is_before}
 use Rattle.page_facts.specs.inner.FirstOfLog.{or_else, reason_at}
-use Rattle.page_facts.specs.PageFaults.{page_at, Precedes, AreClean, IsFirstFaultOf, IsClean, IsFirstFault, fault, early_of, first_of_two, placed_reason, reason_of, altered_reason, sent_reason, or_next, guest_fault, source_fault, pager_fault, page_fault}
-use Rattle.page_facts.proofs.Before.{first_none, first_some, some_true, IsFirstAt}
+use Rattle.page_facts.specs.PageFaults.{page_at, Precedes, IsClean, IsFirstFault, fault, early_of, first_of_two, placed_reason, reason_of, altered_reason, sent_reason, or_next, guest_fault, source_fault, pager_fault, page_fault}
+use Rattle.page_facts.proofs.Before.{first_none, first_some, IsFirstAt}
 use Rattle.page_facts.proofs.Listing.{first_is, none_is_first, some_is_first, send_only, altered_only, placed_is}
 use Rattle.page_facts.proofs.Looking.{earlier_some}
 

@@ -1,5 +1,5 @@
 -- The first fault of one page more, and of all pages.
-use Rattle.std.proofs.Common.{◌≡◌, ℕ, suc, ◌+◌, ◌<◌, ◌≤◌, ◌⊎◌, inl, inr, Bool, true, false, cond, ◌&&◌, ◌||◌, length, Option, Some, None, refl, sym, ap, ◌∙◌, subst, arith, eq-eqb, List}
+use Rattle.std.proofs.Common.{◌≡◌, ℕ, ◌+◌, ◌<◌, ◌≤◌, ◌⊎◌, inl, inr, Bool, true, false, cond, ◌&&◌, Option, Some, None, refl, sym, ap, ◌∙◌, subst, arith, eq-eqb, List}
 use Rattle.std.specs.Prelude.{slice_get, nat_lt, ◌==◌}
 use Rattle.std.specs.Option.{MatchOption}
 use Rattle.std.proofs.lemmas.Bool.{cases_lt, cases_order, eqb-true, ltb-true, lt-ltb, or_cases, and_parts, and_from, or_left, or_right}
@@ -13,7 +13,6 @@ use Rattle.migration_types.specs.declared.records.PagerRec.{PagerRec}
 use Rattle.migration_types.specs.declared.records.PagerRec.TheVariants.{Got, Ready, Fault, Join, Want, Place, Zero, Skip, All}
 use Rattle.migration_types.specs.Receipts.{Name, log_index}
 use Rattle.migration_types.specs.Sessions.{Recorded, IsSession}
-use Rattle.audit_model.specs.declared.reasons.PageReason.{PageReason}
 use Rattle.audit_model.specs.declared.reasons.PageReason.TheVariants.{Read as WrongRead, Early, Given, Stale, Twice, Altered, Unfit}
 use Rattle.audit_model.specs.Names.{if_there}
 use Rattle.audit_model.specs.Shape.{passes}
@@ -23,7 +22,7 @@ use Rattle.audit_model.specs.inner.PageFaultTests.{is_wrong_read, is_early, is_g
 use Rattle.page_lists.specs.Lists.{AreWithin}
 use Rattle.page_lists.specs.Paged.{guest_page, source_page, pager_page}
 use Rattle.page_facts.specs.declared.page_fault.PageFault.{PageFault}
-use Rattle.page_facts.specs.inner.FirstOfLog.{or_else, reason_at, IsCleanLog, IsFirstOfLog, AreMovedClean, IsFirstMoved}
+use Rattle.page_facts.specs.inner.FirstOfLog.{or_else, reason_at, IsCleanLog, IsFirstOfLog}
 use Rattle.page_facts.specs.PageFaults.{page_at, Precedes, AreClean, IsFirstFaultOf, IsClean, IsFirstFault, precedes, least}
 use Rattle.page_facts.proofs.FirstOfAll.{guest_first, moved_of_all}
 use Rattle.page_facts.proofs.Within.{guest_within, source_within, pager_within}

@@ -1,5 +1,5 @@
 -- What was sent and placed of a page.
-use Rattle.std.specs.Prelude.{◌≡◌, ℕ, ◌<◌, Bool, not, ◌&&◌, ◌||◌, List, Option, None, is_some}
+use Rattle.std.specs.Prelude.{ℕ, ◌<◌, Bool, not, ◌&&◌, List, Option, is_some}
 use Rattle.std.specs.Str.{bytes_eq}
 use Rattle.migration_types.specs.declared.records.SourceRec.{SourceRec}
 use Rattle.migration_types.specs.declared.records.SourceRec.TheVariants.{Send}
@@ -9,7 +9,6 @@ use Rattle.migration_types.specs.Memory.{page_of}
 use Rattle.migration_types.specs.Sessions.{Recorded}
 use Rattle.audit_model.specs.Shape.{is_placement_of}
 use Rattle.page_store.specs.Frames.{Frames, memory_of}
-use Rattle.residency.specs.Placements.{Placements}
 use Rattle.page_facts.specs.Tables.{first_before, noted}
 
 -- whether contents are not those of the page in these frames
@@ -31,7 +30,7 @@ abbrev pub is_again : Recorded → ℕ → ℕ → PagerRec → Bool
 is_again s page n r = is_placement_of page r && is_some (first_before (λ m. is_placement_of page) s.pager n)
 
 -- the numbers with this one at the page of a record that places one which has none
-abbrev pub placed_by : ℕ → PagerRec → Placements → Placements
+abbrev pub placed_by : ℕ → PagerRec → (ℕ → Option ℕ) → ℕ → Option ℕ
 placed_by n (Place p got content) at = noted p n at
 placed_by n (Zero p) at = noted p n at
 placed_by n _ at = at

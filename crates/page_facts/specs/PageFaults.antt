@@ -1,5 +1,5 @@
 -- The first fault of a page, and of some pages.
-use Rattle.std.specs.Prelude.{◌≡◌, ℕ, ◌<◌, ◌⊎◌, Bool, true, ◌==◌, ◌&&◌, ◌||◌, nat_lt, Option, Some, None, slice_get, if◌then◌else◌}
+use Rattle.std.specs.Prelude.{◌≡◌, ℕ, ◌<◌, ◌⊎◌, Bool, ◌==◌, ◌&&◌, ◌||◌, nat_lt, Option, Some, None, slice_get, if◌then◌else◌}
 use Rattle.migration_types.specs.declared.records.LogName.{LogName}
 use Rattle.migration_types.specs.declared.records.LogName.TheVariants.{Guest, Source, Link, Pager}
 use Rattle.migration_types.specs.declared.records.PagerRec.{PagerRec}

@@ -49,13 +49,7 @@ fn or_here(first: Option<u32>, here: bool, number: u32) -> Option<u32>
 {
     match first {
         Some(_) => first,
-        None => {
-            if here {
-                Some(number)
-            } else {
-                None
-            }
-        }
+        None => { if here { Some(number) } else { None } }
     }
 }
 

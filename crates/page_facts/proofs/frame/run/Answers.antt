@@ -1,12 +1,10 @@
-use Rattle.std.proofs.Common.{◌≡◌, ℕ, List, length, get_or, ap, ◌∙◌, arith}
+use Rattle.std.proofs.Common.{List, length, get_or, ap, arith}
 use Rattle.std.proofs.lemmas.Option.{slice_get-get_or}
 use Rattle.migration_types.specs.declared.records.GuestRec.{GuestRec}
-use Rattle.migration_types.specs.Sessions.{GuestRecFits}
-use Rattle.audit_model.proofs.Lists.{each_at}
 use Rattle.page_facts.proofs.Reading.{read_at}
 use Rattle.page_lists.specs.Paged.{guest_page}
 use Rattle.page_lists.specs.Places.{of_page}
-use Rattle.page_facts.proofs.Framing.{in_log, run_on, run_stops, run_ends, cell_fits}
+use Rattle.page_facts.proofs.Framing.{in_log, run_on, run_stops, run_ends}
 use Rattle.page_facts.proofs.frame.run.Goals as goal
 
 pub returns-then-n-to-clause-frame : goal.returns-then-n-to-clause-frame

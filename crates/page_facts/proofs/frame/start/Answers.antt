@@ -1,5 +1,4 @@
-use Rattle.std.proofs.Common.{◌≡◌, ℕ, List, length, None, Some, refl, sym, ap, ◌∙◌, arith}
-use Rattle.std.specs.Prelude.{slice_get}
+use Rattle.std.proofs.Common.{◌≡◌, ℕ, List, length, sym, ap, ◌∙◌, arith}
 use Rattle.migration_types.specs.declared.pages.InitPage.{InitPage}
 use Rattle.migration_types.specs.Extents.{Extent}
 use Rattle.migration_types.specs.Memory.{Memory, initial, with_content, with_zeros}
@@ -7,7 +6,7 @@ use Rattle.audit_model.proofs.Lists.{each_at}
 use Rattle.migration_types.specs.Pages.{InitPageFits}
 use Rattle.page_lists.specs.Paged.{init_page}
 use Rattle.page_lists.specs.Places.{of_page}
-use Rattle.page_store.specs.Frames.{Frames, memory_of}
+use Rattle.page_store.specs.Frames.{memory_of}
 use Rattle.page_facts.specs.declared.frame.Frame.{Frame}
 use Rattle.page_facts.proofs.Reading.{read_at}
 use Rattle.page_facts.proofs.Framing.{in_log, starts_none, starts_some, frame_begun}
@@ -46,23 +45,23 @@ returns c =
     let given : (d : ℕ) → memory_of cells 0 d ≡ initial c.init.result.now page d =
     elim c.match-place_at.branch [
       | in-Some w ↦ λ d.
-        let n = w.in-Some.given in
-        let g = w.index-init-given.result in
-        let first = sym c.place_at.ensures ∙ w.in-Some.is in
-        let lt = in_log (of_page init_page page) c.init.result.now c.of.result.now c.of.ensures 0 n first in
-        let one = ap (λ (xs : List InitPage). length xs) c.init.ensures in
-        let other = ap (λ (xs : List InitPage). length xs) w.init-in-Some.ensures in
-        let is = read_at w.init-in-Some.result.now c.init.result.now n g (w.init-in-Some.ensures ∙ sym c.init.ensures) (omega (arith, lt, one, other)) w.index-init-given.is in
-        let m = memory_of c.release.new.self in
-        ap (λ (f : Frame). memory_of f.cells 0 d) w.frame-is
-        ∙ ap (λ (k : Memory). k 0 d) w.install.ensures.memory_is
-        ∙ ap (λ p. with_content p w.as_slice.result.now m 0 d) w.the_page-in-Some.ensures
-        ∙ ap (λ (xs : List ℕ). with_content 0 xs m 0 d) w.as_slice.ensures
-        ∙ sym (starts_some c.init.result.now page c.of.result.now c.of.ensures n g first is d)
+          let n = w.in-Some.given in
+          let g = w.index-init-given.result in
+          let first = sym c.place_at.ensures ∙ w.in-Some.is in
+          let lt = in_log (of_page init_page page) c.init.result.now c.of.result.now c.of.ensures 0 n first in
+          let one = ap (λ (xs : List InitPage). length xs) c.init.ensures in
+          let other = ap (λ (xs : List InitPage). length xs) w.init-in-Some.ensures in
+          let is = read_at w.init-in-Some.result.now c.init.result.now n g (w.init-in-Some.ensures ∙ sym c.init.ensures) (omega (arith, lt, one, other)) w.index-init-given.is in
+          let m = memory_of c.release.new.self in
+          ap (λ (f : Frame). memory_of f.cells 0 d) w.frame-is
+          ∙ ap (λ (k : Memory). k 0 d) w.install.ensures.memory_is
+          ∙ ap (λ p. with_content p w.as_slice.result.now m 0 d) w.the_page-in-Some.ensures
+          ∙ ap (λ (xs : List ℕ). with_content 0 xs m 0 d) w.as_slice.ensures
+          ∙ sym (starts_some c.init.result.now page c.of.result.now c.of.ensures n g first is d)
       | in_default w ↦ λ d.
-        ap (λ (f : Frame). memory_of f.cells 0 d) w.frame-is
-        ∙ ap (λ (k : Memory). k 0 d) c.release.ensures.memory_is
-        ∙ ap (λ p. with_zeros p old 0 d) c.the_page.ensures
-        ∙ sym (starts_none c.init.result.now page c.of.result.now c.of.ensures (sym c.place_at.ensures ∙ w.in_default.is) d)
+          ap (λ (f : Frame). memory_of f.cells 0 d) w.frame-is
+          ∙ ap (λ (k : Memory). k 0 d) c.release.ensures.memory_is
+          ∙ ap (λ p. with_zeros p old 0 d) c.the_page.ensures
+          ∙ sym (starts_none c.init.result.now page c.of.result.now c.of.ensures (sym c.place_at.ensures ∙ w.in_default.is) d)
     ] in
     frame_begun s page cells (sized ∙ c.requires.frame) (λ d. given d ∙ ap (λ (xs : List InitPage). initial xs page d) c.init.ensures)
