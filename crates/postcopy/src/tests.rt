@@ -22,14 +22,6 @@ mod migrations;
 mod texts;
 mod usage;
 
-// What the program is run with.
-trait Host: Threads + Wait + Net<Listener = TcpListener, Stream = TcpStream> + Sync + AllocGlobal {}
-
-impl<R> Host for R
-where
-    R: Threads + Wait + Net<Listener = TcpListener, Stream = TcpStream> + Sync + AllocGlobal,
-{}
-
 // Texts in memory, which count how often they were asked for.
 #[derive(Drop)]
 struct Shelf<'a> {
@@ -96,7 +88,10 @@ struct Outcome {
 }
 
 // Runs the program on these words after its name, over the two texts and an input.
-fn ran_over<R: Host, I: Read>(rt: &R, words: &[&str], input: &mut I) -> Outcome {
+fn ran_over<
+    R: Threads + Wait + Sync + AllocGlobal + Net<Listener = TcpListener, Stream = TcpStream>,
+    I: Read,
+>(rt: &R, words: &[&str], input: &mut I) -> Outcome {
     let alloc = rt.alloc();
     let shelf = Shelf {
         texts: TEXTS.as_slice(),
@@ -113,7 +108,11 @@ fn ran_over<R: Host, I: Read>(rt: &R, words: &[&str], input: &mut I) -> Outcome 
     }
 }
 
-fn ran<R: Host>(rt: &R, words: &[&str], input: &[u8]) -> Outcome {
+fn ran<R: Threads + Wait + Sync + AllocGlobal + Net<Listener = TcpListener, Stream = TcpStream>>(
+    rt: &R,
+    words: &[&str],
+    input: &[u8],
+) -> Outcome {
     let mut input = input;
     ran_over(rt, words, &mut input)
 }
@@ -142,7 +141,9 @@ struct Case(
 );
 
 // Whether a run is the case's.
-fn is_right<R: Host>(rt: &R, case: &Case) -> bool {
+fn is_right<
+    R: Threads + Wait + Sync + AllocGlobal + Net<Listener = TcpListener, Stream = TcpStream>,
+>(rt: &R, case: &Case) -> bool {
     let found = ran(rt, case.0, case.1);
     let is_asked_so = match case.5 {
         Some(asked) => found.asked == asked,
@@ -152,7 +153,9 @@ fn is_right<R: Host>(rt: &R, case: &Case) -> bool {
 }
 
 // The words of a case that is wrong.
-fn wrong_case<R: Host>(rt: &R, cases: &[Case]) -> Option<&'static [&'static str]> {
+fn wrong_case<
+    R: Threads + Wait + Sync + AllocGlobal + Net<Listener = TcpListener, Stream = TcpStream>,
+>(rt: &R, cases: &[Case]) -> Option<&'static [&'static str]> {
     for case in cases {
         if !is_right(rt, case) {
             return Some(case.0);
@@ -502,7 +505,9 @@ static COMMANDS: [&[&str]; 7] = [
     &["postcopy", "migrate", "script"],
 ];
 
-fn wants_memory<R: Host>(rt: &R, words: &[&str], opens: bool) -> bool {
+fn wants_memory<
+    R: Threads + Wait + Sync + AllocGlobal + Net<Listener = TcpListener, Stream = TcpStream>,
+>(rt: &R, words: &[&str], opens: bool) -> bool {
     let alloc = rt.alloc();
     let mut output = Vec::new(alloc);
     let mut errors = Vec::new(alloc);
@@ -518,7 +523,9 @@ fn wants_memory<R: Host>(rt: &R, words: &[&str], opens: bool) -> bool {
     status == 4 && output.is_empty() && errors.as_slice() == b"out of memory\n".as_slice()
 }
 
-fn wrong_starved<R: Host>(rt: &R) -> Option<&'static [&'static str]> {
+fn wrong_starved<
+    R: Threads + Wait + Sync + AllocGlobal + Net<Listener = TcpListener, Stream = TcpStream>,
+>(rt: &R) -> Option<&'static [&'static str]> {
     for words in &COMMANDS {
         if !wants_memory(rt, *words, false) || !wants_memory(rt, *words, true) {
             return Some(*words);
@@ -544,7 +551,9 @@ static WRITING: [&[&str]; 8] = [
     &["postcopy", "--version"],
 ];
 
-fn tells_of_output<R: Host>(rt: &R, words: &[&str]) -> bool {
+fn tells_of_output<
+    R: Threads + Wait + Sync + AllocGlobal + Net<Listener = TcpListener, Stream = TcpStream>,
+>(rt: &R, words: &[&str]) -> bool {
     let alloc = rt.alloc();
     let shelf = Shelf {
         texts: TEXTS.as_slice(),
@@ -556,7 +565,9 @@ fn tells_of_output<R: Host>(rt: &R, words: &[&str]) -> bool {
     status == 3 && errors.as_slice() == b"output\n".as_slice()
 }
 
-fn wrong_output<R: Host>(rt: &R) -> Option<&'static [&'static str]> {
+fn wrong_output<
+    R: Threads + Wait + Sync + AllocGlobal + Net<Listener = TcpListener, Stream = TcpStream>,
+>(rt: &R) -> Option<&'static [&'static str]> {
     for words in &WRITING {
         if !tells_of_output(rt, *words) {
             return Some(*words);
@@ -571,7 +582,9 @@ fn an_output_that_fails(rt: HostRuntime) {
 }
 
 // Whether a run whose errors are not told has this status, and no output.
-fn ends_untold<R: Host>(rt: &R, words: &[&str], wanted: u8) -> bool {
+fn ends_untold<
+    R: Threads + Wait + Sync + AllocGlobal + Net<Listener = TcpListener, Stream = TcpStream>,
+>(rt: &R, words: &[&str], wanted: u8) -> bool {
     let alloc = rt.alloc();
     let shelf = Shelf {
         texts: TEXTS.as_slice(),
@@ -596,7 +609,9 @@ fn errors_that_are_not_told(rt: HostRuntime) {
 // Words for which the input is read.
 static READING: [&[&str]; 2] = [&["postcopy"], &["postcopy", "check", "session", "-"]];
 
-fn tells_of_input<R: Host>(rt: &R, words: &[&str]) -> bool {
+fn tells_of_input<
+    R: Threads + Wait + Sync + AllocGlobal + Net<Listener = TcpListener, Stream = TcpStream>,
+>(rt: &R, words: &[&str]) -> bool {
     let mut input = Slow {
         text: BOTH,
         fails: true,
@@ -605,7 +620,9 @@ fn tells_of_input<R: Host>(rt: &R, words: &[&str]) -> bool {
     is_outcome(&found, 3, b"", b"file -\n")
 }
 
-fn wrong_input<R: Host>(rt: &R) -> Option<&'static [&'static str]> {
+fn wrong_input<
+    R: Threads + Wait + Sync + AllocGlobal + Net<Listener = TcpListener, Stream = TcpStream>,
+>(rt: &R) -> Option<&'static [&'static str]> {
     for words in &READING {
         if !tells_of_input(rt, *words) {
             return Some(*words);
@@ -649,7 +666,9 @@ static LIMITS: [(usize, bool, bool); 4] = [
 ];
 
 // Whether an input of so many bytes is read, or refused.
-fn is_limit_kept<R: Host>(rt: &R, left: usize, one_by_one: bool, fits: bool) -> bool {
+fn is_limit_kept<
+    R: Threads + Wait + Sync + AllocGlobal + Net<Listener = TcpListener, Stream = TcpStream>,
+>(rt: &R, left: usize, one_by_one: bool, fits: bool) -> bool {
     let mut input = Plenty { left, one_by_one };
     let found = ran_over(rt, AUDIT.as_slice(), &mut input);
     if fits {
@@ -660,7 +679,9 @@ fn is_limit_kept<R: Host>(rt: &R, left: usize, one_by_one: bool, fits: bool) -> 
 }
 
 // A count of bytes that is not read, or refused, as it is to be.
-fn wrong_limit<R: Host>(rt: &R) -> Option<usize> {
+fn wrong_limit<
+    R: Threads + Wait + Sync + AllocGlobal + Net<Listener = TcpListener, Stream = TcpStream>,
+>(rt: &R) -> Option<usize> {
     for (left, one_by_one, fits) in &LIMITS {
         if !is_limit_kept(rt, *left, *one_by_one, *fits) {
             return Some(*left);

@@ -1,7 +1,10 @@
 //! What the program answers to the script of a migration. Which records it writes is told by its threads.
 
 use super::texts::SCRIPT;
-use super::{Case, Host, is_outcome, none_is_wrong, ran, wrong_case};
+use super::{Case, is_outcome, none_is_wrong, ran, wrong_case};
+use std::net::{Net, TcpListener, TcpStream};
+use std::sync::Wait;
+use std::thread::Threads;
 
 // What a session of the script begins with, and the read of its guest.
 const HEAD: &[u8] = b"postcopy-session 1\npages 1\ncells 1\ninit 0\nguest ";
@@ -24,7 +27,9 @@ fn has_read(text: &[u8]) -> bool {
 }
 
 // Whether a session of the script and its certificate are written, and pass the check.
-fn is_certified<R: Host>(rt: &R, words: &[&str]) -> bool {
+fn is_certified<
+    R: Threads + Wait + Sync + AllocGlobal + Net<Listener = TcpListener, Stream = TcpStream>,
+>(rt: &R, words: &[&str]) -> bool {
     let found = ran(rt, words, SCRIPT);
     let text = found.output.as_slice();
     let checked = ran(rt, &["postcopy"], text);
@@ -35,7 +40,9 @@ fn is_certified<R: Host>(rt: &R, words: &[&str]) -> bool {
         && is_outcome(&checked, 0, b"yes\n", b"")
 }
 
-fn wrong_migration<R: Host>(rt: &R) -> Option<&'static [&'static str]> {
+fn wrong_migration<
+    R: Threads + Wait + Sync + AllocGlobal + Net<Listener = TcpListener, Stream = TcpStream>,
+>(rt: &R) -> Option<&'static [&'static str]> {
     for words in &MIGRATING {
         if !is_certified(rt, *words) {
             return Some(*words);

@@ -1,7 +1,10 @@
 //! What the program answers to words that are no command, and what its help tells.
 
 use super::texts::BOTH;
-use super::{Host, none_is_wrong, ran};
+use super::{none_is_wrong, ran};
+use std::net::{Net, TcpListener, TcpStream};
+use std::sync::Wait;
+use std::thread::Threads;
 
 // Words that are no command.
 static NO_COMMANDS: [&[&str]; 7] = [
@@ -14,7 +17,9 @@ static NO_COMMANDS: [&[&str]; 7] = [
     &["postcopy", "migrate", "script", "--link", "paper"],
 ];
 
-fn is_refused<R: Host>(rt: &R, words: &[&str]) -> bool {
+fn is_refused<
+    R: Threads + Wait + Sync + AllocGlobal + Net<Listener = TcpListener, Stream = TcpStream>,
+>(rt: &R, words: &[&str]) -> bool {
     let found = ran(rt, words, BOTH);
     found.status == 2
         && found.output.is_empty()
@@ -22,7 +27,9 @@ fn is_refused<R: Host>(rt: &R, words: &[&str]) -> bool {
         && found.asked == 0
 }
 
-fn wrong_usage<R: Host>(rt: &R) -> Option<&'static [&'static str]> {
+fn wrong_usage<
+    R: Threads + Wait + Sync + AllocGlobal + Net<Listener = TcpListener, Stream = TcpStream>,
+>(rt: &R) -> Option<&'static [&'static str]> {
     for words in &NO_COMMANDS {
         if !is_refused(rt, *words) {
             return Some(*words);
@@ -45,12 +52,16 @@ static HELPS: [&[&str]; 5] = [
     &["postcopy", "migrate", "--help"],
 ];
 
-fn is_helped<R: Host>(rt: &R, words: &[&str]) -> bool {
+fn is_helped<
+    R: Threads + Wait + Sync + AllocGlobal + Net<Listener = TcpListener, Stream = TcpStream>,
+>(rt: &R, words: &[&str]) -> bool {
     let found = ran(rt, words, BOTH);
     found.status == 0 && !found.output.is_empty() && found.errors.is_empty() && found.asked == 0
 }
 
-fn wrong_help<R: Host>(rt: &R) -> Option<&'static [&'static str]> {
+fn wrong_help<
+    R: Threads + Wait + Sync + AllocGlobal + Net<Listener = TcpListener, Stream = TcpStream>,
+>(rt: &R) -> Option<&'static [&'static str]> {
     for words in &HELPS {
         if !is_helped(rt, *words) {
             return Some(*words);
@@ -93,7 +104,9 @@ fn untold_in(help: &[u8]) -> Option<&'static str> {
     None
 }
 
-fn untold<R: Host>(rt: &R) -> Option<&'static str> {
+fn untold<R: Threads + Wait + Sync + AllocGlobal + Net<Listener = TcpListener, Stream = TcpStream>>(
+    rt: &R,
+) -> Option<&'static str> {
     let found = ran(rt, HELPS[0], BOTH);
     untold_in(found.output.as_slice())
 }
