@@ -346,6 +346,7 @@ fn facts_in(alloc: Global, session: &Session, page: PageNo) -> Option<PageFacts>
     if page.index() >= session.geometry().pages() as usize {
         return None;
     }
+    session.keeps_limits();
     let lists = lists_for(alloc, session).ok()?;
     let mut frame = frame_for(alloc, session).ok()?;
     let findings = judge_page(session, &lists, &mut frame, page);
