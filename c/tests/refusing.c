@@ -52,11 +52,19 @@ __attribute__((constructor)) static void begin(void) {
     running = 1;
 }
 
-__attribute__((destructor)) static void end(void) {
+static void tell(void) {
     char line[128];
     running = 0;
     int len = snprintf(line, sizeof line, "%ld %ld %ld %ld %ld\n", count[0], count[1], count[2], count[3], refused);
     if (real_write(99, line, (size_t)len) < 0) errno = 0;
+}
+
+/* A program that may start threads ends by this call, and no destructor is run then. */
+__attribute__((noreturn)) void _exit(int status) {
+    __attribute__((noreturn)) void (*real_exit)(int);
+    if (running) tell();
+    find(&real_exit, "_exit");
+    real_exit(status);
 }
 
 /* What is to become of a call of this kind. */
