@@ -7,6 +7,7 @@ ghost use Rattle.audit_model.specs.World.{IsSafe};
 ghost use Rattle.audit_model.specs.Shape.{IsRightShape};
 ghost use Rattle.audit_model.specs.Faults.{HasNoPageFault};
 ghost use Rattle.audit_model.specs.FirstFault.{IsFirstPageFault};
+ghost use Rattle.page_facts.specs.Findings.{AreFindings};
 ghost use Rattle.cert_maker.specs.Orders.{AreFoundRuns};
 ghost use Rattle.audit_report.specs.Reports.{IsReport, IsClean, ReportFits};
 
@@ -14,22 +15,28 @@ use crate::orders::order_for;
 use crate::report::Report;
 use audit_model::{clean_is_certified, faults_are_unsafe};
 use cert_check::shape;
-use cert_maker::{MakeFault, Order, find_order, make};
+use cert_maker::{MakeFault, Order, find_order, make_by};
 use migration_types::{Run, Seq, Session};
-use page_facts::{PageFault, first_page_fault};
+use page_facts::{Findings, PageFault, findings_of, first_fault_in};
 use session_log::line_of;
 use std::alloc::{AllocError, Global};
 
-/// The report on a session with no fault, over the runs of its found order.
-fn clean(alloc: Global, session: &Session, found: Seq<Run>) -> Result<Report, AllocError>
+/// The report on a session with no fault, over the runs of its found order, by what is found of its pages.
+fn clean(
+    alloc: Global,
+    session: &Session,
+    pages: &[Findings],
+    found: Seq<Run>,
+) -> Result<Report, AllocError>
     requires limits { IsSession session.now }
     requires shape { IsRightShape session.now }
+    requires pages { AreFindings session.now pages.now }
     requires found { AreFoundRuns session.now found }
     requires no_fault { HasNoPageFault session.now }
     ensures { IfOk result (IsReport session.now) }
 {
     clean_is_certified();
-    match make(alloc, session, found) {
+    match make_by(alloc, session, pages, found) {
         Ok(cert) => Ok(Report::Clean(cert)),
         Err(MakeFault::Memory) => Err(AllocError),
         Err(MakeFault::NoCertificate) => unreachable!(),
@@ -71,9 +78,10 @@ fn report(alloc: Global, session: &Session) -> Result<Report, AllocError>
         Order::Found(found) => found,
         Order::Knot(line) => return Ok(Report::Knot(line)),
     };
-    match first_page_fault(alloc, session)? {
+    let pages = findings_of(alloc, session)?;
+    match first_fault_in(session, &pages) {
         Some(fault) => faulty(alloc, session, found, &fault),
-        None => clean(alloc, session, found),
+        None => clean(alloc, session, &pages, found),
     }
 }
 

@@ -14,28 +14,6 @@ use Rattle.audit_model.specs.Certificates.{IsCovered, IsRightEntry, IsRightCerti
 use Rattle.cert_maker.specs.Made.{IsMade}
 use Rattle.cert_maker.specs.inner.Entries.{IsMadeEntry, HasBarePage, AreMade}
 
--- ---- one entry more
-
-pushed : (xs : List Entry) (x : Entry) (q : ℕ) (e : Entry) → slice_get (xs ++ x ∷ []) q ≡ Some e → (slice_get xs q ≡ Some e) ⊎ ((q ≡ length xs) × (x ≡ e))
-pushed [] x zero e is = inr (refl, cc)
-pushed [] x (suc q) e is = absurd (cc)
-pushed (y ∷ xs) x zero e is = inl is
-pushed (y ∷ xs) x (suc q) e is = elim (pushed xs x q e is) [ inl h ↦ inl h | inr h ↦ inr (ap suc h.0, h.1) ]
-
-pub each_more : (s : Recorded) (xs new : List Entry) (x : Entry) → new ≡ xs ++ x ∷ [] → ((page : ℕ) (entry : Entry) → slice_get xs page ≡ Some entry → IsMadeEntry s page entry) → IsMadeEntry s (length xs) x → (page : ℕ) (entry : Entry) → slice_get new page ≡ Some entry → IsMadeEntry s page entry
-each_more s xs new x e each made page entry is = go (pushed xs x page entry (subst (λ (zs : List Entry). slice_get zs page ≡ Some entry) e is))
-  where
-    go : (slice_get xs page ≡ Some entry) ⊎ ((page ≡ length xs) × (x ≡ entry)) → IsMadeEntry s page entry
-    go (inl h) = each page entry h
-    go (inr h) = subst (λ k. IsMadeEntry s k entry) (sym h.0) (subst (λ (z : Entry). IsMadeEntry s (length xs) z) h.1 made)
-
-pub pushed_length : (xs new : List Entry) (x : Entry) → new ≡ xs ++ x ∷ [] → length new ≡ length xs + 1
-pushed_length xs new x e = ap (λ (zs : List Entry). length zs) e ∙ go xs
-  where
-    go : (xs : List Entry) → length (xs ++ x ∷ []) ≡ length xs + 1
-    go [] = refl
-    go (y ∷ xs) = let h = go xs in omega (arith, h)
-
 -- ---- limits
 
 is_number : {A : Type 0} (log : List A) (n : ℕ) (r : A) → length log ≤ 1048576 → slice_get log n ≡ Some r → IsNumber n

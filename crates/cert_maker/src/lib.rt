@@ -6,5 +6,5 @@ mod maker;
 mod order;
 mod ready;
 
-pub use maker::{MakeFault, make};
+pub use maker::{MakeFault, make, make_by};
 pub use order::{Order, find_order};

@@ -4,16 +4,13 @@ ghost use Rattle.std.specs.Prelude.{◌≡◌, ◌<◌, length, slice_get, IfOk,
 ghost use Rattle.migration_types.specs.Sessions.{IsSession};
 ghost use Rattle.audit_model.specs.Names.{if_there};
 ghost use Rattle.page_facts.specs.Facts.{IsFacts};
-ghost use Rattle.page_facts.specs.Findings.{AreSessionLists};
-ghost use Rattle.page_facts.specs.Frames.{one_page};
+ghost use Rattle.page_facts.specs.Findings.{AreFindings};
 ghost use Rattle.page_facts.specs.Looks.{first_look};
 ghost use Rattle.cert_maker.specs.inner.Entries.{send_of, first_of, entry_at, entry_of, IsMadeEntry, HasNoEntry, AreMade, HasBarePage};
 
 use audit_model::delivery;
 use migration_types::{Entry, First, PageNo, PagerRec, Seq, Session, SourceRec};
-use page_facts::{
-    Frame, PageFacts, SessionLists, facts_of, frame_for, is_right_entry, judge_page, lists_for,
-};
+use page_facts::{Findings, PageFacts, facts_of, is_right_entry};
 use std::alloc::{AllocError, Global};
 
 /// The `send` whose contents came with a `got` of the pager, itself or by an `again`.
@@ -81,40 +78,27 @@ fn made_entry(
     if is_right { Some(entry) } else { None }
 }
 
-/// A right entry for each page, by the lists of the session. None: a page has no right entry.
-fn entries_in(
+/// A right entry for each page, with the earliest look that serves, by what is found of the pages. None: a page has no right
+/// entry. An error: there is no memory for the entries.
+pub(crate) fn entries_in(
     alloc: Global,
     session: &Session,
-    lists: &SessionLists,
-    frame: &mut Frame,
+    found: &[Findings],
 ) -> Result<Option<Seq<Entry>>, AllocError>
     requires limits { IsSession session.now }
-    requires lists { AreSessionLists session.now lists.now }
-    requires frame { frame.old.cells.geometry ≡ one_page session.now.geometry.cells }
+    requires found { AreFindings session.now found.now }
     ensures { IfOk result (λ o. MatchOption o (HasBarePage session.now) (AreMade session.now)) }
 {
     let pages = session.geometry().pages() as usize;
     let mut entries = Vec::with_capacity(alloc, pages)?;
     for page in 0..pages {
         let number = PageNo::new(page as u16);
-        let findings = judge_page(session, lists, frame, number);
-        let facts = facts_of(session, &findings, number);
+        let findings = &found[page];
+        let facts = facts_of(session, findings, number);
         let Some(entry) = made_entry(session, number, &facts, findings.look) else {
             return Ok(None);
         };
         entries.push(entry)?;
     }
     Ok(Some(Seq::from_vec(entries)))
-}
-
-/// A right entry for each page, with the earliest look that serves. None: a page has no right entry. Takes a few passes
-/// over each log, and memory for a few numbers for each page, one for each record that is of a page, and the cells of one
-/// page. An error: there is no memory for them.
-pub(crate) fn entries_of(alloc: Global, session: &Session) -> Result<Option<Seq<Entry>>, AllocError>
-    ensures { IfOk result (λ o. MatchOption o (HasBarePage session.now) (AreMade session.now)) }
-{
-    session.keeps_limits();
-    let lists = lists_for(alloc, session)?;
-    let mut frame = frame_for(alloc, session)?;
-    entries_in(alloc, session, &lists, &mut frame)
 }

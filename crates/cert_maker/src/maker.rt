@@ -2,11 +2,13 @@
 
 ghost use Rattle.std.specs.Prelude.{MatchResult};
 ghost use Rattle.migration_types.specs.Certs.{AreRuns};
+ghost use Rattle.page_facts.specs.Findings.{AreFindings};
 ghost use Rattle.cert_maker.specs.Made.{IsMade, IsRefused};
 
-use crate::made_entries::entries_of;
+use crate::made_entries::entries_in;
 use merge_runs::is_merging;
 use migration_types::{Cert, Run, Seq, Session};
+use page_facts::{Findings, findings_of};
 use std::alloc::Global;
 use thiserror::Error;
 
@@ -28,11 +30,29 @@ pub fn make(alloc: Global, session: &Session, runs: Seq<Run>) -> Result<Cert, Ma
     requires { AreRuns runs }
     ensures { MatchResult result (IsMade session.now runs) (IsRefused session.now runs) }
 {
+    let Ok(found) = findings_of(alloc, session) else {
+        return Err(MakeFault::Memory);
+    };
+    make_by(alloc, session, &found, runs)
+}
+
+/// The same by what is found of each page, page 0 first. Takes one pass over the runs and one over the pages, and memory for
+/// the entries alone.
+pub fn make_by(
+    alloc: Global,
+    session: &Session,
+    found: &[Findings],
+    runs: Seq<Run>,
+) -> Result<Cert, MakeFault>
+    requires runs { AreRuns runs }
+    requires found { AreFindings session.now found.now }
+    ensures { MatchResult result (IsMade session.now runs) (IsRefused session.now runs) }
+{
     session.keeps_limits();
     if !is_merging(session, runs.as_slice()) {
         return Err(MakeFault::NoCertificate);
     }
-    let Ok(made) = entries_of(alloc, session) else {
+    let Ok(made) = entries_in(alloc, session, found) else {
         return Err(MakeFault::Memory);
     };
     let Some(entries) = made else {

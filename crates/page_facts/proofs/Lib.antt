@@ -11,3 +11,4 @@ pub mod Listing
 pub mod Within
 pub mod OfPage
 pub mod OverPages
+pub mod Growing

@@ -1,7 +1,8 @@
 -- The first fault of one page more, and of all pages.
-use Rattle.std.proofs.Common.{◌≡◌, ℕ, ◌+◌, ◌<◌, ◌≤◌, ◌⊎◌, inl, inr, Bool, true, false, cond, ◌&&◌, Option, Some, None, refl, sym, ap, ◌∙◌, subst, arith, eq-eqb, List}
-use Rattle.std.specs.Prelude.{slice_get, nat_lt, ◌==◌}
+use Rattle.std.proofs.Common.{◌≡◌, ℕ, ◌+◌, ◌<◌, ◌≤◌, ◌⊎◌, inl, inr, Bool, true, false, cond, ◌&&◌, Option, Some, None, refl, sym, ap, ◌∙◌, subst, arith, eq-eqb, List, length}
+use Rattle.std.specs.Prelude.{slice_get, slice_index_or, nat_lt, ◌==◌}
 use Rattle.std.specs.Option.{MatchOption}
+use Rattle.std.proofs.lemmas.Option.{slice_get-get_or}
 use Rattle.std.proofs.lemmas.Bool.{cases_lt, cases_order, eqb-true, ltb-true, lt-ltb, or_cases, and_parts, and_from, or_left, or_right}
 use Rattle.migration_types.specs.declared.records.LogName.{LogName}
 use Rattle.migration_types.specs.declared.records.LogName.TheVariants.{Guest, Source, Link, Pager}
@@ -21,7 +22,9 @@ use Rattle.audit_model.specs.FirstFault.{IsFirstPageFault}
 use Rattle.audit_model.specs.inner.PageFaultTests.{is_wrong_read, is_early, is_given, is_stale, is_second, is_altered, is_unfit}
 use Rattle.page_lists.specs.Lists.{AreWithin}
 use Rattle.page_lists.specs.Paged.{guest_page, source_page, pager_page}
+use Rattle.page_facts.specs.declared.findings.Findings.{Findings}
 use Rattle.page_facts.specs.declared.page_fault.PageFault.{PageFault}
+use Rattle.page_facts.specs.Findings.{AreFindings, IsFindings}
 use Rattle.page_facts.specs.inner.FirstOfLog.{or_else, reason_at, IsCleanLog, IsFirstOfLog}
 use Rattle.page_facts.specs.PageFaults.{page_at, Precedes, AreClean, IsFirstFaultOf, IsClean, IsFirstFault, precedes, least}
 use Rattle.page_facts.proofs.FirstOfAll.{guest_first, moved_of_all}
@@ -211,3 +214,7 @@ module _ (s : Recorded) where
     pub all_is : (o : Option PageFault) → MatchOption o (AreClean s Pages) (IsFirstFaultOf s Pages) → MatchOption o (HasNoPageFault s) (λ f. IsFirstPageFault s f.reason (f.log, f.place))
     all_is None clean = moved_of_all s None (λ n. all_clean clean (Guest, n)) (λ n. all_clean clean (Source, n), λ n. all_clean clean (Pager, n))
     all_is (Some f) first = first_fault_is f first
+
+-- what is found of each page, at a place
+pub found_at : (s : Recorded) (found : List Findings) (n page : ℕ) (d : Findings) → AreFindings s found → n < length found → page ≡ n → IsFindings s page (slice_index_or found n d)
+found_at s found n page d h lt e = subst (λ (p : ℕ). IsFindings s p (slice_index_or found n d)) (sym e) (h.each n _ (slice_get-get_or found n d lt))

@@ -39,6 +39,11 @@ pub record IsFindings (s : Recorded) (page : ℕ) (f : Findings) : Type 0 where
   pub look : f.look ≡ first_look s (length s.guest) page
   pub released : f.released ≡ in_ledger s (at_halt s) page
 
+-- of each page of the machine, page 0 first
+pub record AreFindings (s : Recorded) (found : List Findings) : Type 0 where
+  pub pages : length found ≡ s.geometry.pages
+  pub each : (page : ℕ) (f : Findings) → slice_get found page ≡ Some f → IsFindings s page f
+
 -- the tests of a page's records, by the page at the halt
 abbrev pub sends_wrong : Frame → SourceRec → Bool
 sends_wrong f (Send p content) = differs f.cells 0 content || f.released

@@ -1,6 +1,6 @@
 //! What the logs say of a page, by the records of that page.
 
-ghost use Rattle.std.specs.Prelude.{◌≡◌, ◌<◌, length};
+ghost use Rattle.std.specs.Prelude.{◌≡◌, ◌<◌, length, IfOk};
 ghost use Rattle.migration_types.specs.Sessions.{IsSession};
 ghost use Rattle.audit_model.specs.Flat.{at_halt};
 ghost use Rattle.page_lists.specs.Paged.{source_page, pager_page};
@@ -8,12 +8,13 @@ ghost use Rattle.page_lists.specs.Places.{of_page, ArePlaces};
 ghost use Rattle.page_facts.specs.Tables.{first_before};
 ghost use Rattle.page_facts.specs.Judged.{is_wrong_send, is_altered};
 ghost use Rattle.page_facts.specs.Frames.{one_page, IsFrame};
-ghost use Rattle.page_facts.specs.Findings.{sends_wrong, places_wrong, AreSessionLists, IsFindings};
+ghost use Rattle.page_facts.specs.Findings.{sends_wrong, places_wrong, AreFindings, AreSessionLists, IsFindings};
 
-use crate::frame::{Frame, place_at, run, start, the_page};
+use crate::frame::{Frame, frame_for, place_at, run, start, the_page};
 use crate::moved::differs;
-use crate::session_lists::SessionLists;
+use crate::session_lists::{SessionLists, lists_for};
 use migration_types::{PageNo, PagerRec, Session, SourceRec};
+use std::alloc::{AllocError, Global};
 
 /// What the logs say of a page, each by the first record that says so.
 #[derive(Clone, Copy, Debug, PartialEq, Eq)]
@@ -127,4 +128,38 @@ pub fn judge_page(
         look: lists.looks.at(page),
         released,
     }
+}
+
+/// Judges the pages one after the other, page 0 first.
+fn judge_pages(
+    alloc: Global,
+    session: &Session,
+    lists: &SessionLists,
+    frame: &mut Frame,
+) -> Result<Vec<Findings>, AllocError>
+    requires limits { IsSession session.now }
+    requires lists { AreSessionLists session.now lists.now }
+    requires frame { frame.old.cells.geometry ≡ one_page session.now.geometry.cells }
+    ensures { IfOk result (λ found. AreFindings session.now found.items) }
+{
+    let pages = session.geometry().pages() as usize;
+    let mut found = Vec::with_capacity(alloc, pages)?;
+    for page in 0..pages {
+        let number = PageNo::new(page as u16);
+        let findings = judge_page(session, lists, frame, number);
+        found.push(findings)?;
+    }
+    Ok(found)
+}
+
+/// What the logs of a session say of each page, page 0 first. Takes a few passes over each log, memory for some numbers
+/// for each page and one for each record that is of a page, and for the cells of one page. An error: there is no memory for
+/// them.
+pub fn findings_of(alloc: Global, session: &Session) -> Result<Vec<Findings>, AllocError>
+    ensures { IfOk result (λ found. AreFindings session.now found.items) }
+{
+    session.keeps_limits();
+    let lists = lists_for(alloc, session)?;
+    let mut frame = frame_for(alloc, session)?;
+    judge_pages(alloc, session, &lists, &mut frame)
 }

@@ -4,14 +4,11 @@ ghost use Rattle.std.specs.Prelude.{◌≡◌, ◌<◌, IfOk, MatchOption};
 ghost use Rattle.migration_types.specs.Sessions.{IsSession};
 ghost use Rattle.audit_model.specs.Faults.{HasNoPageFault};
 ghost use Rattle.audit_model.specs.FirstFault.{IsFirstPageFault};
-ghost use Rattle.page_facts.specs.Findings.{AreSessionLists, IsFindings};
-ghost use Rattle.page_facts.specs.Frames.{one_page};
+ghost use Rattle.page_facts.specs.Findings.{AreFindings, IsFindings};
 ghost use Rattle.page_facts.specs.inner.Frontier.{is_before};
 ghost use Rattle.page_facts.specs.PageFaults.{early_of, first_of_two, altered_reason, sent_reason, or_next, guest_fault, source_fault, pager_fault, page_fault, precedes, least, AreClean, IsFirstFaultOf, IsClean, IsFirstFault};
 
-use crate::findings::{Findings, judge_page};
-use crate::frame::{Frame, frame_for};
-use crate::session_lists::{SessionLists, lists_for};
+use crate::findings::{Findings, findings_of};
 use audit_model::PageReason;
 use migration_types::{LogName, PageNo, PagerRec, Session};
 use std::alloc::{AllocError, Global};
@@ -207,29 +204,36 @@ fn least(first: Option<PageFault>, other: Option<PageFault>) -> Option<PageFault
 }
 
 /// The first fault of the pages, one after the other.
-fn first_of_pages(session: &Session, lists: &SessionLists, frame: &mut Frame) -> Option<PageFault>
+fn first_of_pages(session: &Session, found: &[Findings]) -> Option<PageFault>
     requires limits { IsSession session.now }
-    requires lists { AreSessionLists session.now lists.now }
-    requires frame { frame.old.cells.geometry ≡ one_page session.now.geometry.cells }
+    requires found { AreFindings session.now found.now }
     ensures { MatchOption result (AreClean session.now (λ p. p < session.now.geometry.pages)) (IsFirstFaultOf session.now (λ p. p < session.now.geometry.pages)) }
 {
     let mut first: Option<PageFault> = None;
     for index in 0..session.geometry().pages() {
         let page = PageNo::new(index as u16);
-        let findings = judge_page(session, lists, frame, page);
-        first = least(first, fault_of(session, &findings, page));
+        let findings = &found[index as usize];
+        first = least(first, fault_of(session, findings, page));
     }
     first
 }
 
+/// The fault of least line, and then of least reason, of a session's pages by what is found of each; none where no record
+/// is a fault. Takes no memory.
+pub fn first_fault_in(session: &Session, found: &[Findings]) -> Option<PageFault>
+    requires { AreFindings session.now found.now }
+    ensures { MatchOption result (HasNoPageFault session.now) (λ f. IsFirstPageFault session.now f.reason (f.log, f.place)) }
+{
+    session.keeps_limits();
+    first_of_pages(session, found)
+}
+
 /// The fault of least line, and then of least reason, of a session's pages; none where no record is a fault. Takes a few
-/// passes over each log, memory for a few numbers for each page and one for each record that is of a page, and for the
+/// passes over each log, memory for some numbers for each page and one for each record that is of a page, and for the
 /// cells of one page. The only error is want of that memory.
 pub fn first_page_fault(alloc: Global, session: &Session) -> Result<Option<PageFault>, AllocError>
     ensures { IfOk result (λ fault. MatchOption fault (HasNoPageFault session.now) (λ f. IsFirstPageFault session.now f.reason (f.log, f.place))) }
 {
-    session.keeps_limits();
-    let lists = lists_for(alloc, session)?;
-    let mut frame = frame_for(alloc, session)?;
-    Ok(first_of_pages(session, &lists, &mut frame))
+    let found = findings_of(alloc, session)?;
+    Ok(first_fault_in(session, &found))
 }

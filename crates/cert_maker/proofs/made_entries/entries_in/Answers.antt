@@ -1,12 +1,20 @@
-use Rattle.std.proofs.Common.{ℕ, Option, ◌∙◌, List, sym, ap, subst, arith}
+use Rattle.std.proofs.Common.{ℕ, ◌<◌, length, Option, ◌∙◌, List, sym, ap, subst, arith}
 use Rattle.migration_types.specs.Extents.{Extent}
 use Rattle.migration_types.specs.declared.cert.Entry.{Entry}
 use Rattle.cert_maker.specs.inner.Entries.{IsMadeEntry, AreMade}
-use Rattle.cert_maker.proofs.Certifying.{each_more, pushed_length}
+use Rattle.page_facts.proofs.Growing.{each_more, pushed_length}
+use Rattle.page_facts.proofs.OverPages.{found_at}
 use Rattle.cert_maker.proofs.made_entries.entries_in.Goals as goal
 
+pub facts_of-facts-requires : goal.facts_of-facts-requires
+facts_of-facts-requires c =
+    let lt : c.loop-page.page < length c.args.found.now = omega (arith, c.requires.found.pages, ap (λ (e : Extent). e.pages) c.geometry.ensures, c.pages-pages.ensures, c.loop-page-test.true) in
+    found_at c.args.session.now c.args.found.now c.loop-page.page c.new-number.result _ c.requires.found lt c.new-number.ensures
+
 pub made_entry-requires-clause-look : goal.made_entry-requires-clause-look
-made_entry-requires-clause-look c = c.judge_page-findings.ensures.findings.look
+made_entry-requires-clause-look c =
+    let lt : c.loop-page.page < length c.args.found.now = omega (arith, c.requires.found.pages, ap (λ (e : Extent). e.pages) c.geometry.ensures, c.pages-pages.ensures, c.loop-page-test.true) in
+    (found_at c.args.session.now c.args.found.now c.loop-page.page c.new-number.result _ c.requires.found lt c.new-number.ensures).look
 
 pub loop-page-preserved : goal.loop-page-preserved
 loop-page-preserved c =
@@ -16,8 +24,7 @@ loop-page-preserved c =
     let items = c.in_ok-push.ensures.items in
     record {
       count = pushed_length old _ c.in-Some.entry items ∙ omega (arith, count);
-      each = each_more s old _ c.in-Some.entry items c.loop-page.invariant.each (subst (λ (p : ℕ). IsMadeEntry s p c.in-Some.entry) (c.new-number.ensures ∙ sym count) c.in-Some.ensures);
-      frame = c.judge_page-findings.ensures.frame;
+      each = each_more (IsMadeEntry s) old _ c.in-Some.entry items c.loop-page.invariant.each (subst (λ (p : ℕ). IsMadeEntry s p c.in-Some.entry) (c.new-number.ensures ∙ sym count) c.in-Some.ensures);
     }
 
 pub returns : goal.returns

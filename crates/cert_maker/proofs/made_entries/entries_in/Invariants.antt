@@ -2,12 +2,10 @@ use Rattle.std.proofs.Common.{◌≡◌, ℕ, length, Some}
 use Rattle.std.specs.Prelude.{slice_get}
 use Rattle.migration_types.specs.declared.cert.Entry.{Entry}
 use Rattle.cert_maker.specs.inner.Entries.{IsMadeEntry}
-use Rattle.page_facts.specs.Frames.{one_page}
 use Rattle.cert_maker.proofs.made_entries.entries_in.Given as goal
 
 abbrev pub invariant-loop-page : goal.invariant-loop-page
 invariant-loop-page l = record {
   count : length l.entries.items ≡ l.page;
   each : (page : ℕ) (entry : Entry) → slice_get l.entries.items page ≡ Some entry → IsMadeEntry l.session page entry;
-  frame : l.frame.cells.geometry ≡ one_page l.session.geometry.cells;
 }

@@ -4,7 +4,7 @@ use Rattle.migration_types.specs.declared.cert.Run.{Run}
 use Rattle.audit_model.specs.Mergings.{IsMerging, spelled}
 use Rattle.cert_maker.specs.inner.Entries.{HasBarePage, AreMade}
 use Rattle.cert_maker.proofs.Certifying.{made_cert, is_made, bare_refused}
-use Rattle.cert_maker.proofs.maker.make.Goals as goal
+use Rattle.cert_maker.proofs.maker.make_by.Goals as goal
 
 pub returns-in_default-made : goal.returns-in_default-made
 returns-in_default-made c =
@@ -14,7 +14,7 @@ returns-in_default-made c =
 pub new-requires : goal.new-requires
 new-requires c =
     let s = c.args.session.now in
-    made_cert s c.in-Some.entries c.args.runs c.keeps_limits.ensures (MatchOption-at_some (HasBarePage s) (AreMade s) c.in-Some.entries c.in-Some.is c.in-Ok.ensures) c.requires
+    made_cert s c.in-Some.entries c.args.runs c.keeps_limits.ensures (MatchOption-at_some (HasBarePage s) (AreMade s) c.in-Some.entries c.in-Some.is c.in-Ok.ensures) c.requires.runs
 
 pub returns : goal.returns
 returns c =
