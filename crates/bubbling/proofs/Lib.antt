@@ -1,3 +1,4 @@
 pub mod Sizes
 pub mod Reaches
 pub mod Rings
+pub mod Jumping

@@ -1,2 +1,3 @@
 pub mod Bubbling
 pub mod Edges
+pub mod inner

@@ -33,18 +33,19 @@ impl Edges {
     }
 
     /// The edges moved outward, each to the next page that is to be pushed, or out of the machine.
-    pub fn moved(self, unsent: &Unsent) -> Edges
-        requires start { self.first ≤ length unsent.now }
-        requires end { self.past ≤ length unsent.now }
-        requires none { (q : ℕ) → self.first ≤ q → q < self.past → marked unsent.now q ≡ false }
+    pub fn moved(self, unsent: &mut Unsent) -> Edges
+        requires start { self.first ≤ length unsent.old }
+        requires end { self.past ≤ length unsent.old }
+        requires none { (q : ℕ) → self.first ≤ q → q < self.past → marked unsent.old q ≡ false }
+        ensures same { unsent.new ≡ unsent.old }
         ensures outward { IsOutward self result }
-        ensures end { result.past ≤ length unsent.now }
-        ensures none { (q : ℕ) → result.first ≤ q → q < result.past → marked unsent.now q ≡ false }
-        ensures rest { IsAtRest (length unsent.now) (marked unsent.now) result }
+        ensures end { result.past ≤ length unsent.old }
+        ensures none { (q : ℕ) → result.first ≤ q → q < result.past → marked unsent.old q ≡ false }
+        ensures rest { IsAtRest (length unsent.old) (marked unsent.old) result }
     {
         Edges {
-            first: lowered(self.first, unsent),
-            past: raised(self.past, unsent),
+            first: unsent.end_below(self.first),
+            past: unsent.first_from(self.past),
         }
     }
 
@@ -126,37 +127,6 @@ pub fn put(edges: &mut ArrayVec<Edges, ROOM>, place: usize, new: Edges)
     ensures { edges.new.items ≡ slice_set edges.old.items place new }
 {
     edges.as_mut_slice()[place] = new;
-}
-
-/// The page after the last one below `first` that is to be pushed, or 0.
-fn lowered(first: u32, unsent: &Unsent) -> u32
-    requires { first ≤ length unsent.now }
-    ensures outward { result ≤ first }
-    ensures none { (q : ℕ) → result ≤ q → q < first → marked unsent.now q ≡ false }
-    ensures rest { 1 ≤ result → marked unsent.now (result - 1) ≡ true }
-{
-    let mut lowest = first;
-    while lowest > 0 && !unsent.has(lowest - 1) {
-        lowest -= 1;
-    }
-    lowest
-}
-
-/// The first page from `past` on that is to be pushed, or the page count.
-fn raised(past: u32, unsent: &Unsent) -> u32
-    requires { past ≤ length unsent.now }
-    ensures outward { past ≤ result }
-    ensures end { result ≤ length unsent.now }
-    ensures none { (q : ℕ) → past ≤ q → q < result → marked unsent.now q ≡ false }
-    ensures rest { result < length unsent.now → marked unsent.now result ≡ true }
-{
-    let pages = unsent.pages();
-    for page in past..pages {
-        if unsent.has(page) {
-            return page;
-        }
-    }
-    pages
 }
 
 /// The page nearer to the pivot, of two as near the high one.

@@ -5,6 +5,7 @@ ghost use Rattle.std.specs.Prelude.{◌≡◌, ◌+◌, ◌<◌, ◌≤◌, IfOk
 ghost use Rattle.std.specs.Option.{option_map};
 
 mod edges;
+mod jumps;
 mod pivots;
 mod unsent;
 
@@ -99,7 +100,7 @@ impl Bubbles {
     {
         self.pivots.keeps_limits();
         let turn = self.pivots.turn();
-        let edges = edges::at(&self.edges, turn).moved(&self.unsent);
+        let edges = edges::at(&self.edges, turn).moved(&mut self.unsent);
         let nearest = edges.nearest(self.pivots.in_turn(), &self.unsent)?;
         self.unsent.remove(nearest);
         edges::put(&mut self.edges, turn, edges);

@@ -1,21 +1,27 @@
 //! The pages that are still to be pushed.
 
-ghost use Rattle.std.specs.Prelude.{◌≡◌, ℕ, ◌<◌, ◌≤◌, false, IfOk, length, replicate};
+ghost use Rattle.std.specs.Prelude.{◌≡◌, ℕ, ◌-◌, ◌<◌, ◌≤◌, true, false, IfOk, length, replicate};
 ghost use Rattle.migration_types.specs.Limits.{most_pages};
 ghost use Rattle.migration_types.specs.PageSets.{without_page, size_below};
 ghost use Rattle.balloon_ledger.specs.Released.{released};
 ghost use Rattle.bubbling.specs.Bubbling.{marked, rest_of};
 
+use crate::jumps;
+use crate::jumps::Way;
 use balloon_ledger::Ledger;
 use migration_types::{Geometry, PageNo};
 use std::alloc::{AllocError, Global};
 use std::marker::Model;
 
-/// Whether each page is still to be pushed, and how many are.
+/// Whether each page is still to be pushed, and how many are. A page that is taken out never comes back.
 #[derive(Drop)]
 pub struct Unsent {
     marks: Vec<bool>,
     left: u32,
+    /// What is known of the way up through the machine.
+    up: Vec<u32>,
+    /// The same of the way down, of which the last page is the first.
+    down: Vec<u32>,
 }
 
 impl Model for Unsent {
@@ -23,12 +29,14 @@ impl Model for Unsent {
     ghost use Rattle.migration_types.specs.Limits.{most_pages};
     ghost use Rattle.migration_types.specs.PageSets.{size_below};
     ghost use Rattle.bubbling.specs.Bubbling.{marked};
+    ghost use Rattle.bubbling.specs.declared.jumps.Way.TheVariants.{Up, Down};
+    ghost use Rattle.bubbling.specs.inner.Jumps.{AreJumps};
 
     ghost Value = { List Bool };
 
     ghost view = { λ a. a.marks.items };
 
-    ghost invariant = { λ a. (length a.marks.items ≤ most_pages) × (a.left ≡ size_below (length a.marks.items) (marked a.marks.items)) };
+    ghost invariant = { λ a. (length a.marks.items ≤ most_pages) × (a.left ≡ size_below (length a.marks.items) (marked a.marks.items)) × AreJumps Up a.marks.items a.up.items × AreJumps Down a.marks.items a.down.items };
 }
 
 impl Unsent {
@@ -46,7 +54,14 @@ impl Unsent {
         let mut marks = no_marks(alloc, geometry.pages() as usize)?;
         mark_rest(&mut marks, ledger);
         let left = count(&marks);
-        Ok(Unsent { marks, left })
+        let up = jumps::none_known(alloc, marks.len())?;
+        let down = jumps::none_known(alloc, marks.len())?;
+        Ok(Unsent {
+            marks,
+            left,
+            up,
+            down,
+        })
     }
 
     /// Takes a page out. Whether it was there.
@@ -65,12 +80,28 @@ impl Unsent {
         was_there
     }
 
-    /// Whether a page is there.
-    pub fn has(&self, page: u32) -> bool
-        requires { page < length self.now }
-        ensures { result ≡ marked self.now page }
+    /// The first page from this one on that is there, or the page count.
+    pub fn first_from(&mut self, past: u32) -> u32
+        requires { past ≤ length self.old }
+        ensures same { self.new ≡ self.old }
+        ensures outward { past ≤ result }
+        ensures end { result ≤ length self.old }
+        ensures none { (q : ℕ) → past ≤ q → q < result → marked self.old q ≡ false }
+        ensures rest { result < length self.old → marked self.old result ≡ true }
     {
-        self.marks[page as usize]
+        jumps::first_marked(&mut self.up, Way::Up, &self.marks, past)
+    }
+
+    /// The page after the last one below this that is there, or 0.
+    pub fn end_below(&mut self, first: u32) -> u32
+        requires { first ≤ length self.old }
+        ensures same { self.new ≡ self.old }
+        ensures outward { result ≤ first }
+        ensures none { (q : ℕ) → result ≤ q → q < first → marked self.old q ≡ false }
+        ensures rest { 1 ≤ result → marked self.old (result - 1) ≡ true }
+    {
+        let pages = self.pages();
+        pages - jumps::first_marked(&mut self.down, Way::Down, &self.marks, pages - first)
     }
 
     /// Tells callers that the machine has at most 65,536 pages.

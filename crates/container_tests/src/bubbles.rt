@@ -85,6 +85,17 @@ struct Search {
 }
 
 impl Search {
+    fn new(most: usize) -> Search {
+        let mut pivots = ArrayVec::new();
+        pivots.push(0);
+        Search {
+            unsent: [true; 64],
+            most,
+            pivots,
+            turn: 0,
+        }
+    }
+
     fn fault_at(&mut self, page: usize) {
         if !self.pivots.as_slice().contains(&page) {
             self.pivots.truncate(self.most.saturating_sub(1));
@@ -143,15 +154,40 @@ fn agrees_with_a_search(rt: HostRuntime) -> Result<(), Fail> {
     let ledger = Ledger::new(rt.alloc(), geometry)?;
     for most in 1..17 {
         let mut bubbles = Bubbles::new(rt.alloc(), geometry, most, &ledger)?;
-        let mut pivots = ArrayVec::new();
-        pivots.push(0);
-        let mut search = Search {
-            unsent: [true; 64],
-            most: most as usize,
-            pivots,
-            turn: 0,
-        };
+        let mut search = Search::new(most as usize);
         assert!(rt; agree(&mut bubbles, &mut search));
+    }
+    Ok(())
+}
+
+/// Faults at pages among those that were sent, one after another, and pushes a page after each. Now and then a page goes
+/// that was not pushed.
+fn agree_behind_new_pivots(bubbles: &mut Bubbles, search: &mut Search) -> bool {
+    for turn in 0..64u16 {
+        let page = 22 + turn * 7 % 20;
+        fault_at(bubbles, page);
+        search.fault_at(usize::from(page));
+        if turn % 5 == 0 && mark_sent(bubbles, turn) != search.mark_sent(usize::from(turn)) {
+            return false;
+        }
+        if bubbles.next().map(|p| p.index()) != search.next() {
+            return false;
+        }
+    }
+    is_done(bubbles)
+}
+
+#[test]
+fn agrees_with_a_search_behind_new_pivots(rt: HostRuntime) -> Result<(), Fail> {
+    let geometry = Geometry::new(64, 1)?;
+    let ledger = Ledger::new(rt.alloc(), geometry)?;
+    for most in 1..17 {
+        let mut bubbles = Bubbles::new(rt.alloc(), geometry, most, &ledger)?;
+        let mut search = Search::new(most as usize);
+        for page in 20..44u16 {
+            assert!(rt; mark_sent(&mut bubbles, page) && search.mark_sent(usize::from(page)));
+        }
+        assert!(rt; agree_behind_new_pivots(&mut bubbles, &mut search));
     }
     Ok(())
 }
