@@ -4,15 +4,19 @@
 ghost use Rattle.std.specs.Prelude.{◌≡◌, ◌<◌, ◌≤◌, ◌*◌, ◌+◌, ◌++◌, IfOk, length, replicate, take, drop};
 ghost use Rattle.std.specs.List.{AllByRecursion};
 
+mod cells;
+
+use cells::Cells;
 use migration_types::{Geometry, InitPage, PageNo};
 use std::alloc::{AllocError, Global};
 use std::marker::Model;
 
-/// A value for each cell of each page of a machine. Only the constructors take memory, one block for all frames.
+/// A value for each cell of each page of a machine. Only the constructors take memory: one block for all frames, and
+/// one of a byte for each 64 cells.
 #[derive(Drop)]
 pub struct Store {
     geometry: Geometry,
-    items: Vec<u64>,
+    items: Cells,
 }
 
 impl Model for Store {
@@ -21,9 +25,9 @@ impl Model for Store {
 
     ghost Value = { Frames };
 
-    ghost view = { λ s. record { geometry = s.geometry; items = s.items.items } };
+    ghost view = { λ s. record { geometry = s.geometry; items = s.items } };
 
-    ghost invariant = { λ s. length s.items.items ≡ s.geometry.pages * s.geometry.cells };
+    ghost invariant = { λ s. length s.items ≡ s.geometry.pages * s.geometry.cells };
 }
 
 impl Store {
@@ -37,7 +41,7 @@ impl Store {
     {
         geometry.keeps_limits();
         let count = geometry.pages() as usize * geometry.cells() as usize;
-        let items = zeroed_cells(alloc, count)?;
+        let items = Cells::zeroed(alloc, count)?;
         Ok(Store { geometry, items })
     }
 
@@ -68,7 +72,7 @@ impl Store {
         requires cell { cell < self.now.geometry.cells }
         ensures { result ≡ memory_of self.now page cell }
     {
-        self.items[page.index() * self.geometry.cells() as usize + cell as usize]
+        self.items.at(page.index() * self.geometry.cells() as usize + cell as usize)
     }
 
     /// Gives a cell a value.
@@ -78,16 +82,16 @@ impl Store {
         ensures { IsWith self.old self.new (with_cell page cell value (memory_of self.old)) }
     {
         let at = page.index() * self.geometry.cells() as usize + cell as usize;
-        self.items[at] = value;
+        self.items.set(at, value);
     }
 
-    /// Gives each cell of a page the value 0.
+    /// Gives each cell of a page the value 0. This takes no longer than the writes of cells since the page was released.
     pub fn release(&mut self, page: PageNo)
         requires { page < self.old.geometry.pages }
         ensures { IsWith self.old self.new (with_zeros page (memory_of self.old)) }
     {
         let cells = self.geometry.cells() as usize;
-        clear(&mut self.items, page.index() * cells, cells);
+        self.items.clear(page.index() * cells, cells);
     }
 
     /// The values of a page, cell 0 first.
@@ -97,7 +101,7 @@ impl Store {
     {
         let cells = self.geometry.cells() as usize;
         let from = page.index() * cells;
-        &self.items[from..from + cells]
+        self.items.slice(from, from + cells)
     }
 
     /// Gives a page these values, cell 0 first.
@@ -107,7 +111,7 @@ impl Store {
         ensures { IsWith self.old self.new (with_content page content.now (memory_of self.old)) }
     {
         let from = page.index() * self.geometry.cells() as usize;
-        put(&mut self.items, from, content);
+        self.items.put(from, content);
     }
 
     /// The machine's geometry.
@@ -116,27 +120,4 @@ impl Store {
     {
         self.geometry
     }
-}
-
-/// So many zeros.
-fn zeroed_cells(alloc: Global, count: usize) -> Result<Vec<u64>, AllocError>
-    ensures { IfOk result (λ v. v.items ≡ replicate count 0) }
-{
-    vec![in alloc; 0; count]
-}
-
-/// Writes so many zeros from one place on.
-fn clear(items: &mut Vec<u64>, from: usize, count: usize)
-    requires { from + count ≤ length items.old.items }
-    ensures { items.new.items ≡ take from items.old.items ++ (replicate count 0 ++ drop (from + count) items.old.items) }
-{
-    items[from..from + count].fill(0);
-}
-
-/// Writes values from one place on.
-fn put(items: &mut Vec<u64>, from: usize, content: &[u64])
-    requires { from + length content.now ≤ length items.old.items }
-    ensures { items.new.items ≡ take from items.old.items ++ (content.now ++ drop (from + length content.now) items.old.items) }
-{
-    items[from..from + content.len()].copy_from_slice(content);
 }
