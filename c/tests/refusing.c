@@ -6,7 +6,8 @@
        none     nothing, as at an end
        <n>      the error with this number
 
-   At the end it writes, to descriptor 99, how many calls of each there were, and how many of them were refused. */
+   Calls of all threads are counted together. At the end it writes, to descriptor 99, how many calls of each there were, and how
+   many of them were refused. */
 #define _GNU_SOURCE
 #include <dlfcn.h>
 #include <errno.h>
@@ -21,8 +22,10 @@ enum { MEMORY, READ, WRITE, OPEN, CALLS };
 enum { WHOLE, SHORT = -1, NONE = -2 };
 
 static const char *const names[CALLS] = {"memory", "read", "write", "open"};
-static long count[CALLS], first, last, refused;
-static int chosen = CALLS, how, running;
+static _Atomic long count[CALLS], refused;
+static long first, last;
+static int chosen = CALLS, how;
+static _Atomic int running;
 
 static void *(*real_malloc)(size_t);
 static void *(*real_realloc)(void *, size_t);

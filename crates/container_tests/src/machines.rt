@@ -22,6 +22,39 @@ fn frames_keep_values(rt: HostRuntime) -> Result<(), Fail> {
     Ok(())
 }
 
+/// Whether each cell of a page is 0.
+fn is_blank(store: &Store, page: PageNo) -> bool {
+    u32::from(page.number()) < store.geometry().pages()
+        && store.page(page).iter().all(|value| *value == 0)
+}
+
+#[test]
+fn a_release_leaves_no_value_and_no_other_page(rt: HostRuntime) -> Result<(), Fail> {
+    let (first, second, third) = (PageNo::new(0), PageNo::new(1), PageNo::new(2));
+    let mut store = Store::zeroed(rt.alloc(), Geometry::new(3, 200)?)?;
+    store.write(first, 199, 1);
+    store.write(third, 0, 3);
+    for cell in [0, 55, 56, 120, 199] {
+        store.write(second, cell, 2);
+    }
+    store.release(second);
+    assert!(rt;
+        is_blank(&store, second) && store.read(first, 199) == 1 && store.read(third, 0) == 3
+    );
+    store.write(second, 120, 5);
+    assert!(rt; store.read(second, 120) == 5);
+    store.release(second);
+    store.release(second);
+    assert!(rt;
+        is_blank(&store, second) && store.read(first, 199) == 1 && store.read(third, 0) == 3
+    );
+    store.install(second, vec![in rt.alloc(); 7; 200]?.as_slice());
+    store.release(second);
+    store.release(first);
+    assert!(rt; is_blank(&store, second) && is_blank(&store, first) && store.read(third, 0) == 3);
+    Ok(())
+}
+
 #[test]
 fn frames_begin_with_zeros(rt: HostRuntime) -> Result<(), Fail> {
     let first = PageNo::new(0);
