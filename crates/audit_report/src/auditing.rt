@@ -17,9 +17,11 @@ use audit_model::{clean_is_certified, faults_are_unsafe};
 use cert_check::shape;
 use cert_maker::{MakeFault, Order, find_order, make_by};
 use migration_types::{Run, Seq, Session};
-use page_facts::{Findings, PageFault, findings_of, first_fault_in};
+use page_facts::{Findings, InThreads, Judges, PageFault, first_fault_in};
 use session_log::line_of;
 use std::alloc::{AllocError, Global};
+use std::marker::Sync;
+use std::thread::Threads;
 
 /// The report on a session with no fault, over the runs of its found order, by what is found of its pages.
 fn clean(
@@ -66,8 +68,9 @@ fn faulty(
 }
 
 /// The report on a session.
-fn report(alloc: Global, session: &Session) -> Result<Report, AllocError>
-    requires { IsSession session.now }
+fn report<J: Judges>(judges: &J, alloc: Global, session: &Session) -> Result<Report, AllocError>
+    requires ready { J.ready }
+    requires limits { IsSession session.now }
     ensures { IfOk result (IsReport session.now) }
 {
     let fault = shape(alloc, session)?;
@@ -78,11 +81,28 @@ fn report(alloc: Global, session: &Session) -> Result<Report, AllocError>
         Order::Found(found) => found,
         Order::Knot(line) => return Ok(Report::Knot(line)),
     };
-    let pages = findings_of(alloc, session)?;
+    let pages = judges.findings(alloc, session)?;
     match first_fault_in(session, &pages) {
         Some(fault) => faulty(alloc, session, found, &fault),
         None => clean(alloc, session, &pages, found),
     }
+}
+
+/// The report on a session, whoever judges the pages.
+pub(crate) fn audit_by<J: Judges>(
+    judges: &J,
+    alloc: Global,
+    session: &Session,
+) -> Result<Report, AllocError>
+    requires ready { J.ready }
+    ensures report { IfOk result (IsReport session.now) }
+    ensures safe { IfOk result (λ report. IsClean report → IsSafe session.now) }
+    ensures exactly { IfOk result (λ report. IsRightShape session.now → HasMerging session.now → (IsSafe session.now ↔ IsClean report)) }
+    ensures fits { IfOk result ReportFits }
+{
+    session.keeps_limits();
+    faults_are_unsafe();
+    report(judges, alloc, session)
 }
 
 /// The report on a session: `Shape`, `Knot`, `Faulty` or `Clean`, the first that applies.
@@ -92,15 +112,18 @@ fn report(alloc: Global, session: &Session) -> Result<Report, AllocError>
 /// merging in which the demand of that record fails: of the found order, or, for an early access to a page that is
 /// placed, of the order in which the page's first placement comes as late as it can, with all that depends on it.
 ///
-/// Takes a few passes over the records and the runs. The only error is want of memory, for a few numbers for each page, one
+/// The pages are judged by threads side by side, for which alone the call waits; a small session is judged by the calling
+/// thread. Takes a few passes over the records and the runs. The only error is want of memory, for a few numbers for each page, one
 /// for each record that is of a page, the cells of one page, and the runs.
-pub fn audit(alloc: Global, session: &Session) -> Result<Report, AllocError>
+pub fn audit<R: Threads + Sync>(
+    rt: &R,
+    alloc: Global,
+    session: &Session,
+) -> Result<Report, AllocError>
     ensures report { IfOk result (IsReport session.now) }
     ensures safe { IfOk result (λ report. IsClean report → IsSafe session.now) }
     ensures exactly { IfOk result (λ report. IsRightShape session.now → HasMerging session.now → (IsSafe session.now ↔ IsClean report)) }
     ensures fits { IfOk result ReportFits }
 {
-    session.keeps_limits();
-    faults_are_unsafe();
-    report(alloc, session)
+    audit_by(&InThreads { rt }, alloc, session)
 }

@@ -6,9 +6,10 @@ ghost use Rattle.cert_check.specs.Texts.{SpellsOneSession, OfSpelled};
 ghost use Rattle.audit_report.specs.Texts.{IsAudited, HasReport, FindsClean, FindsFault, IsSafeExactlyIf, IsUnsafe, AuditedFits};
 ghost use Rattle.audit_report.specs.inner.Read.{IsReportOn};
 
-use crate::auditing::audit;
+use crate::auditing::audit_by;
 use crate::report::Report;
 use migration_types::Session;
+use page_facts::Alone;
 use session_log::{read_session, session_texts_are_unambiguous};
 use std::alloc::{AllocError, Global};
 
@@ -29,7 +30,7 @@ fn reported(alloc: Global, session: &Session) -> Result<Audited, AllocError>
     ensures faulty { IfOk result (λ audited. FindsFault audited → IsUnsafe session.now) }
     ensures fits { IfOk result AuditedFits }
 {
-    match audit(alloc, session) {
+    match audit_by(&Alone, alloc, session) {
         Ok(report) => Ok(Audited::Reported(report)),
         Err(error) => Err(error),
     }
@@ -40,7 +41,7 @@ fn reported(alloc: Global, session: &Session) -> Result<Audited, AllocError>
 /// Where there is a report the text spells exactly one session. Where this session has the right shape and a merging, it is
 /// safe exactly where the report is clean; where the report is clean it is safe, and where a page has a fault it is not.
 ///
-/// Nothing is assumed of who wrote the text. The only error is want of memory, which may come before the text is judged.
+/// The pages are judged by the calling thread alone, which waits for nobody. Nothing is assumed of who wrote the text. The only error is want of memory, which may come before the text is judged.
 pub fn audit_text(alloc: Global, session: &[u8]) -> Result<Audited, AllocError>
     ensures audited { IfOk result (IsAudited session.now) }
     ensures one_session { IfOk result (λ audited. HasReport audited → SpellsOneSession session.now) }

@@ -9,7 +9,7 @@ use crate::texts::{
 };
 use audit_model::{PageReason, ShapeReason};
 use audit_report::{Report, audit};
-use cert_check::{ShapeFault, Verdict, check, shape};
+use cert_check::{ShapeFault, Verdict, check, check_par, shape};
 use cert_maker::{Order, find_order};
 use merge_runs::{MergeFault, is_merging, replay};
 use migration_types::{Cert, LogName, Run, Seq, Session};
@@ -17,6 +17,8 @@ use page_facts::first_page_fault;
 use plain_audit::first_broken;
 use session_log::{line_of, read_session};
 use std::alloc::{AllocError, Global};
+use std::marker::Sync;
+use std::thread::Threads;
 
 /// How many sessions gave each answer.
 #[derive(Drop)]
@@ -141,11 +143,16 @@ fn is_broken_at(alloc: Global, session: &Session, order: &[Run], line: u32) -> b
 }
 
 /// Whether the plain programs say of a session what its report says, and the check what the report's certificate says.
-fn agrees_on_report(alloc: Global, session: &Session, report: &Report) -> bool {
+fn agrees_on_report<R: Threads + Sync>(
+    rt: &R,
+    alloc: Global,
+    session: &Session,
+    report: &Report,
+) -> bool {
     match report {
         Report::Shape(fault) => shape_fault(session) == Some((fault.line, fault.reason)),
         Report::Knot(_) => shape_fault(session) == None,
-        Report::Clean(cert) => is_clean(alloc, session, cert),
+        Report::Clean(cert) => is_clean(rt, alloc, session, cert),
         Report::Faulty {
             line,
             reason,
@@ -155,10 +162,11 @@ fn agrees_on_report(alloc: Global, session: &Session, report: &Report) -> bool {
 }
 
 /// Whether the plain programs find no fault in a session, and a certificate of it is right.
-fn is_clean(alloc: Global, session: &Session, cert: &Cert) -> bool {
+fn is_clean<R: Threads + Sync>(rt: &R, alloc: Global, session: &Session, cert: &Cert) -> bool {
     shape_fault(session) == None
         && page_fault(session) == None
         && matches!(check(alloc, session, cert), Ok(Verdict::Yes))
+        && matches!(check_par(rt, alloc, session, cert), Ok(Verdict::Yes))
 }
 
 /// Whether the plain programs find this fault in a session of the right shape, and that the order shows it.
@@ -179,22 +187,33 @@ fn count_report(report: &Report, answers: &mut Answers) {
 }
 
 /// Whether all programs agree on what the audit says of a session; counts its answer.
-fn agrees_on_audit(alloc: Global, session: &Session, answers: &mut Answers) -> bool {
-    match audit(alloc, session) {
+fn agrees_on_audit<R: Threads + Sync>(
+    rt: &R,
+    alloc: Global,
+    session: &Session,
+    answers: &mut Answers,
+) -> bool {
+    match audit(rt, alloc, session) {
         Ok(report) => {
             count_report(&report, answers);
-            agrees_on_report(alloc, session, &report)
+            agrees_on_report(rt, alloc, session, &report)
         }
         Err(_) => false,
     }
 }
 
 /// Whether all programs agree on a session.
-fn agrees(alloc: Global, session: &Session, numbers: &mut Numbers, answers: &mut Answers) -> bool {
+fn agrees<R: Threads + Sync>(
+    rt: &R,
+    alloc: Global,
+    session: &Session,
+    numbers: &mut Numbers,
+    answers: &mut Answers,
+) -> bool {
     agrees_on_shape(alloc, session)
         && agrees_on_page(alloc, session)
         && agrees_on_orders(alloc, session, numbers)
-        && agrees_on_audit(alloc, session, answers)
+        && agrees_on_audit(rt, alloc, session, answers)
 }
 
 /// The text with up to three changes.
@@ -209,27 +228,29 @@ fn altered(alloc: Global, text: &str, numbers: &mut Numbers) -> Result<Vec<u8>, 
 }
 
 /// Whether all programs agree on the session of this text; none where the text is refused.
-fn agreement_on(
+fn agreement_on<R: Threads + Sync>(
+    rt: &R,
     alloc: Global,
     text: &[u8],
     numbers: &mut Numbers,
     answers: &mut Answers,
 ) -> Option<bool> {
     match read_session(alloc, text) {
-        Ok(session) => Some(agrees(alloc, &session, numbers, answers)),
+        Ok(session) => Some(agrees(rt, alloc, &session, numbers, answers)),
         Err(_) => None,
     }
 }
 
 /// Whether all programs agree on the text with up to three changes, if it is a session.
-fn agrees_on_altered(
+fn agrees_on_altered<R: Threads + Sync>(
+    rt: &R,
     alloc: Global,
     text: &str,
     numbers: &mut Numbers,
     answers: &mut Answers,
 ) -> bool {
     match altered(alloc, text, numbers) {
-        Ok(altered) => agreement_on(alloc, &altered, numbers, answers) != Some(false),
+        Ok(altered) => agreement_on(rt, alloc, &altered, numbers, answers) != Some(false),
         Err(_) => false,
     }
 }
@@ -253,7 +274,7 @@ fn commands_say_what_the_plain_programs_say(rt: HostRuntime) {
     let mut numbers = Numbers::new(1);
     let mut answers = Answers::none();
     for text in &SESSIONS {
-        let agreement = agreement_on(rt.alloc(), text.as_bytes(), &mut numbers, &mut answers);
+        let agreement = agreement_on(&rt, rt.alloc(), text.as_bytes(), &mut numbers, &mut answers);
         assert!(rt; agreement == Some(true), "{text}");
     }
 }
@@ -282,7 +303,7 @@ fn commands_say_so_of_random_sessions(rt: HostRuntime) {
     for round in 0..6000usize {
         let text = session_of_round(round);
         assert!(rt;
-            agrees_on_altered(rt.alloc(), text, &mut numbers, &mut answers),
+            agrees_on_altered(&rt, rt.alloc(), text, &mut numbers, &mut answers),
             "round {round}"
         );
     }

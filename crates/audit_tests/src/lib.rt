@@ -18,6 +18,8 @@ mod reports;
 #[cfg(test)]
 mod texts;
 #[cfg(test)]
+mod threads;
+#[cfg(test)]
 mod verdicts;
 #[cfg(test)]
 mod worked;

@@ -7,6 +7,8 @@ use audit_report::{Report, audit, print_report};
 use migration_types::Session;
 use session_log::read_session;
 use std::alloc::{AllocError, Global};
+use std::marker::Sync;
+use std::thread::Threads;
 
 /// A released page is read with no look at its placement, which the found order has last.
 const LAST: &str = "postcopy-session 1
@@ -373,8 +375,8 @@ fn is_text_of(alloc: Global, report: &Report, text: &str) -> bool
 }
 
 /// Whether this is the text of the report on a session.
-fn is_report_of(alloc: Global, session: &Session, text: &str) -> bool {
-    match audit(alloc, session) {
+fn is_report_of<R: Threads + Sync>(rt: &R, alloc: Global, session: &Session, text: &str) -> bool {
+    match audit(rt, alloc, session) {
         Ok(report) => is_text_of(alloc, &report, text),
         Err(_) => false,
     }
@@ -387,9 +389,9 @@ fn session_in(alloc: Global, case: &Case) -> Option<Session> {
 }
 
 /// Whether the report on a case's session is the one that the case has.
-fn is_reported(alloc: Global, case: &Case) -> bool {
+fn is_reported<R: Threads + Sync>(rt: &R, alloc: Global, case: &Case) -> bool {
     match session_in(alloc, case) {
-        Some(session) => is_report_of(alloc, &session, case.report),
+        Some(session) => is_report_of(rt, alloc, &session, case.report),
         None => false,
     }
 }
@@ -397,6 +399,6 @@ fn is_reported(alloc: Global, case: &Case) -> bool {
 #[test]
 fn reports(rt: HostRuntime) {
     for case in &CASES {
-        assert!(rt; is_reported(rt.alloc(), case), "{}", case.is);
+        assert!(rt; is_reported(&rt, rt.alloc(), case), "{}", case.is);
     }
 }

@@ -2,11 +2,13 @@
 
 use crate::texts::{HANDOVER, RELEASED};
 use audit_model::ShapeReason;
-use cert_check::{ShapeFault, Verdict, check, check_texts, shape};
+use cert_check::{ShapeFault, Verdict, check, check_par, check_texts, check_texts_alone, shape};
 use cert_text::read_cert;
 use migration_types::{Cert, Session};
 use session_log::read_session;
 use std::alloc::Global;
+use std::marker::Sync;
+use std::thread::Threads;
 
 const HANDOVER_CERT: &str =
     "postcopy-certificate 1\npages 2\npage 0 source 3 5 5 4\npage 1 source 4 7 7 6\nruns 11\nrun guest 2\nrun source 2\nrun link 1\nrun pager 2\nrun guest 2\nrun pager 2\nrun link 1\nrun source 3\nrun link 2\nrun pager 4\nrun guest 5\nend\n";
@@ -450,56 +452,79 @@ static TABLES: [Table; 5] = [
     },
 ];
 
-/// Whether this is the verdict on two texts.
-fn is_judged(alloc: Global, session: &str, cert: &str, verdict: Verdict) -> bool {
-    match check_texts(alloc, session.as_bytes(), cert.as_bytes()) {
-        Ok(told) => told == verdict,
-        Err(_) => false,
+/// Whether this is the verdict on two texts, of threads and of the calling thread alone.
+fn is_judged<R: Threads + Sync>(
+    rt: &R,
+    alloc: Global,
+    session: &str,
+    cert: &str,
+    verdict: Verdict,
+) -> bool {
+    let (session, cert) = (session.as_bytes(), cert.as_bytes());
+    match (
+        check_texts(rt, alloc, session, cert),
+        check_texts_alone(alloc, session, cert),
+    ) {
+        (Ok(told), Ok(alone)) => told == verdict && alone == verdict,
+        _ => false,
     }
 }
 
 /// Whether a session with a change gets a verdict beside a certificate.
-fn is_session_judged(alloc: Global, session: &str, cert: &str, case: &Case) -> bool {
+fn is_session_judged<R: Threads + Sync>(
+    rt: &R,
+    alloc: Global,
+    session: &str,
+    cert: &str,
+    case: &Case,
+) -> bool {
     match session.replacen(alloc, case.old, case.new, 1) {
-        Ok(changed) => is_judged(alloc, changed.as_str(), cert, case.verdict),
+        Ok(changed) => is_judged(rt, alloc, changed.as_str(), cert, case.verdict),
         Err(_) => false,
     }
 }
 
 /// Whether a session gets a verdict beside a certificate with a change.
-fn is_certificate_judged(alloc: Global, session: &str, cert: &str, case: &Case) -> bool {
+fn is_certificate_judged<R: Threads + Sync>(
+    rt: &R,
+    alloc: Global,
+    session: &str,
+    cert: &str,
+    case: &Case,
+) -> bool {
     match cert.replacen(alloc, case.old, case.new, 1) {
-        Ok(changed) => is_judged(alloc, session, changed.as_str(), case.verdict),
+        Ok(changed) => is_judged(rt, alloc, session, changed.as_str(), case.verdict),
         Err(_) => false,
     }
 }
 
 /// Whether the texts of a table get the verdict of one of its cases.
-fn is_met(alloc: Global, table: &Table, case: &Case) -> bool {
+fn is_met<R: Threads + Sync>(rt: &R, alloc: Global, table: &Table, case: &Case) -> bool {
     match table.changed {
-        Changed::Session => is_session_judged(alloc, table.session, table.cert, case),
-        Changed::Certificate => is_certificate_judged(alloc, table.session, table.cert, case),
+        Changed::Session => is_session_judged(rt, alloc, table.session, table.cert, case),
+        Changed::Certificate => is_certificate_judged(rt, alloc, table.session, table.cert, case),
     }
 }
 
 /// Whether a session is of the right shape, and this is a right certificate of it.
-fn is_right(alloc: Global, session: &Session, cert: &Cert) -> bool {
+fn is_right<R: Threads + Sync>(rt: &R, alloc: Global, session: &Session, cert: &Cert) -> bool {
     matches!(shape(alloc, session), Ok(None))
         && matches!(check(alloc, session, cert), Ok(Verdict::Yes))
+        && matches!(check_par(rt, alloc, session, cert), Ok(Verdict::Yes))
 }
 
 /// The same, with the certificate's text.
-fn is_right_text(alloc: Global, session: &Session, cert: &str) -> bool {
+fn is_right_text<R: Threads + Sync>(rt: &R, alloc: Global, session: &Session, cert: &str) -> bool {
     match read_cert(alloc, cert.as_bytes()) {
-        Ok(certified) => is_right(alloc, session, &certified),
+        Ok(certified) => is_right(rt, alloc, session, &certified),
         Err(_) => false,
     }
 }
 
 /// The same, with both texts.
-fn are_right_texts(alloc: Global, session: &str, cert: &str) -> bool {
+fn are_right_texts<R: Threads + Sync>(rt: &R, alloc: Global, session: &str, cert: &str) -> bool {
     match read_session(alloc, session.as_bytes()) {
-        Ok(recorded) => is_right_text(alloc, &recorded, cert),
+        Ok(recorded) => is_right_text(rt, alloc, &recorded, cert),
         Err(_) => false,
     }
 }
@@ -507,8 +532,8 @@ fn are_right_texts(alloc: Global, session: &str, cert: &str) -> bool {
 #[test]
 fn right_certificates(rt: HostRuntime) {
     let alloc = rt.alloc();
-    let are_right = are_right_texts(alloc, HANDOVER, HANDOVER_CERT)
-        && are_right_texts(alloc, RELEASED, RELEASED_CERT);
+    let are_right = are_right_texts(&rt, alloc, HANDOVER, HANDOVER_CERT)
+        && are_right_texts(&rt, alloc, RELEASED, RELEASED_CERT);
     assert!(rt; are_right);
 }
 
@@ -516,7 +541,7 @@ fn right_certificates(rt: HostRuntime) {
 fn verdicts(rt: HostRuntime) {
     for table in &TABLES {
         for case in table.cases {
-            assert!(rt; is_met(rt.alloc(), table, case), "{}", case.new);
+            assert!(rt; is_met(&rt, rt.alloc(), table, case), "{}", case.new);
         }
     }
 }

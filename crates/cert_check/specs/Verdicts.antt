@@ -50,3 +50,7 @@ IsVerdict s c Pages = IsRightShape s × ¬ SamePages s c
 IsVerdict s c (Runs line) = IsRightShape s × SamePages s c × (place : ℕ) × IsFirstBadRun s c.runs place × (line ≡ run_line s.geometry.pages place)
 IsVerdict s c (Page line) = IsRightShape s × SamePages s c × IsMerging s (spelled c.runs) × (page : ℕ) × IsFirstBadPage s c.entries page × (line ≡ entry_line page)
 IsVerdict s c Yes = IsRightShape s × IsRightCertificate s c
+
+-- whoever finds a verdict on these two finds this one
+abbrev pub IsTheOneVerdict : Recorded → Certified → Verdict → Type 0
+IsTheOneVerdict s c verdict = (other : Verdict) → IsVerdict s c other → other ≡ verdict

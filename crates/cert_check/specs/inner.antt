@@ -2,3 +2,4 @@
 pub mod FirstOfLog
 pub mod Phases
 pub mod CertTexts
+pub mod WrongEntries

@@ -4,15 +4,18 @@ ghost use Rattle.std.specs.Prelude.{◌≡◌, IfOk};
 ghost use Rattle.audit_model.specs.Mergings.{HasMerging, spelled};
 ghost use Rattle.audit_model.specs.World.{IsSafe, IsSafeOrder};
 ghost use Rattle.audit_model.specs.Laws.{FindsResident, ReadsFlat, PlacedOnce, PlacedUntouched, ReleasedAsZeros};
-ghost use Rattle.cert_check.specs.Verdicts.{IsVerdict};
+ghost use Rattle.cert_check.specs.Verdicts.{IsVerdict, IsTheOneVerdict};
 
-use crate::bad_page::first_bad_page;
+use crate::bad_page::EntryJudges;
 use crate::shape_fault::shape;
 use crate::verdict::Verdict;
 use audit_model::certified_is_safe;
 use merge_runs::first_bad_run;
 use migration_types::{Cert, Session};
+use page_facts::{Alone, InThreads};
 use std::alloc::{AllocError, Global};
+use std::marker::Sync;
+use std::thread::Threads;
 
 /// An entry's line is so many after its page's number.
 const BEFORE_ENTRIES: u32 = 3;
@@ -20,16 +23,14 @@ const BEFORE_ENTRIES: u32 = 3;
 /// A run's line is so many after the number of pages and its place.
 const BEFORE_RUNS: u32 = 4;
 
-/// The verdict on a session and its certificate: `Shape`, `Pages`, `Runs`, `Page` or `Yes`, the first that applies.
-///
-/// On `Yes` the session's logs have a merging, and every merging is safe: a read or a write after handover finds its page
-/// resident, a read gives what one machine that never moved gives, a page is placed at most once, and over no later read,
-/// write or release, and a released page is never sent and comes back as zeros. So the merging that the certificate's
-/// runs spell has no record whose demand fails. Nothing is assumed of who made the certificate.
-///
-/// Takes one pass over the runs and a few over the records. The only error is want of memory, for a few numbers for each
-/// page, one for each record that is of a page, and the cells of one page.
-pub fn check(alloc: Global, session: &Session, cert: &Cert) -> Result<Verdict, AllocError>
+/// The verdict on a session and its certificate, whoever judges the pages.
+pub(crate) fn check_by<J: EntryJudges>(
+    judges: &J,
+    alloc: Global,
+    session: &Session,
+    cert: &Cert,
+) -> Result<Verdict, AllocError>
+    requires ready { J.ready }
     ensures verdict { IfOk result (IsVerdict session.now cert.now) }
     ensures safe { result ≡ Ok Verdict.Yes → IsSafe session.now }
     ensures replays_clean { result ≡ Ok Verdict.Yes → IsSafeOrder session.now (spelled cert.now.runs) }
@@ -54,8 +55,56 @@ pub fn check(alloc: Global, session: &Session, cert: &Cert) -> Result<Verdict, A
     if let Some(place) = first_bad_run(session, cert.runs()) {
         return Ok(Verdict::Runs(pages + BEFORE_RUNS + place as u32));
     }
-    match first_bad_page(alloc, session, cert.entries())? {
+    match judges.first_bad_page(alloc, session, cert.entries())? {
         Some(page) => Ok(Verdict::Page(page as u32 + BEFORE_ENTRIES)),
         None => Ok(Verdict::Yes),
     }
+}
+
+/// The verdict on a session and its certificate: `Shape`, `Pages`, `Runs`, `Page` or `Yes`, the first that applies.
+///
+/// On `Yes` the session's logs have a merging, and every merging is safe: a read or a write after handover finds its page
+/// resident, a read gives what one machine that never moved gives, a page is placed at most once, and over no later read,
+/// write or release, and a released page is never sent and comes back as zeros. So the merging that the certificate's
+/// runs spell has no record whose demand fails. Nothing is assumed of who made the certificate.
+///
+/// Takes one pass over the runs and a few over the records. The only error is want of memory, for a few numbers for each
+/// page, one for each record that is of a page, and the cells of one page.
+pub fn check(alloc: Global, session: &Session, cert: &Cert) -> Result<Verdict, AllocError>
+    ensures verdict { IfOk result (IsVerdict session.now cert.now) }
+    ensures safe { result ≡ Ok Verdict.Yes → IsSafe session.now }
+    ensures replays_clean { result ≡ Ok Verdict.Yes → IsSafeOrder session.now (spelled cert.now.runs) }
+    ensures has_merging { result ≡ Ok Verdict.Yes → HasMerging session.now }
+    ensures finds_resident { result ≡ Ok Verdict.Yes → FindsResident session.now }
+    ensures reads_flat { result ≡ Ok Verdict.Yes → ReadsFlat session.now }
+    ensures placed_once { result ≡ Ok Verdict.Yes → PlacedOnce session.now }
+    ensures placed_untouched { result ≡ Ok Verdict.Yes → PlacedUntouched session.now }
+    ensures released_as_zeros { result ≡ Ok Verdict.Yes → ReleasedAsZeros session.now }
+{
+    check_by(&Alone, alloc, session, cert)
+}
+
+/// The verdict that [`check`] answers, with the pages judged by threads side by side, however these share the pages among
+/// them. A small session is judged by the calling thread.
+///
+/// On `Yes` it promises what `check` promises. It takes a few numbers of memory more for each page. It waits for the
+/// threads that it starts, and for nobody else; where a thread cannot be made its part is judged by another.
+pub fn check_par<R: Threads + Sync>(
+    rt: &R,
+    alloc: Global,
+    session: &Session,
+    cert: &Cert,
+) -> Result<Verdict, AllocError>
+    ensures verdict { IfOk result (IsVerdict session.now cert.now) }
+    ensures parallel_equals_plain { IfOk result (IsTheOneVerdict session.now cert.now) }
+    ensures safe { result ≡ Ok Verdict.Yes → IsSafe session.now }
+    ensures replays_clean { result ≡ Ok Verdict.Yes → IsSafeOrder session.now (spelled cert.now.runs) }
+    ensures has_merging { result ≡ Ok Verdict.Yes → HasMerging session.now }
+    ensures finds_resident { result ≡ Ok Verdict.Yes → FindsResident session.now }
+    ensures reads_flat { result ≡ Ok Verdict.Yes → ReadsFlat session.now }
+    ensures placed_once { result ≡ Ok Verdict.Yes → PlacedOnce session.now }
+    ensures placed_untouched { result ≡ Ok Verdict.Yes → PlacedUntouched session.now }
+    ensures released_as_zeros { result ≡ Ok Verdict.Yes → ReleasedAsZeros session.now }
+{
+    check_by(&InThreads { rt }, alloc, session, cert)
 }

@@ -8,7 +8,7 @@ mod shape_fault;
 mod texts;
 mod verdict;
 
-pub use judge::check;
+pub use judge::{check, check_par};
 pub use shape_fault::shape;
-pub use texts::{check_read, check_texts};
+pub use texts::{check_read, check_texts, check_texts_alone};
 pub use verdict::{ShapeFault, Verdict};

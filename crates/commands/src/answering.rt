@@ -27,7 +27,8 @@ use std::sync::Wait;
 use std::thread::Threads;
 
 // The answer of a command on one text, by what was read of it.
-fn session_answer(
+fn session_answer<R: Threads + Sync>(
+    rt: &R,
     alloc: Global,
     task: OneText,
     session: &Result<Session, u32>,
@@ -35,13 +36,14 @@ fn session_answer(
     ensures { (text : List ℕ) → IsRead SpellsSession text session.now → IfOk result (λ answer. IsOneAnswer task text answer.text.items answer.status) }
 {
     match task {
-        OneText::Certify => audit_read(alloc, session, Wanted::Certificate),
-        OneText::Audit => audit_read(alloc, session, Wanted::Report),
+        OneText::Certify => audit_read(rt, alloc, session, Wanted::Certificate),
+        OneText::Audit => audit_read(rt, alloc, session, Wanted::Report),
     }
 }
 
 /// The answer of a command on the text under a name.
-pub fn one_answer<'a, S: TextSource, I: Read>(
+pub fn one_answer<'a, R: Threads + Sync, S: TextSource, I: Read>(
+    rt: &R,
     alloc: Global,
     task: OneText,
     name: &'a str,
@@ -51,11 +53,12 @@ pub fn one_answer<'a, S: TextSource, I: Read>(
     ensures { IfOk result (AnswersTo (IsNamed name.entry.now (S.bytes_of texts.now) (I.remaining input.old)) (IsOneAnswer task)) }
 {
     let session = read_named::<SessionReader, S, I>(alloc, name, texts, input)?;
-    given(session_answer(alloc, task, &session))
+    given(session_answer(rt, alloc, task, &session))
 }
 
 // The verdict on the texts under two names.
-fn check_named<'a, S: TextSource, I: Read>(
+fn check_named<'a, R: Threads + Sync, S: TextSource, I: Read>(
+    rt: &R,
     alloc: Global,
     first: &'a str,
     second: &'a str,
@@ -67,7 +70,7 @@ fn check_named<'a, S: TextSource, I: Read>(
     let (session, cert) = read_pair::<SessionReader, CertReader, S, I>(
         alloc, first, second, texts, input,
     )?;
-    given(judge_read(alloc, &session, &cert))
+    given(judge_read(rt, alloc, &session, &cert))
 }
 
 // The replay of the texts under two names.
@@ -101,7 +104,8 @@ fn steps_named<'a, S: TextSource, I: Read>(
 }
 
 /// The answer of a command on the texts under two names, which are read in this order.
-pub fn two_answer<'a, S: TextSource, I: Read>(
+pub fn two_answer<'a, R: Threads + Sync, S: TextSource, I: Read>(
+    rt: &R,
     alloc: Global,
     task: TwoTexts,
     first: &'a str,
@@ -112,7 +116,7 @@ pub fn two_answer<'a, S: TextSource, I: Read>(
     ensures { IfOk result (AnswersTo (AreNamed first.entry.now second.entry.now (S.bytes_of texts.now) (I.remaining input.old)) (IsTwoAnswer task)) }
 {
     match task {
-        TwoTexts::Check => check_named(alloc, first, second, texts, input),
+        TwoTexts::Check => check_named(rt, alloc, first, second, texts, input),
         TwoTexts::Replay => replay_named(alloc, first, second, texts, input),
         TwoTexts::Steps => steps_named(alloc, first, second, texts, input),
     }

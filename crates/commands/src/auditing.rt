@@ -11,6 +11,7 @@ use crate::answer::{ACCEPTED, Answer, REFUSED};
 use audit_report::{Audited, Report, Wanted, audit, print_audited};
 use migration_types::Session;
 use std::alloc::{AllocError, Global};
+use std::thread::Threads;
 
 /// The status of an audit.
 fn status_of(audited: &Audited) -> u8
@@ -35,12 +36,16 @@ fn told(alloc: Global, audited: &Audited, wanted: Wanted) -> Result<Answer, Allo
 }
 
 /// The audit of a session's text, by what was read of it.
-fn audited(alloc: Global, session: &Result<Session, u32>) -> Result<Audited, AllocError>
+fn audited<R: Threads + Sync>(
+    rt: &R,
+    alloc: Global,
+    session: &Result<Session, u32>,
+) -> Result<Audited, AllocError>
     ensures audited { (text : List ℕ) → IsRead SpellsSession text session.now → IfOk result (IsAudited text) }
     ensures fits { IfOk result AuditedFits }
 {
     match session {
-        Ok(session) => match audit(alloc, session) {
+        Ok(session) => match audit(rt, alloc, session) {
             Ok(report) => Ok(Audited::Reported(report)),
             Err(error) => Err(error),
         },
@@ -49,14 +54,15 @@ fn audited(alloc: Global, session: &Result<Session, u32>) -> Result<Audited, All
 }
 
 /// What is wanted of the audit of a session, by what was read of its text.
-pub fn audit_read(
+pub fn audit_read<R: Threads + Sync>(
+    rt: &R,
     alloc: Global,
     session: &Result<Session, u32>,
     wanted: Wanted,
 ) -> Result<Answer, AllocError>
     ensures { (text : List ℕ) → IsRead SpellsSession text session.now → IfOk result (λ answer. IsAuditAnswer wanted text answer.text.items answer.status) }
 {
-    match audited(alloc, session) {
+    match audited(rt, alloc, session) {
         Ok(audited) => told(alloc, &audited, wanted),
         Err(error) => Err(error),
     }

@@ -11,6 +11,7 @@ use audit_report::push_shape;
 use cert_check::{Verdict, check_read};
 use migration_types::{Cert, Session};
 use std::alloc::{AllocError, Global};
+use std::thread::Threads;
 use text_lines::{push_keyed, push_line};
 
 /// The status of a verdict.
@@ -39,14 +40,15 @@ pub fn push_verdict(out: &mut Vec<u8>, verdict: Verdict) -> Result<(), AllocErro
 }
 
 /// The verdict on a session and a certificate, by what was read of their texts.
-pub fn judge_read(
+pub fn judge_read<R: Threads + Sync>(
+    rt: &R,
     alloc: Global,
     session: &Result<Session, u32>,
     cert: &Result<Cert, u32>,
 ) -> Result<Answer, AllocError>
     ensures { (first second : List ℕ) → IsRead SpellsSession first session.now → IsRead SpellsCert second cert.now → IfOk result (λ answer. IsVerdictAnswer first second answer.text.items answer.status) }
 {
-    let verdict = check_read(alloc, session, cert)?;
+    let verdict = check_read(rt, alloc, session, cert)?;
     let mut text = Vec::new(alloc);
     push_verdict(&mut text, verdict)?;
     Ok(Answer {

@@ -20,7 +20,8 @@ use std::sync::Wait;
 use std::thread::Threads;
 
 // Does a command on the text under a name.
-fn perform_one<'a, S: TextSource, I: Read, O: Write>(
+fn perform_one<'a, R: Threads + Sync, S: TextSource, I: Read, O: Write>(
+    rt: &R,
     alloc: Global,
     task: OneText,
     name: &'a str,
@@ -31,12 +32,13 @@ fn perform_one<'a, S: TextSource, I: Read, O: Write>(
     ensures few { IfOk result (λ status. status < 2) }
     ensures told { IfOk result (Tells (IsNamed name.entry.now (S.bytes_of texts.now) (I.remaining input.old)) (IsOneAnswer task) (O.contents output.old) (O.contents output.new)) }
 {
-    let answer = one_answer(alloc, task, name, texts, input)?;
+    let answer = one_answer(rt, alloc, task, name, texts, input)?;
     written(&answer, output)
 }
 
 // Does a command on the texts under two names, read in this order.
-fn perform_two<'a, S: TextSource, I: Read, O: Write>(
+fn perform_two<'a, R: Threads + Sync, S: TextSource, I: Read, O: Write>(
+    rt: &R,
     alloc: Global,
     task: TwoTexts,
     first: &'a str,
@@ -48,12 +50,13 @@ fn perform_two<'a, S: TextSource, I: Read, O: Write>(
     ensures few { IfOk result (λ status. status < 2) }
     ensures told { IfOk result (Tells (AreNamed first.entry.now second.entry.now (S.bytes_of texts.now) (I.remaining input.old)) (IsTwoAnswer task) (O.contents output.old) (O.contents output.new)) }
 {
-    let answer = two_answer(alloc, task, first, second, texts, input)?;
+    let answer = two_answer(rt, alloc, task, first, second, texts, input)?;
     written(&answer, output)
 }
 
 // Judges the two texts of the input.
-fn check_input<S: TextSource, I: Read, O: Write>(
+fn check_input<R: Threads + Sync, S: TextSource, I: Read, O: Write>(
+    rt: &R,
     alloc: Global,
     texts: &S,
     input: &mut I,
@@ -62,7 +65,7 @@ fn check_input<S: TextSource, I: Read, O: Write>(
     ensures few { IfOk result (λ status. status < 2) }
     ensures told { IfOk result (Tells (AreOfInput (I.remaining input.old)) (IsTwoAnswer TwoTexts.Check) (O.contents output.old) (O.contents output.new)) }
 {
-    perform_two(alloc, TwoTexts::Check, "-", "-", texts, input, output)
+    perform_two(rt, alloc, TwoTexts::Check, "-", "-", texts, input, output)
 }
 
 // Runs the migration of the script under a name.
@@ -107,9 +110,9 @@ fn perform<
     ensures told { IfOk result (TellsAsked (asked_names job.entry) (S.bytes_of texts.now) (I.remaining input.old) (O.contents output.old) (O.contents output.new)) }
 {
     match job {
-        Asked::One(task, name) => perform_one(alloc, task, name, texts, input, output),
+        Asked::One(task, name) => perform_one(rt, alloc, task, name, texts, input, output),
         Asked::Two(task, first, second) => {
-            perform_two(alloc, task, first, second, texts, input, output)
+            perform_two(rt, alloc, task, first, second, texts, input, output)
         }
         Asked::Migrate(carrier, name) => {
             perform_migrate(rt, alloc, carrier, name, texts, input, output)
@@ -179,11 +182,11 @@ pub fn run<
     ensures plain { (name : List ℕ) (names : List (List ℕ)) → IsPlain (word_texts words.entry.now) name names → IfSome (asked_by name names) (λ job. (result ≢ 2) × (result < 2 → TellsAsked job (S.bytes_of texts.now) (I.remaining input.old) (O.contents output.old) (O.contents output.new) result)) }
 {
     if words.len() <= 1 {
-        return settle(check_input(alloc, texts, input, output), errors);
+        return settle(check_input(rt, alloc, texts, input, output), errors);
     }
     match read_words(alloc, words) {
         Ok(Some(job)) => settle(perform(rt, alloc, job, texts, input, output), errors),
-        Ok(None) => settle(check_input(alloc, texts, input, output), errors),
+        Ok(None) => settle(check_input(rt, alloc, texts, input, output), errors),
         Err(error) => refuse(error, output, errors),
     }
 }

@@ -22,6 +22,8 @@ use guest_script::Script;
 use migration_types::{Cert, Logs, Seq, Session, SourceRec};
 use page_store::Store;
 use std::alloc::{AllocError, Global};
+use std::marker::Sync;
+use std::thread::Threads;
 
 /// Whether the source was told that every owed page is placed.
 fn is_done(source: &[SourceRec]) -> bool
@@ -36,13 +38,17 @@ fn is_done(source: &[SourceRec]) -> bool
 }
 
 /// The certificate of a clean session. Refused: the audit's report is another one, or there is no memory.
-fn clean(alloc: Global, session: &Session) -> Result<Cert, RunFault>
+fn clean<R: Threads + Sync>(
+    rt: &R,
+    alloc: Global,
+    session: &Session,
+) -> Result<Cert, RunFault>
     ensures shape { IfOk result (λ c. IsRightShape session.now) }
     ensures right { IfOk result (λ c. IsRightCertificate session.now c) }
     ensures safe { IfOk result (λ c. IsSafe session.now) }
     ensures refused { IfErr result (IsRefused session.now) }
 {
-    match audit(alloc, session) {
+    match audit(rt, alloc, session) {
         Ok(Report::Clean(cert)) => Ok(cert),
         Ok(report) => Err(RunFault::AuditRefused(report)),
         Err(_) => Err(RunFault::Memory),
@@ -84,14 +90,15 @@ fn agrees(
 /// part of the guest's log; the source was told that every owed page is placed; each owed page is resident at the end of
 /// the certificate's merging; and each page of the frames is what one machine that never moved has.
 ///
-/// Takes a few passes over the logs and the pages, and memory for the frames of two machines and a few numbers for each
-/// page.
+/// The pages are judged by threads side by side. Takes a few passes over the logs and the pages, and memory for the frames
+/// of two machines and some numbers for each page.
 ///
 /// # Errors
 ///
 /// `AuditRefused` with the audit's report, which is not that the session is clean; `TranscriptDiffers` where something
 /// else does not hold; `Memory`.
-pub fn settle(
+pub fn settle<R: Threads + Sync>(
+    rt: &R,
     alloc: Global,
     script: &Script,
     logs: Logs,
@@ -109,7 +116,7 @@ pub fn settle(
     ensures refused { IfErr result (IsRefused (recorded script.now.geometry script.now.init logs)) }
 {
     let session = session_of(alloc, script, logs)?;
-    let cert = clean(alloc, &session)?;
+    let cert = clean(rt, alloc, &session)?;
     match agrees(
         alloc,
         script,

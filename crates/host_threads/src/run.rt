@@ -108,7 +108,8 @@ fn logs_of(guest: Vec<GuestRec>, source: SourceBook, link: LinkBook, pager: Page
 }
 
 /// The checks of what the threads left.
-fn checked(
+fn checked<R: Threads + Sync>(
+    rt: &R,
     alloc: Global,
     script: &Script,
     shared: Shared,
@@ -146,7 +147,7 @@ fn checked(
     };
     let (guest, store) = target.into_parts();
     let logs = logs_of(guest, source, link.into_inner(), pager.into_inner());
-    settle(alloc, script, logs, store, Seq::from_vec(transcripts))
+    settle(rt, alloc, script, logs, store, Seq::from_vec(transcripts))
 }
 
 /// A run over this way, and the checks of what it left.
@@ -174,7 +175,7 @@ fn run<R: Threads + Wait + Sync, G: Gate, L: Relay + Drop>(
     let Ok(transcripts) = run_threads(rt, alloc, &shared, script, gate, way) else {
         return Err(RunFault::Memory);
     };
-    checked(alloc, script, shared, transcripts)
+    checked(rt, alloc, script, shared, transcripts)
 }
 
 /// Runs a script's migration in threads, one for each virtual processor and one each for the source, the link and the

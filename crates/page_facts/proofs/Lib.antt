@@ -12,3 +12,4 @@ pub mod Within
 pub mod OfPage
 pub mod OverPages
 pub mod Growing
+pub mod Ranged

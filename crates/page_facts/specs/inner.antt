@@ -2,3 +2,5 @@
 pub mod EntryTests
 pub mod FirstOfLog
 pub mod Frontier
+pub mod Others
+pub mod Parts

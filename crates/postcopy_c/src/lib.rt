@@ -18,13 +18,13 @@ use crate::answer::{PostcopyAnswer, verdict_answer};
 use crate::kinds::{CLEAN, FAULTY, NO_MEMORY, SESSION_TEXT, YES};
 use crate::telling::tell_audit;
 use audit_report::Wanted;
-use cert_check::check_texts;
+use cert_check::check_texts_alone;
 use std::alloc::Global;
 
 /// The version: 10,000 for each of its first number, 100 for each of its second, and its third.
 pub const VERSION: u32 = 10_000;
 
-/// The verdict on the bytes of a session and of its certificate, as `cert_check::check_texts` has it.
+/// The verdict on the bytes of a session and of its certificate, as `cert_check::check_texts_alone` has it.
 #[unsafe(no_mangle)]
 pub extern "C" fn postcopy_check(alloc: Global, session: &[u8], cert: &[u8]) -> PostcopyAnswer
     ensures verdict { IsVerdictAnswer session.now cert.now result }
@@ -38,7 +38,7 @@ pub extern "C" fn postcopy_check(alloc: Global, session: &[u8], cert: &[u8]) -> 
     ensures placed_untouched { result.kind ≡ YES → OfSpelled session.now PlacedUntouched }
     ensures released_as_zeros { result.kind ≡ YES → OfSpelled session.now ReleasedAsZeros }
 {
-    verdict_answer(check_texts(alloc, session, cert))
+    verdict_answer(check_texts_alone(alloc, session, cert))
 }
 
 /// The certificate of a session that is clean, and of another the first line of its report. The text stands at the front of

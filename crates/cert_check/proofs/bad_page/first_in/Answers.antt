@@ -16,7 +16,7 @@ loop-page-preserved c =
     let n = c.loop-page.page in
     let xs = c.args.entries.now in
     record {
-      right = right_more s xs n (get_or xs n no_entry) (slice_get-get_or xs n no_entry c.loop-page-test.true) c.loop-page.invariant.right (subst (λ (p : ℕ). IsRightEntry s p (get_or xs n no_entry)) c.new-number.ensures (c.if-not-is_right_entry.ensures.0 refl));
+      right = right_more s xs n (get_or xs n no_entry) (slice_get-get_or xs n no_entry c.loop-page-test.true) c.loop-page.invariant.right (subst (λ (p : ℕ). IsRightEntry s p (get_or xs n no_entry)) c.new-number.ensures (c.if-not-is_right.ensures.0 refl));
       frame = c.judge_page-findings.ensures.frame;
     }
 

@@ -1,7 +1,7 @@
 use Rattle.commands.proofs.answering.session_answer.Goals as goal
 
 pub returns-in-Certify : goal.returns-in-Certify
-returns-in-Certify c = rw c.in-Certify.is c.audit_read.ensures
+returns-in-Certify g c = rw c.in-Certify.is c.audit_read.ensures
 
 pub returns-in-Audit : goal.returns-in-Audit
-returns-in-Audit c = rw c.in-Audit.is c.audit_read-in-Audit.ensures
+returns-in-Audit g c = rw c.in-Audit.is c.audit_read-in-Audit.ensures

@@ -5,4 +5,4 @@ use Rattle.commands.proofs.Said.{says_right}
 use Rattle.commands.proofs.auditing.audit_read.Goals as goal
 
 pub returns-in-Ok : goal.returns-in-Ok
-returns-in-Ok c = λ text read. says_right (IsAudited text) (audited_text c.args.wanted) audited_status c.in-Ok.audited c.told.result (c.in-Ok.ensures.audited text read) c.told.ensures
+returns-in-Ok g c = λ text read. says_right (IsAudited text) (audited_text c.args.wanted) audited_status c.in-Ok.audited c.told.result (c.in-Ok.ensures.audited text read) c.told.ensures

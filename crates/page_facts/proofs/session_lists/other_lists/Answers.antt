@@ -1,14 +1,13 @@
 use Rattle.std.proofs.Common.{List, length, sym, ap, ◌∙◌, subst, arith}
 use Rattle.migration_types.specs.declared.pages.InitPage.{InitPage}
-use Rattle.migration_types.specs.declared.records.GuestRec.{GuestRec}
 use Rattle.migration_types.specs.declared.records.SourceRec.{SourceRec}
 use Rattle.migration_types.specs.declared.records.PagerRec.{PagerRec}
 use Rattle.migration_types.specs.Extents.{Extent}
 use Rattle.page_lists.specs.Lists.{AreWithin}
-use Rattle.page_lists.specs.Paged.{guest_page, source_page, pager_page}
+use Rattle.page_lists.specs.Paged.{source_page, pager_page}
 use Rattle.session_log.specs.inner.InitPages.{few_init}
-use Rattle.page_facts.proofs.Within.{guest_within, source_within, pager_within}
-use Rattle.page_facts.proofs.session_lists.lists_for.Goals as goal
+use Rattle.page_facts.proofs.Within.{source_within, pager_within}
+use Rattle.page_facts.proofs.session_lists.other_lists.Goals as goal
 
 pub lists_of-requires-clause-few : goal.lists_of-requires-clause-few
 lists_of-requires-clause-few c =
@@ -22,16 +21,10 @@ pub lists_of-requires-2-clause-within : goal.lists_of-requires-2-clause-within
 lists_of-requires-2-clause-within c =
     let s = c.args.session.now in
     let pages = c.pages-pages.ensures ∙ ap (λ (e : Extent). e.pages) c.geometry.ensures in
-    subst (λ k. AreWithin guest_page k c.guest.result.now) (sym pages) (subst (λ (xs : List GuestRec). AreWithin guest_page s.geometry.pages xs) (sym c.guest.ensures) (guest_within s.geometry s.guest c.keeps_limits.ensures.guest))
+    subst (λ k. AreWithin source_page k c.source.result.now) (sym pages) (subst (λ (xs : List SourceRec). AreWithin source_page s.geometry.pages xs) (sym c.source.ensures) (source_within s.geometry s.source c.keeps_limits.ensures.source))
 
 pub lists_of-requires-3-clause-within : goal.lists_of-requires-3-clause-within
 lists_of-requires-3-clause-within c =
-    let s = c.args.session.now in
-    let pages = c.pages-pages.ensures ∙ ap (λ (e : Extent). e.pages) c.geometry.ensures in
-    subst (λ k. AreWithin source_page k c.source.result.now) (sym pages) (subst (λ (xs : List SourceRec). AreWithin source_page s.geometry.pages xs) (sym c.source.ensures) (source_within s.geometry s.source c.keeps_limits.ensures.source))
-
-pub lists_of-requires-4-clause-within : goal.lists_of-requires-4-clause-within
-lists_of-requires-4-clause-within c =
     let s = c.args.session.now in
     let pages = c.pages-pages.ensures ∙ ap (λ (e : Extent). e.pages) c.geometry.ensures in
     subst (λ k. AreWithin pager_page k c.pager.result.now) (sym pages) (subst (λ (xs : List PagerRec). AreWithin pager_page s.geometry.pages xs) (sym c.pager.ensures) (pager_within s.geometry s.pager c.keeps_limits.ensures.pager))

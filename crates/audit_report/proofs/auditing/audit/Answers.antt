@@ -1,8 +1,0 @@
-use Rattle.audit_report.proofs.Showing.{safe_of, exactly_of}
-use Rattle.audit_report.proofs.auditing.audit.Goals as goal
-
-pub returns-clause-safe : goal.returns-clause-safe
-returns-clause-safe c = safe_of c.args.session.now c.faults_are_unsafe.ensures.clean c.keeps_limits.ensures c.report.result c.report.ensures
-
-pub returns-clause-exactly : goal.returns-clause-exactly
-returns-clause-exactly c = let s = c.args.session.now in exactly_of s c.faults_are_unsafe.ensures.clean (c.faults_are_unsafe.ensures.exactly s) c.keeps_limits.ensures c.report.result c.report.ensures
