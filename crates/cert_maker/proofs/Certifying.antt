@@ -1,5 +1,5 @@
 -- From entries to a certificate.
-use Rattle.std.proofs.Common.{◌≡◌, ℕ, zero, suc, ◌+◌, ◌≤◌, ◌⊎◌, inl, inr, List, [], ◌∷◌, ◌++◌, length, get_or, Option, Some, None, refl, sym, ap, ◌∙◌, subst, arith}
+use Rattle.std.proofs.Common.{◌≡◌, ℕ, suc, ◌≤◌, List, [], ◌∷◌, length, get_or, Option, Some, None, refl, sym, subst, arith}
 use Rattle.std.specs.Prelude.{slice_get}
 use Rattle.std.specs.List.{AllByRecursion}
 use Rattle.std.proofs.lemmas.Option.{slice_get_within, slice_get-get_or}
@@ -12,7 +12,7 @@ use Rattle.migration_types.specs.Sessions.{Recorded, IsSession, IsNumber}
 use Rattle.audit_model.specs.Mergings.{IsMerging, spelled}
 use Rattle.audit_model.specs.Certificates.{IsCovered, IsRightEntry, IsRightCertificate}
 use Rattle.cert_maker.specs.Made.{IsMade}
-use Rattle.cert_maker.specs.inner.Entries.{IsMadeEntry, HasBarePage, AreMade}
+use Rattle.cert_maker.specs.inner.Entries.{HasBarePage, AreMade}
 
 -- ---- limits
 

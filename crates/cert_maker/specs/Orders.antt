@@ -1,10 +1,12 @@
 -- The answers of the search for an order.
-use Rattle.std.specs.Prelude.{ℕ, List}
+use Rattle.std.specs.Prelude.{◌≡◌, ℕ, ◌≤◌, List}
+use Rattle.migration_types.specs.declared.records.LogName.{LogName}
 use Rattle.migration_types.specs.declared.cert.Run.{Run}
 use Rattle.migration_types.specs.Certs.{AreRuns}
-use Rattle.migration_types.specs.Sessions.{Recorded}
-use Rattle.audit_model.specs.Mergings.{HasMerging, spelled}
-use Rattle.audit_model.specs.FoundOrder.{IsFound, IsKnot}
+use Rattle.migration_types.specs.Sessions.{Recorded, log_length}
+use Rattle.audit_model.specs.Mergings.{Cursors, HasMerging, at_start, spelled}
+use Rattle.audit_model.specs.Walks.{cursors_from}
+use Rattle.audit_model.specs.FoundOrder.{IsFound, IsFoundOrder, IsKnot}
 use Rattle.cert_maker.specs.declared.order.Order.{Order}
 use Rattle.cert_maker.specs.declared.order.Order.TheVariants.{Found, Knot}
 
@@ -12,6 +14,13 @@ use Rattle.cert_maker.specs.declared.order.Order.TheVariants.{Found, Knot}
 pub record AreFoundRuns (s : Recorded) (runs : List Run) : Type 0 where
   pub is_found : IsFound s (spelled runs)
   pub are_runs : AreRuns runs
+
+-- the runs of the found order, as far as it goes, within the limits of a certificate's runs; and the cursors behind them
+pub record IsFoundFront (s : Recorded) (runs : List Run) (c : Cursors) : Type 0 where
+  pub is_found_order : IsFoundOrder s (spelled runs)
+  pub are_runs : AreRuns runs
+  pub at : cursors_from at_start (spelled runs) ≡ c
+  pub within : (log : LogName) → c log ≤ log_length s log
 
 -- a knot's line, where there is no merging
 pub record IsTied (s : Recorded) (line : ℕ) : Type 0 where

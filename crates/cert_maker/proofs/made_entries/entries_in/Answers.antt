@@ -1,4 +1,4 @@
-use Rattle.std.proofs.Common.{ℕ, ◌<◌, length, Option, ◌∙◌, List, sym, ap, subst, arith}
+use Rattle.std.proofs.Common.{ℕ, ◌<◌, length, ◌∙◌, List, sym, ap, subst, arith}
 use Rattle.migration_types.specs.Extents.{Extent}
 use Rattle.migration_types.specs.declared.cert.Entry.{Entry}
 use Rattle.cert_maker.specs.inner.Entries.{IsMadeEntry, AreMade}

@@ -1,6 +1,6 @@
 use Rattle.merge_runs.specs.Taken.{cursors_of}
 use Rattle.cert_maker.proofs.Found.{IsGoing, left}
-use Rattle.cert_maker.proofs.order.find_order.Given as goal
+use Rattle.cert_maker.proofs.order.found_runs.Given as goal
 
 abbrev pub invariant-loop-log : goal.invariant-loop-log
 invariant-loop-log l = IsGoing l.session l.runs.items (cursors_of l.taken)
