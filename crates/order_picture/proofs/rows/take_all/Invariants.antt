@@ -1,0 +1,10 @@
+use Rattle.std.proofs.Common.{ℕ, ◌+◌, ◌*◌, ◌≤◌, length, take}
+use Rattle.order_picture.specs.Subjects.{mark_of}
+use Rattle.order_picture.specs.inner.Built.{IsBuilt}
+use Rattle.order_picture.proofs.rows.take_all.Given as goal
+
+abbrev pub invariant-loop-n : goal.invariant-loop-n
+invariant-loop-n l = record {
+  built : IsBuilt (mark_of l.session l.focus) l.building (take l.n l.order);
+  few : length l.building.rows.items + l.building.room + 2 * l.building.fault_left ≤ length l.fn.building.rows.items + l.fn.building.room + 2 * l.fn.building.fault_left;
+}

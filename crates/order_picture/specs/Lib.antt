@@ -1,0 +1,7 @@
+pub mod Places
+pub mod Subjects
+pub mod Drawn
+pub mod Rows
+pub mod Pictures
+pub mod Svg
+pub mod inner

@@ -1,0 +1,59 @@
+-- The picture of a session's records in the order of a report, or along given runs.
+use Rattle.std.specs.Prelude.{◌≡◌, ℕ, ◌≤◌, List, Option, Some, None, length, map, option_and_then}
+use Rattle.std.specs.List.{list_any}
+use Rattle.std.specs.Option.{MatchOption}
+use Rattle.migration_types.specs.declared.cert.Run.{Run}
+use Rattle.migration_types.specs.Receipts.{Name}
+use Rattle.migration_types.specs.Sessions.{Recorded}
+use Rattle.audit_model.specs.Mergings.{spelled}
+use Rattle.audit_model.specs.Walks.{cursors_from}
+use Rattle.audit_model.specs.Mergings.{at_start}
+use Rattle.audit_model.specs.FoundOrder.{IsFoundOrder}
+use Rattle.audit_report.specs.declared.report.Report.{Report}
+use Rattle.audit_report.specs.declared.report.Report.TheVariants as report
+use Rattle.merge_runs.specs.Taken.{cursors_of}
+use Rattle.order_picture.specs.declared.focus.Focus.{Focus}
+use Rattle.order_picture.specs.declared.picture.Picture.{Picture}
+use Rattle.order_picture.specs.Places.{IsAtLine, HasNoRecord}
+use Rattle.order_picture.specs.Subjects.{is_one, mark_of, page_of}
+use Rattle.order_picture.specs.Drawn.{IsDrawn}
+use Rattle.order_picture.specs.Rows.{Covers, shows_fault, sender_of}
+
+-- the record at this line is faulty
+abbrev pub IsFaultAt : Recorded → ℕ → Option Name → Type 0
+IsFaultAt s line fault = MatchOption fault (HasNoRecord s line) (IsAtLine s line)
+
+-- the faulty record of a report: the one at its line
+abbrev pub IsFault : Recorded → Report → Option Name → Type 0
+IsFault s (report.Shape fault) name = IsFaultAt s fault.line name
+IsFault s (report.Faulty line reason order) name = IsFaultAt s line name
+IsFault s (report.Knot line) name = name ≡ None
+IsFault s (report.Clean cert) name = name ≡ None
+
+-- what a picture is about: the faulty record, and its page
+pub record IsFocus (s : Recorded) (r : Report) (focus : Focus) : Type 0 where
+  pub fault : IsFault s r focus.fault
+  pub page : focus.page ≡ option_and_then (page_of s) focus.fault
+
+-- A picture of the records that the runs take, as far as they can be taken: each record has its place in one row, there are
+-- few rows, the faulty record has one of its own, and each row knows the row whose record it receives.
+pub record IsPictureOf (s : Recorded) (r : Report) (runs : List Run) (p : Picture) : Type 0 where
+  pub order : List Name
+  pub drawn : IsDrawn s runs order p.bad
+  pub focus : IsFocus s r p.focus
+  pub covers : Covers (mark_of s p.focus) p.rows.items order
+  pub few : length p.rows.items ≤ 203
+  pub shown : shows_fault p.rows.items ≡ list_any (is_one p.focus.fault) order
+  pub senders : p.senders.items ≡ map (sender_of s p.rows.items) p.rows.items
+  pub taken : cursors_of p.taken ≡ cursors_from at_start order
+
+-- the runs that a report is shown along: those that show its fault, or those of the found order
+abbrev pub IsShownAlong : Recorded → Report → List Run → Type 0
+IsShownAlong s (report.Shape fault) runs = IsFoundOrder s (spelled runs)
+IsShownAlong s (report.Knot line) runs = IsFoundOrder s (spelled runs)
+IsShownAlong s (report.Faulty line reason order) runs = runs ≡ order
+IsShownAlong s (report.Clean cert) runs = runs ≡ cert.runs
+
+-- the picture of a report
+abbrev pub IsPicture : Recorded → Report → Picture → Type 0
+IsPicture s r p = (runs : List Run) × IsShownAlong s r runs × IsPictureOf s r runs p

@@ -1,0 +1,50 @@
+-- The rows of a picture.
+use Rattle.std.specs.Prelude.{◌≡◌, ℕ, Bool, true, false, List, [], ◌∷◌, ◌++◌, Option, Some, None, option_and_then, position}
+use Rattle.std.specs.List.{list_any}
+use Rattle.migration_types.specs.Receipts.{Name}
+use Rattle.migration_types.specs.Sessions.{Recorded}
+use Rattle.audit_model.specs.Names.{receipt}
+use Rattle.audit_model.specs.Mergings.{at_start}
+use Rattle.audit_model.specs.Walks.{cursors_from}
+use Rattle.merge_runs.specs.Taken.{cursors_of}
+use Rattle.order_picture.specs.declared.focus.Mark.{Mark}
+use Rattle.order_picture.specs.declared.focus.Mark.TheVariants.{Faulty, Concerned, OfPage, Plain}
+use Rattle.order_picture.specs.declared.picture.Row.{Row}
+use Rattle.order_picture.specs.declared.picture.Row.TheVariants.{Record, Fold}
+use Rattle.order_picture.specs.Subjects.{is_one}
+
+-- The rows have the records of the order, in its sequence, each in one row: a row has one record with its mark, or the next
+-- few of them, of which it has the count of each log.
+abbrev pub Covers : (Name → Mark) → List Row → List Name → Type 0
+Covers mark [] order = order ≡ []
+Covers mark (Record log place m ∷ rows) order = (rest : List Name) × (order ≡ (log, place) ∷ rest) × (m ≡ mark (log, place)) × Covers mark rows rest
+Covers mark (Fold counts ∷ rows) order = (folded rest : List Name) × (order ≡ folded ++ rest) × (cursors_of counts ≡ cursors_from at_start folded) × Covers mark rows rest
+
+-- whether it is the faulty record's mark
+abbrev pub is_faulty : Mark → Bool
+is_faulty Faulty = true
+is_faulty Concerned = false
+is_faulty OfPage = false
+is_faulty Plain = false
+
+abbrev pub row_is_faulty : Row → Bool
+row_is_faulty (Record log place mark) = is_faulty mark
+row_is_faulty (Fold counts) = false
+
+-- whether a row has the faulty record
+abbrev pub shows_fault : List Row → Bool
+shows_fault rows = list_any row_is_faulty rows
+
+-- whether it is the row of this record
+abbrev pub is_row_of : Name → Row → Bool
+is_row_of name (Record log place mark) = is_one (Some name) (log, place)
+is_row_of name (Fold counts) = false
+
+-- the record that the row's record is a receipt for
+abbrev pub row_receipt : Recorded → Row → Option Name
+row_receipt s (Record log place mark) = receipt s (log, place)
+row_receipt s (Fold counts) = None
+
+-- the place of the row whose record the row's record receives
+abbrev pub sender_of : Recorded → List Row → Row → Option ℕ
+sender_of s rows row = option_and_then (λ name. position (is_row_of name) rows) (row_receipt s row)

@@ -1,0 +1,98 @@
+-- What a record is about: a page, or what another record is about; and how a record is marked.
+use Rattle.std.specs.Prelude.{ℕ, zero, suc, Bool, true, false, Option, Some, None, slice_get, ◌==◌, ◌&&◌, if◌then◌else◌}
+use Rattle.migration_types.specs.declared.records.LogName.TheVariants.{Guest, Source, Link, Pager}
+use Rattle.migration_types.specs.declared.records.GuestRec.{GuestRec}
+use Rattle.migration_types.specs.declared.records.GuestRec.TheVariants.{Read, Write, Release, Miss, Halt, Resume, See}
+use Rattle.migration_types.specs.declared.records.SourceRec.{SourceRec}
+use Rattle.migration_types.specs.declared.records.SourceRec.TheVariants.{Halted, State, Send, Again, Ask, Done}
+use Rattle.migration_types.specs.declared.records.LinkRec.{LinkRec}
+use Rattle.migration_types.specs.declared.records.LinkRec.TheVariants.{Down, Up}
+use Rattle.migration_types.specs.declared.records.PagerRec.{PagerRec}
+use Rattle.migration_types.specs.declared.records.PagerRec.TheVariants.{Got, Ready, Fault, Join, Want, Place, Zero, Skip, All}
+use Rattle.migration_types.specs.Receipts.{Name}
+use Rattle.migration_types.specs.Sessions.{Recorded}
+use Rattle.audit_model.specs.Names.{same_log}
+use Rattle.order_picture.specs.declared.subjects.About.{About}
+use Rattle.order_picture.specs.declared.subjects.About.TheVariants.{Page, Record, Nothing}
+use Rattle.order_picture.specs.declared.focus.Focus.{Focus}
+use Rattle.order_picture.specs.declared.focus.Mark.{Mark}
+use Rattle.order_picture.specs.declared.focus.Mark.TheVariants.{Faulty, Concerned, OfPage, Plain}
+
+-- a use, a release or a miss is about its page, a look about what the placement is about
+abbrev pub guest_about : GuestRec → About
+guest_about (Read vcpu page cell value) = Page page
+guest_about (Write vcpu page cell value) = Page page
+guest_about (Release vcpu page) = Page page
+guest_about (Miss vcpu page) = Page page
+guest_about Halt = Nothing
+guest_about (Resume ready) = Nothing
+guest_about (See placement) = Record Pager placement
+
+-- a repeat is about what was sent, a question about what the delivery is about
+abbrev pub source_about : SourceRec → About
+source_about (Halted halt) = Nothing
+source_about State = Nothing
+source_about (Send page contents) = Page page
+source_about (Again sending) = Record Source sending
+source_about (Ask up) = Record Link up
+source_about Done = Nothing
+
+-- a delivery is about what was sent
+abbrev pub link_about : LinkRec → About
+link_about (Down sending) = Record Source sending
+link_about (Up asking) = Record Pager asking
+
+abbrev pub pager_about : PagerRec → About
+pager_about (Got down) = Record Link down
+pager_about Ready = Nothing
+pager_about (Fault miss) = Record Guest miss
+pager_about (Join want) = Record Pager want
+pager_about (Want page) = Page page
+pager_about (Place page got contents) = Page page
+pager_about (Zero page) = Page page
+pager_about (Skip got) = Record Pager got
+pager_about All = Nothing
+
+abbrev pub about_in : {X : Type 0} → (X → About) → Option X → About
+about_in f None = Nothing
+about_in f (Some rec) = f rec
+
+-- what the record of this name is about
+abbrev pub about : Recorded → Name → About
+about s (Guest, n) = about_in guest_about (slice_get s.guest n)
+about s (Source, n) = about_in source_about (slice_get s.source n)
+about s (Link, n) = about_in link_about (slice_get s.link n)
+about s (Pager, n) = about_in pager_about (slice_get s.pager n)
+
+abbrev pub page_by : (Name → Option ℕ) → About → Option ℕ
+page_by next (Page page) = Some page
+page_by next (Record log place) = next (log, place)
+page_by next Nothing = None
+
+-- the page that a record is about, itself or by way of so many other records
+abbrev pub page_within : ℕ → Recorded → Name → Option ℕ
+page_within zero s name = None
+page_within (suc steps) s name = page_by (page_within steps s) (about s name)
+
+-- the page that a record is about: what came and was dropped is about what was got, delivered, and sent again
+abbrev pub page_of : Recorded → Name → Option ℕ
+page_of s name = page_within 5 s name
+
+-- whether the name is this one, if there is one
+abbrev pub is_one : Option Name → Name → Bool
+is_one None name = false
+is_one (Some one) name = same_log one.0 name.0 && one.1 == name.1
+
+-- whether both are the same page
+abbrev pub is_page : Option ℕ → Option ℕ → Bool
+is_page None other = false
+is_page (Some page) None = false
+is_page (Some page) (Some other) = page == other
+
+-- how a record is marked
+abbrev pub mark_of : Recorded → Focus → Name → Mark
+mark_of s focus name =
+    if is_one focus.fault name then Faulty
+    else if is_one focus.concerned name then Concerned
+    else if is_page focus.page (page_of s name) then OfPage
+    else Plain

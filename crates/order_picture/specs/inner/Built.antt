@@ -1,0 +1,27 @@
+-- Rows while they are built.
+use Rattle.std.specs.Prelude.{◌≡◌, nat_lt, true, List, [], ◌∷◌, ◌++◌, length, if◌then◌else◌}
+use Rattle.std.specs.List.{list_any}
+use Rattle.migration_types.specs.Receipts.{Name}
+use Rattle.audit_model.specs.Mergings.{at_start}
+use Rattle.audit_model.specs.Walks.{cursors_from}
+use Rattle.merge_runs.specs.Taken.{cursors_of}
+use Rattle.order_picture.specs.declared.focus.Mark.{Mark}
+use Rattle.order_picture.specs.declared.picture.Row.{Row}
+use Rattle.order_picture.specs.declared.picture.Row.TheVariants.{Fold}
+use Rattle.order_picture.specs.declared.rows.Building.{Building}
+use Rattle.order_picture.specs.Rows.{Covers, is_faulty, shows_fault}
+
+-- the rows, with what came since the last one as a row of its own, if something came
+abbrev pub closed_rows : Building → List Row
+closed_rows b = if nat_lt 0 b.folded then b.rows.items ++ Fold b.since ∷ [] else b.rows.items
+
+-- these names came: the rows cover the first of them, and the others are folded
+pub record IsBuilt (mark : Name → Mark) (b : Building) (names : List Name) : Type 0 where
+  pub covered : List Name
+  pub folded : List Name
+  pub parts : names ≡ covered ++ folded
+  pub covers : Covers mark b.rows.items covered
+  pub counts : cursors_of b.since ≡ cursors_from at_start folded
+  pub count : b.folded ≡ length folded
+  pub shown : shows_fault b.rows.items ≡ list_any (λ name. is_faulty (mark name)) names
+  pub spent : b.fault_left ≡ 0 → shows_fault b.rows.items ≡ true

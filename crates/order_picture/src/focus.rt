@@ -1,0 +1,157 @@
+//! What a picture is about: the faulty record, what it concerns, and its page.
+
+ghost use Rattle.std.specs.Prelude.{◌≡◌, option_and_then};
+ghost use Rattle.order_picture.specs.Subjects.{is_page, mark_of, page_of};
+ghost use Rattle.order_picture.specs.Pictures.{IsFault, IsFocus};
+
+use crate::records::{Name, is_one, record_at};
+use crate::subjects::page_of;
+use audit_model::{is_halt, is_placement_of, is_send_of};
+use audit_report::Report;
+use migration_types::{GuestRec, LogName, PageNo, Session};
+
+/// Why a record stands out.
+#[derive(Clone, Copy, Debug, PartialEq, Eq)]
+pub enum Mark {
+    /// It is the faulty record of the report.
+    Faulty,
+    /// It is the placement, the sending or the use that the faulty record concerns.
+    Concerned,
+    /// It is about the page of the faulty record.
+    OfPage,
+    Plain,
+}
+
+/// What a picture is about.
+#[derive(Clone, Copy)]
+pub struct Focus {
+    /// The faulty record.
+    pub fault: Option<Name>,
+    /// The record that the fault concerns.
+    pub concerned: Option<Name>,
+    /// The page that the faulty record is about.
+    pub page: Option<PageNo>,
+}
+
+/// Whether both are the same page.
+fn is_page(page: Option<PageNo>, other: Option<PageNo>) -> bool
+    ensures { result ≡ is_page page other }
+{
+    match (page, other) {
+        (Some(page), Some(other)) => page.number() == other.number(),
+        _ => false,
+    }
+}
+
+/// How a record is marked.
+pub(crate) fn mark_of(session: &Session, focus: &Focus, name: Name) -> Mark
+    ensures { result ≡ mark_of session.now focus.now name }
+{
+    if is_one(focus.fault, name) {
+        return Mark::Faulty;
+    }
+    if is_one(focus.concerned, name) {
+        return Mark::Concerned;
+    }
+    let page = page_of(session, name);
+    if is_page(focus.page, page) {
+        Mark::OfPage
+    } else {
+        Mark::Plain
+    }
+}
+
+/// The faulty record of a report.
+fn fault_of(session: &Session, report: &Report) -> Option<Name>
+    ensures { IsFault session.now report.now result }
+{
+    match report {
+        Report::Shape(fault) => record_at(session, fault.line),
+        Report::Faulty { line, .. } => record_at(session, *line),
+        Report::Knot(_) => None,
+        Report::Clean(_) => None,
+    }
+}
+
+/// The pager's first placement of a page.
+fn first_placement(session: &Session, page: PageNo) -> Option<Name> {
+    let place = session
+        .pager()
+        .iter()
+        .position(|rec| is_placement_of(rec, page))?;
+    Some((LogName::Pager, u32::try_from(place).ok()?))
+}
+
+/// The source's first sending of a page.
+fn first_send(session: &Session, page: PageNo) -> Option<Name> {
+    let place = session
+        .source()
+        .iter()
+        .position(|rec| is_send_of(rec, page))?;
+    Some((LogName::Source, u32::try_from(place).ok()?))
+}
+
+/// Whether the record writes or releases the page.
+fn changes(rec: &GuestRec, page: PageNo) -> bool {
+    match rec {
+        GuestRec::Write { page: changed, .. } => changed.number() == page.number(),
+        GuestRec::Release { page: changed, .. } => changed.number() == page.number(),
+        _ => false,
+    }
+}
+
+/// The guest's last write or release of a page before the halt.
+fn last_change(session: &Session, page: PageNo) -> Option<Name> {
+    let mut last = None;
+    for (place, rec) in session.guest().iter().enumerate() {
+        if is_halt(rec) {
+            break;
+        }
+        if changes(rec, page) {
+            last = Some(place);
+        }
+    }
+    Some((LogName::Guest, u32::try_from(last?).ok()?))
+}
+
+/// The record that a fault of this record, about this page, concerns: of a use the page's first placement, of a sending
+/// the last change of the page before the halt, of a placement an earlier one, or else the page's sending.
+fn concerned_by(session: &Session, fault: Name, page: PageNo) -> Option<Name> {
+    match fault.0 {
+        LogName::Guest => first_placement(session, page),
+        LogName::Source => last_change(session, page),
+        LogName::Link => None,
+        LogName::Pager => {
+            let first = first_placement(session, page);
+            if is_one(first, fault) {
+                first_send(session, page)
+            } else {
+                first
+            }
+        }
+    }
+}
+
+/// What the picture of a report is about.
+pub(crate) fn focus_of(session: &Session, report: &Report) -> Focus
+    ensures { IsFocus session.now report.now result }
+{
+    let fault = fault_of(session, report);
+    let Some(name) = fault else {
+        return Focus {
+            fault,
+            concerned: None,
+            page: None,
+        };
+    };
+    let page = page_of(session, name);
+    let concerned = match page {
+        Some(page) => concerned_by(session, name, page),
+        None => None,
+    };
+    Focus {
+        fault,
+        concerned,
+        page,
+    }
+}

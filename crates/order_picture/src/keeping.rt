@@ -1,0 +1,147 @@
+//! Which records of an order have a row of their own: the page's, what these receive, the halt and the resume, and those
+//! that stand next to the faulty one; of too many the first, the last, and those nearest to it.
+
+use crate::focus::{Focus, Mark, mark_of};
+use crate::records::{Name, receipt};
+use migration_types::{GuestRec, LogName, Session};
+use std::alloc::{AllocError, Global};
+
+/// So many are kept at each end of the order.
+const MOST_AT_ENDS: usize = 8;
+
+/// So many are kept on each side of the middle.
+const MOST_BESIDE: usize = 40;
+
+/// The place of a record among all of a session.
+fn place_among(session: &Session, name: Name) -> usize {
+    let guest = session.guest().len();
+    let source = guest.saturating_add(session.source().len());
+    let link = source.saturating_add(session.link().len());
+    let before = match name.0 {
+        LogName::Guest => 0,
+        LogName::Source => guest,
+        LogName::Link => source,
+        LogName::Pager => link,
+    };
+    before.saturating_add(name.1 as usize)
+}
+
+/// Says of a place that it is wanted, if it is there.
+fn want(wanted: &mut Vec<bool>, place: usize) {
+    if let Some(is_wanted) = wanted.get_mut(place) {
+        *is_wanted = true;
+    }
+}
+
+/// Whether a place is wanted.
+fn is_wanted(wanted: &[bool], place: usize) -> bool {
+    wanted.get(place).copied().unwrap_or(false)
+}
+
+/// Whether the record is the halt or the resume.
+fn hands_over(session: &Session, name: Name) -> bool {
+    name.0 == LogName::Guest
+        && matches!(
+            session.guest().get(name.1 as usize),
+            Some(GuestRec::Halt | GuestRec::Resume { .. })
+        )
+}
+
+/// Whether a record concerns what the picture is about: a page, or, where there is none, the order.
+fn concerns(session: &Session, focus: &Focus, name: Name) -> bool {
+    if hands_over(session, name) {
+        return true;
+    }
+    match mark_of(session, focus, name) {
+        Mark::Plain => focus.page.is_none() && receipt(session, name).is_some(),
+        _ => true,
+    }
+}
+
+/// Which records of the session concern what the picture is about, or are received by such a one.
+fn concerned(
+    alloc: Global,
+    session: &Session,
+    focus: &Focus,
+    order: &[Name],
+) -> Result<Vec<bool>, AllocError> {
+    let before = place_among(session, (LogName::Pager, 0));
+    let count = before.saturating_add(session.pager().len());
+    let mut flags = vec![in alloc; false; count]?;
+    for name in order {
+        if concerns(session, focus, *name) {
+            want(&mut flags, place_among(session, *name));
+            if let Some(sent) = receipt(session, *name) {
+                want(&mut flags, place_among(session, sent));
+            }
+        }
+    }
+    Ok(flags)
+}
+
+/// The same by the places of the order.
+fn in_order(
+    alloc: Global,
+    session: &Session,
+    order: &[Name],
+    flags: &[bool],
+) -> Result<Vec<bool>, AllocError> {
+    let mut wanted = vec![in alloc; false; order.len()]?;
+    for (n, name) in order.iter().enumerate() {
+        if is_wanted(flags, place_among(session, *name)) {
+            want(&mut wanted, n);
+        }
+    }
+    Ok(wanted)
+}
+
+/// How many places before this one are wanted.
+fn wanted_before(wanted: &[bool], place: usize) -> usize {
+    wanted.iter().take(place).filter(|is| **is).count()
+}
+
+/// Leaves the first and the last of too many, and those nearest to this place.
+fn leave_nearest(wanted: &mut Vec<bool>, middle: usize) {
+    let count = wanted_before(wanted, wanted.len());
+    let rank = wanted_before(wanted, middle);
+    let mut at: usize = 0;
+    for is_wanted in wanted.iter_mut() {
+        if *is_wanted {
+            let is_at_end =
+                at < MOST_AT_ENDS || at.saturating_add(MOST_AT_ENDS) >= count;
+            let is_near = at.saturating_add(MOST_BESIDE) >= rank
+                && at <= rank.saturating_add(MOST_BESIDE);
+            *is_wanted = is_at_end || is_near;
+            at = at.saturating_add(1);
+        }
+    }
+}
+
+/// A single record between two that are wanted takes no more room than what would stand for it.
+fn fill_gaps(wanted: &mut Vec<bool>) {
+    for n in 1..wanted.len() {
+        if is_wanted(wanted, n - 1) && is_wanted(wanted, n.saturating_add(1)) {
+            want(wanted, n);
+        }
+    }
+}
+
+/// Which places of an order have a row of their own, of which this is the middle. Takes a flag for each record. An error:
+/// there is no memory for it.
+pub(crate) fn kept_in(
+    alloc: Global,
+    session: &Session,
+    focus: &Focus,
+    order: &[Name],
+    middle: usize,
+) -> Result<Vec<bool>, AllocError> {
+    let flags = concerned(alloc, session, focus, order)?;
+    let mut wanted = in_order(alloc, session, order, &flags)?;
+    if focus.fault.is_some() {
+        want(&mut wanted, middle.saturating_sub(1));
+        want(&mut wanted, middle.saturating_add(1));
+    }
+    leave_nearest(&mut wanted, middle);
+    fill_gaps(&mut wanted);
+    Ok(wanted)
+}

@@ -1,0 +1,19 @@
+//! The picture of a session's records in an order: first a plan of it as values (which records have a row, which are
+//! folded, what is marked, which record receives which), then its text as SVG.
+#![tactic(auto)]
+
+mod focus;
+mod keeping;
+mod labels;
+mod order;
+mod picture;
+mod records;
+mod rows;
+mod shapes;
+mod subjects;
+mod svg;
+mod words;
+
+pub use focus::{Focus, Mark};
+pub use picture::{MOST_ROWS, Picture, Row, plan, plan_along};
+pub use svg::{Shown, picture_text};

@@ -1,0 +1,152 @@
+//! The plan of a picture.
+
+ghost use Rattle.std.specs.Prelude.{◌≡◌, IfOk, map, position};
+ghost use Rattle.order_picture.specs.Rows.{is_row_of, row_receipt, sender_of};
+ghost use Rattle.order_picture.specs.Pictures.{IsPicture, IsPictureOf};
+
+use crate::focus::{Focus, Mark, focus_of};
+use crate::keeping::kept_in;
+use crate::order::{Drawn, draw_along};
+use crate::rows::rows_of;
+use crate::records::{Name, is_one, receipt};
+use audit_report::Report;
+use cert_maker::found_runs;
+use merge_runs::Taken;
+use migration_types::{GuestRec, LogName, Run, Session};
+use std::alloc::{AllocError, Global};
+
+/// A picture has at most so many rows.
+pub const MOST_ROWS: usize = 203;
+
+/// A row of a picture.
+#[derive(Clone, Copy)]
+pub enum Row {
+    /// The record of this log and number.
+    Record { log: LogName, place: u32, mark: Mark },
+    /// So many records of each log.
+    Fold(Taken),
+}
+
+/// The plan of a picture.
+#[derive(Drop)]
+pub struct Picture {
+    /// The rows, from the first record on.
+    pub rows: Vec<Row>,
+    /// For each row the row whose record it receives, if that has one.
+    pub senders: Vec<Option<usize>>,
+    /// How many records of each log it has.
+    pub taken: Taken,
+    /// The place of the first run that cannot be taken, or the number of the runs where records are left; none where it has
+    /// all records.
+    pub bad: Option<usize>,
+    /// What it is about.
+    pub focus: Focus,
+}
+
+/// Whether it is the row of this record.
+fn is_row_of(name: Name, row: &Row) -> bool
+    ensures { result ≡ is_row_of name row.now }
+{
+    match row {
+        Row::Record { log, place, .. } => is_one(Some(name), (*log, *place)),
+        Row::Fold(_) => false,
+    }
+}
+
+/// The record that the row's record is a receipt for.
+fn row_receipt(session: &Session, row: &Row) -> Option<Name>
+    ensures { result ≡ row_receipt session.now row.now }
+{
+    match row {
+        Row::Record { log, place, .. } => receipt(session, (*log, *place)),
+        Row::Fold(_) => None,
+    }
+}
+
+/// The place of the row of this record.
+fn row_with(rows: &[Row], name: Name) -> Option<usize>
+    ensures { result ≡ position (is_row_of name) rows.now }
+{
+    rows.iter().position(|row| is_row_of(name, row))
+}
+
+/// The place of the row whose record the row's record receives.
+fn sender_of(session: &Session, rows: &[Row], row: &Row) -> Option<usize>
+    ensures { result ≡ sender_of session.now rows.now row.now }
+{
+    match row_receipt(session, row) {
+        Some(name) => row_with(rows, name),
+        None => None,
+    }
+}
+
+/// For each row the row whose record it receives.
+fn senders_of(alloc: Global, session: &Session, rows: &[Row]) -> Result<Vec<Option<usize>>, AllocError>
+    ensures { IfOk result (λ senders. senders.items ≡ map (sender_of session.now rows.now) rows.now) }
+{
+    rows.iter().map(|row| sender_of(session, rows, row)).collect(alloc)
+}
+
+/// Whether the guest goes on at the target with this record.
+fn resumes(session: &Session, name: Name) -> bool {
+    name.0 == LogName::Guest
+        && matches!(
+            session.guest().get(name.1 as usize),
+            Some(GuestRec::Resume { .. })
+        )
+}
+
+/// Around which place of an order most is shown: the faulty record, or the end where the order is not whole, or the resume.
+fn middle_of(session: &Session, focus: &Focus, order: &[Name], is_whole: bool) -> usize {
+    if let Some(place) = order.iter().position(|name| is_one(focus.fault, *name)) {
+        return place;
+    }
+    if !is_whole {
+        return order.len();
+    }
+    order
+        .iter()
+        .position(|name| resumes(session, *name))
+        .unwrap_or(0)
+}
+
+/// The picture of a session's records along runs: of all of them, where the runs spell a merging, and else of those that the
+/// runs before the first bad one take.
+pub fn plan_along(
+    alloc: Global,
+    session: &Session,
+    report: &Report,
+    runs: &[Run],
+) -> Result<Picture, AllocError>
+    ensures { IfOk result (IsPictureOf session.now report.now runs.now) }
+{
+    let focus = focus_of(session, report);
+    let Drawn { names, taken, bad } = draw_along(alloc, session, runs)?;
+    let middle = middle_of(session, &focus, &names, bad.is_none());
+    let wanted = kept_in(alloc, session, &focus, &names, middle)?;
+    let rows = rows_of(alloc, session, &focus, &names, &wanted)?;
+    let senders = senders_of(alloc, session, &rows)?;
+    Ok(Picture {
+        rows,
+        senders,
+        taken,
+        bad,
+        focus,
+    })
+}
+
+/// The picture of a report: along the runs that show its fault; of a clean session along those of its certificate; and where
+/// there is no such order, along the found order as far as it goes. Takes a few passes over the records, and memory for the
+/// names of the records and two flags for each. An error: there is no memory for them.
+pub fn plan(alloc: Global, session: &Session, report: &Report) -> Result<Picture, AllocError>
+    ensures { IfOk result (IsPicture session.now report.now) }
+{
+    match report {
+        Report::Faulty { order, .. } => plan_along(alloc, session, report, order.as_slice()),
+        Report::Clean(cert) => plan_along(alloc, session, report, cert.runs()),
+        Report::Shape(_) | Report::Knot(_) => {
+            let found = found_runs(alloc, session)?;
+            plan_along(alloc, session, report, found.runs.as_slice())
+        }
+    }
+}

@@ -1,0 +1,197 @@
+//! The rows of a picture, as they are built.
+
+ghost use Rattle.std.specs.Prelude.{◌≡◌, ◌+◌, ◌*◌, ◌≤◌, ◌<◌, ◌^◌, [], ◌∷◌, ◌++◌, List, IfOk, OnOk, length, true};
+ghost use Rattle.std.specs.List.{list_any};
+ghost use Rattle.migration_types.specs.Receipts.{Name as Named};
+ghost use Rattle.order_picture.specs.declared.focus.Mark.{Mark as Marked};
+ghost use Rattle.order_picture.specs.Subjects.{is_one, mark_of};
+ghost use Rattle.audit_model.specs.Mergings.{at_start};
+ghost use Rattle.merge_runs.specs.Taken.{cursors_of};
+ghost use Rattle.order_picture.specs.Rows.{Covers, is_faulty, shows_fault};
+ghost use Rattle.order_picture.specs.inner.Built.{IsBuilt, closed_rows};
+
+use crate::focus::{Focus, Mark, mark_of};
+use crate::picture::Row;
+use crate::records::Name;
+use merge_runs::Taken;
+use migration_types::{LogName, Session};
+use std::alloc::{AllocError, Global};
+
+/// So many rows there may be beside that of the faulty record, the fold before it, and the fold at the end.
+const MOST_OTHERS: usize = 200;
+
+/// The rows so far.
+#[derive(Drop)]
+pub(crate) struct Building {
+    pub rows: Vec<Row>,
+    /// How many records of each log came since the last row.
+    pub since: Taken,
+    /// How many these are in all.
+    pub folded: usize,
+    /// How many rows more there may be of others than the faulty record.
+    pub room: usize,
+    /// 1 until the faulty record came.
+    pub fault_left: usize,
+}
+
+/// Whether it is the faulty record's mark.
+fn is_faulty(mark: Mark) -> bool
+    ensures { result ≡ is_faulty mark }
+{
+    matches!(mark, Mark::Faulty)
+}
+
+impl Building {
+    /// No row.
+    fn new(alloc: Global) -> Self
+        ensures start { (mark : Named → Marked) → IsBuilt mark result [] }
+        ensures few { length result.rows.items + result.room + 2 * result.fault_left ≡ 202 }
+    {
+        Building {
+            rows: Vec::new(alloc),
+            since: Taken::nothing(),
+            folded: 0,
+            room: MOST_OTHERS,
+            fault_left: 1,
+        }
+    }
+
+    /// Puts what came since the last row into a row of its own, if something came.
+    fn close(&mut self) -> Result<(), AllocError>
+        ensures rows { OnOk result (self.new.rows.items ≡ closed_rows self.old) }
+        ensures since { OnOk result (cursors_of self.new.since ≡ at_start) }
+        ensures folded { OnOk result (self.new.folded ≡ 0) }
+        ensures room { OnOk result (self.new.room ≡ self.old.room) }
+        ensures fault_left { OnOk result (self.new.fault_left ≡ self.old.fault_left) }
+    {
+        if self.folded > 0 {
+            self.rows.push(Row::Fold(self.since))?;
+        }
+        self.since = Taken::nothing();
+        self.folded = 0;
+        Ok(())
+    }
+
+    /// Gives a record a row.
+    fn keep(&mut self, name: Name, mark: Mark) -> Result<(), AllocError>
+        ensures rows { OnOk result (self.new.rows.items ≡ closed_rows self.old ++ Row.Record name.0 name.1 mark ∷ []) }
+        ensures since { OnOk result (cursors_of self.new.since ≡ at_start) }
+        ensures folded { OnOk result (self.new.folded ≡ 0) }
+        ensures room { OnOk result (self.new.room ≡ self.old.room) }
+        ensures fault_left { OnOk result (self.new.fault_left ≡ self.old.fault_left) }
+    {
+        self.close()?;
+        self.rows.push(Row::Record {
+            log: name.0,
+            place: name.1,
+            mark,
+        })?;
+        Ok(())
+    }
+
+    /// Gives a record a row that counts as one of the others.
+    fn keep_other(&mut self, name: Name, mark: Mark) -> Result<(), AllocError>
+        requires { 2 ≤ self.old.room }
+        ensures built { (look : Named → Marked) (names : List Named) → mark ≡ look name → IsBuilt look self.old names → OnOk result (IsBuilt look self.new (names ++ name ∷ [])) }
+        ensures few { OnOk result (length self.new.rows.items + self.new.room + 2 * self.new.fault_left ≤ length self.old.rows.items + self.old.room + 2 * self.old.fault_left) }
+    {
+        let before = self.rows.len();
+        self.keep(name, mark)?;
+        self.room -= self.rows.len() - before;
+        Ok(())
+    }
+
+    /// Gives the faulty record its row.
+    fn keep_fault(&mut self, name: Name, mark: Mark) -> Result<(), AllocError>
+        requires left { 1 ≤ self.old.fault_left }
+        requires faulty { is_faulty mark ≡ true }
+        ensures built { (look : Named → Marked) (names : List Named) → mark ≡ look name → IsBuilt look self.old names → OnOk result (IsBuilt look self.new (names ++ name ∷ [])) }
+        ensures few { OnOk result (length self.new.rows.items + self.new.room + 2 * self.new.fault_left ≤ length self.old.rows.items + self.old.room + 2 * self.old.fault_left) }
+    {
+        self.keep(name, mark)?;
+        self.fault_left = 0;
+        Ok(())
+    }
+
+    /// Counts a record that has no row.
+    fn fold(&mut self, name: Name)
+        requires few { self.old.folded + 1 < 2 ^ 64 }
+        requires since { cursors_of self.old.since name.0 ≤ self.old.folded }
+        ensures built { (look : Named → Marked) (names : List Named) → (is_faulty (look name) ≡ true → self.old.fault_left ≡ 0) → IsBuilt look self.old names → IsBuilt look self.new (names ++ name ∷ []) }
+        ensures few { length self.new.rows.items + self.new.room + 2 * self.new.fault_left ≡ length self.old.rows.items + self.old.room + 2 * self.old.fault_left }
+    {
+        self.since = self.since.moved(name.0, 1);
+        self.folded += 1;
+    }
+
+    /// Takes the next record, another than the faulty one or the faulty one once more, which has a row where it is wanted and
+    /// there is room for it.
+    fn take_other(&mut self, name: Name, mark: Mark, wanted: bool) -> Result<(), AllocError>
+        requires few { self.old.folded + 1 < 2 ^ 64 }
+        requires since { cursors_of self.old.since name.0 ≤ self.old.folded }
+        requires other { is_faulty mark ≡ true → self.old.fault_left ≡ 0 }
+        ensures built { (look : Named → Marked) (names : List Named) → mark ≡ look name → IsBuilt look self.old names → OnOk result (IsBuilt look self.new (names ++ name ∷ [])) }
+        ensures few { OnOk result (length self.new.rows.items + self.new.room + 2 * self.new.fault_left ≤ length self.old.rows.items + self.old.room + 2 * self.old.fault_left) }
+    {
+        let room = self.room;
+        if !wanted || room < 2 {
+            self.fold(name);
+            return Ok(());
+        }
+        self.keep_other(name, mark)
+    }
+
+    /// Takes the next record, which has a row where it is wanted and there is room for it, and where it is the faulty one.
+    fn take(&mut self, name: Name, mark: Mark, wanted: bool) -> Result<(), AllocError>
+        requires few { self.old.folded + 1 < 2 ^ 64 }
+        requires since { cursors_of self.old.since name.0 ≤ self.old.folded }
+        ensures built { (look : Named → Marked) (names : List Named) → mark ≡ look name → IsBuilt look self.old names → OnOk result (IsBuilt look self.new (names ++ name ∷ [])) }
+        ensures few { OnOk result (length self.new.rows.items + self.new.room + 2 * self.new.fault_left ≤ length self.old.rows.items + self.old.room + 2 * self.old.fault_left) }
+    {
+        if self.fault_left == 0 {
+            return self.take_other(name, mark, wanted);
+        }
+        if is_faulty(mark) {
+            return self.keep_fault(name, mark);
+        }
+        self.take_other(name, mark, wanted)
+    }
+}
+
+/// Takes the records of an order, of which those at these places are wanted.
+fn take_all(
+    session: &Session,
+    focus: &Focus,
+    order: &[Name],
+    wanted: &[bool],
+    building: &mut Building,
+) -> Result<(), AllocError>
+    requires start { IsBuilt (mark_of session.now focus.now) building.old [] }
+    ensures built { OnOk result (IsBuilt (mark_of session.now focus.now) building.new order.now) }
+    ensures few { OnOk result (length building.new.rows.items + building.new.room + 2 * building.new.fault_left ≤ length building.old.rows.items + building.old.room + 2 * building.old.fault_left) }
+{
+    for n in 0..order.len() {
+        let mark = mark_of(session, focus, order[n]);
+        let is_wanted = wanted.get(n).copied().unwrap_or(false);
+        building.take(order[n], mark, is_wanted)?;
+    }
+    Ok(())
+}
+
+/// The rows of the records of an order, of which those at these places are wanted.
+pub(crate) fn rows_of(
+    alloc: Global,
+    session: &Session,
+    focus: &Focus,
+    order: &[Name],
+    wanted: &[bool],
+) -> Result<Vec<Row>, AllocError>
+    ensures covers { IfOk result (λ rows. Covers (mark_of session.now focus.now) rows.items order.now) }
+    ensures few { IfOk result (λ rows. length rows.items ≤ 203) }
+    ensures shown { IfOk result (λ rows. shows_fault rows.items ≡ list_any (is_one focus.now.fault) order.now) }
+{
+    let mut building = Building::new(alloc);
+    take_all(session, focus, order, wanted, &mut building)?;
+    building.close()?;
+    Ok(building.rows)
+}

@@ -1,0 +1,204 @@
+//! The shapes of a picture: boxes, arrows, and where they stand.
+
+use crate::focus::Mark;
+use crate::words::{push, push_with};
+use migration_types::LogName;
+use std::alloc::AllocError;
+
+/// The width of a picture, in pixels, as all lengths here.
+pub(crate) const WIDTH: u64 = 900;
+
+/// Where the first row begins.
+pub(crate) const TOP: u64 = 136;
+
+/// The height of a row.
+pub(crate) const ROW: u64 = 26;
+
+/// The height of a record's box.
+const BOX: u64 = 20;
+
+/// How a record is drawn.
+#[derive(Clone, Copy)]
+pub(crate) enum Look {
+    Marked(Mark),
+    /// It cannot be taken.
+    Stuck,
+}
+
+/// The middle of a log's column.
+pub(crate) fn column(log: LogName) -> u64 {
+    match log {
+        LogName::Guest => 194,
+        LogName::Source => 422,
+        LogName::Link => 606,
+        LogName::Pager => 790,
+    }
+}
+
+/// Half the width of a box in a log's column.
+fn half(log: LogName) -> u64 {
+    match log {
+        LogName::Guest => 122,
+        _ => 80,
+    }
+}
+
+/// The upper edge of a row.
+pub(crate) fn top_of(row: usize) -> u64 {
+    (row as u64).saturating_mul(ROW).saturating_add(TOP)
+}
+
+/// The middle of a row.
+fn middle_of(row: usize) -> u64 {
+    top_of(row).saturating_add(ROW / 2)
+}
+
+/// Adds an attribute with a number.
+pub(crate) fn push_attribute(out: &mut Vec<u8>, name: &[u8], number: u64) -> Result<(), AllocError> {
+    push(out, b" ")?;
+    push(out, name)?;
+    push_with(out, b"='", number)?;
+    push(out, b"'")
+}
+
+/// The class of a record's row.
+pub(crate) fn row_class(look: Look) -> &'static [u8] {
+    match look {
+        Look::Marked(Mark::Faulty) => b"row record faulty",
+        Look::Marked(Mark::Concerned) => b"row record concerned",
+        Look::Marked(Mark::OfPage) => b"row record of-page",
+        Look::Marked(Mark::Plain) => b"row record",
+        Look::Stuck => b"row stuck",
+    }
+}
+
+/// How a record's box is painted.
+fn paint(look: Look) -> &'static [u8] {
+    match look {
+        Look::Marked(Mark::Faulty) => {
+            b" class='box-faulty' fill='#ffe3dc' stroke='#c21e1e' stroke-width='3.5'"
+        }
+        Look::Marked(Mark::Concerned) => {
+            b" class='box-concerned' fill='#fff3d6' stroke='#9a6700' stroke-width='2.5' stroke-dasharray='7 3'"
+        }
+        Look::Marked(Mark::OfPage) => {
+            b" class='box-page' fill='#dbeafe' stroke='#0969da' stroke-width='1.5'"
+        }
+        Look::Marked(Mark::Plain) => b" class='box' fill='#f6f8fa' stroke='#818b98'",
+        Look::Stuck => {
+            b" class='box-stuck' fill='#fbe7f3' stroke='#a40e6e' stroke-width='2' stroke-dasharray='2 3'"
+        }
+    }
+}
+
+/// Adds the sign of the faulty record, a cross, or of what it concerns, a diamond, at the right of its box.
+fn push_sign(out: &mut Vec<u8>, look: Look, log: LogName, row: usize) -> Result<(), AllocError> {
+    let sign: &[u8] = match look {
+        Look::Marked(Mark::Faulty) => {
+            b")'><path class='cross' d='M-4 -4L4 4M-4 4L4 -4' fill='none' stroke='#c21e1e' stroke-width='2.5'/></g>"
+        }
+        Look::Marked(Mark::Concerned) => {
+            b")'><path class='diamond' d='M0 -5L5 0L0 5L-5 0z' fill='#9a6700'/></g>"
+        }
+        _ => return Ok(()),
+    };
+    let x = column(log).saturating_add(half(log)).saturating_sub(12);
+    push_with(out, b"<g transform='translate(", x)?;
+    push_with(out, b" ", middle_of(row))?;
+    push(out, sign)
+}
+
+/// Adds a record's box, with its sign.
+pub(crate) fn push_box(out: &mut Vec<u8>, look: Look, log: LogName, row: usize) -> Result<(), AllocError> {
+    push(out, b"<rect")?;
+    push_attribute(out, b"x", column(log).saturating_sub(half(log)))?;
+    push_attribute(out, b"y", top_of(row).saturating_add(3))?;
+    push_attribute(out, b"width", half(log).saturating_mul(2))?;
+    push_attribute(out, b"height", BOX)?;
+    push(out, b" rx='4'")?;
+    push(out, paint(look))?;
+    push(out, b"/>")?;
+    push_sign(out, look, log, row)
+}
+
+/// Begins a text at the left of a record's box.
+pub(crate) fn begin_label(out: &mut Vec<u8>, log: LogName, row: usize) -> Result<(), AllocError> {
+    push(out, b"<text class='ink' fill='#1f2328'")?;
+    push_attribute(out, b"x", column(log).saturating_sub(half(log)).saturating_add(7))?;
+    push_attribute(out, b"y", top_of(row).saturating_add(17))?;
+    push(out, b">")
+}
+
+/// Begins a text at the left of a row.
+pub(crate) fn begin_margin(out: &mut Vec<u8>, row: usize) -> Result<(), AllocError> {
+    push(out, b"<text class='soft' fill='#59636e' text-anchor='end' x='62'")?;
+    push_attribute(out, b"y", top_of(row).saturating_add(17))?;
+    push(out, b">")
+}
+
+/// Begins the text of what is folded.
+pub(crate) fn begin_fold(out: &mut Vec<u8>, row: usize) -> Result<(), AllocError> {
+    push(out, b"<rect class='fold' x='240' width='440' height='18' rx='9' fill='#ffffff' stroke='#818b98' stroke-dasharray='1 3'")?;
+    push_attribute(out, b"y", top_of(row).saturating_add(4))?;
+    push(out, b"/><text class='soft' fill='#59636e' text-anchor='middle' x='460'")?;
+    push_attribute(out, b"y", top_of(row).saturating_add(17))?;
+    push(out, b">")
+}
+
+/// Begins a line.
+fn begin_line(out: &mut Vec<u8>, x1: u64, y1: u64, x2: u64, y2: u64) -> Result<(), AllocError> {
+    push(out, b"<line")?;
+    push_attribute(out, b"x1", x1)?;
+    push_attribute(out, b"y1", y1)?;
+    push_attribute(out, b"x2", x2)?;
+    push_attribute(out, b"y2", y2)
+}
+
+/// Adds the line down a log's column, up to behind so many rows.
+pub(crate) fn push_column(out: &mut Vec<u8>, log: LogName, rows: usize) -> Result<(), AllocError> {
+    let x = column(log);
+    begin_line(out, x, TOP - 6, x, top_of(rows))?;
+    push(out, b" class='life' stroke='#d1d9e0'/>")
+}
+
+/// Where an arrow meets a log's box on the side of another log.
+fn side(log: LogName, other: LogName) -> u64 {
+    if column(other) < column(log) {
+        column(log).saturating_sub(half(log))
+    } else {
+        column(log).saturating_add(half(log))
+    }
+}
+
+/// Adds an arrow from one record to another, of the page's colour or not.
+pub(crate) fn push_arrow(
+    out: &mut Vec<u8>,
+    from: (LogName, usize),
+    to: (LogName, usize),
+    of_page: bool,
+) -> Result<(), AllocError> {
+    begin_line(
+        out,
+        side(from.0, to.0),
+        middle_of(from.1),
+        side(to.0, from.0),
+        middle_of(to.1),
+    )?;
+    if of_page {
+        push(out, b" class='arrow-page' stroke='#0969da' stroke-width='2' marker-end='url(#head-page)'/>")
+    } else {
+        push(out, b" class='arrow' stroke='#6e7781' stroke-width='1.2' marker-end='url(#head)'/>")
+    }
+}
+
+/// Adds the end of an arrow from a record that has no row.
+pub(crate) fn push_stub(out: &mut Vec<u8>, sender: LogName, log: LogName, row: usize) -> Result<(), AllocError> {
+    let x = side(log, sender);
+    let from = if column(sender) < column(log) {
+        x.saturating_sub(22)
+    } else {
+        x.saturating_add(22)
+    };
+    begin_line(out, from, middle_of(row), x, middle_of(row))?;
+    push(out, b" class='arrow' stroke='#6e7781' stroke-width='1.2' stroke-dasharray='3 2' marker-end='url(#head)'/>")
+}
