@@ -10,7 +10,7 @@ use Rattle.command_words.specs.declared.asked.Asked.{Asked}
 use Rattle.command_words.specs.declared.asked.Asked.TheVariants.{One, Two, Migrate}
 use Rattle.command_words.specs.declared.asked.Carrier.TheVariants.{Memory}
 use Rattle.command_words.specs.declared.asked.OneText.{OneText}
-use Rattle.command_words.specs.declared.asked.OneText.TheVariants.{Certify, Audit}
+use Rattle.command_words.specs.declared.asked.OneText.TheVariants.{Certify, Audit, Explain}
 use Rattle.command_words.specs.declared.asked.TwoTexts.{TwoTexts}
 use Rattle.command_words.specs.declared.asked.TwoTexts.TheVariants.{Check, Replay, Steps}
 use Rattle.command_words.specs.Words.{IsPlain, IsPlainName, asked, asked_by, postcopy_words, with_names}
@@ -34,6 +34,7 @@ pub record IsTaken (words : List Text) (job : Asked Text) : Type 0 where
 one_name : OneText → Text
 one_name Certify = codes "certify"
 one_name Audit = codes "audit"
+one_name Explain = codes "explain"
 
 two_name : TwoTexts → Text
 two_name Check = codes "check"
@@ -48,6 +49,9 @@ taken_one Certify program _ (Other a front d) = record { taken = simp d; given =
 taken_one Audit program _ Dash = record { taken = refl; given = refl }
 taken_one Audit program _ Empty = record { taken = refl; given = refl }
 taken_one Audit program _ (Other a front d) = record { taken = simp d; given = simp d }
+taken_one Explain program _ Dash = record { taken = refl; given = refl }
+taken_one Explain program _ Empty = record { taken = refl; given = refl }
+taken_one Explain program _ (Other a front d) = record { taken = simp d; given = simp d }
 
 taken_two : (task : TwoTexts) (program first second : Text) → Form first → Form second → IsTaken (program ∷ two_name task ∷ first ∷ second ∷ []) (Two task first second)
 unfolding clap_on_literals two_name
@@ -112,25 +116,26 @@ migrate_taken program word (name ∷ other ∷ third ∷ rest) job plain e = let
 
 -- the row of a name is the first that has it
 row_taken : (program name : Text) (names : List Text) (job : Asked Text) → AllByRecursion IsPlainName names
-    → (check certify audit replay steps migrate : Bool)
-    → (check ≡ true → codes "check" ≡ name) → (certify ≡ true → codes "certify" ≡ name) → (audit ≡ true → codes "audit" ≡ name) → (replay ≡ true → codes "replay" ≡ name) → (steps ≡ true → codes "steps" ≡ name) → (migrate ≡ true → codes "migrate" ≡ name)
-    → option_and_then (λ (row : Text × Asked Text). with_names names row.1) (cond check (Some (codes "check", Two Check (codes "SESSION") (codes "CERT"))) (cond certify (Some (codes "certify", One Certify (codes "SESSION"))) (cond audit (Some (codes "audit", One Audit (codes "SESSION"))) (cond replay (Some (codes "replay", Two Replay (codes "SESSION") (codes "RUNS"))) (cond steps (Some (codes "steps", Two Steps (codes "SCRIPT") (codes "EVENTS"))) (cond migrate (Some (codes "migrate", Migrate Memory (codes "SCRIPT"))) None)))))) ≡ Some job
+    → (check certify audit explain replay steps migrate : Bool)
+    → (check ≡ true → codes "check" ≡ name) → (certify ≡ true → codes "certify" ≡ name) → (audit ≡ true → codes "audit" ≡ name) → (explain ≡ true → codes "explain" ≡ name) → (replay ≡ true → codes "replay" ≡ name) → (steps ≡ true → codes "steps" ≡ name) → (migrate ≡ true → codes "migrate" ≡ name)
+    → option_and_then (λ (row : Text × Asked Text). with_names names row.1) (cond check (Some (codes "check", Two Check (codes "SESSION") (codes "CERT"))) (cond certify (Some (codes "certify", One Certify (codes "SESSION"))) (cond audit (Some (codes "audit", One Audit (codes "SESSION"))) (cond explain (Some (codes "explain", One Explain (codes "SESSION"))) (cond replay (Some (codes "replay", Two Replay (codes "SESSION") (codes "RUNS"))) (cond steps (Some (codes "steps", Two Steps (codes "SCRIPT") (codes "EVENTS"))) (cond migrate (Some (codes "migrate", Migrate Memory (codes "SCRIPT"))) None))))))) ≡ Some job
     → IsTaken (program ∷ name ∷ names) job
 unfolding one_name two_name
-row_taken program name names job plain true certify audit replay steps migrate a b c d f g e = subst (λ (x : Text). IsTaken (program ∷ x ∷ names) job) (a refl) (two_taken Check program _ _ names job plain e)
-row_taken program name names job plain false true audit replay steps migrate a b c d f g e = subst (λ (x : Text). IsTaken (program ∷ x ∷ names) job) (b refl) (one_taken Certify program _ names job plain e)
-row_taken program name names job plain false false true replay steps migrate a b c d f g e = subst (λ (x : Text). IsTaken (program ∷ x ∷ names) job) (c refl) (one_taken Audit program _ names job plain e)
-row_taken program name names job plain false false false true steps migrate a b c d f g e = subst (λ (x : Text). IsTaken (program ∷ x ∷ names) job) (d refl) (two_taken Replay program _ _ names job plain e)
-row_taken program name names job plain false false false false true migrate a b c d f g e = subst (λ (x : Text). IsTaken (program ∷ x ∷ names) job) (f refl) (two_taken Steps program _ _ names job plain e)
-row_taken program name names job plain false false false false false true a b c d f g e = subst (λ (x : Text). IsTaken (program ∷ x ∷ names) job) (g refl) (migrate_taken program _ names job plain e)
-row_taken program name names job plain false false false false false false a b c d f g e = let none : None ≡ Some job = e in absurd cc
+row_taken program name names job plain true certify audit explain replay steps migrate a b c d f g h e = subst (λ (x : Text). IsTaken (program ∷ x ∷ names) job) (a refl) (two_taken Check program _ _ names job plain e)
+row_taken program name names job plain false true audit explain replay steps migrate a b c d f g h e = subst (λ (x : Text). IsTaken (program ∷ x ∷ names) job) (b refl) (one_taken Certify program _ names job plain e)
+row_taken program name names job plain false false true explain replay steps migrate a b c d f g h e = subst (λ (x : Text). IsTaken (program ∷ x ∷ names) job) (c refl) (one_taken Audit program _ names job plain e)
+row_taken program name names job plain false false false true replay steps migrate a b c d f g h e = subst (λ (x : Text). IsTaken (program ∷ x ∷ names) job) (d refl) (one_taken Explain program _ names job plain e)
+row_taken program name names job plain false false false false true steps migrate a b c d f g h e = subst (λ (x : Text). IsTaken (program ∷ x ∷ names) job) (f refl) (two_taken Replay program _ _ names job plain e)
+row_taken program name names job plain false false false false false true migrate a b c d f g h e = subst (λ (x : Text). IsTaken (program ∷ x ∷ names) job) (g refl) (two_taken Steps program _ _ names job plain e)
+row_taken program name names job plain false false false false false false true a b c d f g h e = subst (λ (x : Text). IsTaken (program ∷ x ∷ names) job) (h refl) (migrate_taken program _ names job plain e)
+row_taken program name names job plain false false false false false false false a b c d f g h e = let none : None ≡ Some job = e in absurd cc
 
 same_text : (a b : Text) → bytes_eq a b ≡ true → a ≡ b
 same_text a b e = (bytes_eq-Decides a b).0 e
 
 -- plain words of a command are taken, and ask for it
 pub taken_plain : (words : List Text) (name : Text) (names : List Text) (job : Asked Text) → IsPlain words name names → asked_by name names ≡ Some job → IsTaken words job
-taken_plain words name names job h e = rw h.words_are (row_taken h.program name names job h.plain _ _ _ _ _ _ (same_text (codes "check") name) (same_text (codes "certify") name) (same_text (codes "audit") name) (same_text (codes "replay") name) (same_text (codes "steps") name) (same_text (codes "migrate") name) e)
+taken_plain words name names job h e = rw h.words_are (row_taken h.program name names job h.plain _ _ _ _ _ _ _ (same_text (codes "check") name) (same_text (codes "certify") name) (same_text (codes "audit") name) (same_text (codes "explain") name) (same_text (codes "replay") name) (same_text (codes "steps") name) (same_text (codes "migrate") name) e)
 
 -- a word or none is not taken, as a command has to be there
 pub bare_not_taken : (words : List Text) → length words ≤ 1 → takes postcopy_words words ≡ false

@@ -10,6 +10,8 @@ pub enum OneText {
     Certify,
     /// The report on a session.
     Audit,
+    /// What happened in a session, in words.
+    Explain,
 }
 
 /// A command on two texts.

@@ -72,7 +72,7 @@ pub fn carrier_named(name: &str) -> Option<Carrier>
         .copied()
 }
 
-static COMMANDS: [Row; 6] = [
+static COMMANDS: [Row; 7] = [
     Row {
         name: "check",
         about: "Judges the certificate of a session, as in: postcopy check session cert",
@@ -87,6 +87,11 @@ static COMMANDS: [Row; 6] = [
         name: "audit",
         about: "Writes the report on a session, as in: postcopy audit session",
         asked: Asked::One(OneText::Audit, SESSION),
+    },
+    Row {
+        name: "explain",
+        about: "Tells what happened in a session, with the records of its fault, as in: postcopy explain session",
+        asked: Asked::One(OneText::Explain, SESSION),
     },
     Row {
         name: "replay",

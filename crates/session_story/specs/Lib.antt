@@ -1,0 +1,8 @@
+pub mod Scans
+pub mod Lines
+pub mod Pages
+pub mod Values
+pub mod Looks
+pub mod Counted
+pub mod Waits
+pub mod Explained

@@ -1,0 +1,40 @@
+-- The story of a page: the records that say how it came from the source to the target.
+use Rattle.std.specs.Prelude.{◌≡◌, ℕ, Bool, false, ◌==◌, length, slice_get}
+use Rattle.migration_types.specs.declared.records.GuestRec.{GuestRec}
+use Rattle.migration_types.specs.declared.records.GuestRec.TheVariants.{Write, Release}
+use Rattle.migration_types.specs.declared.records.LinkRec.{LinkRec}
+use Rattle.migration_types.specs.declared.records.LinkRec.TheVariants.{Down, Up}
+use Rattle.migration_types.specs.Sessions.{Recorded}
+use Rattle.audit_model.specs.Flat.{at_halt}
+use Rattle.audit_model.specs.Shape.{passes, is_halt, is_resume, is_send_of, is_or_repeats, delivers}
+use Rattle.page_facts.specs.Tables.{first_before}
+use Rattle.page_facts.specs.Findings.{IsFindings}
+use Rattle.session_story.specs.Scans.{last_before}
+use Rattle.session_story.specs.declared.pages.PageStory.{PageStory}
+use Rattle.session_story.specs.declared.pages.Handover.{Handover}
+
+-- a write or a release of the page
+abbrev pub changes : ℕ → GuestRec → Bool
+changes page (Write vcpu p cell value) = p == page
+changes page (Release vcpu p) = p == page
+changes page _ = false
+
+-- a delivery of the page's `send`, or of a repeat of it
+abbrev pub carries : Recorded → ℕ → LinkRec → Bool
+carries s page (Down sending) = passes (is_or_repeats s (is_send_of page)) (slice_get s.source sending)
+carries s page (Up asking) = false
+
+-- the halt and the resume
+pub record IsHandover (s : Recorded) (h : Handover) : Type 0 where
+  pub halt : h.halt ≡ first_before (λ m. is_halt) s.guest (length s.guest)
+  pub resume : h.resume ≡ first_before (λ m. is_resume) s.guest (length s.guest)
+
+-- The last change of the page before the halt, its `send`, the first delivery of that packet, the pager's first `got` of
+-- it, and what the logs say of the page's placements, of its uses and of the looks at it.
+pub record IsPageStory (s : Recorded) (page : ℕ) (t : PageStory) : Type 0 where
+  pub page_is : t.page ≡ page
+  pub changed : t.changed ≡ last_before (λ m. changes page) s.guest (at_halt s)
+  pub sent : t.sent ≡ first_before (λ m. is_send_of page) s.source (length s.source)
+  pub delivered : t.delivered ≡ first_before (λ m. carries s page) s.link (length s.link)
+  pub got : t.got ≡ first_before (λ m r. delivers s (is_send_of page) m) s.pager (length s.pager)
+  pub found : IsFindings s page t.found
