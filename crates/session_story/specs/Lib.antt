@@ -4,5 +4,4 @@ pub mod Pages
 pub mod Values
 pub mod Looks
 pub mod Counted
-pub mod Waits
-pub mod Explained
+pub mod inner

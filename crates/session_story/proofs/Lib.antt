@@ -1,0 +1,3 @@
+pub mod Scanning
+pub mod Sectioning
+pub mod Looking

@@ -1,0 +1,4 @@
+-- What serves proofs alone.
+pub mod Questions
+pub mod Sections
+pub mod Cells

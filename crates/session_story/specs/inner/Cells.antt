@@ -1,0 +1,11 @@
+-- A page's cells beside contents.
+use Rattle.std.specs.Prelude.{◌≡◌, ◌≢◌, ℕ, ◌<◌, List, slice_index}
+
+-- the first cells are the same
+abbrev pub AreSame : List ℕ → (ℕ → ℕ) → ℕ → Type 0
+AreSame content cells n = (c : ℕ) → c < n → slice_index content c ≡ cells c
+
+pub record IsFirstOther (content : List ℕ) (cells : ℕ → ℕ) (count cell : ℕ) : Type 0 where
+  pub below : cell < count
+  pub differs : slice_index content cell ≢ cells cell
+  pub same_before : AreSame content cells cell

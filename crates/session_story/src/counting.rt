@@ -1,0 +1,52 @@
+//! How much there is of each thing in a session.
+
+ghost use Rattle.std.specs.Prelude.{◌≤◌, length};
+ghost use Rattle.migration_types.specs.Limits.{most_pages};
+ghost use Rattle.session_story.specs.Counted.{IsCounts};
+
+use crate::questions::{EntryQuestion, GuestQuestion, PagerQuestion, SourceQuestion};
+use crate::scans::count_of;
+use migration_types::{Entry, Session};
+
+/// How many pages came in which way, by a certificate, and how many records there are of some kinds.
+#[derive(Clone, Copy, Debug, PartialEq, Eq)]
+pub struct Counts {
+    /// Pages that were not placed.
+    pub unmoved: u32,
+    /// Pages that the source sent.
+    pub sent: u32,
+    /// Released pages that came back as zeros.
+    pub zeroed: u32,
+    /// Misses of the guest.
+    pub misses: u32,
+    /// First sendings of pages.
+    pub sends: u32,
+    /// Those of them that answered no question for their page.
+    pub pushes: u32,
+    /// Repeats of what was sent.
+    pub repeats: u32,
+    /// Misses that waited for a page that was asked for already.
+    pub waits: u32,
+    /// Deliveries that the pager dropped.
+    pub dropped: u32,
+}
+
+/// How many pages came in which way, by the entries of a certificate, and how many records there are of some kinds. Takes
+/// a few passes over the logs, and no memory.
+pub fn counts_of(session: &Session, entries: &[Entry]) -> Counts
+    requires { length entries.now ≤ most_pages }
+    ensures { IsCounts session.now entries.now result }
+{
+    session.keeps_limits();
+    Counts {
+        unmoved: count_of(session, &EntryQuestion::Unmoved, entries),
+        sent: count_of(session, &EntryQuestion::Sent, entries),
+        zeroed: count_of(session, &EntryQuestion::Zeroed, entries),
+        misses: count_of(session, &GuestQuestion::Miss, session.guest()),
+        sends: count_of(session, &SourceQuestion::Send, session.source()),
+        pushes: count_of(session, &SourceQuestion::Push, session.source()),
+        repeats: count_of(session, &SourceQuestion::Again, session.source()),
+        waits: count_of(session, &PagerQuestion::Join, session.pager()),
+        dropped: count_of(session, &PagerQuestion::Skip, session.pager()),
+    }
+}

@@ -1,0 +1,17 @@
+//! What happened in a recorded session, in plain words: a fault with the records that it came from, a circle of records
+//! that wait for one another, or how a clean session went.
+#![tactic(auto)]
+
+mod counting;
+mod lines;
+mod looks;
+mod pages;
+mod questions;
+mod scans;
+mod values;
+
+pub use counting::{Counts, counts_of};
+pub use lines::record_at;
+pub use looks::{Look, greatest_look};
+pub use pages::{Handover, PageStory, handover_of, story_of};
+pub use values::{Held, instead_of, other_of};

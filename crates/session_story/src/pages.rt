@@ -1,0 +1,80 @@
+//! The story of a page.
+
+ghost use Rattle.std.specs.Prelude.{◌≡◌, ◌<◌, IfOk};
+ghost use Rattle.page_facts.specs.Findings.{IsFindings};
+ghost use Rattle.session_story.specs.Pages.{IsHandover, IsPageStory};
+
+use crate::questions::{GuestQuestion, LinkQuestion, PagerQuestion, SourceQuestion};
+use crate::scans::{first_of, last_of};
+use migration_types::{PageNo, Session};
+use page_facts::{Findings, frame_for, halt_place, judge_page, lists_for};
+use std::alloc::{AllocError, Global};
+
+/// The guest's records of its move.
+#[derive(Clone, Copy, Debug, PartialEq, Eq)]
+pub struct Handover {
+    /// Its first halt.
+    pub halt: Option<u32>,
+    /// Its first resume.
+    pub resume: Option<u32>,
+}
+
+/// How a page came from the source to the target, by the numbers of records.
+#[derive(Clone, Copy, Debug, PartialEq, Eq)]
+pub struct PageStory {
+    pub page: PageNo,
+    /// The guest's last write or release of it before the halt.
+    pub changed: Option<u32>,
+    /// The source's `send` of it.
+    pub sent: Option<u32>,
+    /// The link's first delivery of that packet, or of a repeat of it.
+    pub delivered: Option<u32>,
+    /// The pager's first `got` of such a delivery.
+    pub got: Option<u32>,
+    /// What the logs say of its placements, of its uses at the target and of the looks at it.
+    pub found: Findings,
+}
+
+/// The guest's halt and its resume. Takes no memory.
+pub fn handover_of(session: &Session) -> Handover
+    ensures { IsHandover session.now result }
+{
+    session.keeps_limits();
+    Handover {
+        halt: first_of(session, &GuestQuestion::Halt, session.guest()),
+        resume: first_of(session, &GuestQuestion::Resume, session.guest()),
+    }
+}
+
+/// What the logs say of a page.
+fn findings_for(alloc: Global, session: &Session, page: PageNo) -> Result<Findings, AllocError>
+    requires { page < session.now.geometry.pages }
+    ensures { IfOk result (IsFindings session.now page) }
+{
+    session.keeps_limits();
+    let lists = lists_for(alloc, session)?;
+    let mut frame = frame_for(alloc, session)?;
+    Ok(judge_page(session, &lists, &mut frame, page))
+}
+
+/// The story of a page. Takes a few passes over each log, and as much memory as judging does, which is the only error.
+pub fn story_of(alloc: Global, session: &Session, page: PageNo) -> Result<PageStory, AllocError>
+    requires { page < session.now.geometry.pages }
+    ensures { IfOk result (IsPageStory session.now page) }
+{
+    session.keeps_limits();
+    let found = findings_for(alloc, session, page)?;
+    let halt = halt_place(session.guest());
+    let changed = last_of(session, &GuestQuestion::Changes(page), session.guest(), halt);
+    let sent = first_of(session, &SourceQuestion::SendOf(page), session.source());
+    let delivered = first_of(session, &LinkQuestion::Carries(page), session.link());
+    let got = first_of(session, &PagerQuestion::Gets(page), session.pager());
+    Ok(PageStory {
+        page,
+        changed,
+        sent,
+        delivered,
+        got,
+        found,
+    })
+}

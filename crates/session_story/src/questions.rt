@@ -1,0 +1,224 @@
+//! What is asked of the records of each log, and of a certificate's entries.
+
+ghost use Rattle.std.specs.Prelude.{◌≡◌};
+ghost use Rattle.session_story.specs.Values.{sets};
+ghost use Rattle.session_story.specs.Pages.{changes, carries};
+ghost use Rattle.session_story.specs.Counted.{is_want_of, brings_want, takes_want, is_push};
+ghost use Rattle.session_story.specs.inner.Questions.{asks_guest, asks_source, asks_link, asks_pager, asks_entry};
+
+use crate::scans::Question;
+use audit_model::{delivers_send, is_halt, is_miss, is_resume, is_send_of};
+use migration_types::{Entry, GuestRec, LinkRec, PageNo, PagerRec, Session, SourceRec};
+
+/// What is asked of a record of the guest.
+#[derive(Clone, Copy)]
+pub(crate) enum GuestQuestion {
+    Halt,
+    Resume,
+    Miss,
+    /// Whether it writes or releases the page.
+    Changes(PageNo),
+    /// Whether it writes the cell, or releases its page.
+    Sets(PageNo, u16),
+}
+
+/// What is asked of a record of the source.
+#[derive(Clone, Copy)]
+pub(crate) enum SourceQuestion {
+    /// Whether it sends the page for the first time.
+    SendOf(PageNo),
+    /// Whether it sends some page for the first time.
+    Send,
+    /// Whether it does so though the source was not asked for that page right before.
+    Push,
+    Again,
+}
+
+/// What is asked of a record of the link.
+#[derive(Clone, Copy)]
+pub(crate) enum LinkQuestion {
+    /// Whether it delivers the page's `send`, or a repeat of it.
+    Carries(PageNo),
+}
+
+/// What is asked of a record of the pager.
+#[derive(Clone, Copy)]
+pub(crate) enum PagerQuestion {
+    /// Whether it takes the page's `send`, or a repeat of it.
+    Gets(PageNo),
+    Join,
+    Skip,
+}
+
+/// What is asked of an entry of a certificate.
+#[derive(Clone, Copy)]
+pub(crate) enum EntryQuestion {
+    Unmoved,
+    Sent,
+    Zeroed,
+}
+
+/// Whether a record writes or releases the page.
+fn changes(rec: &GuestRec, page: PageNo) -> bool
+    ensures { result ≡ changes page rec.now }
+{
+    match *rec {
+        GuestRec::Write { page: written, .. } => written.number() == page.number(),
+        GuestRec::Release { page: released, .. } => released.number() == page.number(),
+        _ => false,
+    }
+}
+
+/// Whether a record writes the cell, or releases its page.
+fn sets(rec: &GuestRec, page: PageNo, cell: u16) -> bool
+    ensures { result ≡ sets page cell rec.now }
+{
+    match *rec {
+        GuestRec::Write {
+            page: written,
+            cell: at,
+            ..
+        } => written.number() == page.number() && at == cell,
+        GuestRec::Release { page: released, .. } => released.number() == page.number(),
+        _ => false,
+    }
+}
+
+/// Whether a record delivers the page's `send`, or a repeat of it.
+fn carries(session: &Session, rec: &LinkRec, page: PageNo) -> bool
+    ensures { result ≡ carries session.now page rec.now }
+{
+    let source = session.source();
+    match *rec {
+        LinkRec::Down { sending } => match source.get(sending as usize) {
+            Some(SourceRec::Again { sending }) => source
+                .get(*sending as usize)
+                .is_some_and(|rec| is_send_of(rec, page)),
+            Some(rec) => is_send_of(rec, page),
+            None => false,
+        },
+        LinkRec::Up { .. } => false,
+    }
+}
+
+/// Whether a record asks for the page.
+fn is_want_of(rec: &PagerRec, page: PageNo) -> bool
+    ensures { result ≡ is_want_of page rec.now }
+{
+    match rec {
+        PagerRec::Want { page: wanted } => wanted.number() == page.number(),
+        _ => false,
+    }
+}
+
+/// Whether a record delivers a question for the page.
+fn brings_want(session: &Session, rec: &LinkRec, page: PageNo) -> bool
+    ensures { result ≡ brings_want session.now page rec.now }
+{
+    match *rec {
+        LinkRec::Up { asking } => session
+            .pager()
+            .get(asking as usize)
+            .is_some_and(|rec| is_want_of(rec, page)),
+        LinkRec::Down { .. } => false,
+    }
+}
+
+/// Whether a record takes a question for the page.
+fn takes_want(session: &Session, rec: &SourceRec, page: PageNo) -> bool
+    ensures { result ≡ takes_want session.now page rec.now }
+{
+    match rec {
+        SourceRec::Ask { up } => session
+            .link()
+            .get(*up as usize)
+            .is_some_and(|rec| brings_want(session, rec, page)),
+        _ => false,
+    }
+}
+
+/// Whether the source's record of this number sends a page for which it was not asked right before.
+fn is_push(session: &Session, n: usize, rec: &SourceRec) -> bool
+    ensures { result ≡ is_push session.now n rec.now }
+{
+    let SourceRec::Send { page, .. } = rec else {
+        return false;
+    };
+    let asked = n > 0
+        && session
+            .source()
+            .get(n - 1)
+            .is_some_and(|rec| takes_want(session, rec, *page));
+    !asked
+}
+
+impl Question for GuestQuestion {
+    type Record = GuestRec;
+
+    ghost holds = { asks_guest };
+
+    fn holds(&self, _session: &Session, _n: usize, rec: &GuestRec) -> bool {
+        match *self {
+            GuestQuestion::Halt => is_halt(rec),
+            GuestQuestion::Resume => is_resume(rec),
+            GuestQuestion::Miss => is_miss(rec),
+            GuestQuestion::Changes(page) => changes(rec, page),
+            GuestQuestion::Sets(page, cell) => sets(rec, page, cell),
+        }
+    }
+}
+
+impl Question for SourceQuestion {
+    type Record = SourceRec;
+
+    ghost holds = { asks_source };
+
+    fn holds(&self, session: &Session, n: usize, rec: &SourceRec) -> bool {
+        match *self {
+            SourceQuestion::SendOf(page) => is_send_of(rec, page),
+            SourceQuestion::Send => matches!(rec, SourceRec::Send { .. }),
+            SourceQuestion::Push => is_push(session, n, rec),
+            SourceQuestion::Again => matches!(rec, SourceRec::Again { .. }),
+        }
+    }
+}
+
+impl Question for LinkQuestion {
+    type Record = LinkRec;
+
+    ghost holds = { asks_link };
+
+    fn holds(&self, session: &Session, _n: usize, rec: &LinkRec) -> bool {
+        match *self {
+            LinkQuestion::Carries(page) => carries(session, rec, page),
+        }
+    }
+}
+
+impl Question for PagerQuestion {
+    type Record = PagerRec;
+
+    ghost holds = { asks_pager };
+
+    fn holds(&self, session: &Session, n: usize, rec: &PagerRec) -> bool {
+        match *self {
+            PagerQuestion::Gets(page) => delivers_send(session, page, n as u32),
+            PagerQuestion::Join => matches!(rec, PagerRec::Join { .. }),
+            PagerQuestion::Skip => matches!(rec, PagerRec::Skip { .. }),
+        }
+    }
+}
+
+impl Question for EntryQuestion {
+    type Record = Entry;
+
+    ghost holds = { asks_entry };
+
+    fn holds(&self, _session: &Session, _n: usize, entry: &Entry) -> bool {
+        match *self {
+            EntryQuestion::Unmoved => matches!(entry, Entry::Nothing),
+            EntryQuestion::Sent => matches!(entry, Entry::Source { .. }),
+            EntryQuestion::Zeroed => matches!(entry, Entry::Balloon { .. }),
+        }
+    }
+}

@@ -1,0 +1,73 @@
+//! Passes over a log that ask one thing of each record.
+
+ghost use Rattle.std.specs.Prelude.{◌≡◌, ◌<◌, ◌≤◌, ℕ, Bool, length};
+ghost use Rattle.migration_types.specs.Limits.{most_records};
+ghost use Rattle.migration_types.specs.Sessions.{Recorded};
+ghost use Rattle.page_facts.specs.Tables.{first_before};
+ghost use Rattle.session_story.specs.Scans.{last_before, how_many};
+
+use migration_types::Session;
+
+/// What is asked of a record at its place in a log.
+pub(crate) trait Question {
+    type Record;
+
+    /// Whether the record of this number is one of those that are sought.
+    ghost holds: { Self → Recorded → ℕ → Self.Record → Bool };
+
+    /// Whether the record of this number is one of those that are sought. Takes no memory.
+    fn holds(&self, session: &Session, n: usize, rec: &Self::Record) -> bool
+        requires { n < most_records }
+        ensures { result ≡ holds self.now session.now n rec.now };
+}
+
+/// The place of the first record that is sought.
+pub(crate) fn first_of<Q: Question>(
+    session: &Session,
+    question: &Q,
+    log: &[Q::Record],
+) -> Option<u32>
+    requires { length log.now ≤ most_records }
+    ensures { result ≡ first_before (Q.holds question.now session.now) log.now (length log.now) }
+{
+    for n in 0..log.len() {
+        if question.holds(session, n, &log[n]) {
+            return Some(n as u32);
+        }
+    }
+    None
+}
+
+/// The place of the last record before this one that is sought.
+pub(crate) fn last_of<Q: Question>(
+    session: &Session,
+    question: &Q,
+    log: &[Q::Record],
+    to: usize,
+) -> Option<u32>
+    requires few { length log.now ≤ most_records }
+    requires within { to ≤ length log.now }
+    ensures { result ≡ last_before (Q.holds question.now session.now) log.now to }
+{
+    let mut last = None;
+    for n in 0..to {
+        if question.holds(session, n, &log[n]) {
+            last = Some(n as u32);
+        }
+    }
+    last
+}
+
+/// How many records are sought.
+pub(crate) fn count_of<Q: Question>(session: &Session, question: &Q, log: &[Q::Record]) -> u32
+    requires { length log.now ≤ most_records }
+    ensures { result ≡ how_many (Q.holds question.now session.now) log.now (length log.now) }
+{
+    let mut count = 0;
+    for n in 0..log.len() {
+        if question.holds(session, n, &log[n]) {
+            count += 1;
+        }
+    }
+    count
+}
