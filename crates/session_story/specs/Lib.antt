@@ -4,4 +4,5 @@ pub mod Pages
 pub mod Values
 pub mod Looks
 pub mod Counted
+pub mod Explained
 pub mod inner

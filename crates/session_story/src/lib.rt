@@ -3,6 +3,7 @@
 #![tactic(auto)]
 
 mod counting;
+mod faults;
 mod lines;
 mod looks;
 mod pages;
@@ -11,6 +12,7 @@ mod scans;
 mod values;
 
 pub use counting::{Counts, counts_of};
+pub use faults::{Detail, FaultStory};
 pub use lines::record_at;
 pub use looks::{Look, greatest_look};
 pub use pages::{Handover, PageStory, handover_of, story_of};

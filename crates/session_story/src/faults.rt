@@ -1,0 +1,119 @@
+//! The story of a faulty record.
+
+ghost use Rattle.std.specs.Prelude.{◌≡◌, ◌<◌, ℕ, IfOk};
+ghost use Rattle.migration_types.specs.Receipts.{Name};
+ghost use Rattle.migration_types.specs.Sessions.{log_length, line_of};
+ghost use Rattle.audit_model.specs.FirstFault.{IsFirstPageFault};
+ghost use Rattle.page_facts.specs.PageFaults.{page_at};
+ghost use Rattle.session_story.specs.Explained.{IsDetail, IsFaultStory};
+
+use crate::lines::record_at;
+use crate::looks::{Look, greatest_look};
+use crate::pages::{Handover, PageStory, handover_of, story_of};
+use crate::values::{Held, instead_of, other_of};
+use audit_model::PageReason;
+use migration_types::{LogName, PageNo, PagerRec, Session, SourceRec};
+use page_lists::Paged;
+use std::alloc::{AllocError, Global};
+
+/// What is told of a faulty record besides its page's story.
+#[derive(Clone, Copy, Debug, PartialEq, Eq)]
+pub enum Detail {
+    /// Of a wrong read: what one machine that never moved gives.
+    Instead(Option<Held>),
+    /// Of an early access: the look before it that reached furthest, if there is one.
+    Seen(Option<Look>),
+    /// Of contents that are not the page's: the first cell that is not, with what the page has there at the halt.
+    Other(Option<Held>),
+    /// Of other faults nothing.
+    Plain,
+}
+
+/// The first fault of a session, and the story of its page.
+#[derive(Clone, Copy, Debug, PartialEq, Eq)]
+pub struct FaultStory {
+    /// The log of the faulty record.
+    pub log: LogName,
+    /// Its number there.
+    pub place: u32,
+    pub reason: PageReason,
+    pub page: PageStory,
+    pub handover: Handover,
+    pub detail: Detail,
+}
+
+/// The page that a record is of.
+fn page_at(session: &Session, log: LogName, place: u32) -> Option<PageNo>
+    ensures { result ≡ page_at session.now (log, place) }
+{
+    let place = place as usize;
+    match log {
+        LogName::Guest => session.guest().get(place)?.page(),
+        LogName::Source => session.source().get(place)?.page(),
+        LogName::Link => None,
+        LogName::Pager => session.pager().get(place)?.page(),
+    }
+}
+
+/// The first cell in which a `send` is not of the page's contents at the halt.
+fn other_sent(
+    alloc: Global,
+    session: &Session,
+    page: PageNo,
+    place: usize,
+) -> Result<Option<Held>, AllocError>
+    requires { page < session.now.geometry.pages }
+    ensures { IfOk result (λ held. IsDetail session.now PageReason.Stale LogName.Source place page (Detail.Other held)) }
+{
+    session.keeps_limits();
+    match session.source().get(place) {
+        Some(SourceRec::Send { contents, .. }) => {
+            other_of(alloc, session, page, contents.as_slice())
+        }
+        _ => Ok(None),
+    }
+}
+
+/// The first cell in which a placement is not of the page's contents at the halt.
+fn other_placed(
+    alloc: Global,
+    session: &Session,
+    page: PageNo,
+    place: usize,
+) -> Result<Option<Held>, AllocError>
+    requires { page < session.now.geometry.pages }
+    ensures { IfOk result (λ held. IsDetail session.now PageReason.Altered LogName.Pager place page (Detail.Other held)) }
+{
+    session.keeps_limits();
+    match session.pager().get(place) {
+        Some(PagerRec::Place { contents, .. }) => {
+            other_of(alloc, session, page, contents.as_slice())
+        }
+        _ => Ok(None),
+    }
+}
+
+/// What is told of a faulty record besides its page's story.
+fn detail_of(
+    alloc: Global,
+    session: &Session,
+    reason: PageReason,
+    log: LogName,
+    place: u32,
+    page: PageNo,
+) -> Result<Detail, AllocError>
+    requires page { page < session.now.geometry.pages }
+    requires there { place < log_length session.now log }
+    requires guest { reason ≡ PageReason.Read → log ≡ LogName.Guest }
+    requires early { reason ≡ PageReason.Early → log ≡ LogName.Guest }
+    ensures { IfOk result (IsDetail session.now reason log place page) }
+{
+    let n = place as usize;
+    match reason {
+        PageReason::Read => Ok(Detail::Instead(instead_of(alloc, session, n)?)),
+        PageReason::Early => Ok(Detail::Seen(greatest_look(session, n))),
+        PageReason::Stale => Ok(Detail::Other(other_sent(alloc, session, page, n)?)),
+        PageReason::Altered => Ok(Detail::Other(other_placed(alloc, session, page, n)?)),
+        PageReason::Given | PageReason::Twice | PageReason::Unfit => Ok(Detail::Plain),
+    }
+}
