@@ -10,13 +10,12 @@ use Rattle.migration_types.specs.Sessions.{Recorded, log_length, line_of}
 use Rattle.audit_model.specs.declared.reasons.PageReason.{PageReason}
 use Rattle.audit_model.specs.declared.reasons.PageReason.TheVariants.{Read as WrongRead, Early, Given, Stale, Twice, Altered, Unfit}
 use Rattle.audit_model.specs.Flat.{flat, at_halt}
-use Rattle.audit_model.specs.Shape.{is_send_of}
 use Rattle.audit_model.specs.FirstFault.{IsFirstFault, IsFirstPageFault}
 use Rattle.page_facts.specs.Tables.{first_before}
 use Rattle.page_facts.specs.PageFaults.{page_at}
 use Rattle.audit_report.specs.declared.report.Report.{Report}
 use Rattle.audit_report.specs.declared.report.Report.TheVariants as report
-use Rattle.session_story.specs.Pages.{IsHandover, IsPageStory}
+use Rattle.session_story.specs.Pages.{IsHandover, IsPageStory, first_send}
 use Rattle.session_story.specs.Values.{IsInstead, IsOther}
 use Rattle.session_story.specs.Looks.{HasNoLook, IsGreatestLook}
 use Rattle.session_story.specs.Counted.{IsCounts}
@@ -24,6 +23,10 @@ use Rattle.session_story.specs.declared.values.Held.{Held}
 use Rattle.session_story.specs.declared.faults.Detail.{Detail}
 use Rattle.session_story.specs.declared.faults.Detail.TheVariants.{Instead, Seen, Other, Plain}
 use Rattle.session_story.specs.declared.faults.FaultStory.{FaultStory}
+use Rattle.session_story.specs.declared.shapes.ShapeStory.{ShapeStory}
+use Rattle.session_story.specs.declared.explaining.Explanation.{Explanation}
+use Rattle.session_story.specs.declared.explaining.Explanation.TheVariants as told
+use Rattle.cert_check.specs.declared.verdict.ShapeFault.{ShapeFault}
 
 -- where these contents are not the page's at the halt, the first cell of them that is not
 abbrev pub IsOtherIn : Recorded → ℕ → List ℕ → Option Held → Type 0
@@ -51,3 +54,19 @@ pub record IsFaultStory (s : Recorded) (line : ℕ) (reason : PageReason) (f : F
   pub page : IsPageStory s f.page.page f.page
   pub handover : IsHandover s f.handover
   pub detail : IsDetail s f.reason f.log f.place f.page.page f.detail
+
+-- the first record that has not the right shape, and what was of its kind before
+pub record IsShapeStory (s : Recorded) (fault : ShapeFault) (t : ShapeStory) : Type 0 where
+  pub is_line : fault.line ≡ line_of s (t.log, t.place)
+  pub is_reason : t.reason ≡ fault.reason
+  pub is_first : IsFirstFault s t.reason (t.log, t.place)
+  pub handover : IsHandover s t.handover
+  pub sent : t.sent ≡ first_send s (t.log, t.place)
+
+-- what is told of a session with this report
+abbrev pub IsExplanation : Recorded → Report → Explanation → Type 0
+IsExplanation s (report.Shape fault) (told.Shape story) = IsShapeStory s fault story
+IsExplanation s (report.Knot line) (told.Knot at) = at ≡ line
+IsExplanation s (report.Faulty line reason order) (told.Faulty story) = IsFaultStory s line reason story
+IsExplanation s (report.Clean cert) (told.Clean counts) = IsCounts s cert.entries counts
+IsExplanation s _ _ = ⊥

@@ -1,9 +1,13 @@
 -- The story of a page: the records that say how it came from the source to the target.
-use Rattle.std.specs.Prelude.{◌≡◌, ℕ, Bool, false, ◌==◌, length, slice_get}
+use Rattle.std.specs.Prelude.{◌≡◌, ℕ, Bool, false, ◌==◌, List, length, Option, Some, None, slice_get}
 use Rattle.migration_types.specs.declared.records.GuestRec.{GuestRec}
 use Rattle.migration_types.specs.declared.records.GuestRec.TheVariants.{Write, Release}
+use Rattle.migration_types.specs.declared.records.LogName.TheVariants.{Source}
+use Rattle.migration_types.specs.declared.records.SourceRec.{SourceRec}
+use Rattle.migration_types.specs.declared.records.SourceRec.TheVariants.{Send}
 use Rattle.migration_types.specs.declared.records.LinkRec.{LinkRec}
 use Rattle.migration_types.specs.declared.records.LinkRec.TheVariants.{Down, Up}
+use Rattle.migration_types.specs.Receipts.{Name}
 use Rattle.migration_types.specs.Sessions.{Recorded}
 use Rattle.audit_model.specs.Flat.{at_halt}
 use Rattle.audit_model.specs.Shape.{passes, is_halt, is_resume, is_send_of, is_or_repeats, delivers}
@@ -38,3 +42,12 @@ pub record IsPageStory (s : Recorded) (page : ℕ) (t : PageStory) : Type 0 wher
   pub delivered : t.delivered ≡ first_before (λ m. carries s page) s.link (length s.link)
   pub got : t.got ≡ first_before (λ m r. delivers s (is_send_of page) m) s.pager (length s.pager)
   pub found : IsFindings s page t.found
+
+-- where the record is a `send`, the first one of its page
+abbrev pub first_send_by : List SourceRec → Option SourceRec → Option ℕ
+first_send_by source (Some (Send page content)) = first_before (λ m. is_send_of page) source (length source)
+first_send_by source _ = None
+
+abbrev pub first_send : Recorded → Name → Option ℕ
+first_send s (Source, n) = first_send_by s.source (slice_get s.source n)
+first_send s _ = None

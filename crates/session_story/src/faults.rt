@@ -117,3 +117,33 @@ fn detail_of(
         PageReason::Given | PageReason::Twice | PageReason::Unfit => Ok(Detail::Plain),
     }
 }
+
+/// The first fault of a session, which stands at this line, with the story of its page. Takes a few passes over each log,
+/// and as much memory as judging does and one machine more, which is the only error.
+pub(crate) fn fault_at(
+    alloc: Global,
+    session: &Session,
+    line: u32,
+    reason: PageReason,
+) -> Result<FaultStory, AllocError>
+    requires { (name : Name) × (line ≡ line_of session.now name) × IsFirstPageFault session.now reason name }
+    ensures { IfOk result (IsFaultStory session.now line reason) }
+{
+    session.keeps_limits();
+    let Some((log, place)) = record_at(session, line) else {
+        unreachable!()
+    };
+    let Some(page) = page_at(session, log, place) else {
+        unreachable!()
+    };
+    let story = story_of(alloc, session, page)?;
+    let detail = detail_of(alloc, session, reason, log, place, page)?;
+    Ok(FaultStory {
+        log,
+        place,
+        reason,
+        page: story,
+        handover: handover_of(session),
+        detail,
+    })
+}

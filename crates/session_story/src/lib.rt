@@ -3,17 +3,21 @@
 #![tactic(auto)]
 
 mod counting;
+mod explaining;
 mod faults;
 mod lines;
 mod looks;
 mod pages;
 mod questions;
 mod scans;
+mod shapes;
 mod values;
 
 pub use counting::{Counts, counts_of};
+pub use explaining::{Explanation, explain};
 pub use faults::{Detail, FaultStory};
 pub use lines::record_at;
 pub use looks::{Look, greatest_look};
 pub use pages::{Handover, PageStory, handover_of, story_of};
+pub use shapes::ShapeStory;
 pub use values::{Held, instead_of, other_of};

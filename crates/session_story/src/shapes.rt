@@ -1,0 +1,60 @@
+//! The story of a record that has not the right shape.
+
+ghost use Rattle.std.specs.Prelude.{◌≡◌};
+ghost use Rattle.cert_check.specs.Verdicts.{IsShapeFault};
+ghost use Rattle.session_story.specs.Explained.{IsShapeStory};
+ghost use Rattle.session_story.specs.Pages.{first_send};
+
+use crate::lines::record_at;
+use crate::pages::{Handover, handover_of};
+use crate::questions::SourceQuestion;
+use crate::scans::first_of;
+use audit_model::ShapeReason;
+use cert_check::ShapeFault;
+use migration_types::{LogName, Session, SourceRec};
+
+/// The first record that has not the right shape.
+#[derive(Clone, Copy, Debug, PartialEq, Eq)]
+pub struct ShapeStory {
+    /// The log of the record.
+    pub log: LogName,
+    /// Its number there.
+    pub place: u32,
+    pub reason: ShapeReason,
+    pub handover: Handover,
+    /// Where the record is a `send`, the first one of its page.
+    pub sent: Option<u32>,
+}
+
+/// Where the record is a `send`, the first one of its page.
+fn first_send(session: &Session, log: LogName, place: u32) -> Option<u32>
+    ensures { result ≡ first_send session.now (log, place) }
+{
+    session.keeps_limits();
+    match log {
+        LogName::Source => match session.source().get(place as usize) {
+            Some(SourceRec::Send { page, .. }) => {
+                first_of(session, &SourceQuestion::SendOf(*page), session.source())
+            }
+            _ => None,
+        },
+        _ => None,
+    }
+}
+
+/// The first record of a session that has not the right shape. Takes a few passes over the logs, and no memory.
+pub(crate) fn shape_at(session: &Session, fault: &ShapeFault) -> ShapeStory
+    requires { IsShapeFault session.now fault.now }
+    ensures { IsShapeStory session.now fault.now result }
+{
+    let Some((log, place)) = record_at(session, fault.line) else {
+        unreachable!()
+    };
+    ShapeStory {
+        log,
+        place,
+        reason: fault.reason,
+        handover: handover_of(session),
+        sent: first_send(session, log, place),
+    }
+}
