@@ -8,7 +8,7 @@ use Rattle.audit_report.specs.declared.report.Report.{Report}
 use Rattle.audit_report.specs.declared.report.Report.TheVariants as report
 use Rattle.command_words.specs.declared.asked.Asked.{Asked}
 use Rattle.command_words.specs.declared.asked.OneText.{OneText}
-use Rattle.command_words.specs.declared.asked.OneText.TheVariants.{Certify, Audit}
+use Rattle.command_words.specs.declared.asked.OneText.TheVariants.{Certify, Audit, Explain}
 use Rattle.command_words.specs.declared.asked.TwoTexts.{TwoTexts}
 use Rattle.command_words.specs.declared.asked.TwoTexts.TheVariants.{Check, Replay, Steps}
 use Rattle.commands.specs.declared.answer.Fault.{Fault}
@@ -61,6 +61,7 @@ steps_few (Records session) = omega arith
 pub one_few : (task : OneText) (session text : List ℕ) (status : ℕ) → IsOneAnswer task session text status → status < 2
 one_few Certify session text status h = rw h.is_status (audited_few h.value)
 one_few Audit session text status h = rw h.is_status (audited_few h.value)
+one_few Explain session text status h = rw h.is_status (audited_few h.audited)
 
 pub two_few : (task : TwoTexts) (texts : List ℕ × List ℕ) (text : List ℕ) (status : ℕ) → IsTwoAnswer task texts text status → status < 2
 two_few Check texts text status h = rw h.is_status (verdict_few h.value)

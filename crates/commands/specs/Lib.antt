@@ -1,5 +1,6 @@
 pub mod Cutting
 pub mod Answers
+pub mod Explained
 pub mod Replayed
 pub mod Steps
 pub mod Migrations

@@ -5,12 +5,13 @@ use Rattle.std.specs.Io.KnownBytes.{Appends}
 use Rattle.command_words.specs.declared.asked.Asked.{Asked}
 use Rattle.command_words.specs.declared.asked.Asked.TheVariants.{One, Two, Migrate}
 use Rattle.command_words.specs.declared.asked.OneText.{OneText}
-use Rattle.command_words.specs.declared.asked.OneText.TheVariants.{Certify, Audit}
+use Rattle.command_words.specs.declared.asked.OneText.TheVariants.{Certify, Audit, Explain}
 use Rattle.command_words.specs.declared.asked.TwoTexts.{TwoTexts}
 use Rattle.command_words.specs.declared.asked.TwoTexts.TheVariants.{Check, Replay, Steps}
 use Rattle.audit_report.specs.declared.wanted.Wanted.TheVariants as wanted
 use Rattle.commands.specs.Answers.{IsAuditAnswer, IsVerdictAnswer}
 use Rattle.commands.specs.Cutting.{IsCutAtEnd}
+use Rattle.commands.specs.Explained.{IsExplainAnswer}
 use Rattle.commands.specs.Replayed.{IsReplayAnswer}
 use Rattle.commands.specs.Steps.{IsStepsAnswer}
 use Rattle.commands.specs.Migrations.{IsMigrateAnswer}
@@ -19,6 +20,7 @@ use Rattle.commands.specs.Migrations.{IsMigrateAnswer}
 abbrev pub IsOneAnswer : OneText → List ℕ → List ℕ → ℕ → Type 0
 IsOneAnswer Certify session = IsAuditAnswer wanted.Certificate session
 IsOneAnswer Audit session = IsAuditAnswer wanted.Report session
+IsOneAnswer Explain session = IsExplainAnswer session
 
 -- the answer of a command on two texts
 abbrev pub IsTwoAnswer : TwoTexts → List ℕ × List ℕ → List ℕ → ℕ → Type 0

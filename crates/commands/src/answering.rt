@@ -10,6 +10,7 @@ ghost use Rattle.commands.specs.inner.Found.{AnswersTo};
 use crate::answer::{Answer, Fault, given};
 use crate::auditing::audit_read;
 use crate::checking::judge_read;
+use crate::explaining::explain_read;
 use crate::migrating::migrate_read;
 use crate::naming::{read_named, read_pair};
 use crate::reading::TextSource;
@@ -38,6 +39,7 @@ fn session_answer<R: Threads + Sync>(
     match task {
         OneText::Certify => audit_read(rt, alloc, session, Wanted::Certificate),
         OneText::Audit => audit_read(rt, alloc, session, Wanted::Report),
+        OneText::Explain => explain_read(rt, alloc, session),
     }
 }
 

@@ -5,4 +5,5 @@ pub mod Values
 pub mod Looks
 pub mod Counted
 pub mod Explained
+pub mod Told
 pub mod inner

@@ -11,7 +11,9 @@ mod pages;
 mod questions;
 mod scans;
 mod shapes;
+mod telling;
 mod values;
+mod words;
 
 pub use counting::{Counts, counts_of};
 pub use explaining::{Explanation, explain};
@@ -20,4 +22,5 @@ pub use lines::record_at;
 pub use looks::{Look, greatest_look};
 pub use pages::{Handover, PageStory, handover_of, story_of};
 pub use shapes::ShapeStory;
+pub use telling::{print_explained, print_refused};
 pub use values::{Held, instead_of, other_of};
