@@ -1,8 +1,39 @@
 //! What happened in a session, in words.
 
+mod faults;
+mod records;
+mod shapes;
+
+use crate::counting::Counts;
 use crate::explaining::Explanation;
+use crate::words::faults::push_fault;
+use crate::words::shapes::push_shape_story;
 use migration_types::Session;
 use std::alloc::{AllocError, Global};
+
+/// Adds how a clean session went.
+fn push_counts(out: &mut String, counts: &Counts) -> Result<(), AllocError> {
+    let sent = counts.sent;
+    let zeroed = counts.zeroed;
+    let unmoved = counts.unmoved;
+    let sends = counts.sends;
+    let pushes = counts.pushes;
+    let repeats = counts.repeats;
+    let dropped = counts.dropped;
+    let misses = counts.misses;
+    let waits = counts.waits;
+    out.push_str("In every order of the records each read gives what one machine that never moved would give.\n")?;
+    write!(out, "Pages that were sent and placed: {sent}\n")?;
+    write!(out, "Released pages that came back as zeros: {zeroed}\n")?;
+    write!(out, "Pages that were not placed: {unmoved}\n")?;
+    write!(out, "Sendings of a page: {sends}, of which unasked: {pushes}\n")?;
+    write!(out, "Repeats of a packet: {repeats}\n")?;
+    write!(out, "Packets that the pager dropped: {dropped}\n")?;
+    write!(
+        out,
+        "Misses of the guest: {misses}, of which waited for a page that was asked for before: {waits}\n"
+    )
+}
 
 /// What happened in a session, in words.
 pub(crate) fn words_of(
@@ -10,21 +41,12 @@ pub(crate) fn words_of(
     session: &Session,
     explanation: &Explanation,
 ) -> Result<String, AllocError> {
+    let mut out = String::new(alloc);
     match explanation {
-        Explanation::Shape(story) => {
-            let place = story.place;
-            format!(in alloc; "The record {place} has not the right shape.\n")
-        }
-        Explanation::Knot(line) => format!(in alloc; "No order of the records is left at line {line}.\n"),
-        Explanation::Faulty(story) => {
-            let place = story.place;
-            let page = story.page.page.number();
-            format!(in alloc; "The record {place} is a fault of page {page}.\n")
-        }
-        Explanation::Clean(counts) => {
-            let sent = counts.sent;
-            let unmoved = counts.unmoved;
-            format!(in alloc; "{sent} pages were sent, and {unmoved} were not.\n")
-        }
+        Explanation::Shape(story) => push_shape_story(&mut out, session, story)?,
+        Explanation::Knot(_) => write!(out, "There is no order of the records.\n")?,
+        Explanation::Faulty(fault) => push_fault(&mut out, session, fault)?,
+        Explanation::Clean(counts) => push_counts(&mut out, counts)?,
     }
+    Ok(out)
 }

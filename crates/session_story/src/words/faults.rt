@@ -1,0 +1,318 @@
+//! The fault of a page in words.
+
+use super::records::{push_place, push_record};
+use crate::faults::{Detail, FaultStory};
+use crate::looks::Look;
+use crate::pages::PageStory;
+use crate::values::Held;
+use audit_model::{PageReason, delivery};
+use migration_types::{LogName, PagerRec, Session, SourceRec};
+use std::alloc::AllocError;
+
+/// Adds which record gave a cell its value.
+fn push_giver(out: &mut String, session: &Session, held: &Held) -> Result<(), AllocError> {
+    let Some(by) = held.by else {
+        return out.push_str("as at the start");
+    };
+    out.push_str("since ")?;
+    push_record(out, session, LogName::Guest, by)
+}
+
+/// Adds what is wrong with a read.
+fn push_read(out: &mut String, session: &Session, held: &Held) -> Result<(), AllocError> {
+    let value = held.value;
+    write!(
+        out,
+        "One machine that never moved has {value} there, "
+    )?;
+    push_giver(out, session, held)?;
+    out.push_str(".\n")
+}
+
+/// Adds which look before an early use reaches furthest.
+fn push_seen(out: &mut String, session: &Session, seen: Option<Look>) -> Result<(), AllocError> {
+    let Some(look) = seen else {
+        return out.push_str("The guest looks at no placement before it.\n");
+    };
+    out.push_str("Of the looks before it this one reaches furthest: ")?;
+    push_record(out, session, LogName::Guest, look.place)?;
+    out.push_str(".\n")
+}
+
+/// Adds what is wrong with an early use.
+fn push_early(
+    out: &mut String,
+    session: &Session,
+    page: &PageStory,
+    seen: Option<Look>,
+) -> Result<(), AllocError> {
+    let Some(placement) = page.found.placement else {
+        return out.push_str("The guest is at the target by then, and the page is never placed there.\n");
+    };
+    out.push_str("The guest is at the target by then, and no look before this use reaches the placement of the page, ")?;
+    push_place(out, session, LogName::Pager, placement)?;
+    out.push_str(".\n")?;
+    push_seen(out, session, seen)?;
+    let Some(look) = page.found.look else {
+        return out.push_str("No look at all reaches it.\n");
+    };
+    out.push_str("The first look that reaches it stands behind the use: ")?;
+    push_record(out, session, LogName::Guest, look)?;
+    out.push_str(".\n")
+}
+
+/// Adds what the page has where contents are others.
+fn push_other(
+    out: &mut String,
+    session: &Session,
+    held: &Held,
+    done: &str,
+    contents: &[u64],
+) -> Result<(), AllocError> {
+    let cell = held.cell;
+    let value = held.value;
+    let other = match contents.get(cell as usize) {
+        Some(other) => *other,
+        None => 0,
+    };
+    write!(
+        out,
+        "{done} with {other} in cell {cell}, where the page has {value} at the halt, "
+    )?;
+    push_giver(out, session, held)?;
+    out.push_str(".\n")
+}
+
+/// Adds what is wrong with a `send`.
+fn push_sent(
+    out: &mut String,
+    session: &Session,
+    place: u32,
+    held: &Held,
+) -> Result<(), AllocError> {
+    match session.source().get(place as usize) {
+        Some(SourceRec::Send { contents, .. }) => {
+            push_other(out, session, held, "The page is sent", contents.as_slice())
+        }
+        _ => Ok(()),
+    }
+}
+
+/// The first sending of what a source's record sends.
+fn first_sending(session: &Session, sending: u32) -> u32 {
+    match session.source().get(sending as usize) {
+        Some(SourceRec::Again { sending }) => *sending,
+        _ => sending,
+    }
+}
+
+/// Adds what was sent in a cell of what came with the pager's record.
+fn push_origin(
+    out: &mut String,
+    session: &Session,
+    got: u32,
+    cell: u16,
+) -> Result<(), AllocError> {
+    let Some(sending) = delivery(session, got) else {
+        return Ok(());
+    };
+    let sending = first_sending(session, sending);
+    if let Some(SourceRec::Send { contents, .. }) = session.source().get(sending as usize) {
+        if let Some(sent) = contents.as_slice().get(cell as usize) {
+            write!(out, "What came with pager {got} was sent with {sent} there: ")?;
+            push_record(out, session, LogName::Source, sending)?;
+            out.push_str(".\n")?;
+        }
+    }
+    Ok(())
+}
+
+/// Adds what is wrong with a placement's contents.
+fn push_placed(
+    out: &mut String,
+    session: &Session,
+    place: u32,
+    held: &Held,
+) -> Result<(), AllocError> {
+    match session.pager().get(place as usize) {
+        Some(PagerRec::Place { got, contents, .. }) => {
+            push_other(out, session, held, "The page is placed", contents.as_slice())?;
+            push_origin(out, session, *got, held.cell)
+        }
+        _ => Ok(()),
+    }
+}
+
+/// Adds the last change of a page before the halt.
+fn push_changed(out: &mut String, session: &Session, page: &PageStory) -> Result<(), AllocError> {
+    let Some(changed) = page.changed else {
+        return out.push_str("The guest neither writes nor releases it before the halt.\n");
+    };
+    out.push_str("Its last change before the halt: ")?;
+    push_record(out, session, LogName::Guest, changed)?;
+    out.push_str(".\n")
+}
+
+/// Adds what is wrong where nothing else is told.
+fn push_plain(out: &mut String, session: &Session, fault: &FaultStory) -> Result<(), AllocError> {
+    match fault.reason {
+        PageReason::Given => {
+            out.push_str("The page is released at the halt, so that it is not sent; the pager places it as zeros.\n")?;
+            push_changed(out, session, &fault.page)
+        }
+        PageReason::Unfit => {
+            out.push_str("The page is not released at the halt, so that zeros are not what it has to be.\n")?;
+            push_changed(out, session, &fault.page)
+        }
+        PageReason::Twice => {
+            out.push_str("A page is placed once, and this one was placed before: ")?;
+            match fault.page.found.placement {
+                Some(placement) => push_record(out, session, LogName::Pager, placement)?,
+                None => {}
+            }
+            out.push_str(".\n")
+        }
+        _ => Ok(()),
+    }
+}
+
+/// Adds what is wrong.
+fn push_wrong(out: &mut String, session: &Session, fault: &FaultStory) -> Result<(), AllocError> {
+    match &fault.detail {
+        Detail::Instead(Some(held)) => push_read(out, session, held),
+        Detail::Seen(seen) => push_early(out, session, &fault.page, *seen),
+        Detail::Other(Some(held)) => match fault.log {
+            LogName::Source => push_sent(out, session, fault.place, held),
+            _ => push_placed(out, session, fault.place, held),
+        },
+        _ => push_plain(out, session, fault),
+    }
+}
+
+/// Adds a line of a page's story: a record, or that there is none.
+fn push_step(
+    out: &mut String,
+    session: &Session,
+    log: LogName,
+    place: Option<u32>,
+    is: &str,
+    none: &str,
+) -> Result<(), AllocError> {
+    out.push_str("  ")?;
+    match place {
+        Some(place) => {
+            push_record(out, session, log, place)?;
+            out.push_str(is)?;
+        }
+        None => out.push_str(none)?,
+    }
+    out.push_str("\n")
+}
+
+/// Adds a page's story, in the order in which it should happen.
+fn push_story(out: &mut String, session: &Session, fault: &FaultStory) -> Result<(), AllocError> {
+    let page = &fault.page;
+    let number = page.page.number();
+    write!(out, "What the logs say of page {number}:\n")?;
+    push_step(
+        out,
+        session,
+        LogName::Guest,
+        page.changed,
+        ", its last change before the halt",
+        "the guest neither writes nor releases it before the halt",
+    )?;
+    push_step(
+        out,
+        session,
+        LogName::Guest,
+        fault.handover.halt,
+        "",
+        "the guest is not halted",
+    )?;
+    push_step(
+        out,
+        session,
+        LogName::Source,
+        page.sent,
+        "",
+        "the source does not send it",
+    )?;
+    push_step(
+        out,
+        session,
+        LogName::Link,
+        page.delivered,
+        "",
+        "the link does not deliver it",
+    )?;
+    push_step(
+        out,
+        session,
+        LogName::Pager,
+        page.got,
+        "",
+        "the pager does not take it",
+    )?;
+    push_step(
+        out,
+        session,
+        LogName::Pager,
+        page.found.placement,
+        "",
+        "the pager does not place it",
+    )?;
+    if page.found.again.is_some() {
+        push_step(
+            out,
+            session,
+            LogName::Pager,
+            page.found.again,
+            ", its second placement",
+            "",
+        )?;
+    }
+    push_step(
+        out,
+        session,
+        LogName::Guest,
+        page.found.look,
+        ", the first look that reaches its placement",
+        "no look of the guest reaches a placement of it",
+    )?;
+    push_step(
+        out,
+        session,
+        LogName::Guest,
+        page.found.access,
+        ", its first use at the target",
+        "the guest does not use it at the target",
+    )
+}
+
+/// Adds how an order of the records shows the fault.
+fn push_order(out: &mut String, fault: &FaultStory) -> Result<(), AllocError> {
+    match (fault.reason, fault.page.found.placement) {
+        (PageReason::Early, Some(_)) => out.push_str(
+            "The order that the audit shows puts the placement, and all that has to come after it, behind this use, which then finds no page.\n",
+        ),
+        (PageReason::Early, None) => {
+            out.push_str("In every order of the records the use finds no page.\n")
+        }
+        _ => out.push_str("It is wrong in every order of the records.\n"),
+    }
+}
+
+/// Adds the fault of a page.
+pub(crate) fn push_fault(
+    out: &mut String,
+    session: &Session,
+    fault: &FaultStory,
+) -> Result<(), AllocError> {
+    out.push_str("Wrong is ")?;
+    push_record(out, session, fault.log, fault.place)?;
+    out.push_str(".\n")?;
+    push_wrong(out, session, fault)?;
+    push_order(out, fault)?;
+    push_story(out, session, fault)
+}

@@ -1,0 +1,188 @@
+//! Records in words: where one stands, and what was done.
+
+ghost use Rattle.std.specs.Prelude.{◌<◌, IsTrue};
+ghost use Rattle.audit_model.specs.Names.{log_length};
+
+use merge_runs::records_of;
+use migration_types::{GuestRec, LinkRec, LogName, PagerRec, Session, SourceRec};
+use session_log::line_of;
+use std::alloc::AllocError;
+
+/// The word of a log.
+pub(crate) fn log_word(log: LogName) -> &'static str {
+    match log {
+        LogName::Guest => "guest",
+        LogName::Source => "source",
+        LogName::Link => "link",
+        LogName::Pager => "pager",
+    }
+}
+
+/// Whether a log has a record of this number.
+pub(crate) fn is_there(session: &Session, log: LogName, place: u32) -> bool
+    ensures { IsTrue result → place < log_length session.now log }
+{
+    (place as usize) < records_of(session, log)
+}
+
+/// Adds where a record stands, as in "line 13 (guest 6)"; of one that is not there its log and its number alone.
+pub(crate) fn push_place(
+    out: &mut String,
+    session: &Session,
+    log: LogName,
+    place: u32,
+) -> Result<(), AllocError> {
+    let word = log_word(log);
+    if is_there(session, log, place) {
+        let line = line_of(session, log, place);
+        write!(out, "line {line} ({word} {place})")
+    } else {
+        write!(out, "{word} {place}")
+    }
+}
+
+/// Adds what a record of the guest says.
+fn push_guest(out: &mut String, rec: &GuestRec) -> Result<(), AllocError> {
+    match *rec {
+        GuestRec::Read {
+            vcpu,
+            page,
+            cell,
+            value,
+        } => {
+            let page = page.number();
+            write!(
+                out,
+                "virtual processor {vcpu} reads {value} in cell {cell} of page {page}"
+            )
+        }
+        GuestRec::Write {
+            vcpu,
+            page,
+            cell,
+            value,
+        } => {
+            let page = page.number();
+            write!(
+                out,
+                "virtual processor {vcpu} writes {value} into cell {cell} of page {page}"
+            )
+        }
+        GuestRec::Release { vcpu, page } => {
+            let page = page.number();
+            write!(out, "virtual processor {vcpu} releases page {page}")
+        }
+        GuestRec::Miss { vcpu, page } => {
+            let page = page.number();
+            write!(out, "virtual processor {vcpu} misses page {page}")
+        }
+        GuestRec::Halt => out.push_str("the guest is halted at the source"),
+        GuestRec::Resume { ready } => {
+            write!(
+                out,
+                "the guest is resumed at the target, for which pager {ready} was ready"
+            )
+        }
+        GuestRec::See { placement } => {
+            write!(out, "the guest looks at the placement pager {placement}")
+        }
+    }
+}
+
+/// Adds what a record of the source says.
+fn push_source(out: &mut String, rec: &SourceRec) -> Result<(), AllocError> {
+    match rec {
+        SourceRec::Halted { halt } => {
+            write!(out, "the source learns of the halt guest {halt}")
+        }
+        SourceRec::State => out.push_str("the source sends the processor state"),
+        SourceRec::Send { page, .. } => {
+            let page = page.number();
+            write!(out, "the source sends page {page}")
+        }
+        SourceRec::Again { sending } => {
+            write!(out, "the source sends once more what source {sending} sent")
+        }
+        SourceRec::Ask { up } => {
+            write!(out, "the source takes what link {up} delivered")
+        }
+        SourceRec::Done => out.push_str("the source learns that every owed page is placed"),
+    }
+}
+
+/// Adds what a record of the link says.
+fn push_link(out: &mut String, rec: &LinkRec) -> Result<(), AllocError> {
+    match *rec {
+        LinkRec::Down { sending } => {
+            write!(out, "the link delivers to the pager what source {sending} sent")
+        }
+        LinkRec::Up { asking } => {
+            write!(out, "the link delivers to the source what pager {asking} sent")
+        }
+    }
+}
+
+/// Adds what a record of the pager says.
+fn push_pager(out: &mut String, rec: &PagerRec) -> Result<(), AllocError> {
+    match rec {
+        PagerRec::Got { down } => {
+            write!(out, "the pager takes what link {down} delivered")
+        }
+        PagerRec::Ready => out.push_str("the pager is ready for the guest"),
+        PagerRec::Fault { miss } => {
+            write!(out, "the pager learns of the miss guest {miss}")
+        }
+        PagerRec::Join { want } => {
+            write!(
+                out,
+                "the pager lets a miss wait for the page that pager {want} asked for"
+            )
+        }
+        PagerRec::Want { page } => {
+            let page = page.number();
+            write!(out, "the pager asks for page {page}")
+        }
+        PagerRec::Place { page, got, .. } => {
+            let page = page.number();
+            write!(out, "the pager places page {page}, which came with pager {got}")
+        }
+        PagerRec::Zero { page } => {
+            let page = page.number();
+            write!(out, "the pager places page {page} as zeros")
+        }
+        PagerRec::Skip { got } => {
+            write!(out, "the pager drops what came with pager {got}")
+        }
+        PagerRec::All => out.push_str("the pager says that every owed page is placed"),
+    }
+}
+
+/// Adds where a record stands and what it says, as in "line 8 (guest 1): the guest is halted at the source".
+pub(crate) fn push_record(
+    out: &mut String,
+    session: &Session,
+    log: LogName,
+    place: u32,
+) -> Result<(), AllocError> {
+    push_place(out, session, log, place)?;
+    out.push_str(": ")?;
+    let n = place as usize;
+    match log {
+        LogName::Guest => match session.guest().get(n) {
+            Some(rec) => push_guest(out, rec),
+            None => out.push_str("no record"),
+        },
+        LogName::Source => match session.source().get(n) {
+            Some(rec) => push_source(out, rec),
+            None => out.push_str("no record"),
+        },
+        LogName::Link => match session.link().get(n) {
+            Some(rec) => push_link(out, rec),
+            None => out.push_str("no record"),
+        },
+        LogName::Pager => match session.pager().get(n) {
+            Some(rec) => push_pager(out, rec),
+            None => out.push_str("no record"),
+        },
+    }
+}

@@ -1,0 +1,174 @@
+//! What is wrong with the shape of a session, in words.
+
+use super::records::{is_there, log_word, push_place, push_record};
+use crate::shapes::ShapeStory;
+use audit_model::ShapeReason;
+use migration_types::{GuestRec, LinkRec, LogName, PagerRec, Session, SourceRec};
+use std::alloc::AllocError;
+
+/// What a record has to name, and the log and the number that it names.
+#[derive(Clone, Copy)]
+struct Naming {
+    wanted: &'static str,
+    log: LogName,
+    place: u32,
+}
+
+fn has_to_name(wanted: &'static str, log: LogName, place: u32) -> Option<Naming> {
+    Some(Naming { wanted, log, place })
+}
+
+/// What a record of the guest has to name.
+fn guest_naming(rec: &GuestRec) -> Option<Naming> {
+    match *rec {
+        GuestRec::Resume { ready } => has_to_name("the pager's `ready`", LogName::Pager, ready),
+        GuestRec::See { placement } => has_to_name(
+            "a `place` or a `zero` of the pager",
+            LogName::Pager,
+            placement,
+        ),
+        _ => None,
+    }
+}
+
+/// What a record of the source has to name.
+fn source_naming(rec: &SourceRec) -> Option<Naming> {
+    match *rec {
+        SourceRec::Halted { halt } => has_to_name("the guest's `halt`", LogName::Guest, halt),
+        SourceRec::Ask { up } => has_to_name("an `up` of the link", LogName::Link, up),
+        SourceRec::Again { sending } => has_to_name(
+            "a `state` or a `send` before it",
+            LogName::Source,
+            sending,
+        ),
+        _ => None,
+    }
+}
+
+/// What a record of the link has to name.
+fn link_naming(rec: &LinkRec) -> Option<Naming> {
+    match *rec {
+        LinkRec::Down { sending } => has_to_name(
+            "a `state`, a `send` or an `again` of the source",
+            LogName::Source,
+            sending,
+        ),
+        LinkRec::Up { asking } => has_to_name(
+            "a `want` or an `all` of the pager",
+            LogName::Pager,
+            asking,
+        ),
+    }
+}
+
+/// What a record of the pager has to name.
+fn pager_naming(rec: &PagerRec) -> Option<Naming> {
+    match *rec {
+        PagerRec::Got { down } => has_to_name("a `down` of the link", LogName::Link, down),
+        PagerRec::Fault { miss } => has_to_name("a `miss` of the guest", LogName::Guest, miss),
+        PagerRec::Join { want } => has_to_name("a `want` before it", LogName::Pager, want),
+        PagerRec::Skip { got } => has_to_name("a `got` before it", LogName::Pager, got),
+        PagerRec::Place { got, .. } => has_to_name(
+            "a `got` before it that took a `send` of the page, or a repeat of it",
+            LogName::Pager,
+            got,
+        ),
+        _ => None,
+    }
+}
+
+/// What the record has to name.
+fn naming_of(session: &Session, story: &ShapeStory) -> Option<Naming> {
+    let n = story.place as usize;
+    match story.log {
+        LogName::Guest => guest_naming(session.guest().get(n)?),
+        LogName::Source => source_naming(session.source().get(n)?),
+        LogName::Link => link_naming(session.link().get(n)?),
+        LogName::Pager => pager_naming(session.pager().get(n)?),
+    }
+}
+
+/// Adds what a record has to name, and what stands there.
+fn push_named(out: &mut String, session: &Session, story: &ShapeStory) -> Result<(), AllocError> {
+    let Some(naming) = naming_of(session, story) else {
+        return Ok(());
+    };
+    let wanted = naming.wanted;
+    write!(out, "It has to name {wanted}, and names ")?;
+    if is_there(session, naming.log, naming.place) {
+        push_record(out, session, naming.log, naming.place)?;
+        return out.push_str(".\n");
+    }
+    let word = log_word(naming.log);
+    let place = naming.place;
+    write!(out, "{word} {place}, which is not there.\n")
+}
+
+/// Adds where the guest was halted or resumed, if it was.
+fn push_moved(
+    out: &mut String,
+    session: &Session,
+    place: Option<u32>,
+) -> Result<(), AllocError> {
+    match place {
+        Some(place) => push_place(out, session, LogName::Guest, place),
+        None => out.push_str("which is not there"),
+    }
+}
+
+/// Adds the phase that a record of the guest breaks.
+fn push_phase(out: &mut String, session: &Session, story: &ShapeStory) -> Result<(), AllocError> {
+    let rule = match session.guest().get(story.place as usize) {
+        Some(GuestRec::Halt) => "The guest is halted once.",
+        Some(GuestRec::Resume { .. }) => "The guest is resumed once, after its halt.",
+        Some(GuestRec::Release { .. }) => "The guest releases pages before its halt alone.",
+        Some(GuestRec::Miss { .. }) => "The guest misses pages after its resume alone.",
+        Some(GuestRec::See { .. }) => "The guest looks at placements after its resume alone.",
+        _ => "The guest does nothing between its halt and its resume.",
+    };
+    out.push_str(rule)?;
+    out.push_str(" Its first halt: ")?;
+    push_moved(out, session, story.handover.halt)?;
+    out.push_str("; its first resume: ")?;
+    push_moved(out, session, story.handover.resume)?;
+    out.push_str(".\n")
+}
+
+/// Adds how a log begins.
+fn push_start(out: &mut String, log: LogName) -> Result<(), AllocError> {
+    match log {
+        LogName::Pager => out.push_str(
+            "The pager's log begins with the `got` of the state and with `ready`, and has no other `ready`.\n",
+        ),
+        _ => out.push_str(
+            "The source's log begins with `halted` and `state`, and has them nowhere else.\n",
+        ),
+    }
+}
+
+/// Adds the first `send` of the page.
+fn push_second(out: &mut String, session: &Session, story: &ShapeStory) -> Result<(), AllocError> {
+    out.push_str("A page is sent once, and then repeated by `again`; this one was sent before: ")?;
+    match story.sent {
+        Some(sent) => push_record(out, session, LogName::Source, sent)?,
+        None => {}
+    }
+    out.push_str(".\n")
+}
+
+/// Adds the record that has not the right shape, and the rule that it breaks.
+pub(crate) fn push_shape_story(
+    out: &mut String,
+    session: &Session,
+    story: &ShapeStory,
+) -> Result<(), AllocError> {
+    out.push_str("Not of the right shape is ")?;
+    push_record(out, session, story.log, story.place)?;
+    out.push_str(".\n")?;
+    match story.reason {
+        ShapeReason::Phases => push_phase(out, session, story),
+        ShapeReason::Named => push_named(out, session, story),
+        ShapeReason::Start => push_start(out, story.log),
+        ShapeReason::SecondSend => push_second(out, session, story),
+    }
+}
