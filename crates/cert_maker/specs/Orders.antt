@@ -3,6 +3,7 @@ use Rattle.std.specs.Prelude.{◌≡◌, ℕ, ◌≤◌, List}
 use Rattle.migration_types.specs.declared.records.LogName.{LogName}
 use Rattle.migration_types.specs.declared.cert.Run.{Run}
 use Rattle.migration_types.specs.Certs.{AreRuns}
+use Rattle.migration_types.specs.Receipts.{Name}
 use Rattle.migration_types.specs.Sessions.{Recorded, log_length}
 use Rattle.audit_model.specs.Mergings.{Cursors, HasMerging, at_start, spelled}
 use Rattle.audit_model.specs.Walks.{cursors_from}
@@ -31,3 +32,9 @@ pub record IsTied (s : Recorded) (line : ℕ) : Type 0 where
 abbrev pub IsOrderOf : Recorded → Order → Type 0
 IsOrderOf s (Found runs) = AreFoundRuns s runs
 IsOrderOf s (Knot line) = IsTied s line
+
+-- how many records of each log the found order takes
+pub record IsTakenInOrder (s : Recorded) (c : Cursors) : Type 0 where
+  pub order : List Name
+  pub is_found_order : IsFoundOrder s order
+  pub are_cursors : cursors_from at_start order ≡ c

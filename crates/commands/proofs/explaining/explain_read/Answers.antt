@@ -1,0 +1,25 @@
+use Rattle.std.proofs.Common.{◌≡◌, ℕ, List, IfOk, Result, Ok, Err, subst}
+use Rattle.std.specs.declared.alloc.AllocError.{AllocError}
+use Rattle.text_lines.specs.Text.{IsRefusalLine}
+use Rattle.text_lines.specs.Answer.{IsRead}
+use Rattle.migration_types.specs.Sessions.{Recorded}
+use Rattle.session_log.specs.Grammar.{SpellsSession}
+use Rattle.audit_report.specs.declared.texts.Audited.TheVariants.{Refused, Reported}
+use Rattle.commands.specs.declared.answer.Answer.{Answer}
+use Rattle.commands.specs.Explained.{IsExplainAnswer, TellsReport}
+use Rattle.commands.proofs.explaining.explain_read.Goals as goal
+
+told : (s : Recorded) (text : List ℕ) (found : Result Answer AllocError) → IsRead SpellsSession text (Ok s) → IfOk found (λ a. TellsReport s a.text.items a.status) → IfOk found (λ a. IsExplainAnswer text a.text.items a.status)
+told s text (Ok a) read h = record { audited = Reported h.report; is_audited = (s, read, h.is_report); begins = h.begins; is_status = h.is_status }
+told s text (Err e) read h = tt
+
+pub returns-in-Ok : goal.returns-in-Ok
+returns-in-Ok c = λ text read. told c.in-Ok.session.now text c.explained.result (subst (λ (r : Result Recorded ℕ). IsRead SpellsSession text r) c.in-Ok.is read) c.explained.ensures
+
+pub returns-in_ok-print_refused-in-Err : goal.returns-in_ok-print_refused-in-Err
+returns-in_ok-print_refused-in-Err c = λ text read. record {
+  audited = Refused c.in-Err.line.now;
+  is_audited = subst (λ (r : Result Recorded ℕ). IsRead SpellsSession text r) c.in-Err.is read;
+  begins = c.in_ok-print_refused.ensures;
+  is_status = Rattle.std.proofs.Common.refl;
+}
