@@ -31,7 +31,7 @@ fn explained<R: Threads + Sync>(
 ) -> Result<Answer, AllocError>
     ensures { IfOk result (λ answer. TellsReport session.now answer.text.items answer.status) }
 {
-    let report = audit(alloc, session)?;
+    let report = audit(rt, alloc, session)?;
     let text = print_explained(alloc, session, &report)?;
     Ok(Answer {
         text,

@@ -86,6 +86,7 @@ static TOLD: [&str; 12] = [
     "postcopy check session cert",
     "postcopy certify session",
     "postcopy audit session",
+    "postcopy explain session",
     "postcopy replay session runs",
     "postcopy steps script events",
     "postcopy migrate script",

@@ -14,12 +14,12 @@ told s text (Ok a) read h = record { audited = Reported h.report; is_audited = (
 told s text (Err e) read h = tt
 
 pub returns-in-Ok : goal.returns-in-Ok
-returns-in-Ok c = λ text read. told c.in-Ok.session.now text c.explained.result (subst (λ (r : Result Recorded ℕ). IsRead SpellsSession text r) c.in-Ok.is read) c.explained.ensures
+returns-in-Ok g c = λ text read. told c.in-Ok.session text c.explained.result (subst (λ (r : Result Recorded ℕ). IsRead SpellsSession text r) c.in-Ok.is read) c.explained.ensures
 
 pub returns-in_ok-print_refused-in-Err : goal.returns-in_ok-print_refused-in-Err
-returns-in_ok-print_refused-in-Err c = λ text read. record {
-  audited = Refused c.in-Err.line.now;
+returns-in_ok-print_refused-in-Err g c = λ text read. record {
+  audited = Refused c.in-Err.line;
   is_audited = subst (λ (r : Result Recorded ℕ). IsRead SpellsSession text r) c.in-Err.is read;
-  begins = c.in_ok-print_refused.ensures;
+  begins = c.in_ok-print_refused-in-Err.ensures;
   is_status = Rattle.std.proofs.Common.refl;
 }
