@@ -3,15 +3,20 @@
 ghost use Rattle.std.specs.Prelude.{◌≡◌, ◌≢◌, ◌≤◌, ℕ, [], ◌++◌, IfOk, OnErr};
 ghost use Rattle.std.specs.Fmt.{decimal};
 ghost use Rattle.migration_types.specs.Limits.{most_pages};
+ghost use Rattle.text_lines.specs.Text.{TakesLines};
 ghost use Rattle.cert_text.specs.Grammar.{pages_key, SpellsCert};
 
 use crate::entry_lines::{drop_entry, take_entries, take_entry};
 use crate::keys::{CERT_HEADER, PAGES_KEY};
 use crate::run_lines::RunLines;
+use crate::runs::RunForm;
 use migration_types::{Cert, Entry, MOST_PAGES, Seq};
 use std::alloc::Global;
 use std::marker::Model;
-use text_lines::{FaultKind, LineReader, Rewind, is_line, read_keyed};
+use std::thread::Threads;
+use text_lines::{
+    Alone, FaultKind, ItemCrew, LineReader, LinesApart, Rewind, Team, is_line, read_keyed,
+};
 
 /// Which line is due.
 #[derive(Clone, Copy)]
@@ -57,6 +62,22 @@ impl CertLines {
             runs: RunLines::new(alloc),
         }
     }
+
+    /// Takes as many of the first lines as are in plain form, and answers what follows them and how many they were.
+    fn lines_by<'a, C: ItemCrew<RunForm>>(&mut self, crew: &C, bytes: &'a [u8]) -> (&'a [u8], u32)
+        requires { C.IsReady crew.now }
+        ensures { TakesLines self.old self.new bytes.now result.0.now result.1 }
+    {
+        match self.stage {
+            Stage::Entries => {
+                if self.entries.len() == self.pages as usize {
+                    return self.runs.lines(crew, bytes);
+                }
+                take_entries(&mut self.entries, self.pages, bytes)
+            }
+            _ => (bytes, 0),
+        }
+    }
 }
 
 impl LineReader for CertLines {
@@ -91,15 +112,7 @@ impl LineReader for CertLines {
     }
 
     fn lines<'a>(&mut self, bytes: &'a [u8]) -> (&'a [u8], u32) {
-        match self.stage {
-            Stage::Entries => {
-                if self.entries.len() == self.pages as usize {
-                    return self.runs.lines(bytes);
-                }
-                take_entries(&mut self.entries, self.pages, bytes)
-            }
-            _ => (bytes, 0),
-        }
+        self.lines_by(&Alone, bytes)
     }
 
     fn goes_on(&self) {
@@ -120,6 +133,17 @@ impl LineReader for CertLines {
     ghost use Rattle.cert_text.specs.inner.Plain.{plain_cert};
 
     ghost plain = { plain_cert };
+}
+
+impl LinesApart for CertLines {
+    fn lines_apart<'a, H: Threads + Sync>(
+        &mut self,
+        rt: &H,
+        parts: usize,
+        bytes: &'a [u8],
+    ) -> (&'a [u8], u32) {
+        self.lines_by(&Team { rt, parts }, bytes)
+    }
 }
 
 impl Rewind for CertLines {

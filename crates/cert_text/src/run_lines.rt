@@ -10,7 +10,7 @@ use crate::runs::RunForm;
 use migration_types::{MOST_RUNS, Run, Seq};
 use std::alloc::Global;
 use std::marker::Model;
-use text_lines::{Counted, FaultKind, is_line};
+use text_lines::{Counted, FaultKind, ItemCrew, is_line};
 
 /// Which line is due.
 #[derive(Clone, Copy)]
@@ -83,11 +83,12 @@ impl RunLines {
     }
 
     /// Takes as many of the first lines as are runs in plain form, and answers what follows them and how many they were.
-    pub fn lines<'a>(&mut self, bytes: &'a [u8]) -> (&'a [u8], u32)
+    pub fn lines<'a, C: ItemCrew<RunForm>>(&mut self, crew: &C, bytes: &'a [u8]) -> (&'a [u8], u32)
+        requires { C.IsReady crew.now }
         ensures { TakesLines self.old self.new bytes.now result.0.now result.1 }
     {
         match self.stage {
-            RunStage::Runs => self.runs.lines(&RunForm, bytes),
+            RunStage::Runs => self.runs.lines(crew, &RunForm, bytes),
             _ => (bytes, 0),
         }
     }

@@ -10,8 +10,10 @@ ghost use Rattle.cert_text.specs.inner.Held.{MayFollow};
 use crate::keys::{CLOSING, RUN_KEY, RUNS_KEY, after_end, log_key, log_then};
 use migration_types::{LogName, MOST_RECORDS, Run};
 use std::alloc::AllocError;
+use std::thread::Threads;
 use text_lines::{
-    FaultKind, LineForm, after_key, front_number, push_counted, push_keyed, push_line,
+    FaultKind, ItemCrew, LineForm, Team, after_key, front_number, push_counted, push_keyed,
+    push_line, take_parts,
 };
 
 /// The run at the front, and what follows. Nothing follows where the text is its line alone.
@@ -55,6 +57,10 @@ impl LineForm for RunForm {
 
     ghost MayFollow = { λ runs run. MayFollow runs run.log };
 
+    ghost use Rattle.cert_text.specs.inner.Held.{runs_by_last};
+
+    ghost by_last = { runs_by_last };
+
     fn read(&self, before: &[Run], line: &[u8]) -> Result<Run, FaultKind> {
         let Some((run, rest)) = run_then(line) else {
             return Err(FaultKind::Form);
@@ -74,10 +80,26 @@ impl LineForm for RunForm {
         Some((run, after_end(rest)?))
     }
 
+    fn may_follow(&self, before: &[Run], run: &Run) -> bool {
+        may_follow(before, run.log)
+    }
+
     #[inline(always)]
     fn push(run: &Run, out: &mut Vec<u8>) -> Result<(), AllocError> {
         out.extend_from_slice(RUN_KEY)?;
         push_keyed(out, log_key(run.log), run.count)
+    }
+}
+
+impl<'a, H: Threads + Sync> ItemCrew<RunForm> for Team<'a, H> {
+    fn take<'b>(
+        &self,
+        form: &RunForm,
+        items: &mut Vec<Run>,
+        most: u32,
+        bytes: &'b [u8],
+    ) -> (&'b [u8], u32) {
+        take_parts(self.rt, form, self.parts, items, most, bytes)
     }
 }
 

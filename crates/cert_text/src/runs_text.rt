@@ -1,14 +1,17 @@
 //! Reading a text of runs line by line.
 
 ghost use Rattle.std.specs.Prelude.{◌≡◌, []};
+ghost use Rattle.text_lines.specs.Text.{TakesLines};
 ghost use Rattle.cert_text.specs.Runs.{SpellsRuns};
 
 use crate::keys::RUNS_HEADER;
 use crate::run_lines::RunLines;
+use crate::runs::RunForm;
 use migration_types::{Run, Seq};
 use std::alloc::Global;
 use std::marker::Model;
-use text_lines::{FaultKind, LineReader, Rewind, is_line};
+use std::thread::Threads;
+use text_lines::{Alone, FaultKind, ItemCrew, LineReader, LinesApart, Rewind, Team, is_line};
 
 /// Reads a text of runs line by line: what its lines said so far. Contracts see the lines.
 #[derive(Drop)]
@@ -39,6 +42,18 @@ impl RunsText {
             runs: RunLines::new(alloc),
         }
     }
+
+    /// Takes as many of the first lines as are in plain form, and answers what follows them and how many they were.
+    fn lines_by<'a, C: ItemCrew<RunForm>>(&mut self, crew: &C, bytes: &'a [u8]) -> (&'a [u8], u32)
+        requires { C.IsReady crew.now }
+        ensures { TakesLines self.old self.new bytes.now result.0.now result.1 }
+    {
+        if self.headed {
+            self.runs.lines(crew, bytes)
+        } else {
+            (bytes, 0)
+        }
+    }
 }
 
 impl LineReader for RunsText {
@@ -60,11 +75,7 @@ impl LineReader for RunsText {
     }
 
     fn lines<'a>(&mut self, bytes: &'a [u8]) -> (&'a [u8], u32) {
-        if self.headed {
-            self.runs.lines(bytes)
-        } else {
-            (bytes, 0)
-        }
+        self.lines_by(&Alone, bytes)
     }
 
     fn goes_on(&self) {
@@ -79,6 +90,17 @@ impl LineReader for RunsText {
     ghost use Rattle.cert_text.specs.inner.Plain.{plain_runs_text};
 
     ghost plain = { plain_runs_text };
+}
+
+impl LinesApart for RunsText {
+    fn lines_apart<'a, H: Threads + Sync>(
+        &mut self,
+        rt: &H,
+        parts: usize,
+        bytes: &'a [u8],
+    ) -> (&'a [u8], u32) {
+        self.lines_by(&Team { rt, parts }, bytes)
+    }
 }
 
 impl Rewind for RunsText {

@@ -127,6 +127,8 @@ impl LineForm for EventForm {
 
     ghost Fits = { λ _ e. EventFits e };
 
+    ghost by_last = { λ a b x y h. h };
+
     fn read(&self, _before: &[Event], line: &[u8]) -> Result<Event, FaultKind> {
         read_event(line)
     }

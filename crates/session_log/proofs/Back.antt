@@ -1,8 +1,9 @@
 -- Taking the last line back.
-use Rattle.std.proofs.Common.{◌≡◌, ℕ, ◌+◌, ◌<◌, ◌≤◌, ◌^◌, List, [], ◌∷◌, ◌++◌, length, map, refl, sym, ap, subst, ◌∙◌, length-append, arith}
+use Rattle.std.proofs.Common.{◌≡◌, ℕ, ◌+◌, ◌<◌, ◌≤◌, ◌^◌, List, [], ◌∷◌, ◌++◌, length, map, take, refl, sym, ap, subst, ◌∙◌, length-append, arith}
 use Rattle.std.specs.List.{AllByRecursion}
 use Rattle.std.specs.Fmt.{decimal}
 use Rattle.std.proofs.lemmas.List.{length-map}
+use Rattle.std.proofs.Math.Seq.{take-append_seam}
 use Rattle.migration_types.specs.declared.records.GuestRec.{GuestRec}
 use Rattle.migration_types.specs.declared.records.SourceRec.{SourceRec}
 use Rattle.migration_types.specs.declared.records.LinkRec.{LinkRec}
@@ -155,3 +156,12 @@ count_is stage d held e = sym (counted stage d) ∙ ap length e
 
 pub count_few : (stage : Stage) (d : Draft) → Live stage d → count_at stage d < 2 ^ 32
 count_few stage d live = let few = live_few stage d live in let c = counted stage d in omega arith
+
+abbrev part_of : ℕ → List InitPage → Part InitPage
+part_of count items = record { count = count; items = items }
+
+-- pages that were taken are let go again
+pub pages_let_go : (old mid new : Part InitPage) (taken : List InitPage) (came : ℕ) → mid.count ≡ old.count → mid.items ≡ old.items ++ taken → came ≡ length old.items → new ≡ record { count = mid.count; items = take came mid.items } → new ≡ old
+pages_let_go old mid new taken came same e k is =
+    let items : take came mid.items ≡ old.items = rw (e, k) (take-append_seam old.items taken) in
+    is ∙ (ap (λ (n : ℕ). part_of n (take came mid.items)) same ∙ ap (part_of old.count) items)

@@ -1,12 +1,13 @@
 -- What the lines that a reader holds say of each text that begins with them.
 use Rattle.std.specs.Prelude.{Some, slice_get}
-use Rattle.std.proofs.Common.{◌≡◌, ◌≢◌, ℕ, zero, suc, ◌+◌, ◌-◌, ◌<◌, ◌≤◌, ◌^◌, List, [], ◌∷◌, ◌++◌, length, map, refl, sym, ap, subst, ◌∙◌, length-append, arith}
+use Rattle.std.proofs.Common.{◌≡◌, ◌≢◌, ℕ, zero, suc, ◌+◌, ◌-◌, ◌<◌, ◌≤◌, ◌^◌, List, [], ◌∷◌, ◌++◌, length, map, refl, sym, ap, subst, ◌∙◌, append_assoc, length-append, arith}
 use Rattle.std.specs.List.{AllByRecursion}
 use Rattle.std.specs.Fmt.{decimal}
-use Rattle.std.proofs.lemmas.List.{append_cancel_left, length-map}
+use Rattle.std.proofs.lemmas.List.{append_cancel_left, append-nil, length-map}
 use Rattle.std.proofs.lemmas.Fmt.{decimal_injective}
 use Rattle.text_lines.specs.Text.{Begins}
 use Rattle.text_lines.specs.Contents.{contents_text}
+use Rattle.text_lines.specs.Counted.{AllFollow, TakesItems}
 use Rattle.text_lines.proofs.Sections.{CountedAgree, counted_agree, counted_end, counted_next}
 use Rattle.text_lines.proofs.WordLaws.{decimal_word, same_cut}
 use Rattle.migration_types.specs.declared.records.GuestRec.{GuestRec}
@@ -20,7 +21,7 @@ use Rattle.migration_types.specs.Sessions.{Recorded, IsSession, GuestRecFits, So
 use Rattle.session_log.specs.declared.parts.Stage.{Stage}
 use Rattle.session_log.specs.declared.parts.Stage.TheVariants.{Header, Pages, Cells, InitCount, Init, Guest, Source, Link, Pager, Done}
 use Rattle.session_log.specs.Records.{guest_line, source_line, link_line, pager_line}
-use Rattle.session_log.specs.inner.InitPages.{IsInitContent, Rise, next_from, rise_long, rise_of, few_init}
+use Rattle.session_log.specs.inner.InitPages.{IsInitContent, Rise, next_from, next_push, rise_long, rise_of, few_init}
 use Rattle.session_log.specs.Grammar.{pages_key, cells_key, init_key, guest_key, source_key, link_key, pager_key, page_key, page_line, closing, counted, session_lines, SpellsSession}
 use Rattle.session_log.specs.inner.Held.{Draft, Part, part_onto, geometry_onto, init_onto, guest_onto, source_onto, link_onto, pager_onto, held_onto, IsWhole, InitFits, GuestFits, SourceFits, LinkFits, PagerFits, Live}
 use Rattle.session_log.proofs.Lists.{all_at, all_append}
@@ -185,10 +186,6 @@ pub next_last : (ps : List InitPage) (q : InitPage) → slice_get ps (length ps 
 next_last [] q e = absurd cc
 next_last (p ∷ ps) q e = next_at 0 (p ∷ ps) (length (p ∷ ps) - 1) q e (omega arith)
 
-pub next_push : (low : ℕ) (ps : List InitPage) (p : InitPage) → next_from low (ps ++ p ∷ []) ≡ p.page + 1
-next_push low [] p = refl
-next_push low (q ∷ ps) p = next_push (q.page + 1) ps p
-
 pub page_same : (x y : InitPage) → x.page < 2 ^ 64 → y.page < 2 ^ 64 → page_line x ≡ page_line y → (x.page ≡ y.page) × (contents_text x.cells ≡ contents_text y.cells)
 page_same x y p q e =
     let rest = append_cancel_left page_key (decimal x.page ++ 32 ∷ contents_text x.cells) (decimal y.page ++ 32 ∷ contents_text y.cells) e in
@@ -255,6 +252,26 @@ page_push e part next after p is f less low high has =
       rising = subst (Rise 0 (part.items ++ p ∷ [])) (sym is) (rise_push 0 next part.items p f.rising low);
       room = omega (arith, len, is);
     }
+
+rise_all : (old taken : List InitPage) → Rise 0 old (next_from 0 old) → AllFollow (λ before p. next_from 0 before ≤ p.page) old taken → Rise 0 (old ++ taken) (next_from 0 (old ++ taken))
+rise_all old [] r f = subst (λ (ps : List InitPage). Rise 0 ps (next_from 0 ps)) (sym (append-nil old)) r
+rise_all old (p ∷ ps) r f =
+    let one = subst (Rise 0 (old ++ p ∷ [])) (sym (next_push 0 old p)) (rise_push 0 (next_from 0 old) old p r f.0) in
+    subst (λ (all : List InitPage). Rise 0 all (next_from 0 all)) (append_assoc old (p ∷ []) ps) (rise_all (old ++ p ∷ []) ps one f.1)
+
+all_fit : (e : Extent) (high : ℕ) (ps : List InitPage) → high < e.pages → AllByRecursion (λ p. (p.page ≤ high) × IsInitContent e.cells p.cells) ps → AllByRecursion (InitPageFits e) ps
+all_fit e high [] lt h = tt
+all_fit e high (p ∷ ps) lt h = (record { page = omega (arith, h.0.0, lt); content = h.0.1.content; not_zeros = h.0.1.not_zeros }, all_fit e high ps lt h.1)
+
+-- many pages that rise, with room for those to come
+pub pages_push : (e : Extent) (old new : Part InitPage) (high n : ℕ) (bytes rest : List ℕ) → InitFits e (next_from 0 old.items) old → high < e.pages → new.count ≡ old.count → length new.items ≤ new.count → TakesItems page_line (λ p. (p.page ≤ high) × IsInitContent e.cells p.cells) (λ before p. next_from 0 before ≤ p.page) old.items new.items bytes rest n → next_from 0 new.items + (new.count - length new.items) ≤ e.pages → InitFits e (next_from 0 new.items) new
+pages_push e old new high n bytes rest f below same within t room = record {
+  geometry = f.geometry;
+  within = within;
+  each = subst (AllByRecursion (InitPageFits e)) (sym t.items) (all_append (InitPageFits e) old.items t.taken f.each (all_fit e high t.taken below t.fits));
+  rising = subst (λ (ps : List InitPage). Rise 0 ps (next_from 0 ps)) (sym t.items) (rise_all old.items t.taken f.rising t.follow);
+  room = room;
+}
 
 -- ---- why a line is refused
 

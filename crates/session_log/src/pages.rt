@@ -13,7 +13,7 @@ use crate::keys::PAGE_KEY;
 use crate::writing::push_page;
 use migration_types::{Contents, InitPage, PageNo};
 use std::alloc::{AllocError, Global};
-use text_lines::{FaultKind, LineForm, after_key, number_then};
+use text_lines::{FaultKind, LineForm, after_key, next_line, number_then};
 
 /// The page that a line spells, for a page from `low` to `high` with so many cells, not all of them zero.
 pub(crate) fn read_page(
@@ -66,7 +66,7 @@ fn are_zeros(cells: &[u64]) -> bool
 }
 
 /// The least number that a page behind these may have.
-fn next_page(before: &[InitPage]) -> u32
+pub(crate) fn next_page(before: &[InitPage]) -> u32
     ensures { result ≡ next_from 0 before.now }
 {
     match before.last() {
@@ -93,6 +93,10 @@ impl LineForm for InitLines {
 
     ghost MayFollow = { λ before p. next_from 0 before ≤ p.page };
 
+    ghost use Rattle.session_log.specs.inner.InitPages.{pages_by_last};
+
+    ghost by_last = { pages_by_last };
+
     fn read(&self, before: &[InitPage], line: &[u8]) -> Result<InitPage, FaultKind> {
         read_page(
             self.machine.alloc,
@@ -101,6 +105,18 @@ impl LineForm for InitLines {
             self.high,
             self.machine.cells,
         )
+    }
+
+    fn front<'a>(&self, before: &[InitPage], text: &'a [u8]) -> Option<(InitPage, &'a [u8])> {
+        let (line, rest) = next_line(text)?;
+        match self.read(before, line) {
+            Ok(page) => Some((page, rest)),
+            Err(_) => None,
+        }
+    }
+
+    fn may_follow(&self, before: &[InitPage], item: &InitPage) -> bool {
+        next_page(before) <= u32::from(item.page.number())
     }
 
     fn push(item: &InitPage, out: &mut Vec<u8>) -> Result<(), AllocError> {

@@ -12,6 +12,8 @@ mod kinds;
 #[cfg(test)]
 mod lines;
 #[cfg(test)]
+mod parts;
+#[cfg(test)]
 mod pieces;
 #[cfg(test)]
 mod records;

@@ -1,5 +1,7 @@
 -- The lines that readers of certificates and of runs hold.
 use Rattle.std.specs.Prelude.{◌≡◌, ◌≢◌, ℕ, ◌-◌, ◌<◌, ◌≤◌, Bool, true, false, List, [], ◌∷◌, ◌++◌, length, slice_index_or}
+use Rattle.std.proofs.Common.{sym, ap, ◌∙◌, length-append, arith}
+use Rattle.std.proofs.lemmas.List.{get_or-append-add}
 use Rattle.std.specs.List.{AllByRecursion}
 use Rattle.std.specs.Fmt.{decimal}
 use Rattle.text_lines.specs.Counted.{Part, part_onto, IsWhole}
@@ -22,6 +24,13 @@ MayFollow runs log = (d : Run) → 0 < length runs → (slice_index_or runs (len
 -- a run may stand after these runs
 abbrev pub Follows : List Run → Run → Type 0
 Follows runs run = MayFollow runs run.log
+
+last_at : (xs : List Run) (x d : Run) → slice_index_or (xs ++ x ∷ []) (length (xs ++ x ∷ []) - 1) d ≡ x
+last_at xs x d = ap (λ (k : ℕ). slice_index_or (xs ++ x ∷ []) k d) (omega (arith, length-append xs (x ∷ []))) ∙ get_or-append-add xs (x ∷ []) 0 d
+
+-- which run may stand after others is told by the last of them
+pub runs_by_last : (a b : List Run) (x y : Run) → MayFollow (a ++ x ∷ []) y.log → MayFollow (b ++ x ∷ []) y.log
+runs_by_last a b x y h d some = λ e. h d (omega (arith, length-append a (x ∷ []))) (ap (λ (r : Run). r.log) (last_at a x d ∙ sym (last_at b x d)) ∙ e)
 
 -- ---- runs
 

@@ -1,5 +1,5 @@
 -- Contents that are not zeros, and pages whose numbers rise, by recursion.
-use Rattle.std.specs.Prelude.{◌≡◌, ℕ, zero, suc, ◌+◌, ◌<◌, ◌≤◌, List, [], ◌∷◌, length, map, refl, slice_index}
+use Rattle.std.specs.Prelude.{◌≡◌, ℕ, zero, suc, ◌+◌, ◌<◌, ◌≤◌, List, [], ◌∷◌, ◌++◌, length, map, refl, slice_index}
 use Rattle.std.proofs.Common.{arith, subst}
 use Rattle.std.specs.List.{AllByRecursion}
 use Rattle.std.specs.List.Sorted.{IsStrictlyIncreasing}
@@ -26,6 +26,14 @@ Rise low (p ∷ ps) high = (low ≤ p.page) × Rise (p.page + 1) ps high
 abbrev pub next_from : ℕ → List InitPage → ℕ
 next_from low [] = low
 next_from low (p ∷ ps) = next_from (p.page + 1) ps
+
+pub next_push : (low : ℕ) (ps : List InitPage) (p : InitPage) → next_from low (ps ++ p ∷ []) ≡ p.page + 1
+next_push low [] p = refl
+next_push low (q ∷ ps) p = next_push (q.page + 1) ps p
+
+-- where a page may stand is told by the last before it
+pub pages_by_last : (a b : List InitPage) (x y : InitPage) → next_from 0 (a ++ x ∷ []) ≤ y.page → next_from 0 (b ++ x ∷ []) ≤ y.page
+pages_by_last a b x y le = omega (arith, next_push 0 a x, next_push 0 b x)
 
 -- rising pages are few
 pub rise_long : (low high : ℕ) (ps : List InitPage) → Rise low ps high → low + length ps ≤ high

@@ -2,10 +2,10 @@ use Rattle.std.proofs.Common.{arith}
 use Rattle.cert_text.specs.inner.CertDraft.{draft_of}
 use Rattle.cert_text.proofs.Laws.{live_at, entries_taken}
 use Rattle.cert_text.specs.declared.cert_lines.Stage.TheVariants.{Entries}
-use Rattle.cert_text.proofs.cert_lines.CertLinesLineReader.lines.Goals as goal
+use Rattle.cert_text.proofs.cert_lines.CertLines.lines_by.Goals as goal
 
 pub returns-else-len-self : goal.returns-else-len-self
-returns-else-len-self c =
+returns-else-len-self g c =
     let i = c.self.inside in
     let d = draft_of i in
     let live = live_at i.stage Entries d c.in-Entries.is c.self.invariant in
