@@ -1,4 +1,5 @@
 pub mod Cuts
+pub mod Filling
 pub mod Statuses
 pub mod Said
 pub mod Migrated

@@ -54,7 +54,7 @@ pub fn one_answer<'a, R: Threads + Sync, S: TextSource, I: Read>(
 ) -> Result<Answer, Fault<'a>>
     ensures { IfOk result (AnswersTo (IsNamed name.entry.now (S.bytes_of texts.now) (I.remaining input.old)) (IsOneAnswer task)) }
 {
-    let session = read_named::<SessionReader, S, I>(alloc, name, texts, input)?;
+    let session = read_named::<SessionReader, R, S, I>(rt, alloc, name, texts, input)?;
     given(session_answer(rt, alloc, task, &session))
 }
 
@@ -69,14 +69,15 @@ fn check_named<'a, R: Threads + Sync, S: TextSource, I: Read>(
 ) -> Result<Answer, Fault<'a>>
     ensures { IfOk result (AnswersTo (AreNamed first.entry.now second.entry.now (S.bytes_of texts.now) (I.remaining input.old)) (IsTwoAnswer TwoTexts.Check)) }
 {
-    let (session, cert) = read_pair::<SessionReader, CertReader, S, I>(
-        alloc, first, second, texts, input,
+    let (session, cert) = read_pair::<SessionReader, CertReader, R, S, I>(
+        rt, alloc, first, second, texts, input,
     )?;
     given(judge_read(rt, alloc, &session, &cert))
 }
 
 // The replay of the texts under two names.
-fn replay_named<'a, S: TextSource, I: Read>(
+fn replay_named<'a, R: Threads + Sync, S: TextSource, I: Read>(
+    rt: &R,
     alloc: Global,
     first: &'a str,
     second: &'a str,
@@ -85,14 +86,15 @@ fn replay_named<'a, S: TextSource, I: Read>(
 ) -> Result<Answer, Fault<'a>>
     ensures { IfOk result (AnswersTo (AreNamed first.entry.now second.entry.now (S.bytes_of texts.now) (I.remaining input.old)) (IsTwoAnswer TwoTexts.Replay)) }
 {
-    let (session, runs) = read_pair::<SessionReader, RunsReader, S, I>(
-        alloc, first, second, texts, input,
+    let (session, runs) = read_pair::<SessionReader, RunsReader, R, S, I>(
+        rt, alloc, first, second, texts, input,
     )?;
     given(replay_read(alloc, &session, &runs))
 }
 
 // What the script and the events under two names record.
-fn steps_named<'a, S: TextSource, I: Read>(
+fn steps_named<'a, R: Threads + Sync, S: TextSource, I: Read>(
+    rt: &R,
     alloc: Global,
     first: &'a str,
     second: &'a str,
@@ -101,7 +103,9 @@ fn steps_named<'a, S: TextSource, I: Read>(
 ) -> Result<Answer, Fault<'a>>
     ensures { IfOk result (AnswersTo (AreNamed first.entry.now second.entry.now (S.bytes_of texts.now) (I.remaining input.old)) (IsTwoAnswer TwoTexts.Steps)) }
 {
-    let (script, events) = read_pair::<Vec<u8>, Vec<u8>, S, I>(alloc, first, second, texts, input)?;
+    let (script, events) = read_pair::<Vec<u8>, Vec<u8>, R, S, I>(
+        rt, alloc, first, second, texts, input,
+    )?;
     given(steps_read(alloc, &script, &events))
 }
 
@@ -119,8 +123,8 @@ pub fn two_answer<'a, R: Threads + Sync, S: TextSource, I: Read>(
 {
     match task {
         TwoTexts::Check => check_named(rt, alloc, first, second, texts, input),
-        TwoTexts::Replay => replay_named(alloc, first, second, texts, input),
-        TwoTexts::Steps => steps_named(alloc, first, second, texts, input),
+        TwoTexts::Replay => replay_named(rt, alloc, first, second, texts, input),
+        TwoTexts::Steps => steps_named(rt, alloc, first, second, texts, input),
     }
 }
 
@@ -140,6 +144,6 @@ pub fn migrate_named<
 ) -> Result<Answer, Fault<'a>>
     ensures { IfOk result (AnswersTo (IsNamed name.entry.now (S.bytes_of texts.now) (I.remaining input.old)) IsMigrateAnswer) }
 {
-    let script = read_named::<Vec<u8>, S, I>(alloc, name, texts, input)?;
+    let script = read_named::<Vec<u8>, R, S, I>(rt, alloc, name, texts, input)?;
     migrate_read(rt, alloc, carrier, &script)
 }

@@ -6,6 +6,7 @@ ghost use Rattle.commands.specs.inner.Ends.{CameAs, EndsThere, IsLacking, NoEndY
 
 use crate::taking::Taker;
 use std::alloc::{AllocError, Global};
+use std::thread::Threads;
 use text_lines::{after_key, is_line, next_line};
 
 /// The line that ends the first text.
@@ -77,18 +78,23 @@ impl<A: Taker, B: Taker> Taker for Both<A, B> {
         }
     }
 
-    fn take(&mut self, piece: &[u8]) -> Result<(), AllocError> {
+    fn take<H: Threads + Sync>(
+        &mut self,
+        rt: &H,
+        parts: usize,
+        piece: &[u8],
+    ) -> Result<(), AllocError> {
         if self.ended {
-            return self.second.take(piece);
+            return self.second.take(rt, parts, piece);
         }
         match find_end(&mut self.lacking, piece) {
             Some(place) => {
                 let (first, second) = piece.split_at(place);
                 self.ended = true;
-                self.first.take(first)?;
-                self.second.take(second)
+                self.first.take(rt, parts, first)?;
+                self.second.take(rt, parts, second)
             }
-            None => self.first.take(piece),
+            None => self.first.take(rt, parts, piece),
         }
     }
 

@@ -1,14 +1,14 @@
 //! Reading texts to their ends, piece by piece.
 
-ghost use Rattle.std.specs.Prelude.{◌≡◌, ◌<◌, ℕ, List, [], Option, Some, None, IfOk, OnOk, IfSome, MatchResult, length, vec_len};
-ghost use Rattle.std.specs.Io.KnownBytes.{Consumes, IsAtEnd, Keeps};
+ghost use Rattle.std.specs.Prelude.{◌≡◌, ℕ, List, Option, Some, None, IfOk, OnOk, IfSome, vec_len};
 ghost use Rattle.commands.specs.Told.{AreRead};
-ghost use Rattle.commands.specs.inner.Takings.{TakesAll};
+ghost use Rattle.commands.specs.inner.Takings.{Fills, TakesAll};
 
 use crate::taking::Taker;
 use std::alloc::{AllocError, Global};
-use std::io;
 use std::io::{ErrorKind, Read};
+use std::thread::Threads;
+use std::{io, thread};
 
 /// Texts by their names, such as files.
 pub trait TextSource {
@@ -38,33 +38,79 @@ const MOST_BYTES: usize = 268_435_456;
 /// The most reads that an input may take, with the one that finds its end.
 const MOST_READS: u32 = 1_048_576;
 
-// How many bytes are asked for at a time.
-const BUFFER_BYTES: usize = 131_072;
+// How many bytes are taken at a time, once a text has more than the first.
+const PIECE_BYTES: usize = 1_048_576;
+
+// How many bytes are taken first.
+const FIRST_BYTES: usize = 131_072;
+
+// The most pieces that an input may have, with the first and the one that finds its end.
+const MOST_PIECES: usize = MOST_BYTES / PIECE_BYTES + 2;
+
+/// The most threads that take parts of a piece.
+const MOST_PARTS: usize = 8;
 
 /// What is found of the text that a reader has left, which is taken piece by piece as it is read: at most 268,435,456
-/// bytes, in at most 1,048,576 reads.
-pub fn read_text<R: Read, T: Taker>(alloc: Global, reader: &mut R) -> Result<T::Found, ReadFault>
+/// bytes, in at most 1,048,576 reads. Of a long text the pieces are taken by several threads.
+pub fn read_text<H: Threads + Sync, R: Read, T: Taker>(
+    rt: &H,
+    alloc: Global,
+    reader: &mut R,
+) -> Result<T::Found, ReadFault>
     ensures { IfOk result (λ found. (text : List ℕ) × AreRead (R.remaining reader.old) text × T.is_found text found) }
 {
     let mut taker = T::new(alloc);
-    read_within(alloc, reader, &mut taker, MOST_BYTES, MOST_READS)?;
+    read_within(rt, alloc, reader, &mut taker, MOST_BYTES, MOST_READS)?;
     Ok(taker.end())
 }
 
-/// Reads once, and answers what was read: nothing at the end alone.
-fn read_piece<'a, R: Read>(reader: &mut R, buffer: &'a mut [u8]) -> io::Result<&'a [u8]>
-    requires { 0 < length buffer.old }
-    ensures { MatchResult result (λ piece. Consumes (R.remaining reader.old) (R.remaining reader.new) piece.now × (piece.now ≡ [] → IsAtEnd (R.remaining reader.new))) (λ _. Keeps (R.remaining reader.old) (R.remaining reader.new)) }
-{
-    match reader.read(buffer) {
-        Ok(count) => Ok(&buffer[..count]),
-        Err(error) => Err(error),
-    }
+/// What was read to the front of a buffer.
+#[derive(Clone, Copy)]
+struct Filled {
+    /// How many bytes.
+    count: usize,
+    /// Whether nothing is left.
+    ended: bool,
+    /// How many reads may yet be made.
+    reads: u32,
 }
 
-/// Gives what a reader has left to a taker, within these limits. It stops with a fault once a limit is passed. A read
-/// that was interrupted counts, and is made again.
-fn read_within<R: Read, T: Taker>(
+/// Reads until the buffer is full or nothing is left, in at most so many reads. A read that was interrupted counts, and is
+/// made again.
+fn fill<R: Read>(reader: &mut R, buffer: &mut [u8], reads: u32) -> Result<Filled, ReadFault>
+    ensures { IfOk result (λ filled. Fills (R.remaining reader.old) (R.remaining reader.new) buffer.new filled.count filled.ended) }
+{
+    let mut count = 0;
+    for made in 0..reads {
+        if count >= buffer.len() {
+            return Ok(Filled {
+                count,
+                ended: false,
+                reads: reads - made,
+            });
+        }
+        match reader.read(&mut buffer[count..]) {
+            Ok(0) => {
+                return Ok(Filled {
+                    count,
+                    ended: true,
+                    reads: reads - made,
+                });
+            }
+            Ok(more) => count += more,
+            Err(error) => {
+                if error.kind() != ErrorKind::Interrupted {
+                    return Err(fault_of(&error));
+                }
+            }
+        }
+    }
+    Err(ReadFault::File)
+}
+
+/// Gives what a reader has left to a taker, within these limits. It stops with a fault once a limit is passed.
+fn read_within<H: Threads + Sync, R: Read, T: Taker>(
+    rt: &H,
     alloc: Global,
     reader: &mut R,
     taker: &mut T,
@@ -73,28 +119,42 @@ fn read_within<R: Read, T: Taker>(
 ) -> Result<(), ReadFault>
     ensures { OnOk result (TakesAll T.came most_bytes (R.remaining reader.old) taker.old taker.new) }
 {
-    let Ok(mut buffer) = zeroes(alloc, BUFFER_BYTES) else {
+    let Ok(mut buffer) = zeroes(alloc, FIRST_BYTES) else {
         return Err(ReadFault::Memory);
     };
+    let mut parts = 1;
     let mut left = most_bytes;
-    for _ in 0..most_reads {
-        let piece = match read_piece(reader, buffer.as_mut_slice()) {
-            Ok(piece) => piece,
-            Err(error) if error.kind() == ErrorKind::Interrupted => continue,
-            Err(error) => return Err(fault_of(&error)),
-        };
-        if piece.is_empty() {
-            return Ok(());
-        }
-        if piece.len() > left {
+    let mut reads = most_reads;
+    for _ in 0..MOST_PIECES {
+        let filled = fill(reader, buffer.as_mut_slice(), reads)?;
+        if filled.count > left {
             return Err(ReadFault::File);
         }
-        match taker.take(piece) {
-            Ok(()) => left -= piece.len(),
-            Err(_) => return Err(ReadFault::Memory),
+        let Ok(()) = taker.take(rt, parts, &buffer[..filled.count]) else {
+            return Err(ReadFault::Memory);
+        };
+        if filled.ended {
+            return Ok(());
+        }
+        left -= filled.count;
+        reads = filled.reads;
+        if buffer.len() < PIECE_BYTES {
+            let Ok(larger) = zeroes(alloc, PIECE_BYTES) else {
+                return Err(ReadFault::Memory);
+            };
+            buffer = larger;
+            parts = processors(rt);
         }
     }
     Err(ReadFault::File)
+}
+
+/// How many threads take parts of a piece: as many as there are processors, where it is known.
+fn processors<H: Threads>(rt: &H) -> usize {
+    match thread::available_parallelism(rt) {
+        Ok(count) => count.get().min(MOST_PARTS),
+        Err(_) => 1,
+    }
 }
 
 fn zeroes(alloc: Global, count: usize) -> Result<Vec<u8>, AllocError>

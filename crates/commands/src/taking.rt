@@ -1,11 +1,13 @@
 //! Texts that are taken piece by piece, as they are read.
 
 ghost use Rattle.std.specs.Prelude.{◌≡◌, ℕ, List, [], ◌++◌, OnOk};
+ghost use Rattle.std.specs.Thread.{IsSync};
 ghost use Rattle.text_lines.specs.Answer.{IsRead};
 ghost use Rattle.text_lines.specs.Progress.{CameSoFar};
 
 use std::alloc::{AllocError, Global};
-use text_lines::{Rewind, TextReader};
+use std::thread::Threads;
+use text_lines::{LinesApart, TextReader};
 
 /// Takes a text piece by piece, and tells at its end what was found of it.
 pub trait Taker: Drop {
@@ -22,8 +24,14 @@ pub trait Taker: Drop {
     fn new(alloc: Global) -> Self
         ensures { came result [] };
 
-    /// Takes the next piece. What a text does wrong is told at its end.
-    fn take(&mut self, piece: &[u8]) -> Result<(), AllocError>
+    /// Takes the next piece, of which so many threads may take parts. What a text does wrong is told at its end.
+    fn take<H: Threads + Sync>(
+        &mut self,
+        rt: &H,
+        parts: usize,
+        piece: &[u8],
+    ) -> Result<(), AllocError>
+        requires { IsSync H.row }
         ensures { OnOk result ((text : List ℕ) → came self.old text → came self.new (text ++ piece.now)) };
 
     /// What was found of all that came.
@@ -31,7 +39,7 @@ pub trait Taker: Drop {
         ensures { (text : List ℕ) → came self text → is_found text result };
 }
 
-impl<R: Rewind> Taker for TextReader<R> {
+impl<R: LinesApart> Taker for TextReader<R> {
     type Found = Result<R::Text, u32>;
 
     ghost is_found = { λ text found. IsRead R.spells text found };
@@ -42,8 +50,13 @@ impl<R: Rewind> Taker for TextReader<R> {
         TextReader::new(alloc)
     }
 
-    fn take(&mut self, piece: &[u8]) -> Result<(), AllocError> {
-        match self.feed(piece) {
+    fn take<H: Threads + Sync>(
+        &mut self,
+        rt: &H,
+        parts: usize,
+        piece: &[u8],
+    ) -> Result<(), AllocError> {
+        match self.feed_apart(rt, parts, piece) {
             Ok(()) => Ok(()),
             Err(fault) => {
                 let _line = fault.refused_line()?;
@@ -72,7 +85,14 @@ impl Taker for Vec<u8> {
         Vec::new(alloc)
     }
 
-    fn take(&mut self, piece: &[u8]) -> Result<(), AllocError> {
+    fn take<H: Threads + Sync>(
+        &mut self,
+        rt: &H,
+        parts: usize,
+        piece: &[u8],
+    ) -> Result<(), AllocError> {
+        let _ = rt;
+        let _ = parts;
         self.extend_from_slice(piece)
     }
 

@@ -18,6 +18,7 @@ use texts::{
     RECORDED, SAFE_RUNS, SCRIPT_AND_EVENTS, SESSION, TEXTS,
 };
 
+mod long;
 mod migrations;
 mod texts;
 mod usage;

@@ -1,4 +1,4 @@
-use Rattle.std.proofs.Common.{◌≡◌, ◌+◌, List, ℕ, ◌++◌, length, vec_len}
+use Rattle.std.proofs.Common.{◌≡◌, ◌+◌, List, ℕ, ◌++◌, length}
 use Rattle.std.specs.Io.KnownBytes.{Consumes}
 use Rattle.commands.proofs.reading.read_within.Given as goal
 
@@ -8,7 +8,6 @@ invariant-loop g l =
     record {
       bytes : List ℕ;
       consumed : Consumes (g.R.Read.remaining l.fn.reader) (g.R.Read.remaining l.reader) bytes;
-      room : vec_len l.buffer ≡ 131072;
       within : length bytes + l.left ≡ l.fn.most_bytes;
       taken : (before : List ℕ) → came l.fn.taker before → came l.taker (before ++ bytes);
     }
