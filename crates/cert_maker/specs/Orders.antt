@@ -33,8 +33,9 @@ abbrev pub IsOrderOf : Recorded → Order → Type 0
 IsOrderOf s (Found runs) = AreFoundRuns s runs
 IsOrderOf s (Knot line) = IsTied s line
 
--- how many records of each log the found order takes
+-- how many records of each log the found order takes, all of which are there
 pub record IsTakenInOrder (s : Recorded) (c : Cursors) : Type 0 where
   pub order : List Name
   pub is_found_order : IsFoundOrder s order
   pub are_cursors : cursors_from at_start order ≡ c
+  pub within : (log : LogName) → c log ≤ log_length s log

@@ -496,11 +496,12 @@ impl TextSource for Starved {
 }
 
 // Words of each command.
-static COMMANDS: [&[&str]; 7] = [
+static COMMANDS: [&[&str]; 8] = [
     &["postcopy"],
     &["postcopy", "check", "session", "cert"],
     &["postcopy", "certify", "session"],
     &["postcopy", "audit", "-"],
+    &["postcopy", "explain", "-"],
     &["postcopy", "replay", "-", "-"],
     &["postcopy", "steps", "script", "-"],
     &["postcopy", "migrate", "script"],

@@ -2,3 +2,4 @@ pub mod Scanning
 pub mod Sectioning
 pub mod Looking
 pub mod Paged
+pub mod Circling

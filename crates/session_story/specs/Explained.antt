@@ -19,6 +19,7 @@ use Rattle.session_story.specs.Pages.{IsHandover, IsPageStory, first_send}
 use Rattle.session_story.specs.Values.{IsInstead, IsOther}
 use Rattle.session_story.specs.Looks.{HasNoLook, IsGreatestLook}
 use Rattle.session_story.specs.Counted.{IsCounts}
+use Rattle.session_story.specs.Waits.{IsCircle, TakesAll}
 use Rattle.session_story.specs.declared.values.Held.{Held}
 use Rattle.session_story.specs.declared.faults.Detail.{Detail}
 use Rattle.session_story.specs.declared.faults.Detail.TheVariants.{Instead, Seen, Other, Plain}
@@ -66,7 +67,7 @@ pub record IsShapeStory (s : Recorded) (fault : ShapeFault) (t : ShapeStory) : T
 -- what is told of a session with this report
 abbrev pub IsExplanation : Recorded → Report → Explanation → Type 0
 IsExplanation s (report.Shape fault) (told.Shape story) = IsShapeStory s fault story
-IsExplanation s (report.Knot line) (told.Knot at) = at ≡ line
+IsExplanation s (report.Knot line) (told.Knot knot) = MatchOption knot (TakesAll s) (IsCircle s)
 IsExplanation s (report.Faulty line reason order) (told.Faulty story) = IsFaultStory s line reason story
 IsExplanation s (report.Clean cert) (told.Clean counts) = IsCounts s cert.entries counts
 IsExplanation s _ _ = ⊥

@@ -4,6 +4,7 @@ pub mod Pages
 pub mod Values
 pub mod Looks
 pub mod Counted
+pub mod Waits
 pub mod Explained
 pub mod Told
 pub mod inner

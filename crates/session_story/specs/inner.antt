@@ -2,3 +2,4 @@
 pub mod Questions
 pub mod Sections
 pub mod Cells
+pub mod Waits

@@ -8,17 +8,18 @@ ghost use Rattle.session_story.specs.Explained.{IsExplanation};
 use crate::counting::{Counts, counts_of};
 use crate::faults::{FaultStory, fault_at};
 use crate::shapes::{ShapeStory, shape_at};
+use crate::waits::{Knot, circle_of};
 use audit_report::Report;
 use migration_types::{Cert, Session};
 use std::alloc::{AllocError, Global};
 
 /// What happened in a session: what its report names, with the records that it came from.
-#[derive(Clone, Copy, Debug)]
+#[derive(Debug, Drop)]
 pub enum Explanation {
     /// A record that has not the right shape.
     Shape(ShapeStory),
-    /// There is no order of the records.
-    Knot(u32),
+    /// There is no order of the records: some wait for one another.
+    Knot(Option<Knot>),
     /// A fault of a page.
     Faulty(FaultStory),
     /// It is clean.
@@ -45,7 +46,7 @@ pub fn explain(
 {
     match report {
         Report::Shape(fault) => Ok(Explanation::Shape(shape_at(session, fault))),
-        Report::Knot(line) => Ok(Explanation::Knot(*line)),
+        Report::Knot(_) => Ok(Explanation::Knot(circle_of(alloc, session)?)),
         Report::Faulty { line, reason, .. } => Ok(Explanation::Faulty(fault_at(
             alloc, session, *line, *reason,
         )?)),

@@ -13,6 +13,7 @@ mod scans;
 mod shapes;
 mod telling;
 mod values;
+mod waits;
 mod words;
 
 pub use counting::{Counts, counts_of};
@@ -24,3 +25,4 @@ pub use pages::{Handover, PageStory, handover_of, story_of};
 pub use shapes::ShapeStory;
 pub use telling::{print_explained, print_refused};
 pub use values::{Held, instead_of, other_of};
+pub use waits::{Knot, Waiting, circle_of};

@@ -1,12 +1,14 @@
 //! What happened in a session, in words.
 
 mod faults;
+mod knots;
 mod records;
 mod shapes;
 
 use crate::counting::Counts;
 use crate::explaining::Explanation;
 use crate::words::faults::push_fault;
+use crate::words::knots::push_knot;
 use crate::words::shapes::push_shape_story;
 use migration_types::Session;
 use std::alloc::{AllocError, Global};
@@ -44,7 +46,8 @@ pub(crate) fn words_of(
     let mut out = String::new(alloc);
     match explanation {
         Explanation::Shape(story) => push_shape_story(&mut out, session, story)?,
-        Explanation::Knot(_) => write!(out, "There is no order of the records.\n")?,
+        Explanation::Knot(Some(knot)) => push_knot(&mut out, session, knot)?,
+        Explanation::Knot(None) => {}
         Explanation::Faulty(fault) => push_fault(&mut out, session, fault)?,
         Explanation::Clean(counts) => push_counts(&mut out, counts)?,
     }

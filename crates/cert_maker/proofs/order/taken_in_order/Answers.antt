@@ -8,4 +8,5 @@ returns c =
       order = spelled found.found.runs;
       is_found_order = found.ensures.is_found_order;
       are_cursors = found.ensures.at;
+      within = found.ensures.within;
     }

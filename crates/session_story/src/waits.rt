@@ -1,0 +1,108 @@
+//! Records that wait for one another.
+
+ghost use Rattle.std.specs.Prelude.{◌≡◌, ◌<◌, ◌≤◌, None, IfOk, MatchOption};
+ghost use Rattle.migration_types.specs.Sessions.{IsSession};
+ghost use Rattle.merge_runs.specs.Taken.{cursors_of};
+ghost use Rattle.audit_model.specs.Names.{log_length, receipt};
+ghost use Rattle.audit_model.specs.Shape.{IsRightShape};
+ghost use Rattle.audit_model.specs.FoundOrder.{first_ready};
+ghost use Rattle.session_story.specs.Waits.{IsCircle, TakesAll};
+ghost use Rattle.session_story.specs.inner.Waits.{IsNext, IsCircleAt};
+
+use cert_maker::taken_in_order;
+use merge_runs::{Taken, first_left};
+use migration_types::{LogName, Record, Session};
+use std::alloc::{AllocError, Global};
+
+/// A record that waits for one of another log: it is a receipt for it.
+#[derive(Clone, Copy, Debug, PartialEq, Eq)]
+pub struct Waiting {
+    pub log: LogName,
+    /// The number of the record that waits.
+    pub place: u32,
+    /// The log of the record that it waits for.
+    pub sent_log: LogName,
+    /// The number of that one.
+    pub sent_place: u32,
+}
+
+/// Records that wait for one another.
+#[derive(Debug, Drop)]
+pub struct Knot {
+    /// Each is a receipt for the next, or for a record that comes after it in its log.
+    pub waits: Vec<Waiting>,
+    /// The index of the one that the last waits for: from it on they go round in a circle.
+    pub back: usize,
+}
+
+/// What a record is a receipt for.
+fn receipt_at(session: &Session, log: LogName, place: usize) -> Option<(LogName, u32)>
+    ensures { result ≡ receipt session.now (log, place) }
+{
+    match log {
+        LogName::Guest => session.guest().get(place)?.named(),
+        LogName::Source => session.source().get(place)?.named(),
+        LogName::Link => session.link().get(place)?.named(),
+        LogName::Pager => session.pager().get(place)?.named(),
+    }
+}
+
+/// The next record of a log, where it is a receipt.
+fn next_of(session: &Session, taken: &Taken, log: LogName) -> Option<Waiting>
+    requires limits { IsSession session.now }
+    requires left { cursors_of taken.now log < log_length session.now log }
+    ensures { MatchOption result (receipt session.now (log, cursors_of taken.now log) ≡ None) (IsNext session.now (cursors_of taken.now) log) }
+{
+    let place = taken.of(log);
+    match receipt_at(session, log, place) {
+        Some((sent_log, sent_place)) => Some(Waiting {
+            log,
+            place: place as u32,
+            sent_log,
+            sent_place,
+        }),
+        None => None,
+    }
+}
+
+/// The records that wait for one another from a log's next record on, where no next record is ready.
+fn circle_from(
+    alloc: Global,
+    session: &Session,
+    taken: &Taken,
+    first: LogName,
+) -> Result<Knot, AllocError>
+    requires limits { IsSession session.now }
+    requires shape { IsRightShape session.now }
+    requires stuck { first_ready session.now (cursors_of taken.now) ≡ None }
+    requires left { cursors_of taken.now first < log_length session.now first }
+    ensures { IfOk result (IsCircleAt session.now (cursors_of taken.now) first) }
+{
+    let mut waits = Vec::new(alloc);
+    let mut found = Taken::nothing();
+    let mut log = first;
+    while found.of(log) == 0 {
+        let Some(waiting) = next_of(session, taken, log) else {
+            unreachable!()
+        };
+        waits.push(waiting)?;
+        found = found.with(log, waits.len());
+        log = waiting.sent_log;
+    }
+    let back = found.of(log) - 1;
+    Ok(Knot { waits, back })
+}
+
+/// The records of a knot that wait for one another, from the one at the knot's line on. Takes each record once, and memory
+/// for the runs of the found order, which is the only error.
+pub fn circle_of(alloc: Global, session: &Session) -> Result<Option<Knot>, AllocError>
+    requires { IsRightShape session.now }
+    ensures { IfOk result (λ knot. MatchOption knot (TakesAll session.now) (IsCircle session.now)) }
+{
+    session.keeps_limits();
+    let taken = taken_in_order(alloc, session)?;
+    match first_left(session, &taken) {
+        Some(first) => Ok(Some(circle_from(alloc, session, &taken, first)?)),
+        None => Ok(None),
+    }
+}
