@@ -7,7 +7,7 @@ use Rattle.std.proofs.lemmas.Slice.Eq.{bytes_eq-Decides}
 use Rattle.clap.specs.Words.{Text, takes}
 use Rattle.clap.proofs.OnLiterals.{clap_on_literals}
 use Rattle.command_words.specs.declared.asked.Asked.{Asked}
-use Rattle.command_words.specs.declared.asked.Asked.TheVariants.{One, Two, Migrate}
+use Rattle.command_words.specs.declared.asked.Asked.TheVariants.{One, Two, Migrate, Draw}
 use Rattle.command_words.specs.declared.asked.Carrier.TheVariants.{Memory}
 use Rattle.command_words.specs.declared.asked.OneText.{OneText}
 use Rattle.command_words.specs.declared.asked.OneText.TheVariants.{Certify, Audit, Explain}
@@ -89,6 +89,24 @@ taken_migrate program _ Dash = record { taken = refl; given = refl }
 taken_migrate program _ Empty = record { taken = refl; given = refl }
 taken_migrate program _ (Other b rest e) = record { taken = simp e; given = simp e }
 
+taken_draw : (program name : Text) → Form name → IsTaken (program ∷ codes "draw" ∷ name ∷ []) (Draw name None)
+unfolding clap_on_literals
+taken_draw program _ Dash = record { taken = refl; given = refl }
+taken_draw program _ Empty = record { taken = refl; given = refl }
+taken_draw program _ (Other b rest e) = record { taken = simp e; given = simp e }
+
+taken_draw_along : (program first second : Text) → Form first → Form second → IsTaken (program ∷ codes "draw" ∷ first ∷ second ∷ []) (Draw first (Some second))
+unfolding clap_on_literals
+taken_draw_along program _ _ Dash Dash = record { taken = refl; given = refl }
+taken_draw_along program _ _ Dash Empty = record { taken = refl; given = refl }
+taken_draw_along program _ _ Dash (Other b rest e) = record { taken = simp e; given = simp e }
+taken_draw_along program _ _ Empty Dash = record { taken = refl; given = refl }
+taken_draw_along program _ _ Empty Empty = record { taken = refl; given = refl }
+taken_draw_along program _ _ Empty (Other b rest e) = record { taken = simp e; given = simp e }
+taken_draw_along program _ _ (Other a front d) Dash = record { taken = simp d; given = simp d }
+taken_draw_along program _ _ (Other a front d) Empty = record { taken = simp d; given = simp d }
+taken_draw_along program _ _ (Other a front d) (Other b rest e) = record { taken = simp (d, e); given = simp (d, e) }
+
 -- a command with so many names, which are plain, is taken
 one_taken : (task : OneText) (program word : Text) (names : List Text) (job : Asked Text) → AllByRecursion IsPlainName names → with_names names (One task word) ≡ Some job → IsTaken (program ∷ one_name task ∷ names) job
 one_taken task program word [] job plain e = let none : None ≡ Some job = e in absurd cc
@@ -114,28 +132,39 @@ migrate_taken program word (name ∷ []) job plain e =
 migrate_taken program word (name ∷ other ∷ []) job plain e = let none : None ≡ Some job = e in absurd cc
 migrate_taken program word (name ∷ other ∷ third ∷ rest) job plain e = let none : None ≡ Some job = e in absurd cc
 
+draw_taken : (program word further : Text) (names : List Text) (job : Asked Text) → AllByRecursion IsPlainName names → with_names names (Draw word (Some further)) ≡ Some job → IsTaken (program ∷ codes "draw" ∷ names) job
+draw_taken program word further [] job plain e = let none : None ≡ Some job = e in absurd cc
+draw_taken program word further (name ∷ []) job plain e =
+    let same : Draw name None ≡ job = cc in
+    subst (IsTaken (program ∷ codes "draw" ∷ name ∷ [])) same (taken_draw program name (form_of name plain.0))
+draw_taken program word further (first ∷ second ∷ []) job plain e =
+    let same : Draw first (Some second) ≡ job = cc in
+    subst (IsTaken (program ∷ codes "draw" ∷ first ∷ second ∷ [])) same (taken_draw_along program first second (form_of first plain.0) (form_of second plain.1.0))
+draw_taken program word further (name ∷ other ∷ third ∷ rest) job plain e = let none : None ≡ Some job = e in absurd cc
+
 -- the row of a name is the first that has it
 row_taken : (program name : Text) (names : List Text) (job : Asked Text) → AllByRecursion IsPlainName names
-    → (check certify audit explain replay steps migrate : Bool)
-    → (check ≡ true → codes "check" ≡ name) → (certify ≡ true → codes "certify" ≡ name) → (audit ≡ true → codes "audit" ≡ name) → (explain ≡ true → codes "explain" ≡ name) → (replay ≡ true → codes "replay" ≡ name) → (steps ≡ true → codes "steps" ≡ name) → (migrate ≡ true → codes "migrate" ≡ name)
-    → option_and_then (λ (row : Text × Asked Text). with_names names row.1) (cond check (Some (codes "check", Two Check (codes "SESSION") (codes "CERT"))) (cond certify (Some (codes "certify", One Certify (codes "SESSION"))) (cond audit (Some (codes "audit", One Audit (codes "SESSION"))) (cond explain (Some (codes "explain", One Explain (codes "SESSION"))) (cond replay (Some (codes "replay", Two Replay (codes "SESSION") (codes "RUNS"))) (cond steps (Some (codes "steps", Two Steps (codes "SCRIPT") (codes "EVENTS"))) (cond migrate (Some (codes "migrate", Migrate Memory (codes "SCRIPT"))) None))))))) ≡ Some job
+    → (check certify audit explain replay steps migrate draw : Bool)
+    → (check ≡ true → codes "check" ≡ name) → (certify ≡ true → codes "certify" ≡ name) → (audit ≡ true → codes "audit" ≡ name) → (explain ≡ true → codes "explain" ≡ name) → (replay ≡ true → codes "replay" ≡ name) → (steps ≡ true → codes "steps" ≡ name) → (migrate ≡ true → codes "migrate" ≡ name) → (draw ≡ true → codes "draw" ≡ name)
+    → option_and_then (λ (row : Text × Asked Text). with_names names row.1) (cond check (Some (codes "check", Two Check (codes "SESSION") (codes "CERT"))) (cond certify (Some (codes "certify", One Certify (codes "SESSION"))) (cond audit (Some (codes "audit", One Audit (codes "SESSION"))) (cond explain (Some (codes "explain", One Explain (codes "SESSION"))) (cond replay (Some (codes "replay", Two Replay (codes "SESSION") (codes "RUNS"))) (cond steps (Some (codes "steps", Two Steps (codes "SCRIPT") (codes "EVENTS"))) (cond migrate (Some (codes "migrate", Migrate Memory (codes "SCRIPT"))) (cond draw (Some (codes "draw", Draw (codes "SESSION") (Some (codes "RUNS")))) None)))))))) ≡ Some job
     → IsTaken (program ∷ name ∷ names) job
 unfolding one_name two_name
-row_taken program name names job plain true certify audit explain replay steps migrate a b c d f g h e = subst (λ (x : Text). IsTaken (program ∷ x ∷ names) job) (a refl) (two_taken Check program _ _ names job plain e)
-row_taken program name names job plain false true audit explain replay steps migrate a b c d f g h e = subst (λ (x : Text). IsTaken (program ∷ x ∷ names) job) (b refl) (one_taken Certify program _ names job plain e)
-row_taken program name names job plain false false true explain replay steps migrate a b c d f g h e = subst (λ (x : Text). IsTaken (program ∷ x ∷ names) job) (c refl) (one_taken Audit program _ names job plain e)
-row_taken program name names job plain false false false true replay steps migrate a b c d f g h e = subst (λ (x : Text). IsTaken (program ∷ x ∷ names) job) (d refl) (one_taken Explain program _ names job plain e)
-row_taken program name names job plain false false false false true steps migrate a b c d f g h e = subst (λ (x : Text). IsTaken (program ∷ x ∷ names) job) (f refl) (two_taken Replay program _ _ names job plain e)
-row_taken program name names job plain false false false false false true migrate a b c d f g h e = subst (λ (x : Text). IsTaken (program ∷ x ∷ names) job) (g refl) (two_taken Steps program _ _ names job plain e)
-row_taken program name names job plain false false false false false false true a b c d f g h e = subst (λ (x : Text). IsTaken (program ∷ x ∷ names) job) (h refl) (migrate_taken program _ names job plain e)
-row_taken program name names job plain false false false false false false false a b c d f g h e = let none : None ≡ Some job = e in absurd cc
+row_taken program name names job plain true certify audit explain replay steps migrate draw a b c d f g h i e = subst (λ (x : Text). IsTaken (program ∷ x ∷ names) job) (a refl) (two_taken Check program _ _ names job plain e)
+row_taken program name names job plain false true audit explain replay steps migrate draw a b c d f g h i e = subst (λ (x : Text). IsTaken (program ∷ x ∷ names) job) (b refl) (one_taken Certify program _ names job plain e)
+row_taken program name names job plain false false true explain replay steps migrate draw a b c d f g h i e = subst (λ (x : Text). IsTaken (program ∷ x ∷ names) job) (c refl) (one_taken Audit program _ names job plain e)
+row_taken program name names job plain false false false true replay steps migrate draw a b c d f g h i e = subst (λ (x : Text). IsTaken (program ∷ x ∷ names) job) (d refl) (one_taken Explain program _ names job plain e)
+row_taken program name names job plain false false false false true steps migrate draw a b c d f g h i e = subst (λ (x : Text). IsTaken (program ∷ x ∷ names) job) (f refl) (two_taken Replay program _ _ names job plain e)
+row_taken program name names job plain false false false false false true migrate draw a b c d f g h i e = subst (λ (x : Text). IsTaken (program ∷ x ∷ names) job) (g refl) (two_taken Steps program _ _ names job plain e)
+row_taken program name names job plain false false false false false false true draw a b c d f g h i e = subst (λ (x : Text). IsTaken (program ∷ x ∷ names) job) (h refl) (migrate_taken program _ names job plain e)
+row_taken program name names job plain false false false false false false false true a b c d f g h i e = subst (λ (x : Text). IsTaken (program ∷ x ∷ names) job) (i refl) (draw_taken program _ _ names job plain e)
+row_taken program name names job plain false false false false false false false false a b c d f g h i e = let none : None ≡ Some job = e in absurd cc
 
 same_text : (a b : Text) → bytes_eq a b ≡ true → a ≡ b
 same_text a b e = (bytes_eq-Decides a b).0 e
 
 -- plain words of a command are taken, and ask for it
 pub taken_plain : (words : List Text) (name : Text) (names : List Text) (job : Asked Text) → IsPlain words name names → asked_by name names ≡ Some job → IsTaken words job
-taken_plain words name names job h e = rw h.words_are (row_taken h.program name names job h.plain _ _ _ _ _ _ _ (same_text (codes "check") name) (same_text (codes "certify") name) (same_text (codes "audit") name) (same_text (codes "explain") name) (same_text (codes "replay") name) (same_text (codes "steps") name) (same_text (codes "migrate") name) e)
+taken_plain words name names job h e = rw h.words_are (row_taken h.program name names job h.plain _ _ _ _ _ _ _ _ (same_text (codes "check") name) (same_text (codes "certify") name) (same_text (codes "audit") name) (same_text (codes "explain") name) (same_text (codes "replay") name) (same_text (codes "steps") name) (same_text (codes "migrate") name) (same_text (codes "draw") name) e)
 
 -- a word or none is not taken, as a command has to be there
 pub bare_not_taken : (words : List Text) → length words ≤ 1 → takes postcopy_words words ≡ false

@@ -1,10 +1,10 @@
 -- The table of commands: the name of each, and the words that name its texts.
-use Rattle.std.specs.Prelude.{List, Option, map, find, codes, [], ◌∷◌}
+use Rattle.std.specs.Prelude.{List, Option, Some, map, find, codes, option_map, [], ◌∷◌}
 use Rattle.std.specs.Str.{bytes_eq}
 use Rattle.std.specs.Borrow.{Bor}
 use Rattle.clap.specs.Words.{Text}
 use Rattle.command_words.specs.declared.asked.Asked.{Asked}
-use Rattle.command_words.specs.declared.asked.Asked.TheVariants.{One, Two, Migrate}
+use Rattle.command_words.specs.declared.asked.Asked.TheVariants.{One, Two, Migrate, Draw}
 use Rattle.command_words.specs.declared.asked.Carrier.{Carrier}
 use Rattle.command_words.specs.declared.asked.Carrier.TheVariants.{Memory, Tcp}
 use Rattle.command_words.specs.declared.asked.OneText.TheVariants.{Certify, Audit, Explain}
@@ -13,7 +13,7 @@ use Rattle.command_words.specs.declared.table.Word.{Word}
 use Rattle.command_words.specs.declared.table.Row.{Row}
 
 -- `check SESSION CERT`, `certify SESSION`, `audit SESSION`, `explain SESSION`, `replay SESSION RUNS`,
--- `steps SCRIPT EVENTS`, `migrate SCRIPT`
+-- `steps SCRIPT EVENTS`, `migrate SCRIPT`, `draw SESSION`, `draw SESSION RUNS`
 abbrev pub table : List (Text × Asked Text)
 table =
     (codes "check", Two Check (codes "SESSION") (codes "CERT")) ∷
@@ -22,7 +22,8 @@ table =
     (codes "explain", One Explain (codes "SESSION")) ∷
     (codes "replay", Two Replay (codes "SESSION") (codes "RUNS")) ∷
     (codes "steps", Two Steps (codes "SCRIPT") (codes "EVENTS")) ∷
-    (codes "migrate", Migrate Memory (codes "SCRIPT")) ∷ []
+    (codes "migrate", Migrate Memory (codes "SCRIPT")) ∷
+    (codes "draw", Draw (codes "SESSION") (Some (codes "RUNS"))) ∷ []
 
 -- the name of what carries a migration
 abbrev pub carrier_name : Carrier → Text
@@ -42,6 +43,7 @@ abbrev pub asked_map : {V W : Type 0} → (V → W) → Asked V → Asked W
 asked_map f (One task word) = One task (f word)
 asked_map f (Two task first second) = Two task (f first) (f second)
 asked_map f (Migrate carrier word) = Migrate carrier (f word)
+asked_map f (Draw word further) = Draw (f word) (option_map f further)
 
 -- what is asked for, with the names of its texts
 abbrev pub asked_names : Asked (Bor Text) → Asked Text
@@ -50,6 +52,10 @@ asked_names asked = asked_map (λ name. name.now) asked
 -- what a row of the program's table asks with
 abbrev pub word_names : Asked Word → Asked Text
 word_names asked = asked_map (λ word. word.name.now) asked
+
+-- what a further word of a row names
+abbrev pub further_name : Option Word → Option Text
+further_name word = option_map (λ w. w.name.now) word
 
 -- a row of the program's table
 abbrev pub row_of : Row → Text × Asked Text

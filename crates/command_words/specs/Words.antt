@@ -6,7 +6,7 @@ use Rattle.std.specs.Borrow.{Bor}
 use Rattle.clap.specs.Simple.{on_top}
 use Rattle.clap.specs.Words.{App, Row, Rule, Text, first_of, new_app, new_rule, subcommand_of, with_rule, with_subcommand}
 use Rattle.command_words.specs.declared.asked.Asked.{Asked}
-use Rattle.command_words.specs.declared.asked.Asked.TheVariants.{One, Two, Migrate}
+use Rattle.command_words.specs.declared.asked.Asked.TheVariants.{One, Two, Migrate, Draw}
 use Rattle.clap.specs.declared.builder.value_parser.ValueParser.{ValueParser}
 use Rattle.clap.specs.declared.builder.value_parser.ValueParser.TheVariants as parser
 use Rattle.command_words.specs.declared.asked.Carrier.{Carrier}
@@ -21,11 +21,17 @@ needed id = record (new_rule id) { required = true }
 abbrev pub link_rule : ValueParser → Carrier → Rule
 link_rule names carrier = record (new_rule (codes "link")) { long = Some (codes "link"); value_names = 1; parser = Some names; defaults = carrier_name carrier ∷ [] }
 
+-- a command with a further word, which may be there
+abbrev pub with_further : App → Option Text → App
+with_further app None = app
+with_further app (Some word) = with_rule app (new_rule word)
+
 -- a command with a word for each of its texts, and its option
 abbrev pub with_words : ValueParser → App → Asked Text → App
 with_words names app (One task word) = with_rule app (needed word)
 with_words names app (Two task first second) = with_rule (with_rule app (needed first)) (needed second)
 with_words names app (Migrate carrier word) = with_rule (with_rule app (needed word)) (link_rule names carrier)
+with_words names app (Draw word further) = with_further (with_rule app (needed word)) further
 
 -- the command of a row of the table
 abbrev pub command_words : ValueParser → Text × Asked Text → App
@@ -69,11 +75,16 @@ both_names task (Some first) (Some second) = Some (Two task first second)
 abbrev pub carrier_in : List Row → Carrier → Carrier
 carrier_in rows otherwise = unwrap_or (option_and_then carrier_named (first_of (codes "link") rows)) otherwise
 
+-- what was given for a further word
+abbrev pub further_in : List Row → Option Text → Option Text
+further_in rows word = option_and_then (λ id. first_of id rows) word
+
 -- what a command asks for with the names among what it was given
 abbrev pub given_in : List Row → Asked Text → Option (Asked Text)
 given_in rows (One task word) = option_map (λ name. One task name) (first_of word rows)
 given_in rows (Two task first second) = both_names task (first_of first rows) (first_of second rows)
 given_in rows (Migrate carrier word) = option_map (λ name. Migrate (carrier_in rows carrier) name) (first_of word rows)
+given_in rows (Draw word further) = option_map (λ name. Draw name (further_in rows further)) (first_of word rows)
 
 -- what a command and what it was given ask for, by the table
 abbrev pub asked_in : Text × List Row → Option (Asked Text)
@@ -92,6 +103,8 @@ abbrev pub with_names : List Text → Asked Text → Option (Asked Text)
 with_names (name ∷ []) (One task word) = Some (One task name)
 with_names (first ∷ second ∷ []) (Two task word other) = Some (Two task first second)
 with_names (name ∷ []) (Migrate carrier word) = Some (Migrate carrier name)
+with_names (name ∷ []) (Draw word further) = Some (Draw name None)
+with_names (first ∷ second ∷ []) (Draw word (Some further)) = Some (Draw first (Some second))
 with_names names asked = None
 
 -- what the name of a command and the names of its texts ask for

@@ -53,6 +53,8 @@ pub enum Asked<W> {
     Two(TwoTexts, W, W),
     /// The migration of a script's guest, over what carries its packets.
     Migrate(Carrier, W),
+    /// The picture of a session, along runs where these are named.
+    Draw(W, Option<W>),
 }
 
 /// What the words ask for, with the names of its texts.

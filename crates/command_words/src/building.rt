@@ -1,8 +1,8 @@
 //! The command line that the table makes.
 
 ghost use Rattle.std.specs.Prelude.{◌≡◌, IfOk, false};
-ghost use Rattle.command_words.specs.Table.{row_of};
-ghost use Rattle.command_words.specs.Words.{command_words, line_words, link_rule, needed, program_words};
+ghost use Rattle.command_words.specs.Table.{further_name, row_of};
+ghost use Rattle.command_words.specs.Words.{command_words, line_words, link_rule, needed, program_words, with_further};
 ghost use Rattle.clap.specs.Words.{app_of, rule_of, with_rule};
 ghost use Rattle.clap.specs.declared.builder.command.Command.TheViews.{out-Command as fields_of};
 
@@ -39,6 +39,22 @@ fn with_word<'a>(
 {
     let arg = Arg::new(alloc, word.name).required(true).help(word.help);
     command.arg(arg)
+}
+
+// The command with one more word that may be there.
+fn with_further_word<'a>(
+    alloc: Global,
+    command: Command<'a>,
+    word: &Option<Word>,
+) -> Result<Command<'a>, AllocError>
+    requires { (fields_of command).has_globals ≡ false }
+    ensures app { IfOk result (λ c. app_of c ≡ with_further (app_of command.entry) (further_name word.now)) }
+    ensures local { IfOk result (λ c. (fields_of c).has_globals ≡ false) }
+{
+    match word {
+        Some(word) => command.arg(Arg::new(alloc, word.name).help(word.help)),
+        None => Ok(command),
+    }
 }
 
 // The command with the option that names a carrier by this parser; where it is not there, this carrier is meant.
@@ -80,6 +96,10 @@ fn command_of<'a>(
         Asked::Migrate(carrier, word) => {
             let command = with_word(alloc, command, word)?;
             with_link(alloc, command, names, *carrier)
+        }
+        Asked::Draw(word, further) => {
+            let command = with_word(alloc, command, word)?;
+            with_further_word(alloc, command, further)
         }
     }
 }

@@ -2,8 +2,8 @@
 
 ghost use Rattle.std.specs.Prelude.{◌≡◌, IfOk, IfErr, option_and_then, option_map, true, find};
 ghost use Rattle.std.specs.Str.{bytes_eq};
-ghost use Rattle.command_words.specs.Table.{asked_names, word_names};
-ghost use Rattle.command_words.specs.Words.{asked, asked_in, carrier_in, given_in, postcopy_words, word_texts};
+ghost use Rattle.command_words.specs.Table.{asked_names, further_name, word_names};
+ghost use Rattle.command_words.specs.Words.{asked, asked_in, carrier_in, further_in, given_in, postcopy_words, word_texts};
 ghost use Rattle.clap.specs.Words.{first_of, found_of, kind_of, rows_of, takes, subcommand_rows_of};
 
 use crate::asked::{Asked, Carrier, Job};
@@ -31,6 +31,16 @@ fn carrier_given(otherwise: Carrier, matches: &ArgMatches<'_>) -> Carrier
     }
 }
 
+// What was given for a word that may be there.
+fn further_given<'a>(word: &Option<Word>, matches: &ArgMatches<'a>) -> Option<&'a str>
+    ensures { option_map (λ name. name.now) result ≡ further_in (rows_of (found_of matches.now)) (further_name word.now) }
+{
+    match word {
+        Some(word) => name_given(word.name, matches),
+        None => None,
+    }
+}
+
 // What a command asks for, with the names that its words were given.
 fn given<'a>(asks: &Asked<Word>, matches: &ArgMatches<'a>) -> Option<Job<'a>>
     ensures { option_map asked_names result ≡ given_in (rows_of (found_of matches.now)) (word_names asks.now) }
@@ -48,6 +58,10 @@ fn given<'a>(asks: &Asked<Word>, matches: &ArgMatches<'a>) -> Option<Job<'a>>
         Asked::Migrate(carrier, word) => {
             let name = name_given(word.name, matches)?;
             Some(Asked::Migrate(carrier_given(*carrier, matches), name))
+        }
+        Asked::Draw(word, further) => {
+            let name = name_given(word.name, matches)?;
+            Some(Asked::Draw(name, further_given(further, matches)))
         }
     }
 }

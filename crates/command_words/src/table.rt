@@ -72,7 +72,7 @@ pub fn carrier_named(name: &str) -> Option<Carrier>
         .copied()
 }
 
-static COMMANDS: [Row; 7] = [
+static COMMANDS: [Row; 8] = [
     Row {
         name: "check",
         about: "Judges the certificate of a session, as in: postcopy check session cert",
@@ -107,6 +107,11 @@ static COMMANDS: [Row; 7] = [
         name: "migrate",
         about: "Migrates the guest of a script and writes its session and certificate, as in: postcopy migrate script | postcopy",
         asked: Asked::Migrate(Carrier::Memory, SCRIPT),
+    },
+    Row {
+        name: "draw",
+        about: "Writes a picture of a session's records, in the order of its report or along runs, as in: postcopy draw session > picture.svg",
+        asked: Asked::Draw(SESSION, Some(RUNS)),
     },
 ];
 

@@ -10,3 +10,4 @@ pub mod Recorded
 pub mod WhatIsRead
 pub mod Outcomes
 pub mod Names
+pub mod Drawn

@@ -4,5 +4,6 @@ pub mod Explained
 pub mod Replayed
 pub mod Steps
 pub mod Migrations
+pub mod Drawings
 pub mod Told
 pub mod inner

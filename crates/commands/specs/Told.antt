@@ -1,9 +1,9 @@
 -- What the program tells of the texts that the words name.
-use Rattle.std.specs.Prelude.{◌≡◌, ℕ, ◌≤◌, Bool, true, false, List, Option, IfSome, codes, length, if◌then◌else◌, ◌&&◌}
+use Rattle.std.specs.Prelude.{◌≡◌, ℕ, ◌≤◌, Bool, true, false, List, Option, Some, None, IfSome, codes, length, if◌then◌else◌, ◌&&◌}
 use Rattle.std.specs.Str.{bytes_eq}
 use Rattle.std.specs.Io.KnownBytes.{Appends}
 use Rattle.command_words.specs.declared.asked.Asked.{Asked}
-use Rattle.command_words.specs.declared.asked.Asked.TheVariants.{One, Two, Migrate}
+use Rattle.command_words.specs.declared.asked.Asked.TheVariants.{One, Two, Migrate, Draw}
 use Rattle.command_words.specs.declared.asked.OneText.{OneText}
 use Rattle.command_words.specs.declared.asked.OneText.TheVariants.{Certify, Audit, Explain}
 use Rattle.command_words.specs.declared.asked.TwoTexts.{TwoTexts}
@@ -11,6 +11,7 @@ use Rattle.command_words.specs.declared.asked.TwoTexts.TheVariants.{Check, Repla
 use Rattle.audit_report.specs.declared.wanted.Wanted.TheVariants as wanted
 use Rattle.commands.specs.Answers.{IsAuditAnswer, IsVerdictAnswer}
 use Rattle.commands.specs.Cutting.{IsCutAtEnd}
+use Rattle.commands.specs.Drawings.{IsDrawAnswer, IsDrawAlongAnswer}
 use Rattle.commands.specs.Explained.{IsExplainAnswer}
 use Rattle.commands.specs.Replayed.{IsReplayAnswer}
 use Rattle.commands.specs.Steps.{IsStepsAnswer}
@@ -77,3 +78,5 @@ abbrev pub TellsAsked : Asked (List ℕ) → (List ℕ → Option (List ℕ)) �
 TellsAsked (One task name) files input = Tells (IsNamed name files input) (IsOneAnswer task)
 TellsAsked (Two task first second) files input = Tells (AreNamed first second files input) (IsTwoAnswer task)
 TellsAsked (Migrate carrier name) files input = Tells (IsNamed name files input) IsMigrateAnswer
+TellsAsked (Draw name None) files input = Tells (IsNamed name files input) IsDrawAnswer
+TellsAsked (Draw first (Some second)) files input = Tells (AreNamed first second files input) IsDrawAlongAnswer

@@ -3,6 +3,7 @@
 ghost use Rattle.std.specs.Prelude.{ℕ, List, IfOk};
 ghost use Rattle.text_lines.specs.Answer.{IsRead};
 ghost use Rattle.session_log.specs.Grammar.{SpellsSession};
+ghost use Rattle.commands.specs.Drawings.{IsDrawAnswer, IsDrawAlongAnswer};
 ghost use Rattle.commands.specs.Migrations.{IsMigrateAnswer};
 ghost use Rattle.commands.specs.Told.{AreNamed, IsNamed, IsOneAnswer, IsTwoAnswer};
 ghost use Rattle.commands.specs.inner.Found.{AnswersTo};
@@ -10,6 +11,7 @@ ghost use Rattle.commands.specs.inner.Found.{AnswersTo};
 use crate::answer::{Answer, Fault, given};
 use crate::auditing::audit_read;
 use crate::checking::judge_read;
+use crate::drawing::{draw_along_read, draw_read};
 use crate::explaining::explain_read;
 use crate::migrating::migrate_read;
 use crate::naming::{read_named, read_pair};
@@ -126,6 +128,37 @@ pub fn two_answer<'a, R: Threads + Sync, S: TextSource, I: Read>(
         TwoTexts::Replay => replay_named(rt, alloc, first, second, texts, input),
         TwoTexts::Steps => steps_named(rt, alloc, first, second, texts, input),
     }
+}
+
+/// The picture of the session under a name.
+pub fn draw_named<'a, R: Threads + Sync, S: TextSource, I: Read>(
+    rt: &R,
+    alloc: Global,
+    name: &'a str,
+    texts: &S,
+    input: &mut I,
+) -> Result<Answer, Fault<'a>>
+    ensures { IfOk result (AnswersTo (IsNamed name.entry.now (S.bytes_of texts.now) (I.remaining input.old)) IsDrawAnswer) }
+{
+    let session = read_named::<SessionReader, R, S, I>(rt, alloc, name, texts, input)?;
+    given(draw_read(rt, alloc, &session))
+}
+
+/// The picture of the session under the first name along the runs under the second.
+pub fn draw_along_named<'a, R: Threads + Sync, S: TextSource, I: Read>(
+    rt: &R,
+    alloc: Global,
+    first: &'a str,
+    second: &'a str,
+    texts: &S,
+    input: &mut I,
+) -> Result<Answer, Fault<'a>>
+    ensures { IfOk result (AnswersTo (AreNamed first.entry.now second.entry.now (S.bytes_of texts.now) (I.remaining input.old)) IsDrawAlongAnswer) }
+{
+    let (session, runs) = read_pair::<SessionReader, RunsReader, R, S, I>(
+        rt, alloc, first, second, texts, input,
+    )?;
+    given(draw_along_read(rt, alloc, &session, &runs))
 }
 
 /// What becomes of the script under a name, whose migration is run.

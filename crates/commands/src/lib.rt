@@ -6,6 +6,7 @@ mod answering;
 mod auditing;
 mod checking;
 mod cutting;
+mod drawing;
 mod explaining;
 mod migrating;
 mod naming;

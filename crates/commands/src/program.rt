@@ -5,11 +5,12 @@ ghost use Rattle.clap.specs.Words.{kind_of, takes};
 ghost use Rattle.command_words.specs.Table.{asked_names};
 ghost use Rattle.command_words.specs.Words.{IsPlain, asked, asked_by, postcopy_words, word_texts};
 ghost use Rattle.commands.specs.Answers.{fault_status};
+ghost use Rattle.commands.specs.Drawings.{IsDrawAnswer, IsDrawAlongAnswer};
 ghost use Rattle.commands.specs.Migrations.{IsMigrateAnswer};
 ghost use Rattle.commands.specs.Told.{AreNamed, AreOfInput, IsNamed, IsOneAnswer, IsTwoAnswer, Tells, TellsAsked};
 
 use crate::answer::{Fault, USAGE, tell, written};
-use crate::answering::{migrate_named, one_answer, two_answer};
+use crate::answering::{draw_along_named, draw_named, migrate_named, one_answer, two_answer};
 use crate::reading::TextSource;
 use clap::error::ErrorKind;
 use command_words::{Asked, Carrier, Job, OneText, TwoTexts, read_words};
@@ -91,6 +92,58 @@ fn perform_migrate<
     written(&answer, output)
 }
 
+// Draws the session under a name.
+fn perform_draw<'a, R: Threads + Sync, S: TextSource, I: Read, O: Write>(
+    rt: &R,
+    alloc: Global,
+    name: &'a str,
+    texts: &S,
+    input: &mut I,
+    output: &mut O,
+) -> Result<u8, Fault<'a>>
+    ensures few { IfOk result (λ status. status < 2) }
+    ensures told { IfOk result (Tells (IsNamed name.entry.now (S.bytes_of texts.now) (I.remaining input.old)) IsDrawAnswer (O.contents output.old) (O.contents output.new)) }
+{
+    let answer = draw_named(rt, alloc, name, texts, input)?;
+    written(&answer, output)
+}
+
+// Draws the session under the first name along the runs under the second.
+fn perform_draw_along<'a, R: Threads + Sync, S: TextSource, I: Read, O: Write>(
+    rt: &R,
+    alloc: Global,
+    first: &'a str,
+    second: &'a str,
+    texts: &S,
+    input: &mut I,
+    output: &mut O,
+) -> Result<u8, Fault<'a>>
+    ensures few { IfOk result (λ status. status < 2) }
+    ensures told { IfOk result (Tells (AreNamed first.entry.now second.entry.now (S.bytes_of texts.now) (I.remaining input.old)) IsDrawAlongAnswer (O.contents output.old) (O.contents output.new)) }
+{
+    let answer = draw_along_named(rt, alloc, first, second, texts, input)?;
+    written(&answer, output)
+}
+
+// Draws the session under a name, along the runs under a further one where there is one.
+fn perform_drawing<'a, R: Threads + Sync, S: TextSource, I: Read, O: Write>(
+    rt: &R,
+    alloc: Global,
+    name: &'a str,
+    further: Option<&'a str>,
+    texts: &S,
+    input: &mut I,
+    output: &mut O,
+) -> Result<u8, Fault<'a>>
+    ensures few { IfOk result (λ status. status < 2) }
+    ensures told { IfOk result (TellsAsked (asked_names (Asked.Draw name.entry further.entry)) (S.bytes_of texts.now) (I.remaining input.old) (O.contents output.old) (O.contents output.new)) }
+{
+    match further {
+        None => perform_draw(rt, alloc, name, texts, input, output),
+        Some(second) => perform_draw_along(rt, alloc, name, second, texts, input, output),
+    }
+}
+
 // Does what the words ask for.
 fn perform<
     'a,
@@ -116,6 +169,9 @@ fn perform<
         }
         Asked::Migrate(carrier, name) => {
             perform_migrate(rt, alloc, carrier, name, texts, input, output)
+        }
+        Asked::Draw(name, further) => {
+            perform_drawing(rt, alloc, name, further, texts, input, output)
         }
     }
 }

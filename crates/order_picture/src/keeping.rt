@@ -107,8 +107,7 @@ fn leave_nearest(wanted: &mut Vec<bool>, middle: usize) {
     let mut at: usize = 0;
     for is_wanted in wanted.iter_mut() {
         if *is_wanted {
-            let is_at_end =
-                at < MOST_AT_ENDS || at.saturating_add(MOST_AT_ENDS) >= count;
+            let is_at_end = at < MOST_AT_ENDS || at.saturating_add(MOST_AT_ENDS) >= count;
             let is_near = at.saturating_add(MOST_BESIDE) >= rank
                 && at <= rank.saturating_add(MOST_BESIDE);
             *is_wanted = is_at_end || is_near;

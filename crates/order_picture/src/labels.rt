@@ -88,7 +88,11 @@ fn push_pager(out: &mut Vec<u8>, rec: &PagerRec) -> Result<(), AllocError> {
 }
 
 /// Adds the label of a record.
-pub(crate) fn push_label(out: &mut Vec<u8>, session: &Session, name: Name) -> Result<(), AllocError> {
+pub(crate) fn push_label(
+    out: &mut Vec<u8>,
+    session: &Session,
+    name: Name,
+) -> Result<(), AllocError> {
     let place = name.1 as usize;
     match name.0 {
         LogName::Guest => match session.guest().get(place) {

@@ -50,7 +50,11 @@ fn push_runs(names: &mut Vec<Name>, session: &Session, runs: &[Run]) -> Result<T
 
 /// The records that the runs take, where they spell a merging, and else those that the runs before the first bad one take.
 /// Takes memory for the names. An error: there is no memory for them.
-pub(crate) fn draw_along(alloc: Global, session: &Session, runs: &[Run]) -> Result<Drawn, AllocError>
+pub(crate) fn draw_along(
+    alloc: Global,
+    session: &Session,
+    runs: &[Run],
+) -> Result<Drawn, AllocError>
     ensures drawn { IfOk result (λ d. IsDrawn session.now runs.now d.names.items d.bad) }
     ensures taken { IfOk result (λ d. cursors_of d.taken ≡ cursors_from at_start d.names.items) }
 {

@@ -7,8 +7,8 @@ ghost use Rattle.order_picture.specs.Pictures.{IsPicture, IsPictureOf};
 use crate::focus::{Focus, Mark, focus_of};
 use crate::keeping::kept_in;
 use crate::order::{Drawn, draw_along};
-use crate::rows::rows_of;
 use crate::records::{Name, is_one, receipt};
+use crate::rows::rows_of;
 use audit_report::Report;
 use cert_maker::found_runs;
 use merge_runs::Taken;
@@ -22,7 +22,11 @@ pub const MOST_ROWS: usize = 203;
 #[derive(Clone, Copy)]
 pub enum Row {
     /// The record of this log and number.
-    Record { log: LogName, place: u32, mark: Mark },
+    Record {
+        log: LogName,
+        place: u32,
+        mark: Mark,
+    },
     /// So many records of each log.
     Fold(Taken),
 }
@@ -81,10 +85,16 @@ fn sender_of(session: &Session, rows: &[Row], row: &Row) -> Option<usize>
 }
 
 /// For each row the row whose record it receives.
-fn senders_of(alloc: Global, session: &Session, rows: &[Row]) -> Result<Vec<Option<usize>>, AllocError>
+fn senders_of(
+    alloc: Global,
+    session: &Session,
+    rows: &[Row],
+) -> Result<Vec<Option<usize>>, AllocError>
     ensures { IfOk result (λ senders. senders.items ≡ map (sender_of session.now rows.now) rows.now) }
 {
-    rows.iter().map(|row| sender_of(session, rows, row)).collect(alloc)
+    rows.iter()
+        .map(|row| sender_of(session, rows, row))
+        .collect(alloc)
 }
 
 /// Whether the guest goes on at the target with this record.

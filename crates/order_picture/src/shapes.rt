@@ -54,7 +54,11 @@ fn middle_of(row: usize) -> u64 {
 }
 
 /// Adds an attribute with a number.
-pub(crate) fn push_attribute(out: &mut Vec<u8>, name: &[u8], number: u64) -> Result<(), AllocError> {
+pub(crate) fn push_attribute(
+    out: &mut Vec<u8>,
+    name: &[u8],
+    number: u64,
+) -> Result<(), AllocError> {
     push(out, b" ")?;
     push(out, name)?;
     push_with(out, b"='", number)?;
@@ -109,7 +113,12 @@ fn push_sign(out: &mut Vec<u8>, look: Look, log: LogName, row: usize) -> Result<
 }
 
 /// Adds a record's box, with its sign.
-pub(crate) fn push_box(out: &mut Vec<u8>, look: Look, log: LogName, row: usize) -> Result<(), AllocError> {
+pub(crate) fn push_box(
+    out: &mut Vec<u8>,
+    look: Look,
+    log: LogName,
+    row: usize,
+) -> Result<(), AllocError> {
     push(out, b"<rect")?;
     push_attribute(out, b"x", column(log).saturating_sub(half(log)))?;
     push_attribute(out, b"y", top_of(row).saturating_add(3))?;
@@ -124,23 +133,36 @@ pub(crate) fn push_box(out: &mut Vec<u8>, look: Look, log: LogName, row: usize) 
 /// Begins a text at the left of a record's box.
 pub(crate) fn begin_label(out: &mut Vec<u8>, log: LogName, row: usize) -> Result<(), AllocError> {
     push(out, b"<text class='ink' fill='#1f2328'")?;
-    push_attribute(out, b"x", column(log).saturating_sub(half(log)).saturating_add(7))?;
+    push_attribute(
+        out,
+        b"x",
+        column(log).saturating_sub(half(log)).saturating_add(7),
+    )?;
     push_attribute(out, b"y", top_of(row).saturating_add(17))?;
     push(out, b">")
 }
 
 /// Begins a text at the left of a row.
 pub(crate) fn begin_margin(out: &mut Vec<u8>, row: usize) -> Result<(), AllocError> {
-    push(out, b"<text class='soft' fill='#59636e' text-anchor='end' x='62'")?;
+    push(
+        out,
+        b"<text class='soft' fill='#59636e' text-anchor='end' x='62'",
+    )?;
     push_attribute(out, b"y", top_of(row).saturating_add(17))?;
     push(out, b">")
 }
 
 /// Begins the text of what is folded.
 pub(crate) fn begin_fold(out: &mut Vec<u8>, row: usize) -> Result<(), AllocError> {
-    push(out, b"<rect class='fold' x='240' width='440' height='18' rx='9' fill='#ffffff' stroke='#818b98' stroke-dasharray='1 3'")?;
+    push(
+        out,
+        b"<rect class='fold' x='240' width='440' height='18' rx='9' fill='#ffffff' stroke='#818b98' stroke-dasharray='1 3'",
+    )?;
     push_attribute(out, b"y", top_of(row).saturating_add(4))?;
-    push(out, b"/><text class='soft' fill='#59636e' text-anchor='middle' x='460'")?;
+    push(
+        out,
+        b"/><text class='soft' fill='#59636e' text-anchor='middle' x='460'",
+    )?;
     push_attribute(out, b"y", top_of(row).saturating_add(17))?;
     push(out, b">")
 }
@@ -185,14 +207,25 @@ pub(crate) fn push_arrow(
         middle_of(to.1),
     )?;
     if of_page {
-        push(out, b" class='arrow-page' stroke='#0969da' stroke-width='2' marker-end='url(#head-page)'/>")
+        push(
+            out,
+            b" class='arrow-page' stroke='#0969da' stroke-width='2' marker-end='url(#head-page)'/>",
+        )
     } else {
-        push(out, b" class='arrow' stroke='#6e7781' stroke-width='1.2' marker-end='url(#head)'/>")
+        push(
+            out,
+            b" class='arrow' stroke='#6e7781' stroke-width='1.2' marker-end='url(#head)'/>",
+        )
     }
 }
 
 /// Adds the end of an arrow from a record that has no row.
-pub(crate) fn push_stub(out: &mut Vec<u8>, sender: LogName, log: LogName, row: usize) -> Result<(), AllocError> {
+pub(crate) fn push_stub(
+    out: &mut Vec<u8>,
+    sender: LogName,
+    log: LogName,
+    row: usize,
+) -> Result<(), AllocError> {
     let x = side(log, sender);
     let from = if column(sender) < column(log) {
         x.saturating_sub(22)
@@ -200,5 +233,8 @@ pub(crate) fn push_stub(out: &mut Vec<u8>, sender: LogName, log: LogName, row: u
         x.saturating_add(22)
     };
     begin_line(out, from, middle_of(row), x, middle_of(row))?;
-    push(out, b" class='arrow' stroke='#6e7781' stroke-width='1.2' stroke-dasharray='3 2' marker-end='url(#head)'/>")
+    push(
+        out,
+        b" class='arrow' stroke='#6e7781' stroke-width='1.2' stroke-dasharray='3 2' marker-end='url(#head)'/>",
+    )
 }

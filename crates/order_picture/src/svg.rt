@@ -52,7 +52,8 @@ const STYLE: &[u8] = b"<style>
 </defs>
 ";
 
-const LEGEND: &[u8] = b"<rect class='box-faulty' fill='#ffe3dc' stroke='#c21e1e' stroke-width='3.5' width='34' height='16' rx='4'/>
+const LEGEND: &[u8] =
+    b"<rect class='box-faulty' fill='#ffe3dc' stroke='#c21e1e' stroke-width='3.5' width='34' height='16' rx='4'/>
 <path class='cross' d='M18 4L26 12M18 12L26 4' fill='none' stroke='#c21e1e' stroke-width='2.5'/>
 <text class='ink' fill='#1f2328' x='44' y='13'>the faulty record</text>
 <rect class='box-concerned' fill='#fff3d6' stroke='#9a6700' stroke-width='2.5' stroke-dasharray='7 3' x='270' width='34' height='16' rx='4'/>
@@ -175,11 +176,19 @@ fn push_shown(
 }
 
 /// Adds what is wrong.
-fn push_wrong(out: &mut Vec<u8>, session: &Session, report: &Report, picture: &Picture) -> Result<(), AllocError> {
+fn push_wrong(
+    out: &mut Vec<u8>,
+    session: &Session,
+    report: &Report,
+    picture: &Picture,
+) -> Result<(), AllocError> {
     let reason: &[u8] = match report {
         Report::Faulty { reason, .. } => page_reason(*reason),
         Report::Shape(fault) => shape_reason(fault.reason),
-        Report::Knot(_) => return push(out, b"The logs have no merging: no next record can be taken"),
+        Report::Knot(_) => return push(
+            out,
+            b"The logs have no merging: no next record can be taken",
+        ),
         Report::Clean(_) => return push(out, b"The session is safe in every merging"),
     };
     match picture.focus.fault {
@@ -198,7 +207,10 @@ fn push_heading(
     picture: &Picture,
     shown: Shown,
 ) -> Result<(), AllocError> {
-    push(out, b"<text class='ink' fill='#1f2328' x='20' y='30' font-size='18' font-weight='bold'>")?;
+    push(
+        out,
+        b"<text class='ink' fill='#1f2328' x='20' y='30' font-size='18' font-weight='bold'>",
+    )?;
     push_first_line(out, report)?;
     end_text(out)?;
     begin_heading(out, 52)?;
@@ -214,9 +226,15 @@ fn push_heading(
 
 /// Adds the columns' names, and the lines down them.
 fn push_columns(out: &mut Vec<u8>, rows: usize) -> Result<(), AllocError> {
-    push(out, b"<text class='soft' fill='#59636e' text-anchor='end' x='62' y='120'>line</text>\n")?;
+    push(
+        out,
+        b"<text class='soft' fill='#59636e' text-anchor='end' x='62' y='120'>line</text>\n",
+    )?;
     for log in logs() {
-        push(out, b"<text class='ink' fill='#1f2328' font-weight='bold' text-anchor='middle' y='120'")?;
+        push(
+            out,
+            b"<text class='ink' fill='#1f2328' font-weight='bold' text-anchor='middle' y='120'",
+        )?;
         push_attribute(out, b"x", column(log))?;
         push(out, b">")?;
         push(out, log_name(log))?;
@@ -251,7 +269,12 @@ fn push_received(
     place: usize,
     row: &Row,
 ) -> Result<(), AllocError> {
-    let Row::Record { log, place: number, .. } = row else {
+    let Row::Record {
+        log,
+        place: number,
+        ..
+    } = row
+    else {
         return Ok(());
     };
     let Some(sent) = receipt(session, (*log, *number)) else {
@@ -272,7 +295,13 @@ fn push_received(
 }
 
 /// Adds the box of a record, with its line and its label.
-fn push_seat(out: &mut Vec<u8>, session: &Session, name: Name, look: Look, row: usize) -> Result<(), AllocError> {
+fn push_seat(
+    out: &mut Vec<u8>,
+    session: &Session,
+    name: Name,
+    look: Look,
+    row: usize,
+) -> Result<(), AllocError> {
     if let Some(line) = line_at(session, name) {
         begin_margin(out, row)?;
         push_with(out, b"", u64::from(line))?;
@@ -280,14 +309,23 @@ fn push_seat(out: &mut Vec<u8>, session: &Session, name: Name, look: Look, row: 
     }
     push_box(out, look, name.0, row)?;
     begin_label(out, name.0, row)?;
-    push_with(out, b"<tspan class='soft' fill='#59636e'>", u64::from(name.1))?;
+    push_with(
+        out,
+        b"<tspan class='soft' fill='#59636e'>",
+        u64::from(name.1),
+    )?;
     push(out, b"</tspan><tspan dx='7'>")?;
     push_label(out, session, name)?;
     push(out, b"</tspan></text></g>\n")
 }
 
 /// Begins the group of a record, with its title.
-fn begin_record(out: &mut Vec<u8>, session: &Session, name: Name, look: Look) -> Result<(), AllocError> {
+fn begin_record(
+    out: &mut Vec<u8>,
+    session: &Session,
+    name: Name,
+    look: Look,
+) -> Result<(), AllocError> {
     push(out, b"<g class='")?;
     push(out, row_class(look))?;
     push(out, b"'><title>")?;
@@ -295,7 +333,13 @@ fn begin_record(out: &mut Vec<u8>, session: &Session, name: Name, look: Look) ->
 }
 
 /// Adds the row of a record.
-fn push_record_row(out: &mut Vec<u8>, session: &Session, name: Name, mark: Mark, row: usize) -> Result<(), AllocError> {
+fn push_record_row(
+    out: &mut Vec<u8>,
+    session: &Session,
+    name: Name,
+    mark: Mark,
+    row: usize,
+) -> Result<(), AllocError> {
     let look = Look::Marked(mark);
     begin_record(out, session, name, look)?;
     push(out, b"</title>")?;
@@ -360,7 +404,11 @@ fn push_left(out: &mut Vec<u8>, session: &Session, picture: &Picture) -> Result<
 
 /// Adds the legend below so many rows.
 fn push_legend(out: &mut Vec<u8>, rows: usize) -> Result<(), AllocError> {
-    push_with(out, b"<g transform='translate(72 ", top_of(rows).saturating_add(24))?;
+    push_with(
+        out,
+        b"<g transform='translate(72 ",
+        top_of(rows).saturating_add(24),
+    )?;
     push(out, b")'>")?;
     push(out, LEGEND)
 }
@@ -380,11 +428,17 @@ fn push_inside(
     push_attribute(out, b"width", WIDTH)?;
     push_attribute(out, b"height", height)?;
     push_with(out, b" viewBox='0 0 900 ", height)?;
-    push(out, b"' font-family='system-ui, sans-serif' font-size='12'>\n<title>")?;
+    push(
+        out,
+        b"' font-family='system-ui, sans-serif' font-size='12'>\n<title>",
+    )?;
     push_first_line(out, report)?;
     push(out, b"</title>\n")?;
     push(out, STYLE)?;
-    push(out, b"<rect class='paper' fill='#ffffff' width='100%' height='100%'/>\n")?;
+    push(
+        out,
+        b"<rect class='paper' fill='#ffffff' width='100%' height='100%'/>\n",
+    )?;
     push_heading(out, session, report, picture, shown)?;
     push_columns(out, rows)?;
     push_rows(out, session, picture)?;

@@ -42,7 +42,11 @@ pub(crate) fn line_at(session: &Session, name: Name) -> Option<u32> {
 }
 
 /// Adds which record is meant, as in "pager 5 (line 27)".
-pub(crate) fn push_name(out: &mut Vec<u8>, session: &Session, name: Name) -> Result<(), AllocError> {
+pub(crate) fn push_name(
+    out: &mut Vec<u8>,
+    session: &Session,
+    name: Name,
+) -> Result<(), AllocError> {
     push(out, log_name(name.0))?;
     push_with(out, b" ", u64::from(name.1))?;
     match line_at(session, name) {
@@ -249,7 +253,11 @@ fn push_saying(out: &mut Vec<u8>, session: &Session, name: Name) -> Result<(), A
 }
 
 /// Adds a record in words, as in "guest 5 (line 12): processor 0 reads 7 in cell 0 of page 1".
-pub(crate) fn push_record(out: &mut Vec<u8>, session: &Session, name: Name) -> Result<(), AllocError> {
+pub(crate) fn push_record(
+    out: &mut Vec<u8>,
+    session: &Session,
+    name: Name,
+) -> Result<(), AllocError> {
     push_name(out, session, name)?;
     push(out, b": ")?;
     push_saying(out, session, name)

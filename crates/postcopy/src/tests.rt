@@ -496,7 +496,7 @@ impl TextSource for Starved {
 }
 
 // Words of each command.
-static COMMANDS: [&[&str]; 8] = [
+static COMMANDS: [&[&str]; 10] = [
     &["postcopy"],
     &["postcopy", "check", "session", "cert"],
     &["postcopy", "certify", "session"],
@@ -505,6 +505,8 @@ static COMMANDS: [&[&str]; 8] = [
     &["postcopy", "replay", "-", "-"],
     &["postcopy", "steps", "script", "-"],
     &["postcopy", "migrate", "script"],
+    &["postcopy", "draw", "session"],
+    &["postcopy", "draw", "-", "-"],
 ];
 
 fn wants_memory<
@@ -542,13 +544,15 @@ fn want_of_memory(rt: HostRuntime) {
 }
 
 // Words for which something is written to the output.
-static WRITING: [&[&str]; 8] = [
+static WRITING: [&[&str]; 10] = [
     &["postcopy", "check", "session", "cert"],
     &["postcopy", "certify", "session"],
     &["postcopy", "audit", "session"],
     &["postcopy", "replay", "handover", "safe-runs"],
     &["postcopy", "steps", "script", "events"],
     &["postcopy", "migrate", "script"],
+    &["postcopy", "draw", "session"],
+    &["postcopy", "draw", "handover", "safe-runs"],
     &["postcopy", "--help"],
     &["postcopy", "--version"],
 ];

@@ -7,7 +7,7 @@ use std::sync::Wait;
 use std::thread::Threads;
 
 // Words that are no command.
-static NO_COMMANDS: [&[&str]; 7] = [
+static NO_COMMANDS: [&[&str]; 9] = [
     &["postcopy", "check", "session"],
     &["postcopy", "check", "session", "cert", "cert"],
     &["postcopy", "send", "session", "cert"],
@@ -15,6 +15,8 @@ static NO_COMMANDS: [&[&str]; 7] = [
     &["postcopy", "check", "--fast", "session", "cert"],
     &["postcopy", "migrate"],
     &["postcopy", "migrate", "script", "--link", "paper"],
+    &["postcopy", "draw"],
+    &["postcopy", "draw", "session", "runs", "runs"],
 ];
 
 fn is_refused<
@@ -44,12 +46,13 @@ fn usage(rt: HostRuntime) {
 }
 
 // Words that ask for help.
-static HELPS: [&[&str]; 5] = [
+static HELPS: [&[&str]; 6] = [
     &["postcopy", "--help"],
     &["postcopy", "-h"],
     &["postcopy", "help"],
     &["postcopy", "check", "--help"],
     &["postcopy", "migrate", "--help"],
+    &["postcopy", "draw", "--help"],
 ];
 
 fn is_helped<
@@ -76,7 +79,7 @@ fn help(rt: HostRuntime) {
 }
 
 // What the help tells.
-static TOLD: [&str; 12] = [
+static TOLD: [&str; 13] = [
     "0  all is well",
     "1  another answer",
     "2  words that are no command",
@@ -90,6 +93,7 @@ static TOLD: [&str; 12] = [
     "postcopy replay session runs",
     "postcopy steps script events",
     "postcopy migrate script",
+    "postcopy draw session",
 ];
 
 // What a help does not tell.

@@ -8,3 +8,6 @@ returns-in-Two-clause-told g c = rw c.in-Two.is c.perform_two.ensures.told
 
 pub returns-in-Migrate-clause-told : goal.returns-in-Migrate-clause-told
 returns-in-Migrate-clause-told g c = rw c.in-Migrate.is c.perform_migrate.ensures.told
+
+pub returns-in-Draw-clause-told : goal.returns-in-Draw-clause-told
+returns-in-Draw-clause-told g c = rw c.in-Draw.is c.perform_drawing.ensures.told

@@ -17,5 +17,5 @@ loop-k-preserved c =
     let more : suc k ≡ k + 1 = omega arith in
     c.in_ok-push.ensures.items
     ∙ (ap (λ (ns : List Name). ns ++ (log, from + k) ∷ []) c.loop-k.invariant
-      ∙ (append_assoc old (run_names log from k) ((log, from + k) ∷ [])
-        ∙ ap (λ (ns : List Name). old ++ ns) (sym (run_push log from k) ∙ ap (λ (n : ℕ). run_names log from n) more)))
+    ∙ (append_assoc old (run_names log from k) ((log, from + k) ∷ [])
+    ∙ ap (λ (ns : List Name). old ++ ns) (sym (run_push log from k) ∙ ap (λ (n : ℕ). run_names log from n) more)))

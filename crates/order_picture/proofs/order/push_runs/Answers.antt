@@ -49,6 +49,6 @@ loop-place-preserved c =
       names =
           c.in_ok-push_run.ensures
           ∙ (ap (λ (ns : List Name). ns ++ run_names run.log c.of.result run.count) i.names
-            ∙ (append_assoc old so_far (run_names run.log c.of.result run.count)
-              ∙ ap (λ (ns : List Name). old ++ ns) (ap (λ n. so_far ++ run_names run.log n run.count) (from ∙ ap (λ (e : Cursors). e run.log) i.at) ∙ sym (with_it s runs place no_run lt))));
+          ∙ (append_assoc old so_far (run_names run.log c.of.result run.count)
+          ∙ ap (λ (ns : List Name). old ++ ns) (ap (λ n. so_far ++ run_names run.log n run.count) (from ∙ ap (λ (e : Cursors). e run.log) i.at) ∙ sym (with_it s runs place no_run lt))));
     }

@@ -1,0 +1,54 @@
+-- What becomes of a session that is to be drawn, by what was read of its texts.
+use Rattle.std.proofs.Common.{◌≡◌, ℕ, ◌<◌, List, arith, subst, refl, codes, sym, ap, ◌∙◌, Option, Some, None}
+use Rattle.std.specs.Borrow.{Bor}
+use Rattle.clap.specs.Words.{Text}
+use Rattle.command_words.specs.declared.asked.Asked.{Asked}
+use Rattle.command_words.specs.declared.asked.Asked.TheVariants.{Draw}
+use Rattle.command_words.specs.Table.{asked_names}
+use Rattle.std.specs.Prelude.{Result, Ok, Err, IfOk}
+use Rattle.std.specs.declared.alloc.AllocError.{AllocError}
+use Rattle.text_lines.specs.Answer.{IsRead}
+use Rattle.migration_types.specs.declared.cert.Run.{Run}
+use Rattle.migration_types.specs.Sessions.{Recorded}
+use Rattle.session_log.specs.Grammar.{SpellsSession}
+use Rattle.cert_text.specs.Runs.{SpellsRuns}
+use Rattle.order_picture.specs.Svg.{IsSvg}
+use Rattle.commands.specs.declared.answer.Answer.{Answer}
+use Rattle.commands.specs.Answers.{Says, numbered}
+use Rattle.commands.specs.Drawings.{Drawing, SessionText, RunsText, Drawn, IsDrawing, IsDrawingAlong, IsDrawAnswer, IsDrawAlongAnswer, drawing_text, drawing_status}
+use Rattle.commands.proofs.Said.{says_right}
+
+-- what was told of a session alone, and of a session with runs, was told of what the words ask for
+pub told_alone : (job : Asked (Bor Text)) (name : Bor Text) (further : Option (Bor Text)) (P : Asked Text → Type 0) → job ≡ Draw name further → further ≡ None → P (Draw name.now None) → P (asked_names job)
+told_alone job name further P is none p = subst (λ (a : Asked (Bor Text)). P (asked_names a)) (sym (is ∙ ap (λ (o : Option (Bor Text)). Draw name o) none)) p
+
+pub told_along : (job : Asked (Bor Text)) (name second : Bor Text) (further : Option (Bor Text)) (P : Asked Text → Type 0) → job ≡ Draw name further → further ≡ Some second → P (Draw name.now (Some second.now)) → P (asked_names job)
+told_along job name second further P is some p = subst (λ (a : Asked (Bor Text)). P (asked_names a)) (sym (is ∙ ap (λ (o : Option (Bor Text)). Draw name o) some)) p
+
+drawing_few : (d : Drawing) → drawing_status d < 2
+drawing_few (SessionText line) = omega arith
+drawing_few (RunsText line) = omega arith
+drawing_few (Drawn text) = omega arith
+
+pub draw_few : (session text : List ℕ) (status : ℕ) → IsDrawAnswer session text status → status < 2
+draw_few session text status h = rw h.is_status (drawing_few h.value)
+
+pub draw_along_few : (texts : List ℕ × List ℕ) (text : List ℕ) (status : ℕ) → IsDrawAlongAnswer texts text status → status < 2
+draw_along_few texts text status h = rw h.is_status (drawing_few h.value)
+
+module _ (session : List ℕ) (read : Result Recorded ℕ) (is_read : IsRead SpellsSession session read) where
+  pub drawn : (s : Recorded) (text : List ℕ) → read ≡ Ok s → IsSvg text → IsDrawAnswer session text 0
+  drawn s text is svg = record { value = Drawn text; is_right = (s, subst (IsRead SpellsSession session) is is_read, svg); is_text = refl; is_status = refl }
+
+  pub refused_session : (line : ℕ) (found : Result Answer AllocError) → read ≡ Err line → IfOk found (λ a. Says a (numbered (codes "session-text line ") line) 1) → IfOk found (λ a. IsDrawAnswer session a.text.items a.status)
+  refused_session line found is says = says_right (IsDrawing session) drawing_text drawing_status (SessionText line) found (subst (IsRead SpellsSession session) is is_read) says
+
+  pub refused_along : (runs : List ℕ) (line : ℕ) (found : Result Answer AllocError) → read ≡ Err line → IfOk found (λ a. Says a (numbered (codes "session-text line ") line) 1) → IfOk found (λ a. IsDrawAlongAnswer (session, runs) a.text.items a.status)
+  refused_along runs line found is says = says_right (IsDrawingAlong session runs) drawing_text drawing_status (SessionText line) found (subst (IsRead SpellsSession session) is is_read) says
+
+  module _ (runs : List ℕ) (other : Result (List Run) ℕ) (other_read : IsRead SpellsRuns runs other) where
+    pub drawn_along : (s : Recorded) (order : List Run) (text : List ℕ) → read ≡ Ok s → other ≡ Ok order → IsSvg text → IsDrawAlongAnswer (session, runs) text 0
+    drawn_along s order text is same svg = record { value = Drawn text; is_right = (s, order, subst (IsRead SpellsSession session) is is_read, subst (IsRead SpellsRuns runs) same other_read, svg); is_text = refl; is_status = refl }
+
+    pub refused_runs : (s : Recorded) (line : ℕ) (found : Result Answer AllocError) → read ≡ Ok s → other ≡ Err line → IfOk found (λ a. Says a (numbered (codes "runs-text line ") line) 1) → IfOk found (λ a. IsDrawAlongAnswer (session, runs) a.text.items a.status)
+    refused_runs s line found is same says = says_right (IsDrawingAlong session runs) drawing_text drawing_status (RunsText line) found (s, subst (IsRead SpellsSession session) is is_read, subst (IsRead SpellsRuns runs) same other_read) says
