@@ -182,10 +182,14 @@ goes_round s c first k taken is_first at = record {
     log = log;
     place = waits_for w other (at.waits.each i w is).1 (at.waits.each (suc i) other on).0 log;
   };
-  closes = λ last w e is. let log = at.log_is ∙ sym (at.waits.ends last w e is) in (at.other, at.there, record {
-    log = log;
-    place = waits_for w at.other (at.waits.each last w is).1 (at.waits.each k.back at.other at.there).0 log;
-  });
+  closes = λ last w e is. let log = at.log_is ∙ sym (at.waits.ends last w e is) in (
+    at.other,
+    at.there,
+    record {
+      log = log;
+      place = waits_for w at.other (at.waits.each last w is).1 (at.waits.each k.back at.other at.there).0 log;
+    },
+  );
 }
   where
     start : (w : Waiting) → slice_get k.waits.items 0 ≡ Some w → line_of s (w.log, w.place) ≡ line_of s (first, c first)

@@ -36,11 +36,7 @@ fn clean_counts(session: &Session, cert: &Cert) -> Counts
 
 /// What happened in a session, by the report on it. Takes a few passes over each log, and as much memory as an audit does
 /// and one machine more, which is the only error.
-pub fn explain(
-    alloc: Global,
-    session: &Session,
-    report: &Report,
-) -> Result<Explanation, AllocError>
+pub fn explain(alloc: Global, session: &Session, report: &Report) -> Result<Explanation, AllocError>
     requires { IsReport session.now report.now }
     ensures { IfOk result (IsExplanation session.now report.now) }
 {

@@ -29,7 +29,13 @@ fn looked(rec: &GuestRec, n: u32, best: Option<Look>) -> Option<Look>
     };
     match best {
         None => Some(new),
-        Some(old) => { if old.placement < placement { Some(new) } else { Some(old) } }
+        Some(old) => {
+            if old.placement < placement {
+                Some(new)
+            } else {
+                Some(old)
+            }
+        }
     }
 }
 

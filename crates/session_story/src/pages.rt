@@ -65,7 +65,12 @@ pub fn story_of(alloc: Global, session: &Session, page: PageNo) -> Result<PageSt
     session.keeps_limits();
     let found = findings_for(alloc, session, page)?;
     let halt = halt_place(session.guest());
-    let changed = last_of(session, &GuestQuestion::Changes(page), session.guest(), halt);
+    let changed = last_of(
+        session,
+        &GuestQuestion::Changes(page),
+        session.guest(),
+        halt,
+    );
     let sent = first_of(session, &SourceQuestion::SendOf(page), session.source());
     let delivered = first_of(session, &LinkQuestion::Carries(page), session.link());
     let got = first_of(session, &PagerQuestion::Gets(page), session.pager());

@@ -33,7 +33,8 @@ pub fn print_explained(
 }
 
 /// What it means that a text is refused.
-const NO_TEXT: &[u8] = b"This is no text of a session: no such text begins as this one does up to that line, or this one ends there too early.\n";
+const NO_TEXT: &[u8] =
+    b"This is no text of a session: no such text begins as this one does up to that line, or this one ends there too early.\n";
 
 /// Adds the line of a text that is refused.
 fn push_refusal(text: &mut Vec<u8>, line: u32) -> Result<(), AllocError>

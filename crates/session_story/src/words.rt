@@ -24,11 +24,16 @@ fn push_counts(out: &mut String, counts: &Counts) -> Result<(), AllocError> {
     let dropped = counts.dropped;
     let misses = counts.misses;
     let waits = counts.waits;
-    out.push_str("In every order of the records each read gives what one machine that never moved would give.\n")?;
+    out.push_str(
+        "In every order of the records each read gives what one machine that never moved would give.\n",
+    )?;
     write!(out, "Pages that were sent and placed: {sent}\n")?;
     write!(out, "Released pages that came back as zeros: {zeroed}\n")?;
     write!(out, "Pages that were not placed: {unmoved}\n")?;
-    write!(out, "Sendings of a page: {sends}, of which unasked: {pushes}\n")?;
+    write!(
+        out,
+        "Sendings of a page: {sends}, of which unasked: {pushes}\n"
+    )?;
     write!(out, "Repeats of a packet: {repeats}\n")?;
     write!(out, "Packets that the pager dropped: {dropped}\n")?;
     write!(

@@ -21,10 +21,7 @@ fn push_giver(out: &mut String, session: &Session, held: &Held) -> Result<(), Al
 /// Adds what is wrong with a read.
 fn push_read(out: &mut String, session: &Session, held: &Held) -> Result<(), AllocError> {
     let value = held.value;
-    write!(
-        out,
-        "One machine that never moved has {value} there, "
-    )?;
+    write!(out, "One machine that never moved has {value} there, ")?;
     push_giver(out, session, held)?;
     out.push_str(".\n")
 }
@@ -47,9 +44,13 @@ fn push_early(
     seen: Option<Look>,
 ) -> Result<(), AllocError> {
     let Some(placement) = page.found.placement else {
-        return out.push_str("The guest is at the target by then, and the page is never placed there.\n");
+        return out.push_str(
+            "The guest is at the target by then, and the page is never placed there.\n",
+        );
     };
-    out.push_str("The guest is at the target by then, and no look before this use reaches the placement of the page, ")?;
+    out.push_str(
+        "The guest is at the target by then, and no look before this use reaches the placement of the page, ",
+    )?;
     push_place(out, session, LogName::Pager, placement)?;
     out.push_str(".\n")?;
     push_seen(out, session, seen)?;
@@ -107,19 +108,17 @@ fn first_sending(session: &Session, sending: u32) -> u32 {
 }
 
 /// Adds what was sent in a cell of what came with the pager's record.
-fn push_origin(
-    out: &mut String,
-    session: &Session,
-    got: u32,
-    cell: u16,
-) -> Result<(), AllocError> {
+fn push_origin(out: &mut String, session: &Session, got: u32, cell: u16) -> Result<(), AllocError> {
     let Some(sending) = delivery(session, got) else {
         return Ok(());
     };
     let sending = first_sending(session, sending);
     if let Some(SourceRec::Send { contents, .. }) = session.source().get(sending as usize) {
         if let Some(sent) = contents.as_slice().get(cell as usize) {
-            write!(out, "What came with pager {got} was sent with {sent} there: ")?;
+            write!(
+                out,
+                "What came with pager {got} was sent with {sent} there: "
+            )?;
             push_record(out, session, LogName::Source, sending)?;
             out.push_str(".\n")?;
         }
@@ -136,7 +135,13 @@ fn push_placed(
 ) -> Result<(), AllocError> {
     match session.pager().get(place as usize) {
         Some(PagerRec::Place { got, contents, .. }) => {
-            push_other(out, session, held, "The page is placed", contents.as_slice())?;
+            push_other(
+                out,
+                session,
+                held,
+                "The page is placed",
+                contents.as_slice(),
+            )?;
             push_origin(out, session, *got, held.cell)
         }
         _ => Ok(()),
@@ -157,11 +162,15 @@ fn push_changed(out: &mut String, session: &Session, page: &PageStory) -> Result
 fn push_plain(out: &mut String, session: &Session, fault: &FaultStory) -> Result<(), AllocError> {
     match fault.reason {
         PageReason::Given => {
-            out.push_str("The page is released at the halt, so that it is not sent; the pager places it as zeros.\n")?;
+            out.push_str(
+                "The page is released at the halt, so that it is not sent; the pager places it as zeros.\n",
+            )?;
             push_changed(out, session, &fault.page)
         }
         PageReason::Unfit => {
-            out.push_str("The page is not released at the halt, so that zeros are not what it has to be.\n")?;
+            out.push_str(
+                "The page is not released at the halt, so that zeros are not what it has to be.\n",
+            )?;
             push_changed(out, session, &fault.page)
         }
         PageReason::Twice => {

@@ -6,11 +6,7 @@ use migration_types::Session;
 use std::alloc::AllocError;
 
 /// Adds a record that waits, and for which one.
-fn push_waiting(
-    out: &mut String,
-    session: &Session,
-    waiting: &Waiting,
-) -> Result<(), AllocError> {
+fn push_waiting(out: &mut String, session: &Session, waiting: &Waiting) -> Result<(), AllocError> {
     out.push_str("  ")?;
     push_record(out, session, waiting.log, waiting.place)?;
     out.push_str("; it has to come after ")?;
@@ -38,7 +34,9 @@ pub(crate) fn push_knot(
     session: &Session,
     knot: &Knot,
 ) -> Result<(), AllocError> {
-    out.push_str("No order of the records keeps that of each log and has each record after the one of another log that it names: each of these waits for the next, and the last for one of them.\n")?;
+    out.push_str(
+        "No order of the records keeps that of each log and has each record after the one of another log that it names: each of these waits for the next, and the last for one of them.\n",
+    )?;
     let waits = knot.waits.as_slice();
     for index in 0..waits.len() {
         push_waiting(out, session, &waits[index])?;

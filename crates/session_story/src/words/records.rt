@@ -92,9 +92,7 @@ fn push_guest(out: &mut String, rec: &GuestRec) -> Result<(), AllocError> {
 /// Adds what a record of the source says.
 fn push_source(out: &mut String, rec: &SourceRec) -> Result<(), AllocError> {
     match rec {
-        SourceRec::Halted { halt } => {
-            write!(out, "the source learns of the halt guest {halt}")
-        }
+        SourceRec::Halted { halt } => { write!(out, "the source learns of the halt guest {halt}") }
         SourceRec::State => out.push_str("the source sends the processor state"),
         SourceRec::Send { page, .. } => {
             let page = page.number();
@@ -103,9 +101,7 @@ fn push_source(out: &mut String, rec: &SourceRec) -> Result<(), AllocError> {
         SourceRec::Again { sending } => {
             write!(out, "the source sends once more what source {sending} sent")
         }
-        SourceRec::Ask { up } => {
-            write!(out, "the source takes what link {up} delivered")
-        }
+        SourceRec::Ask { up } => { write!(out, "the source takes what link {up} delivered") }
         SourceRec::Done => out.push_str("the source learns that every owed page is placed"),
     }
 }
@@ -114,10 +110,16 @@ fn push_source(out: &mut String, rec: &SourceRec) -> Result<(), AllocError> {
 fn push_link(out: &mut String, rec: &LinkRec) -> Result<(), AllocError> {
     match *rec {
         LinkRec::Down { sending } => {
-            write!(out, "the link delivers to the pager what source {sending} sent")
+            write!(
+                out,
+                "the link delivers to the pager what source {sending} sent"
+            )
         }
         LinkRec::Up { asking } => {
-            write!(out, "the link delivers to the source what pager {asking} sent")
+            write!(
+                out,
+                "the link delivers to the source what pager {asking} sent"
+            )
         }
     }
 }
@@ -125,13 +127,9 @@ fn push_link(out: &mut String, rec: &LinkRec) -> Result<(), AllocError> {
 /// Adds what a record of the pager says.
 fn push_pager(out: &mut String, rec: &PagerRec) -> Result<(), AllocError> {
     match rec {
-        PagerRec::Got { down } => {
-            write!(out, "the pager takes what link {down} delivered")
-        }
+        PagerRec::Got { down } => { write!(out, "the pager takes what link {down} delivered") }
         PagerRec::Ready => out.push_str("the pager is ready for the guest"),
-        PagerRec::Fault { miss } => {
-            write!(out, "the pager learns of the miss guest {miss}")
-        }
+        PagerRec::Fault { miss } => { write!(out, "the pager learns of the miss guest {miss}") }
         PagerRec::Join { want } => {
             write!(
                 out,
@@ -144,15 +142,16 @@ fn push_pager(out: &mut String, rec: &PagerRec) -> Result<(), AllocError> {
         }
         PagerRec::Place { page, got, .. } => {
             let page = page.number();
-            write!(out, "the pager places page {page}, which came with pager {got}")
+            write!(
+                out,
+                "the pager places page {page}, which came with pager {got}"
+            )
         }
         PagerRec::Zero { page } => {
             let page = page.number();
             write!(out, "the pager places page {page} as zeros")
         }
-        PagerRec::Skip { got } => {
-            write!(out, "the pager drops what came with pager {got}")
-        }
+        PagerRec::Skip { got } => { write!(out, "the pager drops what came with pager {got}") }
         PagerRec::All => out.push_str("the pager says that every owed page is placed"),
     }
 }

@@ -105,11 +105,7 @@ fn push_named(out: &mut String, session: &Session, story: &ShapeStory) -> Result
 }
 
 /// Adds where the guest was halted or resumed, if it was.
-fn push_moved(
-    out: &mut String,
-    session: &Session,
-    place: Option<u32>,
-) -> Result<(), AllocError> {
+fn push_moved(out: &mut String, session: &Session, place: Option<u32>) -> Result<(), AllocError> {
     match place {
         Some(place) => push_place(out, session, LogName::Guest, place),
         None => out.push_str("which is not there"),

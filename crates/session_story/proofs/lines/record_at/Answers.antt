@@ -16,7 +16,7 @@ returns-in-None c =
     let k = ap (λ (xs : List LinkRec). length xs) c.link.ensures in
     let p = ap (λ (xs : List PagerRec). length xs) c.pager.ensures in
     nowhere s c.args.line
-      (λ n lt e. in_none _ _ _ c.place_in.result c.place_in.ensures c.in_default.not-Some n (omega (arith, lt, g)) (omega (arith, e, i, g)))
-      (λ n lt e. in_none _ _ _ c.place_in-2.result c.place_in-2.ensures c.in_default-place_in.not-Some n (omega (arith, lt, o)) (omega (arith, e, i, g, o)))
-      (λ n lt e. in_none _ _ _ c.place_in-3.result c.place_in-3.ensures c.in_default-place_in-2.not-Some n (omega (arith, lt, k)) (omega (arith, e, i, g, o, k)))
-      (λ n lt e. in_none _ _ _ c.place_in-4.result c.place_in-4.ensures (λ x is. let none = c.in-None.is in absurd (cc)) n (omega (arith, lt, p)) (omega (arith, e, i, g, o, k, p)))
+    (λ n lt e. in_none _ _ _ c.place_in.result c.place_in.ensures c.in_default.not-Some n (omega (arith, lt, g)) (omega (arith, e, i, g)))
+    (λ n lt e. in_none _ _ _ c.place_in-2.result c.place_in-2.ensures c.in_default-place_in.not-Some n (omega (arith, lt, o)) (omega (arith, e, i, g, o)))
+    (λ n lt e. in_none _ _ _ c.place_in-3.result c.place_in-3.ensures c.in_default-place_in-2.not-Some n (omega (arith, lt, k)) (omega (arith, e, i, g, o, k)))
+    (λ n lt e. in_none _ _ _ c.place_in-4.result c.place_in-4.ensures (λ x is. let none = c.in-None.is in absurd (cc)) n (omega (arith, lt, p)) (omega (arith, e, i, g, o, k, p)))
