@@ -1,6 +1,5 @@
 -- There is one verdict on a session and a certificate.
-use Rattle.std.proofs.Common.{◌≡◌, ℕ, zero, suc, ◌+◌, ◌<◌, ◌≤◌, ◌⊎◌, inl, inr, List, [], ◌∷◌, take, drop, length, Some, refl, sym, ap, ◌∙◌, subst, arith}
-use Rattle.std.specs.Prelude.{slice_get}
+use Rattle.std.proofs.Common.{◌≡◌, ℕ, zero, suc, ◌+◌, ◌<◌, ◌≤◌, ◌⊎◌, inl, inr, List, [], ◌∷◌, take, drop, refl, sym, ap, ◌∙◌, subst, arith}
 use Rattle.std.proofs.lemmas.Bool.{cases_order}
 use Rattle.std.proofs.lemmas.List.{take-append-drop}
 use Rattle.migration_types.specs.declared.cert.Entry.{Entry}
@@ -12,8 +11,7 @@ use Rattle.audit_model.specs.declared.reasons.ShapeReason.{ShapeReason}
 use Rattle.audit_model.specs.declared.reasons.ShapeReason.TheVariants.{Phases, Named, Start, SecondSend}
 use Rattle.audit_model.specs.Mergings.{at_start, IsMerging, spelled}
 use Rattle.audit_model.specs.Reasons.{rank}
-use Rattle.audit_model.specs.Shape.{is_right, IsRightShape}
-use Rattle.audit_model.specs.Certificates.{IsRightEntry}
+use Rattle.audit_model.specs.Shape.{IsRightShape}
 use Rattle.audit_model.specs.Walks.{Walks}
 use Rattle.audit_model.proofs.Walked.{merging_is_walk}
 use Rattle.merge_runs.specs.BadRuns.{IsFirstBadRun}
@@ -21,7 +19,7 @@ use Rattle.merge_runs.proofs.Walking.{walks_front, spelled_front, no_whole_walk}
 use Rattle.cert_check.specs.declared.verdict.ShapeFault.{ShapeFault}
 use Rattle.cert_check.specs.declared.verdict.Verdict.{Verdict}
 use Rattle.cert_check.specs.declared.verdict.Verdict.TheVariants.{SessionText, CertText, Shape, Pages, Runs, Page, Yes}
-use Rattle.cert_check.specs.Verdicts.{IsShapeFault, IsFirstBadPage, IsVerdict, AreRightEntries, SamePages, run_line, entry_line}
+use Rattle.cert_check.specs.Verdicts.{IsShapeFault, IsFirstBadPage, IsVerdict, AreRightEntries, run_line, entry_line}
 
 -- ---- the shape
 

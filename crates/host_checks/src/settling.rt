@@ -38,11 +38,7 @@ fn is_done(source: &[SourceRec]) -> bool
 }
 
 /// The certificate of a clean session. Refused: the audit's report is another one, or there is no memory.
-fn clean<R: Threads + Sync>(
-    rt: &R,
-    alloc: Global,
-    session: &Session,
-) -> Result<Cert, RunFault>
+fn clean<R: Threads + Sync>(rt: &R, alloc: Global, session: &Session) -> Result<Cert, RunFault>
     ensures shape { IfOk result (λ c. IsRightShape session.now) }
     ensures right { IfOk result (λ c. IsRightCertificate session.now c) }
     ensures safe { IfOk result (λ c. IsSafe session.now) }

@@ -1,8 +1,7 @@
-use Rattle.std.proofs.Common.{◌≡◌, ℕ, List, ◌++◌, sym, subst}
+use Rattle.std.proofs.Common.{◌++◌, sym, subst}
 use Rattle.std.specs.List.{AllZip}
 use Rattle.std.specs.Prelude.{IfOk}
 use Rattle.rayon.proofs.ListFacts.{AllZip-append}
-use Rattle.page_facts.specs.declared.findings.Findings.{Findings}
 use Rattle.page_facts.specs.Findings.{IsFindings}
 use Rattle.page_facts.specs.inner.Parts.{IsPart}
 use Rattle.page_facts.proofs.judges.PartJudgeConsumer.merge.Goals as goal
