@@ -38,14 +38,14 @@ const MOST_BYTES: usize = 268_435_456;
 /// The most reads that an input may take, with the one that finds its end.
 const MOST_READS: u32 = 1_048_576;
 
-// How many bytes are taken at a time, once a text has more than the first.
-const PIECE_BYTES: usize = 1_048_576;
-
-// How many bytes are taken first.
+// How many bytes are taken at a time at first, by one thread.
 const FIRST_BYTES: usize = 131_072;
 
-// The most pieces that an input may have, with the first and the one that finds its end.
-const MOST_PIECES: usize = MOST_BYTES / PIECE_BYTES + 2;
+// How many bytes are taken at a time once so many came, by several threads.
+const PIECE_BYTES: usize = 1_048_576;
+
+// The most pieces that an input may have, with the one that finds its end.
+const MOST_PIECES: usize = MOST_BYTES / FIRST_BYTES + 2;
 
 /// The most threads that take parts of a piece.
 const MOST_PARTS: usize = 8;
@@ -138,7 +138,7 @@ fn read_within<H: Threads + Sync, R: Read, T: Taker>(
         }
         left -= filled.count;
         reads = filled.reads;
-        if buffer.len() < PIECE_BYTES {
+        if buffer.len() < PIECE_BYTES && most_bytes.saturating_sub(left) >= PIECE_BYTES {
             let Ok(larger) = zeroes(alloc, PIECE_BYTES) else {
                 return Err(ReadFault::Memory);
             };

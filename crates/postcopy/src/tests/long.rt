@@ -111,13 +111,13 @@ fn is_line<
         && is_outcome(&replayed(rt, &second, session, b"", runs), 1, line, b"")
 }
 
-// Indices of writes: in the first piece that is read, in each fourth of the two that follow, and the last.
+// Indices of writes: in the first MiB, in each fourth of the piece behind it, in the next, and the last.
 static WRONG_WRITES: [u32; 10] = [
-    1_000, 5_000, 13_000, 21_000, 30_000, 40_000, 48_000, 56_000, 64_000, 79_999,
+    1_000, 5_000, 13_000, 21_000, 35_000, 40_000, 48_000, 56_000, 64_000, 79_999,
 ];
 
-// Indices of runs: in the first piece that is read, in each fourth of the one that follows, and the last.
-static WRONG_RUNS: [u32; 6] = [5_000, 20_000, 45_000, 70_000, 95_000, 159_999];
+// Indices of runs: in the first MiB, in each fourth of what follows it, and the last.
+static WRONG_RUNS: [u32; 6] = [5_000, 100_000, 115_000, 130_000, 150_000, 159_999];
 
 fn are_refused<
     R: Threads + Wait + Sync + AllocGlobal + Net<Listener = TcpListener, Stream = TcpStream>,
