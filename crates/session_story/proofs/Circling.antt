@@ -20,7 +20,7 @@ use Rattle.audit_model.specs.declared.reasons.ShapeReason.TheVariants.{Named}
 use Rattle.audit_model.specs.Names.{if_there, log_length, receipt, same_log}
 use Rattle.audit_model.specs.Shape.{passes, keeps, is_ready, is_placement, is_halt, is_up, goes_down, goes_up, is_down, is_miss, guest_named, source_named, link_named, pager_named, IsRightShape}
 use Rattle.audit_model.specs.Mergings.{Cursors, at_start}
-use Rattle.audit_model.specs.Walks.{cursors_from, MayFollow}
+use Rattle.audit_model.specs.Walks.{MayFollow}
 use Rattle.audit_model.specs.FoundOrder.{first_ready, IsLeastLeft}
 use Rattle.audit_model.proofs.Cuts.{same_from_test}
 use Rattle.audit_model.proofs.Knots.{none_is_stuck}

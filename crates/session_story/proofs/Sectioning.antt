@@ -1,8 +1,7 @@
 -- Lines of sections.
-use Rattle.std.proofs.Common.{◌≡◌, ℕ, ◌+◌, ◌<◌, ◌≤◌, length, Option, Some, None, refl, sym, ◌∙◌, ap, arith}
+use Rattle.std.proofs.Common.{◌≡◌, ℕ, ◌+◌, ◌<◌, length, Option, Some, None, refl}
 use Rattle.migration_types.specs.declared.records.LogName.TheVariants.{Guest, Source, Link, Pager}
-use Rattle.migration_types.specs.Receipts.{Name}
-use Rattle.migration_types.specs.Sessions.{Recorded, log_length, line_of}
+use Rattle.migration_types.specs.Sessions.{Recorded}
 use Rattle.session_story.specs.Lines.{IsRecordAt}
 use Rattle.session_story.specs.inner.Sections.{IsPlaceIn}
 

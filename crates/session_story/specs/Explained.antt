@@ -1,17 +1,14 @@
 -- What is told of a session, by the report on it.
-use Rattle.std.specs.Prelude.{◌≡◌, ℕ, ◌<◌, false, List, length, MatchOption, Option, Some, slice_get, slice_index}
+use Rattle.std.specs.Prelude.{◌≡◌, ℕ, ◌<◌, List, MatchOption, Option, Some, slice_get, slice_index}
 use Rattle.migration_types.specs.declared.records.LogName.{LogName}
-use Rattle.migration_types.specs.declared.records.LogName.TheVariants.{Guest, Source, Pager}
 use Rattle.migration_types.specs.declared.records.GuestRec.TheVariants.{Read}
 use Rattle.migration_types.specs.declared.records.SourceRec.TheVariants.{Send}
 use Rattle.migration_types.specs.declared.records.PagerRec.TheVariants.{Place}
-use Rattle.migration_types.specs.Receipts.{Name}
-use Rattle.migration_types.specs.Sessions.{Recorded, log_length, line_of}
+use Rattle.migration_types.specs.Sessions.{Recorded, line_of}
 use Rattle.audit_model.specs.declared.reasons.PageReason.{PageReason}
 use Rattle.audit_model.specs.declared.reasons.PageReason.TheVariants.{Read as WrongRead, Early, Given, Stale, Twice, Altered, Unfit}
 use Rattle.audit_model.specs.Flat.{flat, at_halt}
 use Rattle.audit_model.specs.FirstFault.{IsFirstFault, IsFirstPageFault}
-use Rattle.page_facts.specs.Tables.{first_before}
 use Rattle.page_facts.specs.PageFaults.{page_at}
 use Rattle.audit_report.specs.declared.report.Report.{Report}
 use Rattle.audit_report.specs.declared.report.Report.TheVariants as report

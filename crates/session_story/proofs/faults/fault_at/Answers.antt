@@ -1,9 +1,7 @@
 use Rattle.std.proofs.Common.{◌≡◌, ℕ, ◌<◌, Option, Some, None, refl, sym, ap, ◌∙◌, subst}
-use Rattle.migration_types.specs.declared.records.LogName.TheVariants.{Guest}
 use Rattle.migration_types.specs.Receipts.{Name}
-use Rattle.migration_types.specs.Sessions.{Recorded, IsSession, log_length, line_of}
+use Rattle.migration_types.specs.Sessions.{Recorded, IsSession, line_of}
 use Rattle.audit_model.specs.declared.reasons.PageReason.{PageReason}
-use Rattle.audit_model.specs.declared.reasons.PageReason.TheVariants.{Read as WrongRead, Early}
 use Rattle.audit_model.specs.Faults.{IsPageFault}
 use Rattle.audit_model.specs.FirstFault.{IsFirstPageFault}
 use Rattle.audit_report.proofs.Showing.{fault_there}

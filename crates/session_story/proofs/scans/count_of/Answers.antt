@@ -1,4 +1,4 @@
-use Rattle.std.proofs.Common.{◌+◌, refl, sym, ap, ◌∙◌, arith, length}
+use Rattle.std.proofs.Common.{◌+◌, refl, sym, ap, ◌∙◌, arith}
 use Rattle.page_facts.proofs.Reading.{read_at}
 use Rattle.session_story.proofs.Scanning.{one_more, no_more, few_pass}
 use Rattle.session_story.proofs.scans.count_of.Goals as goal

@@ -1,4 +1,4 @@
-use Rattle.std.proofs.Common.{◌+◌, refl, sym, ap, ◌∙◌, arith, length}
+use Rattle.std.proofs.Common.{refl, sym, ◌∙◌, arith}
 use Rattle.page_facts.proofs.Reading.{read_at}
 use Rattle.session_story.proofs.Scanning.{last_here, last_same}
 use Rattle.session_story.proofs.scans.last_of.Goals as goal

@@ -1,4 +1,4 @@
-use Rattle.std.proofs.Common.{◌≡◌, ℕ, List, ◌++◌, ap, ◌∙◌}
+use Rattle.std.proofs.Common.{ℕ, List, ◌++◌, ap, ◌∙◌}
 use Rattle.audit_report.specs.AuditedText.{refusal_text}
 use Rattle.session_story.proofs.telling.print_refused.Goals as goal
 

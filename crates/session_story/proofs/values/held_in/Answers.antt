@@ -1,4 +1,4 @@
-use Rattle.std.proofs.Common.{◌≡◌, ℕ, List, ap, ◌∙◌}
+use Rattle.std.proofs.Common.{List, ap, ◌∙◌}
 use Rattle.migration_types.specs.declared.records.GuestRec.{GuestRec}
 use Rattle.migration_types.specs.Memory.{Memory}
 use Rattle.session_story.specs.Scans.{last_before}

@@ -1,10 +1,9 @@
-use Rattle.std.proofs.Common.{◌≡◌, ◌<◌, ℕ, ◌+◌, ◌-◌, suc, List, sym, ap, ◌∙◌, subst, arith, length}
+use Rattle.std.proofs.Common.{◌≡◌, ◌<◌, ◌-◌, suc, sym, ap, ◌∙◌, subst, arith, length}
 use Rattle.std.proofs.lemmas.List.{length_push}
 use Rattle.audit_model.specs.Mergings.{Cursors}
 use Rattle.merge_runs.specs.Taken.{cursors_of}
 use Rattle.session_story.specs.inner.Waits.{unfound}
 use Rattle.session_story.proofs.Circling.{going_start, going_on, none_is_next, circle_at, unfound_less}
-use Rattle.session_story.specs.declared.waits.Waiting.{Waiting}
 use Rattle.session_story.proofs.waits.circle_from.Goals as goal
 
 pub loop-waiting-init : goal.loop-waiting-init
