@@ -1,4 +1,3 @@
-pub mod Places
 pub mod Subjects
 pub mod Drawn
 pub mod Rows

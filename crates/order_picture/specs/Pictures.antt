@@ -14,7 +14,7 @@ use Rattle.audit_report.specs.declared.report.Report.TheVariants as report
 use Rattle.merge_runs.specs.Taken.{cursors_of}
 use Rattle.order_picture.specs.declared.focus.Focus.{Focus}
 use Rattle.order_picture.specs.declared.picture.Picture.{Picture}
-use Rattle.order_picture.specs.Places.{IsAtLine, HasNoRecord}
+use Rattle.session_story.specs.Places.{IsAtLine, HasNoRecord}
 use Rattle.order_picture.specs.Subjects.{is_one, mark_of, page_of}
 use Rattle.order_picture.specs.Drawn.{IsDrawn}
 use Rattle.order_picture.specs.Rows.{Covers, shows_fault, sender_of}

@@ -4,11 +4,12 @@ ghost use Rattle.std.specs.Prelude.{◌≡◌, option_and_then};
 ghost use Rattle.order_picture.specs.Subjects.{is_page, mark_of, page_of};
 ghost use Rattle.order_picture.specs.Pictures.{IsFault, IsFocus};
 
-use crate::records::{Name, is_one, record_at};
+use crate::records::{Name, is_one};
 use crate::subjects::page_of;
-use audit_model::{is_halt, is_placement_of, is_send_of};
+use audit_model::is_placement_of;
 use audit_report::Report;
-use migration_types::{GuestRec, LogName, PageNo, Session};
+use migration_types::{LogName, PageNo, Session};
+use session_story::{last_change, record_at, send_of};
 
 /// Why a record stands out.
 #[derive(Clone, Copy, Debug, PartialEq, Eq)]
@@ -82,49 +83,17 @@ fn first_placement(session: &Session, page: PageNo) -> Option<Name> {
     Some((LogName::Pager, u32::try_from(place).ok()?))
 }
 
-/// The source's first sending of a page.
-fn first_send(session: &Session, page: PageNo) -> Option<Name> {
-    let place = session
-        .source()
-        .iter()
-        .position(|rec| is_send_of(rec, page))?;
-    Some((LogName::Source, u32::try_from(place).ok()?))
-}
-
-/// Whether the record writes or releases the page.
-fn changes(rec: &GuestRec, page: PageNo) -> bool {
-    match rec {
-        GuestRec::Write { page: changed, .. } => changed.number() == page.number(),
-        GuestRec::Release { page: changed, .. } => changed.number() == page.number(),
-        _ => false,
-    }
-}
-
-/// The guest's last write or release of a page before the halt.
-fn last_change(session: &Session, page: PageNo) -> Option<Name> {
-    let mut last = None;
-    for (place, rec) in session.guest().iter().enumerate() {
-        if is_halt(rec) {
-            break;
-        }
-        if changes(rec, page) {
-            last = Some(place);
-        }
-    }
-    Some((LogName::Guest, u32::try_from(last?).ok()?))
-}
-
 /// The record that a fault of this record, about this page, concerns: of a use the page's first placement, of a sending
 /// the last change of the page before the halt, of a placement an earlier one, or else the page's sending.
 fn concerned_by(session: &Session, fault: Name, page: PageNo) -> Option<Name> {
     match fault.0 {
         LogName::Guest => first_placement(session, page),
-        LogName::Source => last_change(session, page),
+        LogName::Source => last_change(session, page).map(|place| (LogName::Guest, place)),
         LogName::Link => None,
         LogName::Pager => {
             let first = first_placement(session, page);
             if is_one(first, fault) {
-                first_send(session, page)
+                send_of(session, page).map(|place| (LogName::Source, place))
             } else {
                 first
             }

@@ -11,12 +11,11 @@ use crate::shapes::{
     Look, WIDTH, begin_fold, begin_label, begin_margin, column, push_arrow, push_attribute,
     push_box, push_column, push_stub, row_class, top_of,
 };
-use crate::words::{
-    line_at, log_name, page_reason, push, push_name, push_record, push_with, shape_reason,
-};
+use crate::words::{page_reason, push, push_log, push_name, push_title, push_with, shape_reason};
 use audit_report::{Report, push_first_line};
 use merge_runs::{Taken, all_of, records_of};
 use migration_types::{LogName, Session, logs};
+use session_story::line_at;
 use std::alloc::{AllocError, Global};
 
 /// Which order a picture shows.
@@ -107,7 +106,7 @@ fn push_counts(out: &mut Vec<u8>, count_of: &Taken) -> Result<(), AllocError> {
         let count = count_of.of(log);
         if count > 0 {
             push(out, if is_first { b": " } else { b", " })?;
-            push(out, log_name(log))?;
+            push_log(out, log)?;
             push_with(out, b" ", count as u64)?;
             is_first = false;
         }
@@ -237,7 +236,7 @@ fn push_columns(out: &mut Vec<u8>, rows: usize) -> Result<(), AllocError> {
         )?;
         push_attribute(out, b"x", column(log))?;
         push(out, b">")?;
-        push(out, log_name(log))?;
+        push_log(out, log)?;
         end_text(out)?;
         push_column(out, log, rows)?;
         push(out, b"\n")?;
@@ -302,7 +301,7 @@ fn push_seat(
     look: Look,
     row: usize,
 ) -> Result<(), AllocError> {
-    if let Some(line) = line_at(session, name) {
+    if let Some(line) = line_at(session, name.0, name.1) {
         begin_margin(out, row)?;
         push_with(out, b"", u64::from(line))?;
         push(out, b"</text>")?;
@@ -329,7 +328,7 @@ fn begin_record(
     push(out, b"<g class='")?;
     push(out, row_class(look))?;
     push(out, b"'><title>")?;
-    push_record(out, session, name)
+    push_title(out, session, name)
 }
 
 /// Adds the row of a record.

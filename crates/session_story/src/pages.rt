@@ -1,8 +1,12 @@
 //! The story of a page.
 
-ghost use Rattle.std.specs.Prelude.{◌≡◌, ◌<◌, IfOk};
+ghost use Rattle.std.specs.Prelude.{◌≡◌, ◌<◌, IfOk, length};
+ghost use Rattle.audit_model.specs.Flat.{at_halt};
+ghost use Rattle.audit_model.specs.Shape.{is_send_of};
 ghost use Rattle.page_facts.specs.Findings.{IsFindings};
-ghost use Rattle.session_story.specs.Pages.{IsHandover, IsPageStory};
+ghost use Rattle.page_facts.specs.Tables.{first_before};
+ghost use Rattle.session_story.specs.Pages.{IsHandover, IsPageStory, changes};
+ghost use Rattle.session_story.specs.Scans.{last_before};
 
 use crate::questions::{GuestQuestion, LinkQuestion, PagerQuestion, SourceQuestion};
 use crate::scans::{first_of, last_of};
@@ -46,6 +50,28 @@ pub fn handover_of(session: &Session) -> Handover
     }
 }
 
+/// The guest's last write or release of a page before the halt. Takes no memory.
+pub fn last_change(session: &Session, page: PageNo) -> Option<u32>
+    ensures { result ≡ last_before (λ m. changes page) session.now.guest (at_halt session.now) }
+{
+    session.keeps_limits();
+    let halt = halt_place(session.guest());
+    last_of(
+        session,
+        &GuestQuestion::Changes(page),
+        session.guest(),
+        halt,
+    )
+}
+
+/// The source's `send` of a page, the first of several. Takes no memory.
+pub fn send_of(session: &Session, page: PageNo) -> Option<u32>
+    ensures { result ≡ first_before (λ m. is_send_of page) session.now.source (length session.now.source) }
+{
+    session.keeps_limits();
+    first_of(session, &SourceQuestion::SendOf(page), session.source())
+}
+
 /// What the logs say of a page.
 fn findings_for(alloc: Global, session: &Session, page: PageNo) -> Result<Findings, AllocError>
     requires { page < session.now.geometry.pages }
@@ -64,14 +90,8 @@ pub fn story_of(alloc: Global, session: &Session, page: PageNo) -> Result<PageSt
 {
     session.keeps_limits();
     let found = findings_for(alloc, session, page)?;
-    let halt = halt_place(session.guest());
-    let changed = last_of(
-        session,
-        &GuestQuestion::Changes(page),
-        session.guest(),
-        halt,
-    );
-    let sent = first_of(session, &SourceQuestion::SendOf(page), session.source());
+    let changed = last_change(session, page);
+    let sent = send_of(session, page);
     let delivered = first_of(session, &LinkQuestion::Carries(page), session.link());
     let got = first_of(session, &PagerQuestion::Gets(page), session.pager());
     Ok(PageStory {

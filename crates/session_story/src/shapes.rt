@@ -6,9 +6,7 @@ ghost use Rattle.session_story.specs.Explained.{IsShapeStory};
 ghost use Rattle.session_story.specs.Pages.{first_send};
 
 use crate::lines::record_at;
-use crate::pages::{Handover, handover_of};
-use crate::questions::SourceQuestion;
-use crate::scans::first_of;
+use crate::pages::{Handover, handover_of, send_of};
 use audit_model::ShapeReason;
 use cert_check::ShapeFault;
 use migration_types::{LogName, Session, SourceRec};
@@ -30,12 +28,9 @@ pub struct ShapeStory {
 fn first_send(session: &Session, log: LogName, place: u32) -> Option<u32>
     ensures { result ≡ first_send session.now (log, place) }
 {
-    session.keeps_limits();
     match log {
         LogName::Source => match session.source().get(place as usize) {
-            Some(SourceRec::Send { page, .. }) => {
-                first_of(session, &SourceQuestion::SendOf(*page), session.source())
-            }
+            Some(SourceRec::Send { page, .. }) => send_of(session, *page),
             _ => None,
         },
         _ => None,

@@ -11,6 +11,7 @@ use crate::words::faults::push_fault;
 use crate::words::knots::push_knot;
 use crate::words::shapes::push_shape_story;
 use migration_types::Session;
+pub use records::{log_word, push_place, push_record};
 use std::alloc::{AllocError, Global};
 
 /// Adds how a clean session went.

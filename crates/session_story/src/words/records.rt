@@ -1,15 +1,11 @@
 //! Records in words: where one stands, and what was done.
 
-ghost use Rattle.std.specs.Prelude.{◌<◌, IsTrue};
-ghost use Rattle.audit_model.specs.Names.{log_length};
-
-use merge_runs::records_of;
+use crate::lines::line_at;
 use migration_types::{GuestRec, LinkRec, LogName, PagerRec, Session, SourceRec};
-use session_log::line_of;
 use std::alloc::AllocError;
 
-/// The word of a log.
-pub(crate) fn log_word(log: LogName) -> &'static str {
+/// The word of a log, as its section of a session's text has it.
+pub fn log_word(log: LogName) -> &'static str {
     match log {
         LogName::Guest => "guest",
         LogName::Source => "source",
@@ -18,26 +14,18 @@ pub(crate) fn log_word(log: LogName) -> &'static str {
     }
 }
 
-/// Whether a log has a record of this number.
-pub(crate) fn is_there(session: &Session, log: LogName, place: u32) -> bool
-    ensures { IsTrue result → place < log_length session.now log }
-{
-    (place as usize) < records_of(session, log)
-}
-
-/// Adds where a record stands, as in "line 13 (guest 6)"; of one that is not there its log and its number alone.
-pub(crate) fn push_place(
+/// Adds where a record stands, as in "line 13 (guest 6)"; of one that is not there its log and its number alone. An error:
+/// there is no memory for it.
+pub fn push_place(
     out: &mut String,
     session: &Session,
     log: LogName,
     place: u32,
 ) -> Result<(), AllocError> {
     let word = log_word(log);
-    if is_there(session, log, place) {
-        let line = line_of(session, log, place);
-        write!(out, "line {line} ({word} {place})")
-    } else {
-        write!(out, "{word} {place}")
+    match line_at(session, log, place) {
+        Some(line) => write!(out, "line {line} ({word} {place})"),
+        None => write!(out, "{word} {place}"),
     }
 }
 
@@ -156,8 +144,9 @@ fn push_pager(out: &mut String, rec: &PagerRec) -> Result<(), AllocError> {
     }
 }
 
-/// Adds where a record stands and what it says, as in "line 8 (guest 1): the guest is halted at the source".
-pub(crate) fn push_record(
+/// Adds where a record stands and what it says, as in "line 8 (guest 1): the guest is halted at the source". Contents are
+/// left out. The words have no letter that XML escapes. An error: there is no memory for them.
+pub fn push_record(
     out: &mut String,
     session: &Session,
     log: LogName,

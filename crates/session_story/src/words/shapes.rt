@@ -1,6 +1,7 @@
 //! What is wrong with the shape of a session, in words.
 
-use super::records::{is_there, log_word, push_place, push_record};
+use super::records::{log_word, push_place, push_record};
+use crate::lines::line_at;
 use crate::shapes::ShapeStory;
 use audit_model::ShapeReason;
 use migration_types::{GuestRec, LinkRec, LogName, PagerRec, Session, SourceRec};
@@ -95,7 +96,7 @@ fn push_named(out: &mut String, session: &Session, story: &ShapeStory) -> Result
     };
     let wanted = naming.wanted;
     write!(out, "It has to name {wanted}, and names ")?;
-    if is_there(session, naming.log, naming.place) {
+    if line_at(session, naming.log, naming.place).is_some() {
         push_record(out, session, naming.log, naming.place)?;
         return out.push_str(".\n");
     }

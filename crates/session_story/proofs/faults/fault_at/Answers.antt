@@ -22,7 +22,7 @@ here s line reason found name at is given =
 pub unreachable-requires-in_default-page_at : goal.unreachable-requires-in_default-page_at
 unreachable-requires-in_default-page_at c =
     let s = c.args.session.now in
-    let at = here s c.args.line c.args.reason c.record_at.result (c.in-Some.log, c.in-Some.place) c.record_at.ensures c.in-Some.is c.requires in
+    let at = here s c.args.line c.args.reason c.record_at.result (c.in-Some.log, c.in-Some.place) c.record_at.ensures.only c.in-Some.is c.requires in
     go (λ e. fault_paged s c.args.reason (c.in-Some.log, c.in-Some.place) at.is_first.is_fault (sym c.page_at.ensures ∙ e)) c.page_at.result c.in_default-page_at.not-Some refl
   where
     go : (c.page_at.result ≡ None → ⊥) → (o : Option ℕ) → ((x : ℕ) → o ≡ Some x → ⊥) → c.page_at.result ≡ o → ⊥
@@ -41,25 +41,25 @@ detail_of-requires-clause-page c = page_is c.args.session.now c.keeps_limits.ens
 pub detail_of-requires-clause-there : goal.detail_of-requires-clause-there
 detail_of-requires-clause-there c =
     let s = c.args.session.now in
-    let at = here s c.args.line c.args.reason c.record_at.result (c.in-Some.log, c.in-Some.place) c.record_at.ensures c.in-Some.is c.requires in
+    let at = here s c.args.line c.args.reason c.record_at.result (c.in-Some.log, c.in-Some.place) c.record_at.ensures.only c.in-Some.is c.requires in
     fault_there s c.args.reason c.in-Some.log c.in-Some.place at.is_first.is_fault
 
 pub detail_of-requires-clause-guest : goal.detail_of-requires-clause-guest
 detail_of-requires-clause-guest c = λ e.
     let s = c.args.session.now in
-    let at = here s c.args.line c.args.reason c.record_at.result (c.in-Some.log, c.in-Some.place) c.record_at.ensures c.in-Some.is c.requires in
+    let at = here s c.args.line c.args.reason c.record_at.result (c.in-Some.log, c.in-Some.place) c.record_at.ensures.only c.in-Some.is c.requires in
     guest_read s (c.in-Some.log, c.in-Some.place) (subst (λ (r : PageReason). IsPageFault s r (c.in-Some.log, c.in-Some.place)) e at.is_first.is_fault)
 
 pub detail_of-requires-clause-early : goal.detail_of-requires-clause-early
 detail_of-requires-clause-early c = λ e.
     let s = c.args.session.now in
-    let at = here s c.args.line c.args.reason c.record_at.result (c.in-Some.log, c.in-Some.place) c.record_at.ensures c.in-Some.is c.requires in
+    let at = here s c.args.line c.args.reason c.record_at.result (c.in-Some.log, c.in-Some.place) c.record_at.ensures.only c.in-Some.is c.requires in
     guest_early s (c.in-Some.log, c.in-Some.place) (subst (λ (r : PageReason). IsPageFault s r (c.in-Some.log, c.in-Some.place)) e at.is_first.is_fault)
 
 pub returns : goal.returns
 returns c =
     let s = c.args.session.now in
-    let at = here s c.args.line c.args.reason c.record_at.result (c.in-Some.log, c.in-Some.place) c.record_at.ensures c.in-Some.is c.requires in
+    let at = here s c.args.line c.args.reason c.record_at.result (c.in-Some.log, c.in-Some.place) c.record_at.ensures.only c.in-Some.is c.requires in
     let page = c.in_ok-story.ensures in
     record {
       is_line = at.is_line;

@@ -4,11 +4,11 @@ use Rattle.migration_types.specs.declared.records.GuestRec.{GuestRec}
 use Rattle.migration_types.specs.declared.records.SourceRec.{SourceRec}
 use Rattle.migration_types.specs.declared.records.LinkRec.{LinkRec}
 use Rattle.migration_types.specs.declared.records.PagerRec.{PagerRec}
-use Rattle.session_story.proofs.Sectioning.{in_none, nowhere}
+use Rattle.session_story.proofs.Sectioning.{in_none, none_at, nowhere}
 use Rattle.session_story.proofs.lines.record_at.Goals as goal
 
-pub returns-in-None : goal.returns-in-None
-returns-in-None c =
+pub returns-in-None-clause-at : goal.returns-in-None-clause-at
+returns-in-None-clause-at c =
     let s = c.args.session.now in
     let i = ap (λ (xs : List InitPage). length xs) c.init.ensures in
     let g = ap (λ (xs : List GuestRec). length xs) c.guest.ensures in
@@ -20,3 +20,6 @@ returns-in-None c =
     (λ n lt e. in_none _ _ _ c.place_in-2.result c.place_in-2.ensures c.in_default-place_in.not-Some n (omega (arith, lt, o)) (omega (arith, e, i, g, o)))
     (λ n lt e. in_none _ _ _ c.place_in-3.result c.place_in-3.ensures c.in_default-place_in-2.not-Some n (omega (arith, lt, k)) (omega (arith, e, i, g, o, k)))
     (λ n lt e. in_none _ _ _ c.place_in-4.result c.place_in-4.ensures (λ x is. let none = c.in-None.is in absurd (cc)) n (omega (arith, lt, p)) (omega (arith, e, i, g, o, k, p)))
+
+pub returns-in-None-clause-only : goal.returns-in-None-clause-only
+returns-in-None-clause-only c = none_at c.args.session.now c.args.line (returns-in-None-clause-at c)

@@ -11,7 +11,7 @@ returns c =
     let reason = c.args.fault.now.reason in
     let given = c.requires in
     let there = wrong_there s reason given.0 given.2.is_wrong in
-    let other : Some given.0 ≡ Some (c.in-Some.log, c.in-Some.place) = sym (c.record_at.ensures given.0 there given.1) ∙ c.in-Some.is in
+    let other : Some given.0 ≡ Some (c.in-Some.log, c.in-Some.place) = sym (c.record_at.ensures.only given.0 there given.1) ∙ c.in-Some.is in
     let same : given.0 ≡ (c.in-Some.log, c.in-Some.place) = cc in
     record {
       is_line = given.1 ∙ ap (line_of s) same;
