@@ -79,7 +79,7 @@ fn help(rt: HostRuntime) {
 }
 
 // What the help tells.
-static TOLD: [&str; 13] = [
+static TOLD: [&str; 14] = [
     "0  all is well",
     "1  another answer",
     "2  words that are no command",
