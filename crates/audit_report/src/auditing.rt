@@ -113,8 +113,8 @@ pub(crate) fn audit_by<J: Judges>(
 /// placed, of the order in which the page's first placement comes as late as it can, with all that depends on it.
 ///
 /// The pages are judged by threads side by side, for which alone the call waits; a small session is judged by the calling
-/// thread. Takes a few passes over the records and the runs. The only error is want of memory, for a few numbers for each page, one
-/// for each record that is of a page, the cells of one page, and the runs.
+/// thread. Takes a few passes over the records and the runs. The only error is want of memory, for a few numbers for each
+/// page, one for each record that is of a page, the cells of a page for each thread, and the runs.
 pub fn audit<R: Threads + Sync>(
     rt: &R,
     alloc: Global,
