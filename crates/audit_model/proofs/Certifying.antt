@@ -1,27 +1,26 @@
 -- A session with no fault of a page has a right entry for each page, and so a right certificate.
-use Rattle.std.proofs.Common.{◌≡◌, ℕ, zero, suc, ◌+◌, ◌<◌, ◌≤◌, ◌⊎◌, inl, inr, Bool, true, false, ◌&&◌, List, [], ◌∷◌, length, map, Option, Some, None, refl, sym, ap, ◌∙◌, subst, arith, eqb-true}
+use Rattle.std.proofs.Common.{◌≡◌, ℕ, zero, suc, ◌+◌, ◌<◌, ◌⊎◌, inl, inr, Bool, true, false, ◌&&◌, List, [], ◌∷◌, length, map, Option, Some, None, refl, sym, ap, ◌∙◌, subst, arith, eqb-true}
 use Rattle.std.specs.Prelude.{slice_get, nat_lt}
 use Rattle.std.specs.List.{range_with_len}
-use Rattle.std.proofs.lemmas.Bool.{cases_lt, and_parts}
+use Rattle.std.proofs.lemmas.Bool.{and_parts}
 use Rattle.std.proofs.lemmas.Option.{slice_get_within}
 use Rattle.migration_types.specs.declared.records.LogName.TheVariants.{Pager}
-use Rattle.migration_types.specs.declared.records.GuestRec.{GuestRec}
 use Rattle.migration_types.specs.declared.records.SourceRec.{SourceRec}
 use Rattle.migration_types.specs.declared.records.SourceRec.TheVariants.{Halted, State, Send, Again, Ask, Done}
 use Rattle.migration_types.specs.declared.records.PagerRec.{PagerRec}
 use Rattle.migration_types.specs.declared.records.PagerRec.TheVariants.{Got, Ready, Fault, Join, Want, Place, Zero, Skip, All}
 use Rattle.migration_types.specs.declared.cert.First.{First}
 use Rattle.migration_types.specs.declared.cert.Entry.{Entry}
-use Rattle.migration_types.specs.declared.cert.Entry.TheVariants.{Nothing, Source, Balloon}
+use Rattle.migration_types.specs.declared.cert.Entry.TheVariants.{Nothing, Fresh, Source, Balloon}
 use Rattle.migration_types.specs.Sessions.{Recorded}
 use Rattle.audit_model.specs.declared.reasons.ShapeReason.TheVariants.{Named}
-use Rattle.audit_model.specs.Flat.{Home, AtSource, Nowhere, AtTarget, home}
 use Rattle.audit_model.specs.Shape.{IsRightShape, passes, keeps, is_send_of, is_or_repeats, delivers, delivery, pager_named, is_placement_of, earlier}
-use Rattle.audit_model.specs.Certificates.{is_access_of, IsLateAccess, IsOnlyPlacement, IsCovered, IsRightEntry}
+use Rattle.audit_model.specs.Certificates.{IsLateTouch, IsOnlyPlacement, IsCovered, IsRightEntry}
 use Rattle.audit_model.specs.Faults.{HasNoPageFault}
 use Rattle.audit_model.specs.Laws.{IsFaultless, HasCertificate}
 use Rattle.audit_model.proofs.History.{earlier_true, earlier_witness}
-use Rattle.audit_model.proofs.Entries.{IsKept}
+use Rattle.audit_model.proofs.FirstTouch.{IsFirstTouch, first_touch_below}
+use Rattle.audit_model.proofs.Entries.{HasLook, IsFreedFirst, IsKept}
 use Rattle.audit_model.proofs.Walked.{length_range}
 use Rattle.audit_model.proofs.Clean.{clean_kept, clash, false_if_not_true}
 
@@ -66,77 +65,32 @@ has_send s page got e = by_delivery (delivery s got) refl e
     by_delivery None is e = absurd (cc)
     by_delivery (Some d) is e = by_record d is (slice_get s.source d) refl e
 
--- guest record n is an access of the page after handover, or it is none
-is_late_or_not : (s : Recorded) (page n : ℕ) → IsLateAccess s page n ⊎ (IsLateAccess s page n → ⊥)
-is_late_or_not s page n = there (slice_get s.guest n) refl
-  where
-    where_it_is : (r : GuestRec) → slice_get s.guest n ≡ Some r → is_access_of page r ≡ true → (h : Home) → home s n ≡ h → IsLateAccess s page n ⊎ (IsLateAccess s page n → ⊥)
-    where_it_is r is access AtTarget at = inl (record { by = r; stands = is; is_access = access; is_late = at })
-    where_it_is r is access AtSource at = inr (λ late. let e = late.is_late in cc)
-    where_it_is r is access Nowhere at = inr (λ late. let e = late.is_late in cc)
-
-    no_access : (r : GuestRec) → slice_get s.guest n ≡ Some r → is_access_of page r ≡ false → IsLateAccess s page n → ⊥
-    no_access r is other late =
-        let e : Some r ≡ Some late.by = sym is ∙ late.stands in
-        let same : r ≡ late.by = cc in
-        clash _ (ap (λ t. is_access_of page t) same ∙ late.is_access) other
-
-    accessed : (r : GuestRec) → slice_get s.guest n ≡ Some r → (b : Bool) → is_access_of page r ≡ b → IsLateAccess s page n ⊎ (IsLateAccess s page n → ⊥)
-    accessed r is true e = where_it_is r is e (home s n) refl
-    accessed r is false e = inr (no_access r is e)
-
-    there : (o : Option GuestRec) → slice_get s.guest n ≡ o → IsLateAccess s page n ⊎ (IsLateAccess s page n → ⊥)
-    there None is = inr (λ late. let e = late.stands in cc)
-    there (Some r) is = accessed r is (is_access_of page r) refl
-
--- the first access of the page after handover
-record IsFirstLate (s : Recorded) (page n : ℕ) : Type 0 where
-  access : IsLateAccess s page n
-  none_before : (m : ℕ) → m < n → IsLateAccess s page m → ⊥
-
-first_late_below : (s : Recorded) (page n : ℕ) → ((m : ℕ) × IsFirstLate s page m) ⊎ ((m : ℕ) → m < n → IsLateAccess s page m → ⊥)
-first_late_below s page zero = inr (λ m lt late. absurd (omega arith))
-first_late_below s page (suc n) = go (first_late_below s page n)
-  where
-    last : ((m : ℕ) → m < n → IsLateAccess s page m → ⊥) → IsLateAccess s page n ⊎ (IsLateAccess s page n → ⊥) → ((m : ℕ) × IsFirstLate s page m) ⊎ ((m : ℕ) → m < suc n → IsLateAccess s page m → ⊥)
-    last none (inl late) = inl (n, record { access = late; none_before = none })
-    last none (inr not_late) = inr (λ m lt late. at m lt late (cases_lt m n))
-      where
-        at : (m : ℕ) → m < suc n → IsLateAccess s page m → (m < n) ⊎ (n ≤ m) → ⊥
-        at m lt late (inl less) = none m less late
-        at m lt late (inr more) = let same : m ≡ n = omega arith in not_late (subst (λ k. IsLateAccess s page k) same late)
-
-    go : ((m : ℕ) × IsFirstLate s page m) ⊎ ((m : ℕ) → m < n → IsLateAccess s page m → ⊥) → ((m : ℕ) × IsFirstLate s page m) ⊎ ((m : ℕ) → m < suc n → IsLateAccess s page m → ⊥)
-    go (inl found) = inl found
-    go (inr none) = last none (is_late_or_not s page n)
-
 module _ (s : Recorded) (shape : IsRightShape s) (clean : HasNoPageFault s) (page : ℕ) where
   kept : IsKept s page
   kept = clean_kept s clean page
 
-  -- where the page is placed, its first access after handover is covered
+  -- where the page is placed, its first touch after handover is covered
   covered : (place : ℕ) (by : PagerRec) → slice_get s.pager place ≡ Some by → is_placement_of page by ≡ true → (first : Option First) × IsCovered s page place first
-  covered place by stands places = go (first_late_below s page (length s.guest))
+  covered place by stands places = go (first_touch_below s page (length s.guest))
     where
-      go : ((m : ℕ) × IsFirstLate s page m) ⊎ ((m : ℕ) → m < length s.guest → IsLateAccess s page m → ⊥) → (first : Option First) × IsCovered s page place first
-      go (inr none) = (None, λ n late. none n (slice_get_within s.guest n late.by late.stands) late)
-      go (inl found) =
-          let look = kept.looks found.0 found.1.access in
+      by_look : (m : ℕ) → IsFirstTouch s page m → HasLook s page m ⊎ IsFreedFirst s page → (first : Option First) × IsCovered s page place first
+      by_look m first (inr freed) = clash _ places (freed.1.unplaced place by stands)
+      by_look m first (inl look) =
           let same : look.place ≡ place = kept.once look.place place look.by by look.stands stands look.places places in (
-            Some (record { access = found.0; see = look.see }),
+            Some (record { access = m; see = look.see }),
             record {
-              is_access = found.1.access;
-              is_first = λ n late. at_least n late (cases_lt n found.0);
+              is_touch = first.touch;
+              is_first = first.is_first;
               placement = look.placement;
               sees = look.sees;
               covers = omega (arith, look.covers);
               is_earlier = look.is_earlier;
             },
           )
-        where
-          at_least : (n : ℕ) → IsLateAccess s page n → (n < found.0) ⊎ (found.0 ≤ n) → found.0 ≤ n
-          at_least n late (inl less) = absurd (found.1.none_before n less late)
-          at_least n late (inr more) = more
+
+      go : ((m : ℕ) × (m < length s.guest) × IsFirstTouch s page m) ⊎ ((m : ℕ) → m < length s.guest → IsLateTouch s page m → ⊥) → (first : Option First) × IsCovered s page place first
+      go (inr none) = (None, λ n late. none n (slice_get_within s.guest n late.by late.stands) late)
+      go (inl found) = by_look found.0 found.2 (kept.looks found.0 found.2.touch)
 
   only : (place : ℕ) (by : PagerRec) → slice_get s.pager place ≡ Some by → is_placement_of page by ≡ true → IsOnlyPlacement s page place
   only place by stands places n r is e = kept.once n place r by is stands e places
@@ -196,18 +150,21 @@ module _ (s : Recorded) (shape : IsRightShape s) (clean : HasNoPageFault s) (pag
       never : earlier (is_placement_of page) s.pager (length s.pager) ≡ false → (n : ℕ) (r : PagerRec) → slice_get s.pager n ≡ Some r → is_placement_of page r ≡ false
       never none n r is = false_if_not_true _ (λ e. clash _ (earlier_true (is_placement_of page) s.pager n (length s.pager) r is e (slice_get_within s.pager n r is)) none)
 
+      -- the page is never placed: its first touch, if there is one, is a release
+      absent : ((n : ℕ) (r : PagerRec) → slice_get s.pager n ≡ Some r → is_placement_of page r ≡ false) → ((m : ℕ) × (m < length s.guest) × IsFirstTouch s page m) ⊎ ((m : ℕ) → m < length s.guest → IsLateTouch s page m → ⊥) → (entry : Entry) × IsRightEntry s page entry
+      absent unplaced (inr none) = (
+        Nothing,
+        (kept.honest, record { unplaced = unplaced; untouched = λ n late. none n (slice_get_within s.guest n late.by late.stands) late }),
+      )
+      absent unplaced (inl found) = freed (kept.looks found.0 found.2.touch)
+        where
+          freed : HasLook s page found.0 ⊎ IsFreedFirst s page → (entry : Entry) × IsRightEntry s page entry
+          freed (inl look) = clash _ look.places (unplaced look.place look.by look.stands)
+          freed (inr f) = (Fresh f.0, (kept.honest, f.1))
+
       go : (b : Bool) → earlier (is_placement_of page) s.pager (length s.pager) ≡ b → (entry : Entry) × IsRightEntry s page entry
       go true e = let w = earlier_witness (is_placement_of page) s.pager (length s.pager) e in placed w.0 w.1 w.3 w.4
-      go false e = (
-        Nothing,
-        (
-          kept.honest,
-          record {
-            unplaced = never e;
-            unaccessed = λ n late. let look = kept.looks n late in clash _ look.places (never e look.place look.by look.stands);
-          },
-        ),
-      )
+      go false e = absent (never e) (first_touch_below s page (length s.guest))
 
 entry_at : (f : ℕ → Entry) (n a k : ℕ) (entry : Entry) → slice_get (map f (range_with_len a n)) k ≡ Some entry → f (a + k) ≡ entry
 entry_at f zero a k entry is = absurd (cc)

@@ -8,7 +8,7 @@ use Rattle.migration_types.specs.declared.records.LogName.TheVariants.{Guest, So
 use Rattle.migration_types.specs.Sessions.{Recorded}
 use Rattle.migration_types.specs.Receipts.{Name}
 use Rattle.audit_model.specs.Names.{log_length, same_log}
-use Rattle.audit_model.specs.Mergings.{places_of, IsMerging, Cursors, at_start}
+use Rattle.audit_model.specs.Mergings.{places_of, StandsAfter, IsMerging, Cursors, at_start}
 use Rattle.audit_model.specs.Walks.{next, cursors_from, MayFollow, Walks}
 
 pub same_log_itself : (l : LogName) → same_log l l ≡ true
@@ -145,3 +145,9 @@ module _ (s : Recorded) where
 
   pub merging_walks : (order : List Name) → IsMerging s order → Walks s at_start order
   merging_walks order m = walks [] order m
+
+  -- the cursors before a record of a merging are past each record before it
+  pub taken_before : (order : List Name) → IsMerging s order → (past : List Name) (name : Name) → StandsAfter order past name → (l : LogName) (m : ℕ) → Contains past (l, m) → m < cursors_from at_start past l
+  taken_before order merging past name stands l m h =
+      let row = range_front (places_of l past) (places_of l (name ∷ stands.0)) 0 (log_length s l) (sym (places-append l past (name ∷ stands.0)) ∙ ap (places_of l) (sym stands.1) ∙ merging.each_once_in_order l) in
+      omega (arith, below_count past l m 0 _ row h, cursor_count at_start past l, from_start l (length (places_of l past)))

@@ -12,6 +12,7 @@ use Rattle.migration_types.specs.declared.cert.Run.{Run}
 use Rattle.migration_types.specs.declared.cert.Entry.{Entry}
 use Rattle.migration_types.specs.declared.cert.Entry.TheVariants.{Source}
 use Rattle.migration_types.specs.Certs.{Certified}
+use Rattle.migration_types.specs.declared.version.Version.TheVariants.{One}
 use Rattle.migration_types.specs.Sessions.{Recorded, IsSession}
 use Rattle.audit_model.specs.Names.{log_length}
 use Rattle.audit_model.specs.Mergings.{IsMerging, spelled, at_start}
@@ -24,6 +25,7 @@ use Rattle.audit_model.proofs.WrittenOut.{shape_by_tests, walks_by_test, honest_
 
 abbrev session_a : Recorded
 session_a = record {
+  version = One;
   geometry = record { pages = 2; cells = 1 };
   init = record { page = 0; cells = 5 ∷ [] } ∷ [];
   guest = Write 0 1 0 7 ∷ Halt ∷ Resume 1 ∷ Miss 0 0 ∷ See 5 ∷ Read 0 0 0 5 ∷ See 7 ∷ Write 0 1 0 9 ∷ Read 0 1 0 9 ∷ [];
@@ -71,7 +73,7 @@ page_0 = (
     is_flat = refl;
     is_only = only_by_test session_a 0 5 refl;
     is_covered = record {
-      is_access = record { by = Read 0 0 0 5; stands = refl; is_access = refl; is_late = refl };
+      is_touch = record { by = Read 0 0 0 5; stands = refl; is_touch = refl; is_late = refl };
       is_first = first_by_test session_a 0 5 refl;
       placement = 5;
       sees = refl;
@@ -96,7 +98,7 @@ page_1 = (
     is_flat = refl;
     is_only = only_by_test session_a 1 7 refl;
     is_covered = record {
-      is_access = record { by = Write 0 1 0 9; stands = refl; is_access = refl; is_late = refl };
+      is_touch = record { by = Write 0 1 0 9; stands = refl; is_touch = refl; is_late = refl };
       is_first = first_by_test session_a 1 7 refl;
       placement = 7;
       sees = refl;
@@ -107,7 +109,7 @@ page_1 = (
 )
 
 abbrev certificate_a : Certified
-certificate_a = record { entries = Source 3 5 (Some first_0) ∷ Source 4 7 (Some first_1) ∷ []; runs = runs_a }
+certificate_a = record { version = One; entries = Source 3 5 (Some first_0) ∷ Source 4 7 (Some first_1) ∷ []; runs = runs_a }
 
 entries_a : (page : ℕ) (entry : Entry) → slice_get certificate_a.entries page ≡ Some entry → IsRightEntry session_a page entry
 entries_a zero entry is = let e : Source 3 5 (Some first_0) ≡ entry = cc in subst (λ x. IsRightEntry session_a 0 x) e page_0

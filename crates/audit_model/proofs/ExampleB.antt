@@ -13,6 +13,7 @@ use Rattle.migration_types.specs.declared.cert.Run.{Run}
 use Rattle.migration_types.specs.declared.cert.Entry.{Entry}
 use Rattle.migration_types.specs.declared.cert.Entry.TheVariants.{Nothing, Balloon}
 use Rattle.migration_types.specs.Certs.{Certified}
+use Rattle.migration_types.specs.declared.version.Version.TheVariants.{One}
 use Rattle.migration_types.specs.Sessions.{Recorded, IsSession}
 use Rattle.audit_model.specs.Names.{log_length}
 use Rattle.audit_model.specs.Mergings.{IsMerging, spelled, at_start}
@@ -21,10 +22,11 @@ use Rattle.audit_model.specs.Shape.{IsRightShape}
 use Rattle.audit_model.specs.Certificates.{IsRightCertificate, IsRightEntry}
 use Rattle.audit_model.specs.Laws.{IsCertified, CertifiedBalloon}
 use Rattle.audit_model.proofs.Walked.{walk_merges}
-use Rattle.audit_model.proofs.WrittenOut.{shape_by_tests, walks_by_test, honest_by_tests, only_by_test, first_by_test, unplaced_by_test, unaccessed_by_test}
+use Rattle.audit_model.proofs.WrittenOut.{shape_by_tests, walks_by_test, honest_by_tests, only_by_test, first_by_test, unplaced_by_test, untouched_by_test}
 
 abbrev session_b : Recorded
 session_b = record {
+  version = One;
   geometry = record { pages = 2; cells = 1 };
   init = record { page = 0; cells = 5 ∷ [] } ∷ record { page = 1; cells = 6 ∷ [] } ∷ [];
   guest = Release 0 1 ∷ Halt ∷ Resume 1 ∷ Miss 0 1 ∷ See 3 ∷ Read 0 1 0 0 ∷ [];
@@ -56,7 +58,7 @@ first_1 = record { access = 5; see = 4 }
 page_0 : IsRightEntry session_b 0 Nothing
 page_0 = (
   honest_by_tests session_b 0 refl refl refl,
-  record { unplaced = unplaced_by_test session_b 0 refl; unaccessed = unaccessed_by_test session_b 0 refl },
+  record { unplaced = unplaced_by_test session_b 0 refl; untouched = untouched_by_test session_b 0 refl },
 )
 
 page_1 : IsRightEntry session_b 1 (Balloon 3 (Some first_1))
@@ -67,7 +69,7 @@ page_1 = (
     is_only = only_by_test session_b 1 3 refl;
     is_released = refl;
     is_covered = record {
-      is_access = record { by = Read 0 1 0 0; stands = refl; is_access = refl; is_late = refl };
+      is_touch = record { by = Read 0 1 0 0; stands = refl; is_touch = refl; is_late = refl };
       is_first = first_by_test session_b 1 5 refl;
       placement = 3;
       sees = refl;
@@ -78,7 +80,7 @@ page_1 = (
 )
 
 abbrev certificate_b : Certified
-certificate_b = record { entries = Nothing ∷ Balloon 3 (Some first_1) ∷ []; runs = runs_b }
+certificate_b = record { version = One; entries = Nothing ∷ Balloon 3 (Some first_1) ∷ []; runs = runs_b }
 
 entries_b : (page : ℕ) (entry : Entry) → slice_get certificate_b.entries page ≡ Some entry → IsRightEntry session_b page entry
 entries_b zero entry is = let e : Nothing ≡ entry = cc in subst (λ x. IsRightEntry session_b 0 x) e page_0

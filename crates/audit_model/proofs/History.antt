@@ -7,7 +7,9 @@ use Rattle.migration_types.specs.declared.records.GuestRec.{GuestRec}
 use Rattle.migration_types.specs.declared.records.GuestRec.TheVariants.{Read, Write, Release, Miss, Halt, Resume, See}
 use Rattle.migration_types.specs.Sessions.{Recorded}
 use Rattle.audit_model.specs.Flat.{changed, before, Home, AtSource, Nowhere, AtTarget, home_after, home, halt_place, at_halt}
-use Rattle.audit_model.specs.Shape.{is_halt, is_resume, earlier, in_phase, keeps, IsRightShape}
+use Rattle.migration_types.specs.declared.version.Version.{Version}
+use Rattle.migration_types.specs.declared.version.Version.TheVariants.{One, Two}
+use Rattle.audit_model.specs.Shape.{is_halt, is_resume, earlier, may_release, in_phase, keeps, IsRightShape}
 use Rattle.audit_model.specs.declared.reasons.ShapeReason.TheVariants.{Phases}
 
 -- one more record
@@ -75,11 +77,15 @@ access_home true halted ok e = cc
 access_home false true ok e = cc
 access_home false false ok e = cc
 
-release_home : (resumed halted : Bool) → (not halted && not resumed) ≡ true → home_of resumed halted ≡ AtSource
-release_home true true ok = absurd (cc)
-release_home true false ok = absurd (cc)
-release_home false true ok = absurd (cc)
-release_home false false ok = refl
+first_release_home : (resumed halted : Bool) → may_release One halted resumed ≡ true → home_of resumed halted ≡ AtSource
+first_release_home true true ok = absurd (cc)
+first_release_home true false ok = absurd (cc)
+first_release_home false true ok = absurd (cc)
+first_release_home false false ok = refl
+
+release_home : (version : Version) (resumed halted : Bool) → may_release version halted resumed ≡ true → home_of resumed halted ≢ Nowhere
+release_home One resumed halted ok e = let at = first_release_home resumed halted ok in cc
+release_home Two resumed halted ok e = access_home resumed halted ok e
 
 resume_home : (resumed halted : Bool) → (not resumed && halted) ≡ true → home_of resumed halted ≡ Nowhere
 resume_home true halted ok = absurd (cc)
@@ -139,8 +145,12 @@ module _ (s : Recorded) (shape : IsRightShape s) where
   pub home_at_write : (n v p c x : ℕ) → slice_get s.guest n ≡ Some (Write v p c x) → home s n ≢ Nowhere
   home_at_write n v p c x is e = access_home _ _ (in_phase_at n (Write v p c x) is) (sym (home_is n) ∙ e)
 
-  pub home_at_release : (n v p : ℕ) → slice_get s.guest n ≡ Some (Release v p) → home s n ≡ AtSource
-  home_at_release n v p is = home_is n ∙ release_home _ _ (in_phase_at n (Release v p) is)
+  pub home_at_release : (n v p : ℕ) → slice_get s.guest n ≡ Some (Release v p) → home s n ≢ Nowhere
+  home_at_release n v p is e = release_home s.version _ _ (in_phase_at n (Release v p) is) (sym (home_is n) ∙ e)
+
+  -- in the first version no page is released at the target
+  pub first_home_at_release : s.version ≡ One → (n v p : ℕ) → slice_get s.guest n ≡ Some (Release v p) → home s n ≡ AtSource
+  first_home_at_release one n v p is = home_is n ∙ first_release_home _ _ (ap (λ version. may_release version (earlier is_halt s.guest n) (earlier is_resume s.guest n)) (sym one) ∙ in_phase_at n (Release v p) is)
 
   pub home_at_resume : (n i : ℕ) → slice_get s.guest n ≡ Some (Resume i) → home s n ≡ Nowhere
   home_at_resume n i is = home_is n ∙ resume_home _ _ (in_phase_at n (Resume i) is)

@@ -1,8 +1,9 @@
--- Where the placement of a page that is accessed too early is delayed, the access finds it absent.
+-- Where the placement of a page that is touched with no look before it is delayed, the touch comes before it.
 use Rattle.std.proofs.Common.{◌≡◌, ℕ, zero, suc, ◌<◌, ◌≤◌, ◌⊎◌, inl, inr, Bool, true, false, not, cond, List, [], ◌∷◌, ◌++◌, length, Option, Some, None, refl, sym, ap, ◌∙◌, subst, arith}
 use Rattle.std.specs.Prelude.{Contains, slice_get, nat_lt}
 use Rattle.std.specs.List.{filter}
 use Rattle.std.proofs.lemmas.Bool.{cases_lt, ltb-true, lt-ltb}
+use Rattle.std.proofs.lemmas.List.Elements.{Contains-append_left}
 use Rattle.std.proofs.lemmas.Option.{slice_get_past}
 use Rattle.migration_types.specs.declared.records.LogName.TheVariants.{Guest, Source, Link, Pager}
 use Rattle.migration_types.specs.declared.records.GuestRec.{GuestRec}
@@ -13,19 +14,21 @@ use Rattle.migration_types.specs.Sessions.{Recorded}
 use Rattle.migration_types.specs.Receipts.{Name, guest_receipt}
 use Rattle.audit_model.specs.Names.{log_length, receipt, if_there}
 use Rattle.audit_model.specs.Mergings.{StandsAfter, IsMerging, Cursors, at_start}
+use Rattle.audit_model.specs.Flat.{AtTarget, home}
 use Rattle.audit_model.specs.World.{world_after, Demand}
 use Rattle.audit_model.specs.declared.reasons.ShapeReason.TheVariants.{Named, Start}
 use Rattle.audit_model.specs.Shape.{IsRightShape, is_placement_of, earlier, keeps, passes, is_ready, pager_start, guest_named}
-use Rattle.audit_model.specs.Certificates.{is_access_of}
-use Rattle.audit_model.specs.Faults.{looks_at, IsEarly}
+use Rattle.audit_model.specs.Certificates.{is_touch_of}
+use Rattle.audit_model.specs.Faults.{looks_at, has_looked, IsEarly}
 use Rattle.audit_model.specs.Delayed.{IsDelayed, itself, later, receives, is_below, IsDelayedOrder, IsFirstPlacement}
 use Rattle.audit_model.specs.Walks.{cursors_from, Walks}
-use Rattle.audit_model.proofs.Cuts.{contains_cons, contains_nil, merging_walks}
+use Rattle.audit_model.proofs.Cuts.{contains_cons, contains_nil, merging_walks, taken_before}
 use Rattle.audit_model.proofs.History.{earlier_true, earlier_witness}
 use Rattle.audit_model.specs.Worlds.{IsConsistentCut}
 use Rattle.audit_model.proofs.Orders.{is_at}
+use Rattle.audit_model.proofs.Touched.{touched_true}
 use Rattle.audit_model.proofs.Walked.{contains_place, passed, walk_at}
-use Rattle.audit_model.proofs.Rearranged.{rearranged_merges, append_stands, filter_stands}
+use Rattle.audit_model.proofs.Rearranged.{rearranged_merges, append_stands, filter_stands, contains_filter}
 use Rattle.audit_model.proofs.Clean.{early_breaks, false_if_not_true}
 
 -- each record stands somewhere in a merging
@@ -78,7 +81,7 @@ kept_by_test p (y ∷ xs) x h = go (λ h. kept_by_test p xs x h) (p y) refl h
 not_earlier : {A : Type 0} (test : A → Bool) (log : List A) (m n : ℕ) → m ≤ n → earlier test log n ≡ false → earlier test log m ≡ false
 not_earlier test log m n le none = false_if_not_true _ (λ e. let w = earlier_witness test log m e in let some = earlier_true test log w.0 n w.1 w.3 w.4 (omega (arith, w.2)) in cc)
 
-module _ (s : Recorded) (shape : IsRightShape s) (order : List Name) (merging : IsMerging s order) (n page : ℕ) (r : GuestRec) (is : slice_get s.guest n ≡ Some r) (early : IsEarly s n r page) (place : ℕ) (first : IsFirstPlacement s page place) where
+module _ (s : Recorded) (shape : IsRightShape s) (order : List Name) (merging : IsMerging s order) (n page : ℕ) (r : GuestRec) (is : slice_get s.guest n ≡ Some r) (touch : is_touch_of page r ≡ true) (uncovered : has_looked s page n ≡ false) (place : ℕ) (first : IsFirstPlacement s page place) where
   -- no delayed record stands before the placement in the order
   delayed_above : (c : Cursors) → IsConsistentCut s c → place ≡ c Pager → {name : Name} → IsDelayed s (Pager, place) name → c name.0 ≤ name.1
   delayed_above c cut at itself = omega (arith, at)
@@ -128,7 +131,7 @@ module _ (s : Recorded) (shape : IsRightShape s) (order : List Name) (merging : 
       go (suc zero) at = let e = far place first.by first.places (starts place first.by first.stands) in omega arith
       go (suc (suc k)) at = let e = starts (suc (suc k)) Ready at in absurd (cc)
 
-  -- a guest record that receives a delayed one comes after the access
+  -- a guest record that receives a delayed one comes after the touch
   receiver_after : (m k : ℕ) (o : Option GuestRec) → slice_get s.guest m ≡ o → if_there guest_receipt o ≡ Some (Pager, k) → place ≤ k → n < m
   receiver_after m k None at e le = absurd (cc)
   receiver_after m k (Some (Resume ready)) at e le =
@@ -142,21 +145,19 @@ module _ (s : Recorded) (shape : IsRightShape s) (order : List Name) (merging : 
       look : placement ≡ k → looks_at s page (See placement) ≡ true
       look same = earlier_true (is_placement_of page) s.pager place (suc placement) first.by first.stands first.places (omega arith)
 
-      access_is_no_look : n ≡ m → ⊥
-      access_is_no_look same =
+      touch_is_no_look : n ≡ m → ⊥
+      touch_is_no_look same =
           let f : Some r ≡ Some (See placement) = sym is ∙ ap (λ j. slice_get s.guest j) same ∙ at in
           let g : r ≡ See placement = cc in
-          let h = ap (λ t. is_access_of page t) g in
-          let i = early.is_access in
+          let h = ap (λ t. is_touch_of page t) g in
           cc
 
       go : placement ≡ k → (n < m) ⊎ (m ≤ n) → (m < n) ⊎ (n ≤ m) → n < m
       go same (inl lt) other = lt
       go same (inr le) (inl lt) =
           let e = earlier_true (looks_at s page) s.guest m n (See placement) at (look same) lt in
-          let f = early.is_uncovered in
           absurd (cc)
-      go same (inr le) (inr ge) = absurd (access_is_no_look (omega arith))
+      go same (inr le) (inr ge) = absurd (touch_is_no_look (omega arith))
   receiver_after m k (Some (Read v p c x)) at e le = absurd (cc)
   receiver_after m k (Some (Write v p c x)) at e le = absurd (cc)
   receiver_after m k (Some (Release v p)) at e le = absurd (cc)
@@ -174,7 +175,7 @@ module _ (s : Recorded) (shape : IsRightShape s) (order : List Name) (merging : 
   from_pager (Some (Miss v p)) a e = absurd (cc)
   from_pager (Some Halt) a e = absurd (cc)
 
-  -- a delayed guest record comes after the access
+  -- a delayed guest record comes after the touch
   delayed_guest : (c : Cursors) → IsConsistentCut s c → place ≡ c Pager → {name : Name} → IsDelayed s (Pager, place) name → name.0 ≡ Guest → n < name.1
   delayed_guest c cut at itself log = absurd (cc)
   delayed_guest c cut at (later {a = a} {b = b} d log lt) guest = let e = delayed_guest c cut at d (sym log ∙ guest) in omega arith
@@ -230,7 +231,15 @@ module _ (s : Recorded) (shape : IsRightShape s) (order : List Name) (merging : 
         go (inl lt) = lt
         go (inr le) = let f = slice_get_past s.guest n le in absurd (cc)
 
-    -- all that stands before the access in it is below the cut
+    -- the touch is below the cut
+    touch_low : n < late.cut Guest
+    touch_low = go (cases_lt n (late.cut Guest))
+      where
+        go : (n < late.cut Guest) ⊎ (late.cut Guest ≤ n) → n < late.cut Guest
+        go (inl lt) = lt
+        go (inr high) = absurd (omega (arith, delayed_is_later (late.is_delayed (Guest, n) guest_small high) refl))
+
+    -- all that stands before the touch in it is below the cut
     below_cut : (kept : List Name) → StandsAfter delayed kept (Guest, n) → (x : Name) → Contains kept x → is_below late.cut x ≡ true
     below_cut kept stands x h = go (append_stands (filter (is_below late.cut) order) (filter (λ y. not (is_below late.cut y)) order) kept (Guest, n) stands.0 (sym late.is ∙ stands.1))
       where
@@ -241,7 +250,7 @@ module _ (s : Recorded) (shape : IsRightShape s) (order : List Name) (merging : 
         go (inr b) =
             let f = filter_stands (λ y. not (is_below late.cut y)) order b.0 (Guest, n) stands.0 b.2 in
             let high : late.cut Guest ≤ n = not_below n (late.cut Guest) f.3 in
-            absurd (omega (arith, delayed_is_later (late.is_delayed (Guest, n) guest_small high) refl))
+            absurd (omega (arith, touch_low))
           where
             not_below : (j k : ℕ) → not (nat_lt j k) ≡ true → k ≤ j
             not_below j k e = by (cases_lt j k)
@@ -250,9 +259,9 @@ module _ (s : Recorded) (shape : IsRightShape s) (order : List Name) (merging : 
                 by (inl lt) = let f = lt-ltb j k lt in let g = ap not f in absurd (cc)
                 by (inr le) = le
 
-    -- so the page is not placed there, and the demand at the access fails
-    pub delayed_breaks : (kept : List Name) → StandsAfter delayed kept (Guest, n) → Demand s (Guest, n) (world_after s kept) → ⊥
-    delayed_breaks kept stands demand =
+    -- so the page is not placed there, and the demand at an early access fails
+    pub delayed_breaks : IsEarly s n r page → (kept : List Name) → StandsAfter delayed kept (Guest, n) → Demand s (Guest, n) (world_after s kept) → ⊥
+    delayed_breaks early kept stands demand =
         let at = is_at s shape delayed delayed_merges kept (Guest, n) stands in
         let c = cursors_from at_start kept in
         let few : c Pager ≤ place = go (cases_lt place (c Pager)) in
@@ -269,10 +278,36 @@ module _ (s : Recorded) (shape : IsRightShape s) (order : List Name) (merging : 
             absurd (omega (arith, late.is_above (Pager, place) itself))
         go (inr le) = le
 
-    -- none of the page's placements stands before the access
+    -- none of the page's placements stands before the touch
     pub delayed_unplaced : (kept : List Name) → StandsAfter delayed kept (Guest, n) → (m : ℕ) (t : PagerRec) → slice_get s.pager m ≡ Some t → is_placement_of page t ≡ true → Contains kept (Pager, m) → ⊥
     delayed_unplaced kept stands m t at places h =
         let low = ltb-true m (late.cut Pager) (below_cut kept stands (Pager, m) h) in
         let e = earlier_true (is_placement_of page) s.pager m place t at places (omega (arith, late.is_above (Pager, place) itself)) in
         let f = first.is_first in
         cc
+
+    -- and the touch stands before the placement
+    pub delayed_touched : (past : List Name) → StandsAfter delayed past (Pager, place) → Contains past (Guest, n)
+    delayed_touched past stands = go (append_stands low high past (Pager, place) stands.0 (sym late.is ∙ stands.1))
+      where
+        low : List Name
+        low = filter (is_below late.cut) order
+
+        high : List Name
+        high = filter (λ y. not (is_below late.cut y)) order
+
+        in_order : Contains order (Guest, n)
+        in_order = contains_place order Guest n 0 (log_length s Guest) (merging.each_once_in_order Guest) (omega arith) (omega (arith, guest_small))
+
+        go : ((k : List Name) × (low ≡ past ++ (Pager, place) ∷ k)) ⊎ ((k : List Name) × (past ≡ low ++ k) × (high ≡ k ++ (Pager, place) ∷ stands.0)) → Contains past (Guest, n)
+        go (inl a) =
+            let f = filter_stands (is_below late.cut) order past (Pager, place) a.0 a.1 in
+            absurd (omega (arith, ltb-true place (late.cut Pager) f.3, late.is_above (Pager, place) itself))
+        go (inr b) = subst (λ xs. Contains xs (Guest, n)) (sym b.1) (Contains-append_left low b.0 (Guest, n) (contains_filter (is_below late.cut) order (Guest, n) in_order (lt-ltb n (late.cut Guest) touch_low)))
+
+    -- so a touch after handover makes the page touched there
+    pub delayed_is_touched : home s n ≡ AtTarget → (past : List Name) → StandsAfter delayed past (Pager, place) → (world_after s past).touched page ≡ true
+    delayed_is_touched at past stands =
+        let here = is_at s shape delayed delayed_merges past (Pager, place) stands in
+        let taken = taken_before s delayed delayed_merges past (Pager, place) stands Guest n (delayed_touched past stands) in
+        here.0.world.touched_is page ∙ touched_true s n (cursors_from at_start past Guest) page (record { by = r; stands = is; is_touch = touch; is_late = at }) taken

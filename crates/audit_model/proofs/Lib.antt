@@ -6,6 +6,7 @@ pub mod Stuck
 pub mod Grown
 pub mod History
 pub mod Touched
+pub mod FirstTouch
 pub mod Consistent
 pub mod Entries
 pub mod Worlds
@@ -21,6 +22,8 @@ pub mod Knots
 pub mod WrittenOut
 pub mod ExampleA
 pub mod ExampleB
+pub mod ExampleC
 pub mod Certifying
 pub mod PageFaultTests
+pub mod FirstVersion
 pub mod FirstNames

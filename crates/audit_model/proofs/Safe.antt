@@ -1,6 +1,7 @@
 -- A session of the right shape whose pages have right entries is safe.
-use Rattle.std.proofs.Common.{◌≡◌, ◌≢◌, ℕ, zero, suc, ◌<◌, ◌≤◌, Bool, true, false, ◌||◌, length, Option, Some, None, refl, sym, ap, ◌∙◌, subst, arith, eqb-true}
+use Rattle.std.proofs.Common.{◌≡◌, ◌≢◌, ℕ, zero, suc, ◌<◌, ◌≤◌, Bool, true, false, ◌||◌, ◌⊎◌, inl, inr, length, Option, Some, None, refl, sym, ap, ◌∙◌, subst, arith, eqb-true}
 use Rattle.std.specs.Prelude.{slice_get}
+use Rattle.std.proofs.lemmas.Bool.{cases_lt, or_cases, or_right}
 use Rattle.migration_types.specs.declared.records.LogName.TheVariants.{Guest, Source, Link, Pager}
 use Rattle.migration_types.specs.declared.records.GuestRec.{GuestRec}
 use Rattle.migration_types.specs.declared.records.GuestRec.TheVariants.{Read, Write, Release, Miss, Halt, Resume, See}
@@ -12,45 +13,70 @@ use Rattle.migration_types.specs.Sessions.{Recorded}
 use Rattle.migration_types.specs.Sessions.{IsSession}
 use Rattle.migration_types.specs.Receipts.{Name}
 use Rattle.audit_model.specs.Mergings.{Cursors}
-use Rattle.audit_model.specs.Flat.{changed, flat, Home, AtSource, Nowhere, AtTarget, home, at_halt}
+use Rattle.audit_model.specs.Flat.{freed, changed, flat, Home, AtSource, Nowhere, AtTarget, home, at_halt}
 use Rattle.audit_model.specs.World.{World, step, memory_at, Demand, guest_demand, source_demand, pager_demand, if_record, IsSafe}
 use Rattle.audit_model.specs.Shape.{IsRightShape, is_placement_of, earlier}
-use Rattle.audit_model.specs.Certificates.{IsLateAccess}
+use Rattle.audit_model.specs.Certificates.{is_access_of, IsLateTouch}
 use Rattle.audit_model.specs.Walks.{next, MayFollow}
 use Rattle.audit_model.proofs.History.{earlier_true, home_at_read, home_at_write}
-use Rattle.audit_model.specs.Worlds.{come_to, touched, placed_before, IsConsistentCut, IsAt, TargetIsFlat}
-use Rattle.audit_model.proofs.Touched.{touched_access}
+use Rattle.audit_model.specs.Worlds.{come_to, touched, placed_before, resident_before, IsConsistentCut, IsAt, TargetIsFlat}
+use Rattle.audit_model.proofs.Touched.{access_touches, freed_true, left_if_freed, touched_access}
 use Rattle.audit_model.proofs.Consistent.{seen, there}
 use Rattle.audit_model.proofs.Fits.{guest_fits, source_fits, pager_fits}
-use Rattle.audit_model.proofs.Entries.{IsKept, itself}
+use Rattle.audit_model.proofs.Entries.{IsFreedFirst, HasLook, IsKept, itself}
 use Rattle.audit_model.proofs.Worlds.{IsFlatAtTarget, start_is_flat, guest_keeps_flat, pager_keeps_flat}
 use Rattle.audit_model.proofs.Orders.{kept_at, start_is_at, left_if_placed, page_at_halt, ledger_at_halt, source_left, pager_left, guest_stepped, pager_stepped, step_kept, kept_after}
 
--- besides, the target is flat on the placed pages
+-- besides, the target is flat on the resident pages
 pub record IsFlatAt (s : Recorded) (c : Cursors) (w : World) : Type 0 where
   pub at : IsAt s c w
   pub flat_target : IsFlatAtTarget s (c Guest) (c Pager) w
 
 module _ (s : Recorded) (shape : IsRightShape s) (fits : IsSession s) (kept : (page : ℕ) → page < s.geometry.pages → IsKept s page) where
-  -- an access after handover finds its page placed
-  access_placed : (c : Cursors) → IsConsistentCut s c → (q : ℕ) → q < s.geometry.pages → IsLateAccess s q (c Guest) → placed_before s (c Pager) q ≡ true
-  access_placed c cut q small late =
-      let look = (kept q small).looks (c Guest) late in
-      let k : look.placement < (c Pager) = seen s shape c cut look.see look.placement look.sees look.is_earlier in
-      earlier_true (is_placement_of q) s.pager look.place (c Pager) look.by look.stands look.places (omega (arith, look.covers))
+  -- a page that is resident, by the cursors
+  left_if_resident : (c : Cursors) → IsConsistentCut s c → (q : ℕ) → resident_before s (c Guest) (c Pager) q ≡ true → home s (c Guest) ≢ AtSource
+  left_if_resident c cut q e = go (or_cases _ _ e)
+    where
+      go : (placed_before s (c Pager) q ≡ true) ⊎ (freed s (c Guest) q ≡ true) → home s (c Guest) ≢ AtSource
+      go (inl e) = left_if_placed s shape c cut q e
+      go (inr e) = left_if_freed s (c Guest) q e
+
+  -- a read or a write after handover finds its page resident
+  access_resident : (c : Cursors) → IsConsistentCut s c → (q : ℕ) → q < s.geometry.pages → (r : GuestRec) → slice_get s.guest (c Guest) ≡ Some r → is_access_of q r ≡ true → home s (c Guest) ≡ AtTarget → resident_before s (c Guest) (c Pager) q ≡ true
+  access_resident c cut q small r is access late = go ((kept q small).looks (c Guest) touch)
+    where
+      touch : IsLateTouch s q (c Guest)
+      touch = record { by = r; stands = is; is_touch = access_touches q r access; is_late = late }
+
+      go : HasLook s q (c Guest) ⊎ IsFreedFirst s q → resident_before s (c Guest) (c Pager) q ≡ true
+      go (inl look) =
+          let k : look.placement < (c Pager) = seen s shape c cut look.see look.placement look.sees look.is_earlier in
+          ap (λ b. b || freed s (c Guest) q) (earlier_true (is_placement_of q) s.pager look.place (c Pager) look.by look.stands look.places (omega (arith, look.covers)))
+      go (inr f) = or_right _ _ (freed_true s f.0 (c Guest) f.1.vcpu q f.1.is_release f.1.is_late (itself q) (before (cases_lt f.0 (c Guest))))
+        where
+          before : (f.0 < c Guest) ⊎ (c Guest ≤ f.0) → f.0 < c Guest
+          before (inl lt) = lt
+          before (inr le) =
+              let same : f.0 ≡ c Guest = omega (arith, f.1.is_first (c Guest) touch) in
+              let e : Some r ≡ Some (Release f.1.vcpu q) = sym is ∙ ap (λ k. slice_get s.guest k) (sym same) ∙ f.1.is_release in
+              let g : r ≡ Release f.1.vcpu q = cc in
+              let h = ap (λ t. is_access_of q t) g in
+              absurd (cc)
 
   -- at its placement a page is untouched
   placement_untouched : (c : Cursors) → IsConsistentCut s c → (q : ℕ) → q < s.geometry.pages → (r : PagerRec) → slice_get s.pager (c Pager) ≡ Some r → is_placement_of q r ≡ true → touched s (c Guest) q ≡ false
   placement_untouched c cut q small r is places = go (touched s (c Guest) q) refl
     where
+      look_at : (m : ℕ) → m < (c Guest) → HasLook s q m ⊎ IsFreedFirst s q → ⊥
+      look_at m lt (inl look) =
+          let same : look.place ≡ (c Pager) = (kept q small).once look.place (c Pager) look.by r look.stands is look.places places in
+          let k : look.placement < (c Pager) = seen s shape c cut look.see look.placement look.sees (omega (arith, look.is_earlier)) in
+          absurd (omega (arith, look.covers))
+      look_at m lt (inr f) = let g = f.1.unplaced (c Pager) r is in cc
+
       go : (b : Bool) → touched s (c Guest) q ≡ b → b ≡ false
       go false e = refl
-      go true e =
-          let t = touched_access s shape (c Guest) q e in
-          let look = (kept q small).looks t.0 t.2 in
-          let same : look.place ≡ (c Pager) = (kept q small).once look.place (c Pager) look.by r look.stands is look.places places in
-          let k : look.placement < (c Pager) = seen s shape c cut look.see look.placement look.sees (omega (arith, look.is_earlier, t.1)) in
-          absurd (omega (arith, look.covers))
+      go true e = let t = touched_access s (c Guest) q e in absurd (look_at t.0 t.1 ((kept q small).looks t.0 t.2))
 
   -- and not yet placed
   placement_new : (n q : ℕ) → q < s.geometry.pages → (r : PagerRec) → slice_get s.pager n ≡ Some r → is_placement_of q r ≡ true → (m : ℕ) → m ≤ n → placed_before s m q ≡ false
@@ -69,7 +95,7 @@ module _ (s : Recorded) (shape : IsRightShape s) (fits : IsSession s) (kept : (p
   guest_demand_holds c w i (Read v q d x) is =
       let n = (c Guest) in
       let fit = guest_fits s fits n (Read v q d x) is in
-      let placed : home s n ≡ AtTarget → placed_before s (c Pager) q ≡ true = λ e. access_placed c i.at.cut q fit.1 (record { by = Read v q d x; stands = is; is_access = itself q; is_late = e }) in
+      let placed : home s n ≡ AtTarget → resident_before s n (c Pager) q ≡ true = λ e. access_resident c i.at.cut q fit.1 (Read v q d x) is (itself q) e in
       let answer = (kept q fit.1).honest.reads n v d x is in
       record {
         is_somewhere = λ e. home_at_read s shape n v q d x is (sym i.at.world.home_is ∙ e);
@@ -78,7 +104,7 @@ module _ (s : Recorded) (shape : IsRightShape s) (fits : IsSession s) (kept : (p
         is_flat = answer;
       }
     where
-      cell : d < s.geometry.cells → (home s (c Guest) ≡ AtTarget → placed_before s (c Pager) q ≡ true) → (h : Home) → home s (c Guest) ≡ h → flat s (c Guest) q d ≡ memory_at w.home w q d
+      cell : d < s.geometry.cells → (home s (c Guest) ≡ AtTarget → resident_before s (c Guest) (c Pager) q ≡ true) → (h : Home) → home s (c Guest) ≡ h → flat s (c Guest) q d ≡ memory_at w.home w q d
       cell lt placed AtSource at = ap (λ k. flat s (come_to k (c Guest) (at_halt s)) q d) (sym at) ∙ sym (i.at.world.source_is q d) ∙ ap (λ k. memory_at k w q d) (sym (i.at.world.home_is ∙ at))
       cell lt placed Nowhere at = absurd (home_at_read s shape (c Guest) v q d x is at)
       cell lt placed AtTarget at = sym (i.flat_target q d lt (placed at)) ∙ ap (λ k. memory_at k w q d) (sym (i.at.world.home_is ∙ at))
@@ -87,7 +113,7 @@ module _ (s : Recorded) (shape : IsRightShape s) (fits : IsSession s) (kept : (p
       let fit = guest_fits s fits n (Write v q d x) is in
       record {
         is_somewhere = λ e. home_at_write s shape n v q d x is (sym i.at.world.home_is ∙ e);
-        is_resident = λ e. i.at.world.resident_is q ∙ access_placed c i.at.cut q fit.1 (record { by = Write v q d x; stands = is; is_access = itself q; is_late = sym i.at.world.home_is ∙ e });
+        is_resident = λ e. i.at.world.resident_is q ∙ access_resident c i.at.cut q fit.1 (Write v q d x) is (itself q) (sym i.at.world.home_is ∙ e);
       }
   guest_demand_holds c w i (Release v q) is = tt
   guest_demand_holds c w i (Miss v q) is = tt
@@ -164,13 +190,13 @@ module _ (s : Recorded) (shape : IsRightShape s) (fits : IsSession s) (kept : (p
   guest_step_flat : (c : Cursors) (w : World) → IsFlatAt s c w → (r : GuestRec) → slice_get s.guest (c Guest) ≡ Some r → IsFlatAtTarget s (suc (c Guest)) (c Pager) (step s (Guest, (c Guest)) w)
   guest_step_flat c w i r is =
       subst (λ u. IsFlatAtTarget s (suc (c Guest)) (c Pager) u) (guest_stepped s shape c w i.at r is)
-      (guest_keeps_flat s shape (c Guest) (c Pager) (home s (c Guest)) w r is refl (left_if_placed s shape c i.at.cut) resident i.flat_target)
+      (guest_keeps_flat s shape (c Guest) (c Pager) (home s (c Guest)) w r is refl (left_if_resident c i.at.cut) resident i.flat_target)
     where
       resident : (v q d x : ℕ) → r ≡ Write v q d x → home s (c Guest) ≡ AtTarget → w.resident q ≡ true
       resident v q d x e at =
           let write : slice_get s.guest (c Guest) ≡ Some (Write v q d x) = is ∙ ap (λ t. Some t) e in
           let fit = guest_fits s fits (c Guest) (Write v q d x) write in
-          i.at.world.resident_is q ∙ access_placed c i.at.cut q fit.1 (record { by = Write v q d x; stands = write; is_access = itself q; is_late = at })
+          i.at.world.resident_is q ∙ access_resident c i.at.cut q fit.1 (Write v q d x) write (itself q) at
 
   pager_step_flat : (c : Cursors) (w : World) → IsFlatAt s c w → home s (c Guest) ≢ AtSource → (r : PagerRec) → slice_get s.pager (c Pager) ≡ Some r → IsFlatAtTarget s (c Guest) (suc (c Pager)) (step s (Pager, (c Pager)) w)
   pager_step_flat c w i left r is =

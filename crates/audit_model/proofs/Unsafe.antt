@@ -1,65 +1,88 @@
 -- A page fault breaks the demand at its record, and a session without one is safe.
-use Rattle.std.proofs.Common.{◌≡◌, ◌≢◌, ℕ, zero, suc, ◌<◌, Bool, true, false, List, length, Option, Some, None, refl, ◌∙◌}
-use Rattle.std.specs.Prelude.{slice_get, ◌||◌}
+use Rattle.std.proofs.Common.{◌≡◌, ◌≢◌, ℕ, ◌<◌, Bool, true, false, List, length, Option, Some, None, refl, ◌∙◌, subst, eqb-true}
+use Rattle.std.specs.Prelude.{slice_get}
 use Rattle.migration_types.specs.declared.records.GuestRec.{GuestRec}
+use Rattle.migration_types.specs.declared.records.GuestRec.TheVariants.{Release}
 use Rattle.migration_types.specs.declared.records.PagerRec.{PagerRec}
+use Rattle.migration_types.specs.declared.records.PagerRec.TheVariants.{Got, Ready, Fault, Join, Want, Place, Zero, Skip, All}
 use Rattle.migration_types.specs.Sessions.{Recorded}
 use Rattle.migration_types.specs.declared.records.LogName.TheVariants.{Guest, Pager}
-use Rattle.audit_model.specs.World.{IsSafe}
+use Rattle.audit_model.specs.World.{world_after, pager_demand, if_record, IsSafe}
 use Rattle.audit_model.specs.Shape.{IsRightShape, is_placement_of, earlier}
 use Rattle.migration_types.specs.Receipts.{Name}
 use Rattle.audit_model.specs.Names.{log_length}
-use Rattle.audit_model.specs.Mergings.{IsMerging, HasMerging}
-use Rattle.audit_model.specs.Delayed.{IsFirstPlacement}
+use Rattle.audit_model.specs.Mergings.{IsMerging, HasMerging, StandsAfter}
+use Rattle.audit_model.specs.Delayed.{IsFirstPlacement, IsDelayedOrder}
 use Rattle.audit_model.specs.declared.reasons.PageReason.{PageReason}
-use Rattle.audit_model.specs.declared.reasons.PageReason.TheVariants.{Read as WrongRead, Early, Given, Stale, Twice, Altered, Unfit}
+use Rattle.audit_model.specs.declared.reasons.PageReason.TheVariants.{Read as WrongRead, Early, Given, Stale, Twice, Altered, Unfit, Over}
 use Rattle.audit_model.specs.Faults.{IsEarly, GuestFault, SourceFault, PagerFault, if_fault, IsPageFault, HasNoPageFault}
-use Rattle.audit_model.specs.Flat.{changed}
 use Rattle.migration_types.specs.declared.records.SourceRec.{SourceRec}
 use Rattle.migration_types.specs.declared.records.LogName.TheVariants.{Source, Link}
-use Rattle.audit_model.specs.Laws.{IsFaultless, FaultsBreak, DelayedBreaks, DelayedUnplaced, UnplacedBreaks, BreaksAt, SafeExactlyIfClean}
+use Rattle.audit_model.specs.Laws.{IsFaultless, FaultsBreak, DelayedBreaks, DelayedUnplaced, DelayedOver, UnplacedBreaks, BreaksAt, SafeExactlyIfClean}
 use Rattle.std.proofs.lemmas.Option.{slice_get_within}
 use Rattle.audit_model.proofs.Delays.{delayed_order}
 use Rattle.audit_model.proofs.History.{earlier_witness, earlier_true}
 use Rattle.audit_model.proofs.Orders.{is_at}
-use Rattle.audit_model.proofs.Clean.{clean_safe, fault_breaks, early_breaks, false_if_not_true, clash}
-use Rattle.audit_model.proofs.Late.{stands_somewhere, delayed_merges, delayed_breaks, delayed_unplaced}
+use Rattle.audit_model.proofs.Touched.{access_touches}
+use Rattle.audit_model.proofs.Entries.{itself}
+use Rattle.audit_model.proofs.Clean.{clean_safe, fault_breaks, early_breaks, first_placement, IsOverPlacement, fault_over, false_if_not_true, clash}
+use Rattle.audit_model.proofs.Late.{stands_somewhere, delayed_merges, delayed_breaks, delayed_unplaced, delayed_is_touched}
 
 pub faultless_is_safe : (s : Recorded) → IsFaultless s → IsSafe s
 faultless_is_safe s given = clean_safe s given.clean given.is_session given.shape
 
 pub faults_break : (s : Recorded) → IsRightShape s → FaultsBreak s
-faults_break s shape order merging reason name other f past stands d = fault_breaks s shape order merging past reason name other f stands d
+faults_break s shape order merging reason name other more f past stands d = fault_breaks s shape order merging past reason name other more f stands d
 
 pub delayed_order_breaks : (s : Recorded) → IsRightShape s → DelayedBreaks s
 delayed_order_breaks s shape order merging n page place r is early first delayed late = (
-  delayed_merges s shape order merging n page r is early place first delayed late,
-  delayed_breaks s shape order merging n page r is early place first delayed late,
+  delayed_merges s shape order merging n page r is (access_touches page r early.is_access) early.is_uncovered place first delayed late,
+  delayed_breaks s shape order merging n page r is (access_touches page r early.is_access) early.is_uncovered place first delayed late early,
 )
 
 pub delayed_order_unplaced : (s : Recorded) → IsRightShape s → DelayedUnplaced s
 delayed_order_unplaced s shape order merging n page place r is early first delayed late =
-    delayed_unplaced s shape order merging n page r is early place first delayed late
+    delayed_unplaced s shape order merging n page r is (access_touches page r early.is_access) early.is_uncovered place first delayed late
+
+-- a placement over a release, where it is delayed
+module _ (s : Recorded) (shape : IsRightShape s) (order : List Name) (merging : IsMerging s order) (place page : ℕ) (r : PagerRec) (is : slice_get s.pager place ≡ Some r) (o : IsOverPlacement s place r page) (delayed : List Name) (late : IsDelayedOrder s order (Pager, place) delayed) where
+  first_is : IsFirstPlacement s page place
+  first_is = record { by = r; stands = is; places = o.places; is_first = o.is_first }
+
+  over_merges : IsMerging s delayed
+  over_merges = delayed_merges s shape order merging o.over.release page (Release o.over.vcpu page) o.over.stands (itself page) o.over.is_uncovered place first_is delayed late
+
+  over_touched : (past : List Name) → StandsAfter delayed past (Pager, place) → (world_after s past).touched page ≡ true
+  over_touched past stands = delayed_is_touched s shape order merging o.over.release page (Release o.over.vcpu page) o.over.stands (itself page) o.over.is_uncovered place first_is delayed late o.over.is_late past stands
+
+  over_breaks : BreaksAt s delayed (Pager, place)
+  over_breaks past stands d = go r o.places (subst (λ x. if_record (pager_demand s) x (world_after s past)) is d)
+    where
+      go : (r : PagerRec) → is_placement_of page r ≡ true → pager_demand s r (world_after s past) → ⊥
+      go (Place q got content) e d = let same : q ≡ page = eqb-true q page e in clash _ (over_touched past stands) (subst (λ k. (world_after s past).touched k ≡ false) same d.is_untouched)
+      go (Zero q) e d = let same : q ≡ page = eqb-true q page e in clash _ (over_touched past stands) (subst (λ k. (world_after s past).touched k ≡ false) same d.is_untouched)
+      go (Got k) e d = absurd (cc)
+      go Ready e d = absurd (cc)
+      go (Fault k) e d = absurd (cc)
+      go (Join k) e d = absurd (cc)
+      go (Want k) e d = absurd (cc)
+      go (Skip k) e d = absurd (cc)
+      go All e d = absurd (cc)
+
+pub delayed_over : (s : Recorded) → IsRightShape s → DelayedOver s
+delayed_over s shape order merging place f delayed late = go (slice_get s.pager place) refl f
+  where
+    go : (x : Option PagerRec) → slice_get s.pager place ≡ x → if_fault (PagerFault s Over place) x → IsMerging s delayed × BreaksAt s delayed (Pager, place)
+    go None is f = absurd f
+    go (Some r) is f =
+        let o = fault_over s place r f in
+        (over_merges s shape order merging place o.0 r is o.1 delayed late, over_breaks s shape order merging place o.0 r is o.1 delayed late)
 
 pub unplaced_breaks : (s : Recorded) → IsRightShape s → UnplacedBreaks s
 unplaced_breaks s shape order merging n page r is early none past stands d =
     let at = is_at s shape order merging past (Guest, n) stands in
     let absent : (k : ℕ) → earlier (is_placement_of page) s.pager k ≡ false = λ k. false_if_not_true _ (λ e. let w = earlier_witness (is_placement_of page) s.pager k e in clash _ w.4 (none w.0 w.1 w.3)) in
     early_breaks s shape order merging past n page r is early stands (at.0.world.placed_is page ∙ absent _) d
-
--- the first placement, if there is one
-first_placement : (s : Recorded) (page n : ℕ) → earlier (is_placement_of page) s.pager n ≡ true → (place : ℕ) × IsFirstPlacement s page place
-first_placement s page zero e = absurd (cc)
-first_placement s page (suc n) e = go (λ f. first_placement s page n f) (slice_get s.pager n) refl (earlier (is_placement_of page) s.pager n) refl e
-  where
-    go : (earlier (is_placement_of page) s.pager n ≡ true → (place : ℕ) × IsFirstPlacement s page place) → (o : Option PagerRec) → slice_get s.pager n ≡ o → (b : Bool) → earlier (is_placement_of page) s.pager n ≡ b → changed (λ x found. is_placement_of page x || found) o (earlier (is_placement_of page) s.pager n) ≡ true → (place : ℕ) × IsFirstPlacement s page place
-    go rec o is true f e = rec f
-    go rec None is false f e = rec e
-    go rec (Some t) is false f e = at (is_placement_of page t) refl e
-      where
-        at : (c : Bool) → is_placement_of page t ≡ c → (c || earlier (is_placement_of page) s.pager n) ≡ true → (place : ℕ) × IsFirstPlacement s page place
-        at true g e = (n, record { by = t; stands = is; places = g; is_first = f })
-        at false g e = rec e
 
 module _ (s : Recorded) (shape : IsRightShape s) (given : HasMerging s) (safe : IsSafe s) where
   never_breaks : (order : List Name) → IsMerging s order → (name : Name) → name.1 < log_length s name.0 → BreaksAt s order name → ⊥
@@ -102,8 +125,8 @@ module _ (s : Recorded) (shape : IsRightShape s) (given : HasMerging s) (safe : 
       go None is f = absurd f
       go (Some r) is f = slice_get_within s.pager n r is
 
-  other_fault : (reason : PageReason) → reason ≢ Early → (name : Name) → IsPageFault s reason name → ⊥
-  other_fault reason other name f = never_breaks given.0 given.1 name (there_is reason name f) (faults_break s shape given.0 given.1 reason name other f)
+  other_fault : (reason : PageReason) → reason ≢ Early → reason ≢ Over → (name : Name) → IsPageFault s reason name → ⊥
+  other_fault reason other more name f = never_breaks given.0 given.1 name (there_is reason name f) (faults_break s shape given.0 given.1 reason name other more f)
 
   early_fault : (name : Name) → IsPageFault s Early name → ⊥
   early_fault (Guest, n) f = go (slice_get s.guest n) refl f
@@ -123,14 +146,32 @@ module _ (s : Recorded) (shape : IsRightShape s) (given : HasMerging s) (safe : 
       go None f = f
       go (Some r) f = f
 
+  over_fault_at : (name : Name) → IsPageFault s Over name → ⊥
+  over_fault_at (Guest, n) f = go (slice_get s.guest n) f
+    where
+      go : (o : Option GuestRec) → if_fault (GuestFault s Over n) o → ⊥
+      go None f = f
+      go (Some r) f = f
+  over_fault_at (Source, n) f = go (slice_get s.source n) f
+    where
+      go : (o : Option SourceRec) → if_fault (SourceFault s Over) o → ⊥
+      go None f = f
+      go (Some r) f = f
+  over_fault_at (Link, n) f = f
+  over_fault_at (Pager, n) f =
+      let delayed = delayed_order s given.0 given.1 n in
+      let breaks = delayed_over s shape given.0 given.1 n f delayed.0 delayed.1 in
+      never_breaks delayed.0 breaks.0 (Pager, n) (there_is Over (Pager, n) f) breaks.1
+
   pub safe_is_clean : HasNoPageFault s
-  safe_is_clean WrongRead name f = other_fault WrongRead (λ e. cc) name f
+  safe_is_clean WrongRead name f = other_fault WrongRead (λ e. cc) (λ e. cc) name f
   safe_is_clean Early name f = early_fault name f
-  safe_is_clean Given name f = other_fault Given (λ e. cc) name f
-  safe_is_clean Stale name f = other_fault Stale (λ e. cc) name f
-  safe_is_clean Twice name f = other_fault Twice (λ e. cc) name f
-  safe_is_clean Altered name f = other_fault Altered (λ e. cc) name f
-  safe_is_clean Unfit name f = other_fault Unfit (λ e. cc) name f
+  safe_is_clean Given name f = other_fault Given (λ e. cc) (λ e. cc) name f
+  safe_is_clean Stale name f = other_fault Stale (λ e. cc) (λ e. cc) name f
+  safe_is_clean Twice name f = other_fault Twice (λ e. cc) (λ e. cc) name f
+  safe_is_clean Altered name f = other_fault Altered (λ e. cc) (λ e. cc) name f
+  safe_is_clean Unfit name f = other_fault Unfit (λ e. cc) (λ e. cc) name f
+  safe_is_clean Over name f = over_fault_at name f
 
 pub safe_exactly_if_clean : (s : Recorded) → SafeExactlyIfClean s
 safe_exactly_if_clean s fits shape given = (λ safe. safe_is_clean s shape given safe, λ clean. clean_safe s clean fits shape)

@@ -19,7 +19,7 @@ use Rattle.audit_model.specs.Walks.{next, Walks}
 use Rattle.audit_model.specs.Flat.{flat, in_ledger, home, is_target, at_halt}
 use Rattle.audit_model.specs.inner.MergingTests.{may}
 use Rattle.audit_model.specs.Shape.{IsRightShape, in_phase, guest_named, source_named, link_named, pager_named, source_start, pager_start, is_first_send, keeps, is_placement_of}
-use Rattle.audit_model.specs.Certificates.{is_access_of, IsHonest, IsOnlyPlacement, IsLateAccess}
+use Rattle.audit_model.specs.Certificates.{is_touch_of, IsHonest, IsOnlyPlacement, IsLateTouch}
 use Rattle.audit_model.proofs.FirstNames.{may_Decides}
 use Rattle.audit_model.proofs.PageFaultTests.{not_true}
 
@@ -116,15 +116,15 @@ module _ (s : Recorded) (page : ℕ) where
   pub unplaced_by_test : each (λ n r. not (is_placement_of page r)) s.pager ≡ true → (n : ℕ) (r : PagerRec) → slice_get s.pager n ≡ Some r → is_placement_of page r ≡ false
   unplaced_by_test e n r is = (not_true _).0 (each_at (λ n r. not (is_placement_of page r)) s.pager e n r is)
 
-  -- the accesses after handover are at the place and later
-  pub first_by_test : (access : ℕ) → each (λ n r. then (is_access_of page r) (then (is_target (home s n)) (nat_lt access (suc n)))) s.guest ≡ true → (n : ℕ) → IsLateAccess s page n → access ≤ n
+  -- the touches after handover are at the place and later
+  pub first_by_test : (access : ℕ) → each (λ n r. then (is_touch_of page r) (then (is_target (home s n)) (nat_lt access (suc n)))) s.guest ≡ true → (n : ℕ) → IsLateTouch s page n → access ≤ n
   first_by_test access e n late =
-      let a = follows (is_access_of page late.by) _ (each_at (λ n r. then (is_access_of page r) (then (is_target (home s n)) (nat_lt access (suc n)))) s.guest e n late.by late.stands) late.is_access in
+      let a = follows (is_touch_of page late.by) _ (each_at (λ n r. then (is_touch_of page r) (then (is_target (home s n)) (nat_lt access (suc n)))) s.guest e n late.by late.stands) late.is_touch in
       let b = follows (is_target (home s n)) _ a (ap is_target late.is_late) in
       omega (arith, ltb-true access (suc n) b)
 
-  pub unaccessed_by_test : each (λ n r. then (is_access_of page r) (not (is_target (home s n)))) s.guest ≡ true → (n : ℕ) → IsLateAccess s page n → ⊥
-  unaccessed_by_test e n late =
-      let a = follows (is_access_of page late.by) _ (each_at (λ n r. then (is_access_of page r) (not (is_target (home s n)))) s.guest e n late.by late.stands) late.is_access in
+  pub untouched_by_test : each (λ n r. then (is_touch_of page r) (not (is_target (home s n)))) s.guest ≡ true → (n : ℕ) → IsLateTouch s page n → ⊥
+  untouched_by_test e n late =
+      let a = follows (is_touch_of page late.by) _ (each_at (λ n r. then (is_touch_of page r) (not (is_target (home s n)))) s.guest e n late.by late.stands) late.is_touch in
       let b = ap is_target late.is_late in
       absurd (cc)

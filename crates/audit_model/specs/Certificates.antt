@@ -1,7 +1,7 @@
 -- Right entries and right certificates.
 use Rattle.std.specs.Prelude.{◌≡◌, ℕ, ◌<◌, ◌≤◌, Bool, true, false, ◌==◌, ◌⊎◌, List, length, Option, Some, None, slice_get}
 use Rattle.migration_types.specs.declared.records.GuestRec.{GuestRec}
-use Rattle.migration_types.specs.declared.records.GuestRec.TheVariants.{Read, Write, See}
+use Rattle.migration_types.specs.declared.records.GuestRec.TheVariants.{Read, Write, Release, See}
 use Rattle.migration_types.specs.declared.records.SourceRec.TheVariants.{Send, Again}
 use Rattle.migration_types.specs.declared.records.PagerRec.{PagerRec}
 use Rattle.migration_types.specs.declared.records.PagerRec.TheVariants.{Place, Zero}
@@ -9,7 +9,7 @@ use Rattle.migration_types.specs.Certs.{Certified}
 use Rattle.migration_types.specs.Sessions.{Recorded}
 use Rattle.migration_types.specs.declared.cert.First.{First}
 use Rattle.migration_types.specs.declared.cert.Entry.{Entry}
-use Rattle.migration_types.specs.declared.cert.Entry.TheVariants.{Nothing, Source, Balloon}
+use Rattle.migration_types.specs.declared.cert.Entry.TheVariants.{Nothing, Fresh, Source, Balloon}
 use Rattle.audit_model.specs.Mergings.{IsMerging, spelled}
 use Rattle.migration_types.specs.Memory.{page_of}
 use Rattle.audit_model.specs.Flat.{flat, ReadsFlatAt, in_ledger, AtTarget, home, at_halt}
@@ -21,11 +21,18 @@ is_access_of page (Read vcpu p c value) = p == page
 is_access_of page (Write vcpu p c value) = p == page
 is_access_of page _ = false
 
--- guest record n is a read or a write of the page after handover
-pub record IsLateAccess (s : Recorded) (page n : ℕ) : Type 0 where
+-- a read, a write or a release of the page
+abbrev pub is_touch_of : ℕ → GuestRec → Bool
+is_touch_of page (Read vcpu p c value) = p == page
+is_touch_of page (Write vcpu p c value) = p == page
+is_touch_of page (Release vcpu p) = p == page
+is_touch_of page _ = false
+
+-- guest record n is a read, a write or a release of the page after handover
+pub record IsLateTouch (s : Recorded) (page n : ℕ) : Type 0 where
   pub by : GuestRec
   pub stands : slice_get s.guest n ≡ Some by
-  pub is_access : is_access_of page by ≡ true
+  pub is_touch : is_touch_of page by ≡ true
   pub is_late : home s n ≡ AtTarget
 
 -- what each entry needs: the page's reads are flat, and it is sent only where it is owed, with its content at the halt
@@ -39,24 +46,32 @@ abbrev pub IsOnlyPlacement : Recorded → ℕ → ℕ → Type 0
 IsOnlyPlacement s page place =
     (n : ℕ) (r : PagerRec) → slice_get s.pager n ≡ Some r → is_placement_of page r ≡ true → n ≡ place
 
--- the first access after handover, with a look before it at the placement or at a later one
+-- the first touch after handover, with a look before it at the placement or at a later one
 pub record IsFirstCovered (s : Recorded) (page place : ℕ) (first : First) : Type 0 where
-  pub is_access : IsLateAccess s page first.access
-  pub is_first : (n : ℕ) → IsLateAccess s page n → first.access ≤ n
+  pub is_touch : IsLateTouch s page first.access
+  pub is_first : (n : ℕ) → IsLateTouch s page n → first.access ≤ n
   pub placement : ℕ
   pub sees : slice_get s.guest first.see ≡ Some (See placement)
   pub covers : place ≤ placement
   pub is_earlier : first.see < first.access
 
--- the first access after handover is covered by a look, or there is none
+-- the first touch after handover is covered by a look, or there is none
 abbrev pub IsCovered : Recorded → ℕ → ℕ → Option First → Type 0
-IsCovered s page place None = (n : ℕ) → IsLateAccess s page n → ⊥
+IsCovered s page place None = (n : ℕ) → IsLateTouch s page n → ⊥
 IsCovered s page place (Some first) = IsFirstCovered s page place first
 
--- the page is not placed, and not accessed after handover
+-- the page is not placed, and not touched after handover
 pub record IsNothing (s : Recorded) (page : ℕ) : Type 0 where
   pub unplaced : (n : ℕ) (r : PagerRec) → slice_get s.pager n ≡ Some r → is_placement_of page r ≡ false
-  pub unaccessed : (n : ℕ) → IsLateAccess s page n → ⊥
+  pub untouched : (n : ℕ) → IsLateTouch s page n → ⊥
+
+-- the page is not placed, and the first touch of it after handover is this release
+pub record IsFresh (s : Recorded) (page first : ℕ) : Type 0 where
+  pub unplaced : (n : ℕ) (r : PagerRec) → slice_get s.pager n ≡ Some r → is_placement_of page r ≡ false
+  pub vcpu : ℕ
+  pub is_release : slice_get s.guest first ≡ Some (Release vcpu page)
+  pub is_late : home s first ≡ AtTarget
+  pub is_first : (n : ℕ) → IsLateTouch s page n → first ≤ n
 
 -- the page is sent by one record of the source and placed by one of the pager, and nowhere else
 pub record IsFromSource (s : Recorded) (page send place : ℕ) (first : Option First) : Type 0 where
@@ -82,6 +97,7 @@ pub record IsBalloon (s : Recorded) (page place : ℕ) (first : Option First) : 
 -- what the entry says of its page is so
 abbrev pub IsOf : Recorded → ℕ → Entry → Type 0
 IsOf s page Nothing = IsNothing s page
+IsOf s page (Fresh first) = IsFresh s page first
 IsOf s page (Source send place first) = IsFromSource s page send place first
 IsOf s page (Balloon place first) = IsBalloon s page place first
 

@@ -1,20 +1,20 @@
 -- The faults of a page: a record and a reason.
-use Rattle.std.specs.Prelude.{◌≡◌, ◌≢◌, ℕ, suc, Bool, true, false, Option, Some, None, slice_get}
+use Rattle.std.specs.Prelude.{◌≡◌, ◌≢◌, ℕ, ◌≤◌, suc, Bool, true, false, Option, Some, None, slice_get}
 use Rattle.migration_types.specs.declared.records.LogName.TheVariants.{Guest, Source, Link, Pager}
 use Rattle.migration_types.specs.declared.records.GuestRec.{GuestRec}
-use Rattle.migration_types.specs.declared.records.GuestRec.TheVariants.{Read, See}
+use Rattle.migration_types.specs.declared.records.GuestRec.TheVariants.{Read, Release, See}
 use Rattle.migration_types.specs.declared.records.SourceRec.{SourceRec}
 use Rattle.migration_types.specs.declared.records.SourceRec.TheVariants.{Send}
 use Rattle.migration_types.specs.declared.records.PagerRec.{PagerRec}
 use Rattle.migration_types.specs.declared.records.PagerRec.TheVariants.{Place, Zero}
 use Rattle.migration_types.specs.Sessions.{Recorded}
 use Rattle.audit_model.specs.declared.reasons.PageReason.{PageReason}
-use Rattle.audit_model.specs.declared.reasons.PageReason.TheVariants.{Read as WrongRead, Early, Given, Stale, Twice, Altered, Unfit}
+use Rattle.audit_model.specs.declared.reasons.PageReason.TheVariants.{Read as WrongRead, Early, Given, Stale, Twice, Altered, Unfit, Over}
 use Rattle.migration_types.specs.Receipts.{Name}
 use Rattle.migration_types.specs.Memory.{page_of}
-use Rattle.audit_model.specs.Flat.{flat, in_ledger, AtTarget, home, at_halt}
+use Rattle.audit_model.specs.Flat.{flat, freed, in_ledger, AtTarget, home, at_halt}
 use Rattle.audit_model.specs.Shape.{is_placement_of, earlier}
-use Rattle.audit_model.specs.Certificates.{is_access_of}
+use Rattle.audit_model.specs.Certificates.{is_access_of, IsLateTouch}
 
 -- whether it is a look at the page's placement, or at a later one
 abbrev pub looks_at : Recorded → ℕ → GuestRec → Bool
@@ -25,11 +25,21 @@ looks_at s page _ = false
 abbrev pub has_looked : Recorded → ℕ → ℕ → Bool
 has_looked s page n = earlier (looks_at s page) s.guest n
 
--- an access after handover that no look before it covers
+-- an access after handover to a page that was not released there before, and that no look before it covers
 pub record IsEarly (s : Recorded) (n : ℕ) (r : GuestRec) (page : ℕ) : Type 0 where
   pub is_access : is_access_of page r ≡ true
   pub is_late : home s n ≡ AtTarget
+  pub is_kept : freed s n page ≡ false
   pub is_uncovered : has_looked s page n ≡ false
+
+-- the first touch of the page after handover is a release that no look before it covers
+pub record IsOver (s : Recorded) (page : ℕ) : Type 0 where
+  pub release : ℕ
+  pub vcpu : ℕ
+  pub stands : slice_get s.guest release ≡ Some (Release vcpu page)
+  pub is_late : home s release ≡ AtTarget
+  pub is_first : (n : ℕ) → IsLateTouch s page n → release ≤ n
+  pub is_uncovered : has_looked s page release ≡ false
 
 -- the guest's record n has a fault for this reason
 abbrev pub GuestFault : Recorded → PageReason → ℕ → GuestRec → Type 0
@@ -49,6 +59,8 @@ PagerFault s Twice n (Place p got content) = earlier (is_placement_of p) s.pager
 PagerFault s Twice n (Zero p) = earlier (is_placement_of p) s.pager n ≡ true
 PagerFault s Altered n (Place p got content) = content ≢ page_of s.geometry.cells (flat s (at_halt s)) p
 PagerFault s Unfit n (Zero p) = in_ledger s (at_halt s) p ≡ false
+PagerFault s Over n (Place p got content) = (earlier (is_placement_of p) s.pager n ≡ false) × IsOver s p
+PagerFault s Over n (Zero p) = (earlier (is_placement_of p) s.pager n ≡ false) × IsOver s p
 PagerFault s _ n _ = ⊥
 
 -- the record is there, and has a fault

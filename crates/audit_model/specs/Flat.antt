@@ -56,6 +56,22 @@ abbrev pub is_target : Home → Bool
 is_target AtTarget = true
 is_target _ = false
 
+-- whether a page is freed after a record that releases it or not, by where the guest is
+abbrev pub freed_page : Home → Bool → Bool → Bool
+freed_page AtSource releases old = old
+freed_page Nowhere releases old = old
+freed_page AtTarget releases old = if releases then true else old
+
+-- whether a page is freed after this record, by where the guest is
+abbrev pub freed_after : Home → ℕ → GuestRec → Bool → Bool
+freed_after h page (Release vcpu p) old = freed_page h (p == page) old
+freed_after h page _ old = old
+
+-- the pages that the guest has released at the target before its record n
+abbrev pub freed : Recorded → ℕ → ℕ → Bool
+freed s zero page = false
+freed s (suc n) page = changed (freed_after (home s n) page) (slice_get s.guest n) (freed s n page)
+
 -- the place of the first halt, or the log's length where there is none
 abbrev pub halt_place : List GuestRec → ℕ
 halt_place [] = 0

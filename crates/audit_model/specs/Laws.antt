@@ -2,25 +2,26 @@
 use Rattle.std.specs.Prelude.{◌≡◌, ◌≢◌, ◌↔◌, ℕ, true, false, List, Some, Contains, slice_get}
 use Rattle.migration_types.specs.declared.records.LogName.TheVariants.{Guest, Pager}
 use Rattle.migration_types.specs.declared.records.GuestRec.{GuestRec}
-use Rattle.migration_types.specs.declared.records.GuestRec.TheVariants.{Read}
+use Rattle.migration_types.specs.declared.records.GuestRec.TheVariants.{Read, Release}
 use Rattle.migration_types.specs.declared.records.SourceRec.TheVariants.{Send}
 use Rattle.migration_types.specs.declared.records.PagerRec.{PagerRec}
 use Rattle.migration_types.specs.declared.records.PagerRec.TheVariants.{Zero}
 use Rattle.migration_types.specs.declared.cert.First.{First}
 use Rattle.migration_types.specs.declared.cert.Run.{Run}
 use Rattle.migration_types.specs.declared.cert.Entry.{Entry}
-use Rattle.migration_types.specs.declared.cert.Entry.TheVariants.{Source, Balloon}
+use Rattle.migration_types.specs.declared.cert.Entry.TheVariants.{Fresh, Source, Balloon}
 use Rattle.migration_types.specs.Certs.{Certified}
+use Rattle.migration_types.specs.declared.version.Version.TheVariants.{One}
 use Rattle.migration_types.specs.Receipts.{Name}
 use Rattle.migration_types.specs.Sessions.{Recorded, IsSession}
 use Rattle.audit_model.specs.declared.reasons.PageReason.{PageReason}
-use Rattle.audit_model.specs.declared.reasons.PageReason.TheVariants.{Early}
+use Rattle.audit_model.specs.declared.reasons.PageReason.TheVariants.{Early, Over}
 use Rattle.audit_model.specs.Mergings.{IsMerging, HasMerging, StandsAfter, spelled}
-use Rattle.audit_model.specs.Flat.{flat, in_ledger, AtTarget, home, at_halt}
+use Rattle.audit_model.specs.Flat.{flat, freed, in_ledger, AtTarget, home, at_halt}
 use Rattle.audit_model.specs.World.{World, world_after, memory_at, Demand, IsSafe}
 use Rattle.audit_model.specs.Shape.{IsRightShape, is_placement_of}
-use Rattle.audit_model.specs.Certificates.{is_access_of, IsRightCertificate}
-use Rattle.audit_model.specs.Faults.{IsEarly, IsPageFault, HasNoPageFault}
+use Rattle.audit_model.specs.Certificates.{is_access_of, IsRightEntry, IsRightCertificate}
+use Rattle.audit_model.specs.Faults.{IsEarly, IsOver, IsPageFault, HasNoPageFault}
 use Rattle.audit_model.specs.Delayed.{IsFirstPlacement, IsDelayedOrder}
 
 -- a session in its limits, of the right shape, with a right certificate
@@ -92,10 +93,10 @@ pub record IsFaultless (s : Recorded) : Type 0 where
 abbrev pub BreaksAt : Recorded → List Name → Name → Type 0
 BreaksAt s order name = (earlier : List Name) → StandsAfter order earlier name → Demand s name (world_after s earlier) → ⊥
 
--- a page fault other than Early breaks the demand at its record, in every merging
+-- a page fault other than Early and Over breaks the demand at its record, in every merging
 abbrev pub FaultsBreak : Recorded → Type 0
 FaultsBreak s =
-    (order : List Name) → IsMerging s order → (reason : PageReason) (name : Name) → reason ≢ Early →
+    (order : List Name) → IsMerging s order → (reason : PageReason) (name : Name) → reason ≢ Early → reason ≢ Over →
     IsPageFault s reason name → BreaksAt s order name
 
 -- an access with no look at its page's placement breaks the demand where that placement is delayed
@@ -104,6 +105,12 @@ DelayedBreaks s =
     (order : List Name) → IsMerging s order → (n page place : ℕ) (r : GuestRec) → slice_get s.guest n ≡ Some r →
     IsEarly s n r page → IsFirstPlacement s page place → (delayed : List Name) →
     IsDelayedOrder s order (Pager, place) delayed → IsMerging s delayed × BreaksAt s delayed (Guest, n)
+
+-- a placement that may come after a release of its page at the target breaks the demand where it is delayed
+abbrev pub DelayedOver : Recorded → Type 0
+DelayedOver s =
+    (order : List Name) → IsMerging s order → (place : ℕ) → IsPageFault s Over (Pager, place) → (delayed : List Name) →
+    IsDelayedOrder s order (Pager, place) delayed → IsMerging s delayed × BreaksAt s delayed (Pager, place)
 
 -- in this order no placement of the page stands before the record of this name
 abbrev pub UnplacedBefore : Recorded → List Name → ℕ → Name → Type 0
@@ -138,7 +145,18 @@ SafeExactlyIfClean s = IsSession s → IsRightShape s → HasMerging s → IsSaf
 abbrev pub HasCertificate : Recorded → Type 0
 HasCertificate s =
     (runs : List Run) → IsMerging s (spelled runs) →
-    (entries : List Entry) × IsRightCertificate s (record { entries = entries; runs = runs })
+    (entries : List Entry) × IsRightCertificate s (record { version = s.version; entries = entries; runs = runs })
+
+-- Nothing that is new in the second version is met in a session of the first: no page is released at the target, so
+-- none is freed there, no placement is over such a release, and no right certificate has a fresh page.
+pub record IsPlain (s : Recorded) : Type 0 where
+  pub releases_before : (n vcpu page : ℕ) → slice_get s.guest n ≡ Some (Release vcpu page) → home s n ≡ AtTarget → ⊥
+  pub none_freed : (n page : ℕ) → freed s n page ≡ false
+  pub none_over : (page : ℕ) → IsOver s page → ⊥
+  pub none_fresh : (page first : ℕ) → IsRightEntry s page (Fresh first) → ⊥
+
+abbrev pub FirstVersionIsPlain : Recorded → Type 0
+FirstVersionIsPlain s = s.version ≡ One → IsRightShape s → IsPlain s
 
 -- a session with a right certificate in which a page comes from the source, and is accessed at the target
 pub record CertifiedFromSource : Type 0 where
@@ -160,3 +178,12 @@ pub record CertifiedBalloon : Type 0 where
   pub place : ℕ
   pub first : First
   pub entry : slice_get certificate.entries page ≡ Some (Balloon place (Some first))
+
+-- a session with a right certificate in which a page is released at the target, where it never comes
+pub record CertifiedFresh : Type 0 where
+  pub session : Recorded
+  pub certificate : Certified
+  pub is_certified : IsCertified session certificate
+  pub page : ℕ
+  pub first : ℕ
+  pub entry : slice_get certificate.entries page ≡ Some (Fresh first)

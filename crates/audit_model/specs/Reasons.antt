@@ -3,7 +3,7 @@ use Rattle.std.specs.Prelude.{ℕ, List, [], ◌∷◌, codes}
 use Rattle.audit_model.specs.declared.reasons.ShapeReason.{ShapeReason}
 use Rattle.audit_model.specs.declared.reasons.ShapeReason.TheVariants.{Phases, Named, Start, SecondSend}
 use Rattle.audit_model.specs.declared.reasons.PageReason.{PageReason}
-use Rattle.audit_model.specs.declared.reasons.PageReason.TheVariants.{Read, Early, Given, Stale, Twice, Altered, Unfit}
+use Rattle.audit_model.specs.declared.reasons.PageReason.TheVariants.{Read, Early, Given, Stale, Twice, Altered, Unfit, Over}
 
 -- why a record is not of the right shape: of several reasons the first counts
 abbrev pub shape_reasons : List ShapeReason
@@ -25,7 +25,7 @@ shape_word SecondSend = codes "second-send"
 
 -- why a record is a fault of its page: of several reasons the first counts
 abbrev pub page_reasons : List PageReason
-page_reasons = Read ∷ Early ∷ Given ∷ Stale ∷ Twice ∷ Altered ∷ Unfit ∷ []
+page_reasons = Read ∷ Early ∷ Given ∷ Stale ∷ Twice ∷ Altered ∷ Unfit ∷ Over ∷ []
 
 -- the place of a reason of pages among these
 abbrev pub page_rank : PageReason → ℕ
@@ -36,6 +36,7 @@ page_rank Stale = 3
 page_rank Twice = 4
 page_rank Altered = 5
 page_rank Unfit = 6
+page_rank Over = 7
 
 -- its word
 abbrev pub page_word : PageReason → List ℕ
@@ -46,3 +47,4 @@ page_word Stale = codes "stale"
 page_word Twice = codes "twice"
 page_word Altered = codes "altered"
 page_word Unfit = codes "unfit"
+page_word Over = codes "over"

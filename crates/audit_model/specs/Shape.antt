@@ -9,6 +9,8 @@ use Rattle.migration_types.specs.declared.records.LinkRec.{LinkRec}
 use Rattle.migration_types.specs.declared.records.LinkRec.TheVariants.{Down, Up}
 use Rattle.migration_types.specs.declared.records.PagerRec.{PagerRec}
 use Rattle.migration_types.specs.declared.records.PagerRec.TheVariants.{Got, Ready, Fault, Join, Want, Place, Zero, Skip, All}
+use Rattle.migration_types.specs.declared.version.Version.{Version}
+use Rattle.migration_types.specs.declared.version.Version.TheVariants.{One, Two}
 use Rattle.migration_types.specs.Sessions.{Recorded}
 use Rattle.audit_model.specs.declared.reasons.ShapeReason.{ShapeReason}
 use Rattle.audit_model.specs.declared.reasons.ShapeReason.TheVariants.{Phases, Named, Start, SecondSend}
@@ -129,19 +131,24 @@ delivers s test got = passes (λ sending. passes (is_or_repeats s test) (slice_g
 abbrev pub earlier : {A : Type 0} → (A → Bool) → List A → ℕ → Bool
 earlier test log n = before (λ x found. test x || found) false log n
 
--- whether the record's phase allows it, by whether there was a halt, and a resume
-abbrev pub in_phase_by : Bool → Bool → GuestRec → Bool
-in_phase_by halted resumed Halt = not halted
-in_phase_by halted resumed (Resume ready) = not resumed && halted
-in_phase_by halted resumed (Read vcpu p c value) = not halted || resumed
-in_phase_by halted resumed (Write vcpu p c value) = not halted || resumed
-in_phase_by halted resumed (Release vcpu p) = not halted && not resumed
-in_phase_by halted resumed (Miss vcpu p) = resumed
-in_phase_by halted resumed (See placement) = resumed
+-- whether a release's phase allows it: in the first version a page is released before the halt alone
+abbrev pub may_release : Version → Bool → Bool → Bool
+may_release One halted resumed = not halted && not resumed
+may_release Two halted resumed = not halted || resumed
+
+-- whether the record's phase allows it, by the version and by whether there was a halt, and a resume
+abbrev pub in_phase_by : Version → Bool → Bool → GuestRec → Bool
+in_phase_by version halted resumed Halt = not halted
+in_phase_by version halted resumed (Resume ready) = not resumed && halted
+in_phase_by version halted resumed (Read vcpu p c value) = not halted || resumed
+in_phase_by version halted resumed (Write vcpu p c value) = not halted || resumed
+in_phase_by version halted resumed (Release vcpu p) = may_release version halted resumed
+in_phase_by version halted resumed (Miss vcpu p) = resumed
+in_phase_by version halted resumed (See placement) = resumed
 
 -- whether the phase of the guest's record n allows it
 abbrev pub in_phase : Recorded → ℕ → GuestRec → Bool
-in_phase s n r = in_phase_by (earlier is_halt s.guest n) (earlier is_resume s.guest n) r
+in_phase s n r = in_phase_by s.version (earlier is_halt s.guest n) (earlier is_resume s.guest n) r
 
 -- whether a record of the guest names a record of the kind that it must
 abbrev pub guest_named : Recorded → GuestRec → Bool

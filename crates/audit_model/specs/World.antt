@@ -43,12 +43,12 @@ write_at Nowhere p c value w = w
 write_at AtTarget p c value w =
     record w { target = if w.resident p then with_cell p c value w.target else w.target; touched = with_page p w.touched }
 
--- a release where the guest is: zeros, in the ledger at the source, and at the target as with a write
+-- a release where the guest is: zeros; in the ledger at the source, resident and touched at the target
 abbrev pub release_at : Home → ℕ → World → World
 release_at AtSource p w = record w { source = with_zeros p w.source; ledger = with_page p w.ledger }
 release_at Nowhere p w = w
 release_at AtTarget p w =
-    record w { target = if w.resident p then with_zeros p w.target else w.target; touched = with_page p w.touched }
+    record w { target = with_zeros p w.target; resident = with_page p w.resident; touched = with_page p w.touched }
 
 -- a read touches its page at the target
 abbrev pub read_at : Home → ℕ → World → World

@@ -1,5 +1,5 @@
 -- The world before each record of a merging, which the cursors of what was taken decide.
-use Rattle.std.specs.Prelude.{◌≡◌, ℕ, zero, suc, ◌<◌, ◌≤◌, Bool, true, false, ◌==◌, List, ◌++◌, Some, slice_get, if◌then◌else◌}
+use Rattle.std.specs.Prelude.{◌≡◌, ℕ, zero, suc, ◌<◌, ◌≤◌, Bool, true, false, ◌||◌, ◌==◌, List, ◌++◌, Some, slice_get, if◌then◌else◌}
 use Rattle.migration_types.specs.declared.records.LogName.{LogName}
 use Rattle.migration_types.specs.declared.records.LogName.TheVariants.{Guest, Pager}
 use Rattle.migration_types.specs.declared.records.GuestRec.{GuestRec}
@@ -9,7 +9,7 @@ use Rattle.migration_types.specs.Sessions.{Recorded}
 use Rattle.audit_model.specs.Names.{log_length, receipt}
 use Rattle.audit_model.specs.Mergings.{IsMerging, Cursors, at_start}
 use Rattle.audit_model.specs.Walks.{cursors_from}
-use Rattle.audit_model.specs.Flat.{changed, flat, in_ledger, Home, AtSource, Nowhere, AtTarget, home, at_halt}
+use Rattle.audit_model.specs.Flat.{changed, flat, freed, in_ledger, Home, AtSource, Nowhere, AtTarget, home, at_halt}
 use Rattle.audit_model.specs.Shape.{is_placement_of, earlier}
 use Rattle.audit_model.specs.World.{World, world_after}
 
@@ -46,6 +46,10 @@ touched s (suc n) page = changed (touch_after (home s n) page) (slice_get s.gues
 abbrev pub placed_before : Recorded → ℕ → ℕ → Bool
 placed_before s n page = earlier (is_placement_of page) s.pager n
 
+-- the pages that are resident at guest record g and pager record p: placed, or released at the target
+abbrev pub resident_before : Recorded → ℕ → ℕ → ℕ → Bool
+resident_before s g p page = placed_before s p page || freed s g page
+
 -- the world at guest record g and pager record p, with the guest at h
 pub record IsWorld (s : Recorded) (h : Home) (g p : ℕ) (w : World) : Type 0 where
   pub home_is : w.home ≡ h
@@ -53,7 +57,7 @@ pub record IsWorld (s : Recorded) (h : Home) (g p : ℕ) (w : World) : Type 0 wh
   pub ledger_is : (page : ℕ) → w.ledger page ≡ in_ledger s (come_to h g (at_halt s)) page
   pub touched_is : (page : ℕ) → w.touched page ≡ touched s g page
   pub placed_is : (page : ℕ) → w.placed page ≡ placed_before s p page
-  pub resident_is : (page : ℕ) → w.resident page ≡ placed_before s p page
+  pub resident_is : (page : ℕ) → w.resident page ≡ resident_before s g p page
 
 -- the cut is consistent, and the world is the one at its cursors
 pub record IsAt (s : Recorded) (c : Cursors) (w : World) : Type 0 where

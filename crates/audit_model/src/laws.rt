@@ -12,7 +12,7 @@ ghost use Rattle.audit_model.specs.FoundOrder.{IsKnot};
 ghost use Rattle.audit_model.specs.World.{IsSafe};
 ghost use Rattle.audit_model.specs.Worlds.{FollowsCursors, TargetIsFlat};
 ghost use Rattle.audit_model.specs.Shape.{IsRightShape};
-ghost use Rattle.audit_model.specs.Laws.{IsCertified, FindsResident, ReadsFlat, PlacedOnce, PlacedUntouched, ReleasedAsZeros, IsMigrated, IsFaultless, FaultsBreak, DelayedBreaks, DelayedUnplaced, HasDelayedOrders, UnplacedBreaks, SafeExactlyIfClean, HasCertificate, CertifiedFromSource, CertifiedBalloon};
+ghost use Rattle.audit_model.specs.Laws.{IsCertified, FindsResident, ReadsFlat, PlacedOnce, PlacedUntouched, ReleasedAsZeros, IsMigrated, IsFaultless, FaultsBreak, DelayedBreaks, DelayedUnplaced, HasDelayedOrders, UnplacedBreaks, DelayedOver, SafeExactlyIfClean, HasCertificate, FirstVersionIsPlain, CertifiedFromSource, CertifiedBalloon, CertifiedFresh};
 
 /// A list of names is a merging exactly where it is a walk of one cursor for each log, to the end of each. Where
 /// records are left and none of the next ones may follow, there is no merging; nor is there one where the found order
@@ -50,13 +50,15 @@ pub fn certified_is_safe()
 
 /// A session of the right shape with no fault of a page is safe, and a fault of a page breaks the demand at its record:
 /// an early access where its page's placement is delayed, so that none of the page's placements stands before it, or in
-/// each merging where there is none, and any other fault in each merging. So where there is a merging, the session is safe exactly where no page has a fault.
+/// each merging where there is none; a placement over a release where it is delayed; and any other fault in each
+/// merging. So where there is a merging, the session is safe exactly where no page has a fault.
 pub fn faults_are_unsafe()
     ensures clean { (s : Recorded) → IsFaultless s → IsSafe s }
     ensures faults { (s : Recorded) → IsRightShape s → FaultsBreak s }
     ensures delayed { (s : Recorded) → IsRightShape s → DelayedBreaks s }
     ensures delayed_unplaced { (s : Recorded) → IsRightShape s → DelayedUnplaced s }
     ensures has_delayed { (s : Recorded) → HasDelayedOrders s }
+    ensures delayed_over { (s : Recorded) → IsRightShape s → DelayedOver s }
     ensures unplaced { (s : Recorded) → IsRightShape s → UnplacedBreaks s }
     ensures exactly { (s : Recorded) → SafeExactlyIfClean s }
 {}
@@ -66,9 +68,16 @@ pub fn clean_is_certified()
     ensures { (s : Recorded) → IsFaultless s → HasCertificate s }
 {}
 
-/// There are sessions of the right shape with right certificates: one in which a page comes from the source, and one in
-/// which a released page comes back as zeros, each of them used at the target.
+/// A session of the first version and of the right shape meets nothing that is new in the second.
+pub fn first_version_is_plain()
+    ensures { (s : Recorded) → FirstVersionIsPlain s }
+{}
+
+/// There are sessions of the right shape with right certificates: one in which a page comes from the source, one in
+/// which a released page comes back as zeros, each of them used at the target, and one in which a page is released at
+/// the target, where it never comes.
 pub fn premises_can_be_met()
     ensures from_source { CertifiedFromSource }
     ensures balloon { CertifiedBalloon }
+    ensures fresh { CertifiedFresh }
 {}

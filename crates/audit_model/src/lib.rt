@@ -18,8 +18,8 @@ pub use asked::{
 };
 pub use home::Home;
 pub use laws::{
-    certified_is_safe, clean_is_certified, faults_are_unsafe, mergings_are_walks,
-    premises_can_be_met, worlds_follow_cursors,
+    certified_is_safe, clean_is_certified, faults_are_unsafe, first_version_is_plain,
+    mergings_are_walks, premises_can_be_met, worlds_follow_cursors,
 };
 pub use naming::{
     guest_named, in_phase, link_named, pager_named, pager_start, source_named, source_start,

@@ -1,23 +1,34 @@
 //! Whether one record has the right shape: it stands in its phase and where its kind may, and names what it has to.
 
 ghost use Rattle.std.specs.Prelude.{◌≡◌};
-ghost use Rattle.audit_model.specs.Shape.{in_phase_by, guest_named, source_named, link_named, pager_named, source_start, pager_start};
+ghost use Rattle.audit_model.specs.Shape.{may_release, in_phase_by, guest_named, source_named, link_named, pager_named, source_start, pager_start};
 
 use crate::asked::{
     delivers_send, delivers_state, goes_down, goes_up, is_down, is_got, is_halt, is_miss,
     is_placement, is_ready, is_sending, is_up, is_want,
 };
-use migration_types::{GuestRec, LinkRec, PagerRec, Session, SourceRec};
+use migration_types::{GuestRec, LinkRec, PagerRec, Session, SourceRec, Version};
 
-/// Whether a record of the guest stands in a phase that allows it, by whether there was a halt and a resume before it.
-pub fn in_phase(rec: &GuestRec, halted: bool, resumed: bool) -> bool
-    ensures { result ≡ in_phase_by halted resumed rec.now }
+/// Whether a release stands in a phase that allows it, by whether there was a halt and a resume before it.
+fn may_release(version: Version, halted: bool, resumed: bool) -> bool
+    ensures { result ≡ may_release version halted resumed }
+{
+    match version {
+        Version::One => !halted && !resumed,
+        Version::Two => !halted || resumed,
+    }
+}
+
+/// Whether a record of the guest stands in a phase that allows it in a session of this version, by whether there was a
+/// halt and a resume before it.
+pub fn in_phase(version: Version, rec: &GuestRec, halted: bool, resumed: bool) -> bool
+    ensures { result ≡ in_phase_by version halted resumed rec.now }
 {
     match rec {
         GuestRec::Halt => !halted,
         GuestRec::Resume { .. } => !resumed && halted,
         GuestRec::Read { .. } | GuestRec::Write { .. } => !halted || resumed,
-        GuestRec::Release { .. } => !halted && !resumed,
+        GuestRec::Release { .. } => may_release(version, halted, resumed),
         GuestRec::Miss { .. } | GuestRec::See { .. } => resumed,
     }
 }

@@ -9,7 +9,7 @@ ghost use Rattle.audit_model.specs.Reasons.{shape_reasons, rank, shape_word, pag
 #[derive(Clone, Copy, Debug, PartialEq, Eq)]
 pub enum ShapeReason {
     /// It stands in the wrong phase: a second halt or resume, a resume before the halt, a read, a write or a release
-    /// between the two, a miss or a look before the resume, or a release after it.
+    /// between the two, a miss or a look before the resume, or, in the first version, a release after it.
     Phases,
     /// It names no record of the kind that it has to name.
     Named,
@@ -55,7 +55,8 @@ impl ShapeReason {
 pub enum PageReason {
     /// It reads another value than a machine that never moved would.
     Read,
-    /// It reads or writes a page at the target, and no look before it covers the page's placement.
+    /// It reads or writes a page at the target that was not released there before, and no look before it covers the
+    /// page's placement.
     Early,
     /// It sends a page that was released at the halt.
     Given,
@@ -67,11 +68,14 @@ pub enum PageReason {
     Altered,
     /// It places zeros for a page that was not released at the halt.
     Unfit,
+    /// It places a page whose first use at the target is a release, and no look before this release covers the
+    /// placement.
+    Over,
 }
 
 impl PageReason {
     /// The reasons, in their order.
-    pub const ALL: [PageReason; 7] = [
+    pub const ALL: [PageReason; 8] = [
         PageReason::Read,
         PageReason::Early,
         PageReason::Given,
@@ -79,10 +83,11 @@ impl PageReason {
         PageReason::Twice,
         PageReason::Altered,
         PageReason::Unfit,
+        PageReason::Over,
     ];
 
     /// The reasons, in their order.
-    pub fn all() -> [PageReason; 7]
+    pub fn all() -> [PageReason; 8]
         ensures list { result ≡ page_reasons }
         ensures order { (reason : PageReason) → slice_get page_reasons (page_rank reason) ≡ Some reason }
     {
@@ -101,6 +106,7 @@ impl PageReason {
             PageReason::Twice => b"twice",
             PageReason::Altered => b"altered",
             PageReason::Unfit => b"unfit",
+            PageReason::Over => b"over",
         }
     }
 }

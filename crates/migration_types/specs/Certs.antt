@@ -4,24 +4,29 @@ use Rattle.std.specs.List.{AllByRecursion}
 use Rattle.migration_types.specs.declared.cert.Run.{Run}
 use Rattle.migration_types.specs.declared.cert.First.{First}
 use Rattle.migration_types.specs.declared.cert.Entry.{Entry}
-use Rattle.migration_types.specs.declared.cert.Entry.TheVariants.{Nothing, Source, Balloon}
+use Rattle.migration_types.specs.declared.cert.Entry.TheVariants.{Nothing, Fresh, Source, Balloon}
+use Rattle.migration_types.specs.declared.version.Version.{Version}
+use Rattle.migration_types.specs.declared.version.Version.TheVariants.{One, Two}
 use Rattle.migration_types.specs.Limits.{most_pages, most_records, most_runs}
 use Rattle.migration_types.specs.Sessions.{IsNumber}
 
--- what a certificate says: an entry for each page, and the runs of a merging
+-- what a certificate says, and in which version: an entry for each page, and the runs of a merging
 pub record Certified : Type 0 where
+  pub version : Version
   pub entries : List Entry
   pub runs : List Run
 
--- the numbers of an entry are numbers of records
+-- the numbers of an entry are numbers of records, and only the second version has fresh pages
 abbrev pub FirstFits : Option First → Type 0
 FirstFits None = Unit {0}
 FirstFits (Some first) = IsNumber first.access × IsNumber first.see
 
-abbrev pub EntryFits : Entry → Type 0
-EntryFits Nothing = Unit {0}
-EntryFits (Source send place first) = IsNumber send × IsNumber place × FirstFits first
-EntryFits (Balloon place first) = IsNumber place × FirstFits first
+abbrev pub EntryFits : Version → Entry → Type 0
+EntryFits version Nothing = Unit {0}
+EntryFits One (Fresh first) = ⊥
+EntryFits Two (Fresh first) = IsNumber first
+EntryFits version (Source send place first) = IsNumber send × IsNumber place × FirstFits first
+EntryFits version (Balloon place first) = IsNumber place × FirstFits first
 
 -- a run takes some records, and no more than a log has
 pub record RunFits (run : Run) : Type 0 where
@@ -42,5 +47,5 @@ pub record AreRuns (runs : List Run) : Type 0 where
 pub record IsCert (c : Certified) : Type 0 where
   pub some_pages : 1 ≤ length c.entries
   pub few_pages : length c.entries ≤ most_pages
-  pub entries : AllByRecursion EntryFits c.entries
+  pub entries : AllByRecursion (EntryFits c.version) c.entries
   pub runs : AreRuns c.runs

@@ -3,6 +3,8 @@ use Rattle.std.specs.Prelude.{ℕ, ◌+◌, ◌<◌, ◌≤◌, ◌^◌, List, l
 use Rattle.std.specs.List.{AllByRecursion}
 use Rattle.text_lines.specs.Contents.{IsContent}
 use Rattle.migration_types.specs.declared.pages.InitPage.{InitPage}
+use Rattle.migration_types.specs.declared.version.Version.{Version}
+use Rattle.migration_types.specs.declared.version.Version.TheVariants.{One, Two}
 use Rattle.migration_types.specs.declared.records.LogName.{LogName}
 use Rattle.migration_types.specs.declared.records.LogName.TheVariants.{Guest, Source, Link, Pager}
 use Rattle.migration_types.specs.declared.records.GuestRec.{GuestRec}
@@ -19,8 +21,9 @@ use Rattle.migration_types.specs.Extents.{Extent, IsExtent}
 use Rattle.migration_types.specs.Pages.{AreInitPages}
 use Rattle.migration_types.specs.Receipts.{Name}
 
--- what was recorded: the machine, the pages that do not begin as zeros, and the logs of the four parties
+-- what was recorded, and in which version: the machine, the pages that do not begin as zeros, and the logs of the four parties
 pub record Recorded : Type 0 where
+  pub version : Version
   pub geometry : Extent
   pub init : List InitPage
   pub guest : List GuestRec
@@ -29,8 +32,8 @@ pub record Recorded : Type 0 where
   pub pager : List PagerRec
 
 -- what was recorded, by its parts
-abbrev pub recorded : Extent → List InitPage → Logs → Recorded
-recorded geometry init logs = record { geometry = geometry; init = init; guest = logs.guest; source = logs.source; link = logs.link; pager = logs.pager }
+abbrev pub recorded : Version → Extent → List InitPage → Logs → Recorded
+recorded version geometry init logs = record { version = version; geometry = geometry; init = init; guest = logs.guest; source = logs.source; link = logs.link; pager = logs.pager }
 
 -- a record's number is its place in its log
 abbrev pub IsNumber : ℕ → Type 0
@@ -89,10 +92,15 @@ log_length s Source = length s.source
 log_length s Link = length s.link
 log_length s Pager = length s.pager
 
+-- how many lines of the lane the text of a session has, between the link's records and the pager's
+abbrev pub lane_lines : Version → ℕ
+lane_lines One = 0
+lane_lines Two = 1
+
 -- The line at which the text of a session has a record. Five lines and those of the initial pages stand before the
--- guest's records, and one line before each other log's.
+-- guest's records, and one line before each other log's; in the second version the lane's stands before the pager's too.
 abbrev pub line_of : Recorded → Name → ℕ
 line_of s (Guest, n) = 6 + length s.init + n
 line_of s (Source, n) = 7 + length s.init + length s.guest + n
 line_of s (Link, n) = 8 + length s.init + length s.guest + length s.source + n
-line_of s (Pager, n) = 9 + length s.init + length s.guest + length s.source + length s.link + n
+line_of s (Pager, n) = 9 + length s.init + length s.guest + length s.source + length s.link + lane_lines s.version + n

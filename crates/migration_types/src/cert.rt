@@ -5,6 +5,7 @@ ghost use Rattle.migration_types.specs.Certs.{IsCert};
 
 use crate::records::LogName;
 use crate::seq::Seq;
+use crate::version::Version;
 use std::marker::Model;
 
 /// A certificate has at most so many runs.
@@ -17,7 +18,7 @@ pub struct Run {
     pub count: u32,
 }
 
-/// The first read or write of a page at the target, and the look at the page's placement that stands before it: the
+/// The first read, write or release of a page at the target, and the look at the page's placement that stands before it: the
 /// numbers of these two records of the guest.
 #[derive(Clone, Copy, Debug, PartialEq, Eq)]
 pub struct First {
@@ -30,24 +31,30 @@ pub struct First {
 pub enum Entry {
     /// It was not placed at the target, and not used there.
     Nothing,
+    /// It was not placed at the target, and this record of the guest, its first use there, released it. In certificates
+    /// of the second version alone.
+    Fresh {
+        first: u32,
+    },
     /// It was sent by this record of the source, and placed by this record of the pager.
     Source {
         send: u32,
         place: u32,
-        /// None where the page was not read or written at the target.
+        /// None where the page was not read, written or released at the target.
         first: Option<First>,
     },
     /// It was released at the halt, and placed as zeros by this record of the pager.
     Balloon {
         place: u32,
-        /// None where the page was not read or written at the target.
+        /// None where the page was not read, written or released at the target.
         first: Option<First>,
     },
 }
 
-/// A certificate, within all limits: an entry for each page, and the runs of a merging.
+/// A certificate of one of the versions, within all limits: an entry for each page, and the runs of a merging.
 #[derive(Drop)]
 pub struct Cert {
+    version: Version,
     entries: Seq<Entry>,
     runs: Seq<Run>,
 }
@@ -57,18 +64,29 @@ impl Model for Cert {
 
     ghost Value = { Certified };
 
-    ghost view = { λ a. record { entries = a.entries; runs = a.runs } };
+    ghost view = { λ a. record { version = a.version; entries = a.entries; runs = a.runs } };
 
-    ghost invariant = { λ a. IsCert (record { entries = a.entries; runs = a.runs }) };
+    ghost invariant = { λ a. IsCert (record { version = a.version; entries = a.entries; runs = a.runs }) };
 }
 
 impl Cert {
     /// The certificate of these parts. Takes no memory.
-    pub fn new(entries: Seq<Entry>, runs: Seq<Run>) -> Self
-        requires { IsCert (record { entries = entries; runs = runs }) }
-        ensures { result ≡ record { entries = entries; runs = runs } }
+    pub fn new(version: Version, entries: Seq<Entry>, runs: Seq<Run>) -> Self
+        requires { IsCert (record { version = version; entries = entries; runs = runs }) }
+        ensures { result ≡ record { version = version; entries = entries; runs = runs } }
     {
-        Cert { entries, runs }
+        Cert {
+            version,
+            entries,
+            runs,
+        }
+    }
+
+    /// Which version of the texts it is of.
+    pub fn version(&self) -> Version
+        ensures { result ≡ self.now.version }
+    {
+        self.version
     }
 
     /// The pages' entries, page 0 first.

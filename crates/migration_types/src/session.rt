@@ -7,6 +7,7 @@ use crate::geometry::Geometry;
 use crate::pages::InitPage;
 use crate::records::{GuestRec, LinkRec, PagerRec, SourceRec};
 use crate::seq::Seq;
+use crate::version::Version;
 use std::marker::Model;
 
 /// The logs of the four parties.
@@ -18,10 +19,11 @@ pub struct Logs {
     pub pager: Seq<PagerRec>,
 }
 
-/// A recorded session, within all limits: a machine, the pages that do not begin as zeros, and the logs of the guest,
+/// A recorded session of one of the versions, within all limits: a machine, the pages that do not begin as zeros, and the logs of the guest,
 /// the source, the link and the pager.
 #[derive(Drop)]
 pub struct Session {
+    version: Version,
     geometry: Geometry,
     init: Seq<InitPage>,
     logs: Logs,
@@ -32,22 +34,30 @@ impl Model for Session {
 
     ghost Value = { Recorded };
 
-    ghost view = { λ a. recorded a.geometry a.init a.logs };
+    ghost view = { λ a. recorded a.version a.geometry a.init a.logs };
 
-    ghost invariant = { λ a. IsSession (recorded a.geometry a.init a.logs) };
+    ghost invariant = { λ a. IsSession (recorded a.version a.geometry a.init a.logs) };
 }
 
 impl Session {
     /// The session of these parts. Takes no memory.
-    pub fn new(geometry: Geometry, init: Seq<InitPage>, logs: Logs) -> Self
-        requires { IsSession (recorded geometry init logs) }
-        ensures { result ≡ recorded geometry init logs }
+    pub fn new(version: Version, geometry: Geometry, init: Seq<InitPage>, logs: Logs) -> Self
+        requires { IsSession (recorded version geometry init logs) }
+        ensures { result ≡ recorded version geometry init logs }
     {
         Session {
+            version,
             geometry,
             init,
             logs,
         }
+    }
+
+    /// Which version of the texts it is of.
+    pub fn version(&self) -> Version
+        ensures { result ≡ self.now.version }
+    {
+        self.version
     }
 
     /// The machine's geometry.

@@ -1,0 +1,42 @@
+-- A session of the first version and of the right shape releases no page at the target.
+use Rattle.std.proofs.Common.{◌≡◌, ℕ, zero, suc, Bool, false, ◌==◌, Option, Some, None, refl, sym, ◌∙◌}
+use Rattle.std.specs.Prelude.{slice_get}
+use Rattle.migration_types.specs.declared.records.GuestRec.{GuestRec}
+use Rattle.migration_types.specs.declared.records.GuestRec.TheVariants.{Read, Write, Release, Miss, Halt, Resume, See}
+use Rattle.migration_types.specs.declared.version.Version.TheVariants.{One}
+use Rattle.migration_types.specs.Sessions.{Recorded}
+use Rattle.audit_model.specs.Flat.{changed, freed, freed_page, freed_after, Home, AtSource, Nowhere, AtTarget, home}
+use Rattle.audit_model.specs.Shape.{IsRightShape}
+use Rattle.audit_model.specs.Laws.{FirstVersionIsPlain}
+use Rattle.audit_model.proofs.History.{AtSource≢AtTarget, first_home_at_release}
+
+module _ (s : Recorded) (one : s.version ≡ One) (shape : IsRightShape s) where
+  released_before : (n v p : ℕ) → slice_get s.guest n ≡ Some (Release v p) → home s n ≡ AtTarget → ⊥
+  released_before n v p is at = AtSource≢AtTarget (sym (first_home_at_release s shape one n v p is) ∙ at)
+
+  none_freed : (n page : ℕ) → freed s n page ≡ false
+  none_freed zero page = refl
+  none_freed (suc n) page = go (slice_get s.guest n) refl (none_freed n page)
+    where
+      at : (h : Home) → h ≡ AtSource → (b : Bool) → freed s n page ≡ false → freed_page h b (freed s n page) ≡ false
+      at AtSource same b e = e
+      at Nowhere same b e = e
+      at AtTarget same b e = absurd (AtSource≢AtTarget (sym same))
+
+      go : (o : Option GuestRec) → slice_get s.guest n ≡ o → freed s n page ≡ false → changed (freed_after (home s n) page) o (freed s n page) ≡ false
+      go None is e = e
+      go (Some (Release v p)) is e = at (home s n) (first_home_at_release s shape one n v p is) (p == page) e
+      go (Some (Read v p c x)) is e = e
+      go (Some (Write v p c x)) is e = e
+      go (Some (Miss v p)) is e = e
+      go (Some Halt) is e = e
+      go (Some (Resume k)) is e = e
+      go (Some (See k)) is e = e
+
+pub first_version_plain : (s : Recorded) → FirstVersionIsPlain s
+first_version_plain s one shape = record {
+  releases_before = released_before s one shape;
+  none_freed = none_freed s one shape;
+  none_over = λ page over. released_before s one shape over.release over.vcpu page over.stands over.is_late;
+  none_fresh = λ page first right. released_before s one shape first right.1.vcpu page right.1.is_release right.1.is_late;
+}
