@@ -6,6 +6,7 @@ use Rattle.std.proofs.lemmas.List.{append-nil, get_or_append_left}
 use Rattle.text_lines.specs.Counted.{Part}
 use Rattle.migration_types.specs.declared.cert.Run.{Run}
 use Rattle.migration_types.specs.declared.cert.Entry.{Entry}
+use Rattle.migration_types.specs.declared.version.Version.{Version}
 use Rattle.migration_types.specs.Certs.{RunFits, Alternate, EntryFits}
 use Rattle.cert_text.specs.declared.run_lines.RunStage.{RunStage}
 use Rattle.cert_text.specs.declared.run_lines.RunStage.TheVariants.{Count, Runs, Done}
@@ -59,32 +60,32 @@ closing_undone Done d held e is = (closing, sym e ∙ ap (λ (t : List (List ℕ
 
 -- ---- entries
 
-entry_fits_back : (pages : ℕ) (old new : List Entry) (entry : Entry) (runs : List (List ℕ)) → old ≡ new ++ entry ∷ [] → runs ≡ [] → EntriesFit (record { pages = pages; entries = old; runs = runs }) → EntriesFit (record { pages = pages; entries = new; runs = runs })
-entry_fits_back pages old new entry runs e none f =
-    let g : EntriesFit (record { pages = pages; entries = new ++ entry ∷ []; runs = runs }) = subst (λ (t : List Entry). EntriesFit (record { pages = pages; entries = t; runs = runs })) e f in
+entry_fits_back : (version : Version) (pages : ℕ) (old new : List Entry) (entry : Entry) (runs : List (List ℕ)) → old ≡ new ++ entry ∷ [] → runs ≡ [] → EntriesFit (record { version = version; pages = pages; entries = old; runs = runs }) → EntriesFit (record { version = version; pages = pages; entries = new; runs = runs })
+entry_fits_back version pages old new entry runs e none f =
+    let g : EntriesFit (record { version = version; pages = pages; entries = new ++ entry ∷ []; runs = runs }) = subst (λ (t : List Entry). EntriesFit (record { version = version; pages = pages; entries = t; runs = runs })) e f in
     let count = g.count in
     record {
       some_pages = g.some_pages;
       few_pages = g.few_pages;
       count = omega (arith, length-append new (entry ∷ []));
-      each = all_front EntryFits new entry g.each;
+      each = all_front (EntryFits version) new entry g.each;
       runs = λ _. none;
     }
 
-pub live_undone : (stage : Stage) (pages : ℕ) (old new : List Entry) (runs : List (List ℕ)) → Live stage (record { pages = pages; entries = old; runs = runs }) → stage ≡ Entries → runs ≡ [] → (entry : Entry) × (old ≡ new ++ entry ∷ []) → Live stage (record { pages = pages; entries = new; runs = runs })
-live_undone Header pages old new runs live is none lost = absurd cc
-live_undone Pages pages old new runs live is none lost = absurd cc
-live_undone Entries pages old new runs live is none lost = entry_fits_back pages old new lost.0 runs lost.1 none live
+pub live_undone : (stage : Stage) (version : Version) (pages : ℕ) (old new : List Entry) (runs : List (List ℕ)) → Live stage (record { version = version; pages = pages; entries = old; runs = runs }) → stage ≡ Entries → runs ≡ [] → (entry : Entry) × (old ≡ new ++ entry ∷ []) → Live stage (record { version = version; pages = pages; entries = new; runs = runs })
+live_undone Header version pages old new runs live is none lost = absurd cc
+live_undone Pages version pages old new runs live is none lost = absurd cc
+live_undone Entries version pages old new runs live is none lost = entry_fits_back version pages old new lost.0 runs lost.1 none live
 
-pub entry_undone : (stage : Stage) (pages : ℕ) (old new : List Entry) (runs held : List (List ℕ)) → held_by stage (record { pages = pages; entries = old; runs = runs }) ≡ held → stage ≡ Entries → runs ≡ [] → (entry : Entry) × (old ≡ new ++ entry ∷ []) → (line : List ℕ) × (held ≡ held_by stage (record { pages = pages; entries = new; runs = runs }) ++ line ∷ [])
-entry_undone Header pages old new runs held e is none lost = absurd cc
-entry_undone Pages pages old new runs held e is none lost = absurd cc
-entry_undone Entries pages old new runs held e is none lost = (
+pub entry_undone : (stage : Stage) (version : Version) (pages : ℕ) (old new : List Entry) (runs held : List (List ℕ)) → held_by stage (record { version = version; pages = pages; entries = old; runs = runs }) ≡ held → stage ≡ Entries → runs ≡ [] → (entry : Entry) × (old ≡ new ++ entry ∷ []) → (line : List ℕ) × (held ≡ held_by stage (record { version = version; pages = pages; entries = new; runs = runs }) ++ line ∷ [])
+entry_undone Header version pages old new runs held e is none lost = absurd cc
+entry_undone Pages version pages old new runs held e is none lost = absurd cc
+entry_undone Entries version pages old new runs held e is none lost = (
   entry_line (length new) lost.0,
-  sym e ∙ (ap (λ (t : List (List ℕ)). entries_onto pages old t) none
-      ∙ (ap (λ (t : List Entry). entries_onto pages t []) lost.1
-      ∙ (sym (entry_held (record { pages = pages; entries = new; runs = runs }) lost.0)
-      ∙ ap (λ (t : List (List ℕ)). entries_onto pages new t ++ entry_line (length new) lost.0 ∷ []) (sym none)))),
+  sym e ∙ (ap (λ (t : List (List ℕ)). entries_onto version pages old t) none
+      ∙ (ap (λ (t : List Entry). entries_onto version pages t []) lost.1
+      ∙ (sym (entry_held (record { version = version; pages = pages; entries = new; runs = runs }) lost.0)
+      ∙ ap (λ (t : List (List ℕ)). entries_onto version pages new t ++ entry_line (length new) lost.0 ∷ []) (sym none)))),
 )
 
 -- ---- how many lines came

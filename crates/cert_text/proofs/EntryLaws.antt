@@ -9,10 +9,12 @@ use Rattle.text_lines.proofs.Decimals.{own}
 use Rattle.text_lines.proofs.Fronts.{digits_same, numbers_same, no_digit-space}
 use Rattle.migration_types.specs.declared.cert.First.{First}
 use Rattle.migration_types.specs.declared.cert.Entry.{Entry}
-use Rattle.migration_types.specs.declared.cert.Entry.TheVariants.{Nothing, Source, Balloon}
+use Rattle.migration_types.specs.declared.cert.Entry.TheVariants.{Nothing, Fresh, Source, Balloon}
+use Rattle.migration_types.specs.declared.version.Version.{Version}
 use Rattle.migration_types.specs.Sessions.{IsNumber}
 use Rattle.migration_types.specs.Certs.{FirstFits, EntryFits}
-use Rattle.cert_text.specs.Grammar.{page_key, source_key, balloon_key, first_text, placed_text, source_text, entry_text, entry_line, entry_lines}
+use Rattle.cert_text.specs.Grammar.{page_key, fresh_key, source_key, balloon_key, first_text, placed_text, source_text, entry_text, entry_line, entry_lines}
+use Rattle.cert_text.specs.inner.Plain.{fresh_number}
 
 -- ---- one spelling for each entry
 
@@ -55,28 +57,38 @@ placed_same n m x y p q f g e =
     let one = number_tells n m (first_text x) (first_text y) (omega arith) (omega arith) e in
     (one.0, first_same x y f g one.1)
 
-text_same : (x y : Entry) → EntryFits x → EntryFits y → entry_text x ≡ entry_text y → x ≡ y
-text_same Nothing Nothing p q e = refl
-text_same (Source s n x) (Source t m y) p q e =
+text_same : (version : Version) (x y : Entry) → EntryFits version x → EntryFits version y → entry_text x ≡ entry_text y → x ≡ y
+text_same version Nothing Nothing p q e = refl
+text_same version (Fresh n) (Fresh m) p q e =
+    let a = fresh_number version n p in
+    let b = fresh_number version m q in
+    ap Fresh (decimal_injective n m (omega arith) (omega arith) (append_cancel_left fresh_key (decimal n) (decimal m) e))
+text_same version (Source s n x) (Source t m y) p q e =
     let one = number_tells s t (placed_text n x) (placed_text m y) (omega (arith, p.0)) (omega (arith, q.0)) (append_cancel_left source_key (source_text s n x) (source_text t m y) e) in
     let two = placed_same n m x y p.1 q.1 p.2 q.2 one.1 in
     rw (one.0, two.0, two.1) refl
-text_same (Balloon n x) (Balloon m y) p q e =
+text_same version (Balloon n x) (Balloon m y) p q e =
     let one = placed_same n m x y p.0 q.0 p.1 q.1 (append_cancel_left balloon_key (placed_text n x) (placed_text m y) e) in
     rw (one.0, one.1) refl
-text_same Nothing (Source t m y) p q e = let first : 110 ≡ 115 = ap (λ (line : List ℕ). get_or line 0 0) e in absurd (omega (arith, first))
-text_same Nothing (Balloon m y) p q e = let first : 110 ≡ 98 = ap (λ (line : List ℕ). get_or line 0 0) e in absurd (omega (arith, first))
-text_same (Source s n x) Nothing p q e = let first : 115 ≡ 110 = ap (λ (line : List ℕ). get_or line 0 0) e in absurd (omega (arith, first))
-text_same (Source s n x) (Balloon m y) p q e = let first : 115 ≡ 98 = ap (λ (line : List ℕ). get_or line 0 0) e in absurd (omega (arith, first))
-text_same (Balloon n x) Nothing p q e = let first : 98 ≡ 110 = ap (λ (line : List ℕ). get_or line 0 0) e in absurd (omega (arith, first))
-text_same (Balloon n x) (Source t m y) p q e = let first : 98 ≡ 115 = ap (λ (line : List ℕ). get_or line 0 0) e in absurd (omega (arith, first))
+text_same version Nothing (Source t m y) p q e = let first : 110 ≡ 115 = ap (λ (line : List ℕ). get_or line 0 0) e in absurd (omega (arith, first))
+text_same version Nothing (Balloon m y) p q e = let first : 110 ≡ 98 = ap (λ (line : List ℕ). get_or line 0 0) e in absurd (omega (arith, first))
+text_same version (Source s n x) Nothing p q e = let first : 115 ≡ 110 = ap (λ (line : List ℕ). get_or line 0 0) e in absurd (omega (arith, first))
+text_same version (Source s n x) (Balloon m y) p q e = let first : 115 ≡ 98 = ap (λ (line : List ℕ). get_or line 0 0) e in absurd (omega (arith, first))
+text_same version (Balloon n x) Nothing p q e = let first : 98 ≡ 110 = ap (λ (line : List ℕ). get_or line 0 0) e in absurd (omega (arith, first))
+text_same version (Balloon n x) (Source t m y) p q e = let first : 98 ≡ 115 = ap (λ (line : List ℕ). get_or line 0 0) e in absurd (omega (arith, first))
+text_same version Nothing (Fresh m) p q e = let first : 110 ≡ 102 = ap (λ (line : List ℕ). get_or line 0 0) e in absurd (omega (arith, first))
+text_same version (Fresh n) Nothing p q e = let first : 102 ≡ 110 = ap (λ (line : List ℕ). get_or line 0 0) e in absurd (omega (arith, first))
+text_same version (Fresh n) (Source t m y) p q e = let first : 102 ≡ 115 = ap (λ (line : List ℕ). get_or line 0 0) e in absurd (omega (arith, first))
+text_same version (Fresh n) (Balloon m y) p q e = let first : 102 ≡ 98 = ap (λ (line : List ℕ). get_or line 0 0) e in absurd (omega (arith, first))
+text_same version (Source s n x) (Fresh m) p q e = let first : 115 ≡ 102 = ap (λ (line : List ℕ). get_or line 0 0) e in absurd (omega (arith, first))
+text_same version (Balloon n x) (Fresh m) p q e = let first : 98 ≡ 102 = ap (λ (line : List ℕ). get_or line 0 0) e in absurd (omega (arith, first))
 
-entry_same : (page : ℕ) (x y : Entry) → EntryFits x → EntryFits y → entry_line page x ≡ entry_line page y → x ≡ y
-entry_same page x y p q e =
+entry_same : (version : Version) (page : ℕ) (x y : Entry) → EntryFits version x → EntryFits version y → entry_line page x ≡ entry_line page y → x ≡ y
+entry_same version page x y p q e =
     let numbered : decimal page ++ 32 ∷ entry_text x ≡ decimal page ++ 32 ∷ entry_text y = append_cancel_left page_key (decimal page ++ 32 ∷ entry_text x) (decimal page ++ 32 ∷ entry_text y) e in
     let spaced : 32 ∷ entry_text x ≡ 32 ∷ entry_text y = append_cancel_left (decimal page) (32 ∷ entry_text x) (32 ∷ entry_text y) numbered in
     let texts : entry_text x ≡ entry_text y = cc in
-    text_same x y p q texts
+    text_same version x y p q texts
 
 -- ---- entries in a row
 
@@ -101,25 +113,25 @@ respelled : (m n : ℕ) (x : Entry) (line : List ℕ) → m ≡ n → line ≡ e
 respelled m n x line e s = subst (λ (i : ℕ). line ≡ entry_line i x) e s
 
 -- where xs has more entries than ys, the line after those of ys is an entry's
-pub next_entry : (page : ℕ) (xs ys : List Entry) (rest more : List (List ℕ)) (line : List ℕ) → AllByRecursion EntryFits xs → entry_lines page xs ++ rest ≡ entry_lines page ys ++ (line ∷ more) → length ys < length xs → (entry : Entry) × EntryFits entry × (line ≡ entry_line (page + length ys) entry)
-next_entry page [] ys rest more line h e lt = absurd (omega arith)
-next_entry page (x ∷ xs) [] rest more line h e lt =
+pub next_entry : (version : Version) (page : ℕ) (xs ys : List Entry) (rest more : List (List ℕ)) (line : List ℕ) → AllByRecursion (EntryFits version) xs → entry_lines page xs ++ rest ≡ entry_lines page ys ++ (line ∷ more) → length ys < length xs → (entry : Entry) × EntryFits version entry × (line ≡ entry_line (page + length ys) entry)
+next_entry version page [] ys rest more line h e lt = absurd (omega arith)
+next_entry version page (x ∷ xs) [] rest more line h e lt =
     let heads : entry_line page x ≡ line = cc in
     (x, h.0, respelled page (page + 0) x line (omega arith) (sym heads))
-next_entry page (x ∷ xs) (y ∷ ys) rest more line h e lt =
+next_entry version page (x ∷ xs) (y ∷ ys) rest more line h e lt =
     let tails : entry_lines (page + 1) xs ++ rest ≡ entry_lines (page + 1) ys ++ (line ∷ more) = cc in
-    let n = next_entry (page + 1) xs ys rest more line h.1 tails (omega arith) in
+    let n = next_entry version (page + 1) xs ys rest more line h.1 tails (omega arith) in
     (n.0, n.1, respelled (page + 1 + length ys) (page + length (y ∷ ys)) n.0 line (omega arith) n.2)
 
 -- where both have as many entries, these and what follows are the same
-pub entries_end : (page : ℕ) (xs ys : List Entry) (rest more : List (List ℕ)) → AllByRecursion EntryFits xs → AllByRecursion EntryFits ys → entry_lines page xs ++ rest ≡ entry_lines page ys ++ more → length ys ≡ length xs → (xs ≡ ys) × (rest ≡ more)
-entries_end page [] [] rest more h k e l = (refl, e)
-entries_end page [] (y ∷ ys) rest more h k e l = absurd (omega arith)
-entries_end page (x ∷ xs) [] rest more h k e l = absurd (omega arith)
-entries_end page (x ∷ xs) (y ∷ ys) rest more h k e l =
+pub entries_end : (version : Version) (page : ℕ) (xs ys : List Entry) (rest more : List (List ℕ)) → AllByRecursion (EntryFits version) xs → AllByRecursion (EntryFits version) ys → entry_lines page xs ++ rest ≡ entry_lines page ys ++ more → length ys ≡ length xs → (xs ≡ ys) × (rest ≡ more)
+entries_end version page [] [] rest more h k e l = (refl, e)
+entries_end version page [] (y ∷ ys) rest more h k e l = absurd (omega arith)
+entries_end version page (x ∷ xs) [] rest more h k e l = absurd (omega arith)
+entries_end version page (x ∷ xs) (y ∷ ys) rest more h k e l =
     let tails : entry_lines (page + 1) xs ++ rest ≡ entry_lines (page + 1) ys ++ more = cc in
     let heads : entry_line page x ≡ entry_line page y = cc in
-    let n = entries_end (page + 1) xs ys rest more h.1 k.1 tails (omega arith) in
-    let one = entry_same page x y h.0 k.0 heads in
+    let n = entries_end version (page + 1) xs ys rest more h.1 k.1 tails (omega arith) in
+    let one = entry_same version page x y h.0 k.0 heads in
     let s : xs ≡ ys = n.0 in
     ((cc), n.1)

@@ -1,5 +1,5 @@
 -- What the lines that a reader of certificates holds say of each text that begins with them.
-use Rattle.std.proofs.Common.{◌≡◌, ℕ, ◌+◌, ◌<◌, ◌≤◌, ◌^◌, List, [], ◌∷◌, ◌++◌, length, sym, ap, subst, ◌∙◌, append_assoc, length-append, arith}
+use Rattle.std.proofs.Common.{◌≡◌, ℕ, ◌+◌, ◌<◌, ◌≤◌, ◌^◌, List, [], ◌∷◌, ◌++◌, length, get_or, refl, sym, ap, subst, ◌∙◌, append_assoc, length-append, arith}
 use Rattle.std.specs.Prelude.{◌≢◌, Result, Ok, Err, IfErr, OnOk}
 use Rattle.std.specs.List.{AllByRecursion}
 use Rattle.std.specs.Fmt.{decimal}
@@ -9,6 +9,8 @@ use Rattle.text_lines.specs.Text.{Begins, TakesLines}
 use Rattle.text_lines.specs.declared.FaultKind.{FaultKind}
 use Rattle.text_lines.specs.declared.FaultKind.TheVariants.{Memory}
 use Rattle.migration_types.specs.declared.cert.Entry.{Entry}
+use Rattle.migration_types.specs.declared.version.Version.{Version}
+use Rattle.migration_types.specs.declared.version.Version.TheVariants.{One, Two}
 use Rattle.migration_types.specs.Certs.{Certified, EntryFits, IsCert}
 use Rattle.cert_text.specs.declared.cert_lines.Stage.{Stage}
 use Rattle.cert_text.specs.declared.cert_lines.Stage.TheVariants.{Header, Pages, Entries}
@@ -19,8 +21,8 @@ use Rattle.cert_text.specs.inner.Taken.{TakesEntries, TakesEntry}
 use Rattle.cert_text.proofs.EntryLaws.{entries_length, entries_append, next_entry, entries_end, entries_push}
 use Rattle.cert_text.proofs.RunLaws.{all_push}
 
-pub entries_onto_append : (pages : ℕ) (entries : List Entry) (a b : List (List ℕ)) → entries_onto pages entries a ++ b ≡ entries_onto pages entries (a ++ b)
-entries_onto_append pages entries a b = ap (λ (t : List (List ℕ)). header ∷ (pages_key ++ decimal pages) ∷ t) (append_assoc (entry_lines 0 entries) a b)
+pub entries_onto_append : (version : Version) (pages : ℕ) (entries : List Entry) (a b : List (List ℕ)) → entries_onto version pages entries a ++ b ≡ entries_onto version pages entries (a ++ b)
+entries_onto_append version pages entries a b = ap (λ (t : List (List ℕ)). header version ∷ (pages_key ++ decimal pages) ∷ t) (append_assoc (entry_lines 0 entries) a b)
 
 -- a fact about a stage that is known
 pub live_at : (stage at : Stage) (d : Draft) → stage ≡ at → Live stage d → Live at d
@@ -46,46 +48,58 @@ keyed key m n p q e = decimal_injective m n p q (append_cancel_left key (decimal
 
 -- ---- the entries
 
--- the number of pages of the text, and what follows it
-pub record EntriesAgree (pages : ℕ) (entries : List Entry) (more : List (List ℕ)) (c : Certified) : Type 0 where
+-- the first line tells the version
+header_tells : (v w : Version) → header v ≡ header w → v ≡ w
+header_tells One One e = refl
+header_tells Two Two e = refl
+header_tells One Two e = let last : 49 ≡ 50 = ap (λ (line : List ℕ). get_or line 21 0) e in absurd (omega (arith, last))
+header_tells Two One e = let last : 50 ≡ 49 = ap (λ (line : List ℕ). get_or line 21 0) e in absurd (omega (arith, last))
+
+-- the version and the number of pages of the text, and what follows them
+pub record EntriesAgree (version : Version) (pages : ℕ) (entries : List Entry) (more : List (List ℕ)) (c : Certified) : Type 0 where
+  pub told : version ≡ c.version
   pub count : pages ≡ length c.entries
   pub rest : entry_lines 0 c.entries ++ runs_lines c.runs ≡ entry_lines 0 entries ++ more
 
-pub entries_agree : (pages : ℕ) (entries : List Entry) (more : List (List ℕ)) (c : Certified) → pages ≤ 65536 → IsCert c → entries_onto pages entries more ≡ cert_lines c → EntriesAgree pages entries more c
-entries_agree pages entries more c le fits e =
+pub entries_agree : (version : Version) (pages : ℕ) (entries : List Entry) (more : List (List ℕ)) (c : Certified) → pages ≤ 65536 → IsCert c → entries_onto version pages entries more ≡ cert_lines c → EntriesAgree version pages entries more c
+entries_agree version pages entries more c le fits e =
     let few = fits.few_pages in
+    let first : header version ≡ header c.version = cc in
     let heads : pages_key ++ decimal pages ≡ pages_key ++ decimal (length c.entries) = cc in
     let rest : entry_lines 0 entries ++ more ≡ entry_lines 0 c.entries ++ runs_lines c.runs = cc in
-    record { count = keyed pages_key pages (length c.entries) (omega arith) (omega arith) heads; rest = sym rest }
+    record { told = header_tells version c.version first; count = keyed pages_key pages (length c.entries) (omega arith) (omega arith) heads; rest = sym rest }
+
+of_version : (version : Version) (c : Certified) → version ≡ c.version → IsCert c → AllByRecursion (EntryFits version) c.entries
+of_version version c is fits = subst (λ (v : Version). AllByRecursion (EntryFits v) c.entries) (sym is) fits.entries
 
 -- behind all the entries stand the runs
-pub runs_at : (pages : ℕ) (entries : List Entry) (more : List (List ℕ)) (c : Certified) → pages ≤ 65536 → length entries ≡ pages → AllByRecursion EntryFits entries → IsCert c → entries_onto pages entries more ≡ cert_lines c → (c.entries ≡ entries) × (more ≡ runs_lines c.runs)
-runs_at pages entries more c le full each fits e =
-    let a = entries_agree pages entries more c le fits e in
-    let s = entries_end 0 c.entries entries (runs_lines c.runs) more fits.entries each a.rest (full ∙ a.count) in
+pub runs_at : (version : Version) (pages : ℕ) (entries : List Entry) (more : List (List ℕ)) (c : Certified) → pages ≤ 65536 → length entries ≡ pages → AllByRecursion (EntryFits version) entries → IsCert c → entries_onto version pages entries more ≡ cert_lines c → (c.entries ≡ entries) × (more ≡ runs_lines c.runs)
+runs_at version pages entries more c le full each fits e =
+    let a = entries_agree version pages entries more c le fits e in
+    let s = entries_end version 0 c.entries entries (runs_lines c.runs) more (of_version version c a.told fits) each a.rest (full ∙ a.count) in
     (s.0, sym s.1)
 
-pub entry_at : (d : Draft) (line : List ℕ) → EntriesFit d → length d.entries < d.pages → Goes Entries d line → (entry : Entry) × EntryFits entry × (line ≡ entry_line (length d.entries) entry)
+pub entry_at : (d : Draft) (line : List ℕ) → EntriesFit d → length d.entries < d.pages → Goes Entries d line → (entry : Entry) × EntryFits d.version entry × (line ≡ entry_line (length d.entries) entry)
 entry_at d line f less g =
     let few = f.few_pages in
     let none = f.runs less in
-    let whole = sym (ap (λ (t : List (List ℕ)). entries_onto d.pages d.entries (t ++ (line ∷ g.more))) none) ∙ (sym (entries_onto_append d.pages d.entries d.runs (line ∷ g.more)) ∙ g.whole) in
-    let a = entries_agree d.pages d.entries (line ∷ g.more) g.c few g.fits whole in
-    let n = next_entry 0 g.c.entries d.entries (runs_lines g.c.runs) g.more line g.fits.entries a.rest (omega (arith, a.count)) in
+    let whole = sym (ap (λ (t : List (List ℕ)). entries_onto d.version d.pages d.entries (t ++ (line ∷ g.more))) none) ∙ (sym (entries_onto_append d.version d.pages d.entries d.runs (line ∷ g.more)) ∙ g.whole) in
+    let a = entries_agree d.version d.pages d.entries (line ∷ g.more) g.c few g.fits whole in
+    let n = next_entry d.version 0 g.c.entries d.entries (runs_lines g.c.runs) g.more line (of_version d.version g.c a.told g.fits) a.rest (omega (arith, a.count)) in
     let k : 0 + length d.entries ≡ length d.entries = omega arith in
     (n.0, n.1, n.2 ∙ ap (λ (i : ℕ). entry_line i n.0) k)
 
 -- what stands behind all the entries begins the lines of runs
-behind_entries : (d : Draft) (lines : List (List ℕ)) → EntriesFit d → length d.entries ≡ d.pages → Begins SpellsCert (entries_onto d.pages d.entries lines) → Begins SpellsRunLines lines
+behind_entries : (d : Draft) (lines : List (List ℕ)) → EntriesFit d → length d.entries ≡ d.pages → Begins SpellsCert (entries_onto d.version d.pages d.entries lines) → Begins SpellsRunLines lines
 behind_entries d lines f full b =
-    let r = runs_at d.pages d.entries (lines ++ b.1) b.0 f.few_pages full f.each b.2.0 (sym (entries_onto_append d.pages d.entries lines b.1) ∙ b.2.1) in
+    let r = runs_at d.version d.pages d.entries (lines ++ b.1) b.0 f.few_pages full f.each b.2.0 (sym (entries_onto_append d.version d.pages d.entries lines b.1) ∙ b.2.1) in
     (b.0.runs, b.1, (b.2.0.runs, r.1))
 
 -- so a line that no runs' lines go on with is refused
 no_run_line : (stage : Stage) (d : Draft) (held : List (List ℕ)) (line : List ℕ) → held_by stage d ≡ held → stage ≡ Entries → Live stage d → length d.entries ≡ d.pages → (Begins SpellsRunLines (d.runs ++ line ∷ []) → ⊥) → Begins SpellsCert (held ++ line ∷ []) → ⊥
 no_run_line stage d held line e is live full stops b =
     let here : held_by Entries d ≡ held = subst (λ (s : Stage). held_by s d ≡ held) is e in
-    let joined : held ++ line ∷ [] ≡ entries_onto d.pages d.entries (d.runs ++ line ∷ []) = ap (λ (t : List (List ℕ)). t ++ line ∷ []) (sym here) ∙ entries_onto_append d.pages d.entries d.runs (line ∷ []) in
+    let joined : held ++ line ∷ [] ≡ entries_onto d.version d.pages d.entries (d.runs ++ line ∷ []) = ap (λ (t : List (List ℕ)). t ++ line ∷ []) (sym here) ∙ entries_onto_append d.version d.pages d.entries d.runs (line ∷ []) in
     stops (behind_entries d (d.runs ++ line ∷ []) (live_at stage Entries d is live) full (subst (Begins SpellsCert) joined b))
 
 pub run_line_refused : (stage : Stage) (d : Draft) (held : List (List ℕ)) (line : List ℕ) (r : Result (Unit {0}) FaultKind) → held_by stage d ≡ held → stage ≡ Entries → Live stage d → length d.entries ≡ d.pages → IfErr r (λ kind. kind ≢ Memory → Begins SpellsRunLines (d.runs ++ line ∷ []) → ⊥) → IfErr r (λ kind. kind ≢ Memory → Begins SpellsCert (held ++ line ∷ []) → ⊥)
@@ -94,18 +108,18 @@ run_line_refused stage d held line (Err kind) e is live full h = λ other. no_ru
 
 -- ---- one more entry
 
-pub entry_held : (d : Draft) (entry : Entry) → entries_onto d.pages d.entries [] ++ entry_line (length d.entries) entry ∷ [] ≡ entries_onto d.pages (d.entries ++ entry ∷ []) []
+pub entry_held : (d : Draft) (entry : Entry) → entries_onto d.version d.pages d.entries [] ++ entry_line (length d.entries) entry ∷ [] ≡ entries_onto d.version d.pages (d.entries ++ entry ∷ []) []
 entry_held d entry =
     let k : length d.entries ≡ 0 + length d.entries = omega arith in
-    entries_onto_append d.pages d.entries [] (entry_line (length d.entries) entry ∷ [])
-    ∙ ap (λ (t : List (List ℕ)). header ∷ (pages_key ++ decimal d.pages) ∷ t) (ap (λ (i : ℕ). entry_lines 0 d.entries ++ entry_line i entry ∷ []) k ∙ sym (entries_push 0 d.entries entry []))
+    entries_onto_append d.version d.pages d.entries [] (entry_line (length d.entries) entry ∷ [])
+    ∙ ap (λ (t : List (List ℕ)). header d.version ∷ (pages_key ++ decimal d.pages) ∷ t) (ap (λ (i : ℕ). entry_lines 0 d.entries ++ entry_line i entry ∷ []) k ∙ sym (entries_push 0 d.entries entry []))
 
-pub entry_push : (d : Draft) (entry : Entry) → EntriesFit d → length d.entries < d.pages → EntryFits entry → EntriesFit (record d { entries = d.entries ++ entry ∷ [] })
+pub entry_push : (d : Draft) (entry : Entry) → EntriesFit d → length d.entries < d.pages → EntryFits d.version entry → EntriesFit (record d { entries = d.entries ++ entry ∷ [] })
 entry_push d entry f less fits = record {
   some_pages = f.some_pages;
   few_pages = f.few_pages;
   count = omega (arith, length-append d.entries (entry ∷ []));
-  each = all_push EntryFits d.entries entry f.each fits;
+  each = all_push (EntryFits d.version) d.entries entry f.each fits;
   runs = λ _. f.runs less;
 }
 
@@ -115,44 +129,44 @@ entry_taken Header d held line entry is e live less spelled = absurd cc
 entry_taken Pages d held line entry is e live less spelled = absurd cc
 entry_taken Entries d held line entry is e live less spelled =
     let none = live.runs less in
-    ap (λ (t : List (List ℕ)). entries_onto d.pages (d.entries ++ entry ∷ []) t) none
+    ap (λ (t : List (List ℕ)). entries_onto d.version d.pages (d.entries ++ entry ∷ []) t) none
     ∙ (sym (entry_held d entry)
-    ∙ (ap (λ (t : List ℕ). entries_onto d.pages d.entries [] ++ t ∷ []) (sym spelled)
-    ∙ (ap (λ (t : List (List ℕ)). entries_onto d.pages d.entries t ++ line ∷ []) (sym none)
+    ∙ (ap (λ (t : List ℕ). entries_onto d.version d.pages d.entries [] ++ t ∷ []) (sym spelled)
+    ∙ (ap (λ (t : List (List ℕ)). entries_onto d.version d.pages d.entries t ++ line ∷ []) (sym none)
     ∙ ap (λ (t : List (List ℕ)). t ++ line ∷ []) e)))
 
 -- an entry came
-pub entry_line_taken : (stage : Stage) (d : Draft) (held : List (List ℕ)) (line : List ℕ) (new : List Entry) (r : Result (Unit {0}) FaultKind) → stage ≡ Entries → held_by stage d ≡ held → Live stage d → length d.entries < d.pages → OnOk r (TakesEntry d.entries new line) → OnOk r (held_by stage (record d { entries = new }) ≡ held ++ line ∷ [])
+pub entry_line_taken : (stage : Stage) (d : Draft) (held : List (List ℕ)) (line : List ℕ) (new : List Entry) (r : Result (Unit {0}) FaultKind) → stage ≡ Entries → held_by stage d ≡ held → Live stage d → length d.entries < d.pages → OnOk r (TakesEntry d.version d.entries new line) → OnOk r (held_by stage (record d { entries = new }) ≡ held ++ line ∷ [])
 entry_line_taken stage d held line new (Ok done) is e live less t =
     ap (λ (entries : List Entry). held_by stage (record d { entries = entries })) t.grown ∙ entry_taken stage d held line t.entry is e live less t.spelled
 entry_line_taken stage d held line new (Err kind) is e live less t = tt
 
 -- a line that is not the next page's entry is refused
-pub entry_line_refused : (stage : Stage) (d : Draft) (held : List (List ℕ)) (line : List ℕ) (r : Result (Unit {0}) FaultKind) → held_by stage d ≡ held → stage ≡ Entries → Live stage d → length d.entries < d.pages → IfErr r (λ kind. kind ≢ Memory → (entry : Entry) → EntryFits entry → line ≢ entry_line (length d.entries) entry) → IfErr r (λ kind. kind ≢ Memory → Begins SpellsCert (held ++ line ∷ []) → ⊥)
+pub entry_line_refused : (stage : Stage) (d : Draft) (held : List (List ℕ)) (line : List ℕ) (r : Result (Unit {0}) FaultKind) → held_by stage d ≡ held → stage ≡ Entries → Live stage d → length d.entries < d.pages → IfErr r (λ kind. kind ≢ Memory → (entry : Entry) → EntryFits d.version entry → line ≢ entry_line (length d.entries) entry) → IfErr r (λ kind. kind ≢ Memory → Begins SpellsCert (held ++ line ∷ []) → ⊥)
 entry_line_refused stage d held line (Ok done) e is live less h = tt
 entry_line_refused stage d held line (Err kind) e is live less h = λ other b.
     let n = entry_at d line (live_at stage Entries d is live) less (goes_from stage Entries d held line e is b) in
     h other n.0 n.1 n.2
 
 -- many entries more
-entries_held : (d : Draft) (taken : List Entry) → entries_onto d.pages (d.entries ++ taken) [] ≡ entries_onto d.pages d.entries [] ++ entry_lines (length d.entries) taken
+entries_held : (d : Draft) (taken : List Entry) → entries_onto d.version d.pages (d.entries ++ taken) [] ≡ entries_onto d.version d.pages d.entries [] ++ entry_lines (length d.entries) taken
 entries_held d taken =
     let k : 0 + length d.entries ≡ length d.entries = omega arith in
     let lines : entry_lines 0 (d.entries ++ taken) ≡ entry_lines 0 d.entries ++ entry_lines (length d.entries) taken = entries_append 0 d.entries taken ∙ ap (λ (i : ℕ). entry_lines 0 d.entries ++ entry_lines i taken) k in
-    ap (λ (t : List (List ℕ)). header ∷ (pages_key ++ decimal d.pages) ∷ t) (append-nil (entry_lines 0 (d.entries ++ taken)) ∙ lines)
-    ∙ sym (entries_onto_append d.pages d.entries [] (entry_lines (length d.entries) taken))
+    ap (λ (t : List (List ℕ)). header d.version ∷ (pages_key ++ decimal d.pages) ∷ t) (append-nil (entry_lines 0 (d.entries ++ taken)) ∙ lines)
+    ∙ sym (entries_onto_append d.version d.pages d.entries [] (entry_lines (length d.entries) taken))
 
 entries_grown : (stage : Stage) (d : Draft) (held : List (List ℕ)) (taken : List Entry) → stage ≡ Entries → held_by stage d ≡ held → Live stage d → length d.entries < d.pages → held_by stage (record d { entries = d.entries ++ taken }) ≡ held ++ entry_lines (length d.entries) taken
 entries_grown Header d held taken is e live less = absurd cc
 entries_grown Pages d held taken is e live less = absurd cc
 entries_grown Entries d held taken is e live less =
     let none = live.runs less in
-    ap (λ (t : List (List ℕ)). entries_onto d.pages (d.entries ++ taken) t) none
+    ap (λ (t : List (List ℕ)). entries_onto d.version d.pages (d.entries ++ taken) t) none
     ∙ (entries_held d taken
-    ∙ (ap (λ (t : List (List ℕ)). entries_onto d.pages d.entries t ++ entry_lines (length d.entries) taken) (sym none)
+    ∙ (ap (λ (t : List (List ℕ)). entries_onto d.version d.pages d.entries t ++ entry_lines (length d.entries) taken) (sym none)
     ∙ ap (λ (t : List (List ℕ)). t ++ entry_lines (length d.entries) taken) e))
 
-pub entries_taken : (stage : Stage) (d : Draft) (held : List (List ℕ)) (new : List Entry) (bytes rest : List ℕ) (n : ℕ) → stage ≡ Entries → held_by stage d ≡ held → Live stage d → length d.entries < d.pages → TakesEntries d.entries new bytes rest n → TakesLines held (held_by stage (record d { entries = new })) bytes rest n
+pub entries_taken : (stage : Stage) (d : Draft) (held : List (List ℕ)) (new : List Entry) (bytes rest : List ℕ) (n : ℕ) → stage ≡ Entries → held_by stage d ≡ held → Live stage d → length d.entries < d.pages → TakesEntries d.version d.entries new bytes rest n → TakesLines held (held_by stage (record d { entries = new })) bytes rest n
 entries_taken stage d held new bytes rest n is e live less t = record {
   taken = entry_lines (length d.entries) t.taken;
   parts = t.parts;

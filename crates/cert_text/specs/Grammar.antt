@@ -3,12 +3,15 @@ use Rattle.std.specs.Prelude.{◌≡◌, ℕ, ◌+◌, List, [], ◌∷◌, ◌+
 use Rattle.std.specs.Fmt.{decimal}
 use Rattle.migration_types.specs.declared.cert.First.{First}
 use Rattle.migration_types.specs.declared.cert.Entry.{Entry}
-use Rattle.migration_types.specs.declared.cert.Entry.TheVariants.{Nothing, Source, Balloon}
+use Rattle.migration_types.specs.declared.cert.Entry.TheVariants.{Nothing, Fresh, Source, Balloon}
+use Rattle.migration_types.specs.declared.version.Version.{Version}
+use Rattle.migration_types.specs.declared.version.Version.TheVariants.{One, Two}
 use Rattle.migration_types.specs.Certs.{Certified, IsCert}
 use Rattle.cert_text.specs.Runs.{runs_lines}
 
-abbrev pub header : List ℕ
-header = codes "postcopy-certificate 1"
+abbrev pub header : Version → List ℕ
+header One = codes "postcopy-certificate 1"
+header Two = codes "postcopy-certificate 2"
 
 abbrev pub pages_key : List ℕ
 pages_key = codes "pages "
@@ -16,18 +19,21 @@ pages_key = codes "pages "
 abbrev pub page_key : List ℕ
 page_key = codes "page "
 
--- the numbers of a page's first read or write and of the look before it, or a dash for each
+-- the numbers of a page's first use at the target and of the look before it, or a dash for each
 abbrev pub first_text : Option First → List ℕ
 first_text None = codes "- -"
 first_text (Some first) = decimal first.access ++ 32 ∷ decimal first.see
 
--- the number of a page's placement, and its first read or write
+-- the number of a page's placement, and its first use
 abbrev pub placed_text : ℕ → Option First → List ℕ
 placed_text place first = decimal place ++ 32 ∷ first_text first
 
--- the number of a page's sending, its placement, and its first read or write
+-- the number of a page's sending, its placement, and its first use
 abbrev pub source_text : ℕ → ℕ → Option First → List ℕ
 source_text send place first = decimal send ++ 32 ∷ placed_text place first
+
+abbrev pub fresh_key : List ℕ
+fresh_key = codes "fresh "
 
 abbrev pub source_key : List ℕ
 source_key = codes "source "
@@ -38,6 +44,7 @@ balloon_key = codes "balloon "
 -- what an entry says
 abbrev pub entry_text : Entry → List ℕ
 entry_text Nothing = codes "none"
+entry_text (Fresh first) = fresh_key ++ decimal first
 entry_text (Source send place first) = source_key ++ source_text send place first
 entry_text (Balloon place first) = balloon_key ++ placed_text place first
 
@@ -50,17 +57,19 @@ abbrev pub entry_lines : ℕ → List Entry → List (List ℕ)
 entry_lines page [] = []
 entry_lines page (entry ∷ entries) = entry_line page entry ∷ entry_lines (page + 1) entries
 
--- A certificate of three pages and one run of three records, line by line:
---   postcopy-certificate 1
---   pages 3
+-- A certificate of four pages and one run of three records, line by line. Its first line ends in 1 where it is of the
+-- first version, in which no page is fresh:
+--   postcopy-certificate 2
+--   pages 4
 --   page 0 source 3 5 5 4
 --   page 1 balloon 7 - -
 --   page 2 none
+--   page 3 fresh 2
 --   runs 1
 --   run guest 3
 --   end
 abbrev pub cert_lines : Certified → List (List ℕ)
-cert_lines c = header ∷ (pages_key ++ decimal (length c.entries)) ∷ (entry_lines 0 c.entries ++ runs_lines c.runs)
+cert_lines c = header c.version ∷ (pages_key ++ decimal (length c.entries)) ∷ (entry_lines 0 c.entries ++ runs_lines c.runs)
 
 -- these lines are the text of this certificate, which is within all limits
 abbrev pub SpellsCert : Certified → List (List ℕ) → Type 0

@@ -1,16 +1,17 @@
 //! Reading a certificate line by line.
 
-ghost use Rattle.std.specs.Prelude.{◌≡◌, ◌≢◌, ◌≤◌, ℕ, [], ◌++◌, IfOk, OnErr};
+ghost use Rattle.std.specs.Prelude.{◌≡◌, ◌≢◌, ◌≤◌, ℕ, [], ◌++◌, MatchOption, IfOk, OnErr};
 ghost use Rattle.std.specs.Fmt.{decimal};
+ghost use Rattle.migration_types.specs.declared.version.Version.{Version as Told};
 ghost use Rattle.migration_types.specs.Limits.{most_pages};
 ghost use Rattle.text_lines.specs.Text.{TakesLines};
-ghost use Rattle.cert_text.specs.Grammar.{pages_key, SpellsCert};
+ghost use Rattle.cert_text.specs.Grammar.{header, pages_key, SpellsCert};
 
 use crate::entry_lines::{drop_entry, take_entries, take_entry};
-use crate::keys::{CERT_HEADER, PAGES_KEY};
+use crate::keys::{PAGES_KEY, cert_header};
 use crate::run_lines::RunLines;
 use crate::runs::RunForm;
-use migration_types::{Cert, Entry, MOST_PAGES, Seq};
+use migration_types::{Cert, Entry, MOST_PAGES, Seq, Version};
 use std::alloc::Global;
 use std::marker::Model;
 use std::thread::Threads;
@@ -33,6 +34,7 @@ pub enum Stage {
 #[derive(Drop)]
 pub struct CertLines {
     stage: Stage,
+    version: Version,
     pages: u32,
     entries: Vec<Entry>,
     runs: RunLines,
@@ -57,6 +59,7 @@ impl CertLines {
     {
         CertLines {
             stage: Stage::Header,
+            version: Version::One,
             pages: 0,
             entries: Vec::new(alloc),
             runs: RunLines::new(alloc),
@@ -73,7 +76,7 @@ impl CertLines {
                 if self.entries.len() == self.pages as usize {
                     return self.runs.lines(crew, bytes);
                 }
-                take_entries(&mut self.entries, self.pages, bytes)
+                take_entries(&mut self.entries, self.version, self.pages, bytes)
             }
             _ => (bytes, 0),
         }
@@ -90,9 +93,10 @@ impl LineReader for CertLines {
     fn line(&mut self, line: &[u8]) -> Result<(), FaultKind> {
         match self.stage {
             Stage::Header => {
-                if !is_line(line, CERT_HEADER) {
+                let Some(version) = version_of(line) else {
                     return Err(FaultKind::Form);
-                }
+                };
+                self.version = version;
                 self.stage = Stage::Pages;
                 Ok(())
             }
@@ -106,7 +110,7 @@ impl LineReader for CertLines {
                 if self.entries.len() == self.pages as usize {
                     return self.runs.line(line);
                 }
-                take_entry(&mut self.entries, line)
+                take_entry(&mut self.entries, self.version, line)
             }
         }
     }
@@ -123,7 +127,7 @@ impl LineReader for CertLines {
     fn text(self) -> Option<Cert> {
         match self.stage {
             Stage::Entries => match self.runs.text() {
-                Some(runs) => Some(Cert::new(Seq::from_vec(self.entries), runs)),
+                Some(runs) => Some(Cert::new(self.version, Seq::from_vec(self.entries), runs)),
                 None => None,
             },
             _ => None,
@@ -173,6 +177,19 @@ impl Rewind for CertLines {
             }
         }
     }
+}
+
+/// The version whose certificates have this first line.
+fn version_of(line: &[u8]) -> Option<Version>
+    ensures { MatchOption result ((version : Told) → line.now ≢ header version) (λ version. line.now ≡ header version) }
+{
+    if is_line(line, cert_header(Version::One)) {
+        return Some(Version::One);
+    }
+    if is_line(line, cert_header(Version::Two)) {
+        return Some(Version::Two);
+    }
+    None
 }
 
 /// The number of pages that a line announces, 1 to 65,536.

@@ -11,8 +11,8 @@ ghost use Rattle.migration_types.specs.Certs.{FirstFits, EntryFits};
 ghost use Rattle.cert_text.specs.Grammar.{first_text, placed_text, entry_text, entry_line, entry_lines};
 ghost use Rattle.cert_text.specs.inner.Taken.{LosesLast, TakesEntries, TakesEntry};
 
-use crate::keys::{BALLOON_KEY, NO_FIRST, NONE, PAGE_KEY, SOURCE_KEY, after_end};
-use migration_types::{Entry, First, LAST_RECORD};
+use crate::keys::{BALLOON_KEY, FRESH_KEY, NO_FIRST, NONE, PAGE_KEY, SOURCE_KEY, after_end};
+use migration_types::{Entry, First, LAST_RECORD, Version};
 use std::alloc::AllocError;
 use text_lines::{
     FaultKind, after_key, end_line, front_number, number_then, push_number, push_then,
@@ -28,7 +28,20 @@ fn limited_then(text: &[u8], limit: u32) -> Option<(u32, &[u8])>
     Some((number as u32, rest))
 }
 
-/// A page's first read or write and the look before it at the front, and what follows. Nothing follows where the text
+/// A record's number at the front, and what follows. Nothing follows where the text is the number alone.
+#[inline(always)]
+fn record_then(text: &[u8]) -> Option<(u32, &[u8])>
+    ensures found { IfSome result (λ found. IsNumber found.0 × (text.now ≡ decimal found.0 ++ found.1.now)) }
+    ensures whole { (n : ℕ) → IsNumber n → text.now ≡ decimal n → IsSomeAnd result (λ found. found.1.now ≡ []) }
+{
+    let (number, rest) = front_number(text)?;
+    if number > u64::from(LAST_RECORD) {
+        return None;
+    }
+    Some((number as u32, rest))
+}
+
+/// A page's first use and the look before it at the front, and what follows. Nothing follows where the text
 /// is theirs alone.
 #[inline(always)]
 fn first_then(text: &[u8]) -> Option<(Option<First>, &[u8])>
@@ -39,15 +52,11 @@ fn first_then(text: &[u8]) -> Option<(Option<First>, &[u8])>
         return Some((None, rest));
     }
     let (access, rest) = limited_then(text, LAST_RECORD)?;
-    let (see, rest) = front_number(rest)?;
-    if see > u64::from(LAST_RECORD) {
-        return None;
-    }
-    let see = see as u32;
+    let (see, rest) = record_then(rest)?;
     Some((Some(First { access, see }), rest))
 }
 
-/// A page's placement, its first read or write and the look before it at the front, and what follows. Nothing follows
+/// A page's placement, its first use and the look before it at the front, and what follows. Nothing follows
 /// where the text is theirs alone.
 #[inline(always)]
 fn placed_then(text: &[u8]) -> Option<(u32, Option<First>, &[u8])>
@@ -61,9 +70,9 @@ fn placed_then(text: &[u8]) -> Option<(u32, Option<First>, &[u8])>
 
 /// What an entry says at the front, and what follows. Nothing follows where the text is an entry's alone.
 #[inline(always)]
-fn said_then(text: &[u8]) -> Option<(Entry, &[u8])>
-    ensures found { IfSome result (λ found. EntryFits found.0 × (text.now ≡ entry_text found.0 ++ found.1.now)) }
-    ensures whole { (entry : Said) → EntryFits entry → text.now ≡ entry_text entry → IsSomeAnd result (λ found. found.1.now ≡ []) }
+fn said_then(text: &[u8], version: Version) -> Option<(Entry, &[u8])>
+    ensures found { IfSome result (λ found. EntryFits version found.0 × (text.now ≡ entry_text found.0 ++ found.1.now)) }
+    ensures whole { (entry : Said) → EntryFits version entry → text.now ≡ entry_text entry → IsSomeAnd result (λ found. found.1.now ≡ []) }
 {
     if let Some(rest) = after_key(text, NONE) {
         return Some((Entry::Nothing, rest));
@@ -72,31 +81,38 @@ fn said_then(text: &[u8]) -> Option<(Entry, &[u8])>
         let (place, first, rest) = placed_then(rest)?;
         return Some((Entry::Balloon { place, first }, rest));
     }
-    let (send, rest) = limited_then(after_key(text, SOURCE_KEY)?, LAST_RECORD)?;
-    let (place, first, rest) = placed_then(rest)?;
-    Some((Entry::Source { send, place, first }, rest))
+    if let Some(rest) = after_key(text, SOURCE_KEY) {
+        let (send, rest) = limited_then(rest, LAST_RECORD)?;
+        let (place, first, rest) = placed_then(rest)?;
+        return Some((Entry::Source { send, place, first }, rest));
+    }
+    if version == Version::One {
+        return None;
+    }
+    let (first, rest) = record_then(after_key(text, FRESH_KEY)?)?;
+    Some((Entry::Fresh { first }, rest))
 }
 
 /// The entry of this page at the front, and what follows. Nothing follows where the text is its line alone.
 #[inline(always)]
-fn entry_then(text: &[u8], page: u32) -> Option<(Entry, &[u8])>
-    ensures found { IfSome result (λ found. EntryFits found.0 × (text.now ≡ entry_line page found.0 ++ found.1.now)) }
-    ensures whole { (entry : Said) → EntryFits entry → text.now ≡ entry_line page entry → IsSomeAnd result (λ found. found.1.now ≡ []) }
+fn entry_then(text: &[u8], version: Version, page: u32) -> Option<(Entry, &[u8])>
+    ensures found { IfSome result (λ found. EntryFits version found.0 × (text.now ≡ entry_line page found.0 ++ found.1.now)) }
+    ensures whole { (entry : Said) → EntryFits version entry → text.now ≡ entry_line page entry → IsSomeAnd result (λ found. found.1.now ≡ []) }
 {
     let (number, rest) = limited_then(after_key(text, PAGE_KEY)?, page)?;
     if number != page {
         return None;
     }
-    said_then(rest)
+    said_then(rest, version)
 }
 
 /// The entry that the line spells, where it is the line of this page.
-fn read_entry(line: &[u8], page: u32) -> Option<Entry>
+fn read_entry(line: &[u8], version: Version, page: u32) -> Option<Entry>
     ensures { MatchOption result
-        ((entry : Said) → EntryFits entry → line.now ≢ entry_line page entry)
-        (λ entry. EntryFits entry × (line.now ≡ entry_line page entry)) }
+        ((entry : Said) → EntryFits version entry → line.now ≢ entry_line page entry)
+        (λ entry. EntryFits version entry × (line.now ≡ entry_line page entry)) }
 {
-    let (entry, rest) = entry_then(line, page)?;
+    let (entry, rest) = entry_then(line, version, page)?;
     if !rest.is_empty() {
         return None;
     }
@@ -104,13 +120,13 @@ fn read_entry(line: &[u8], page: u32) -> Option<Entry>
 }
 
 /// Takes the line of the next page's entry, or says why it is none and leaves the entries as they were.
-pub fn take_entry(entries: &mut Vec<Entry>, line: &[u8]) -> Result<(), FaultKind>
+pub fn take_entry(entries: &mut Vec<Entry>, version: Version, line: &[u8]) -> Result<(), FaultKind>
     requires { length entries.old.items < 65536 }
-    ensures ok { OnOk result (TakesEntry entries.old.items entries.new.items line.now) }
-    ensures refused { IfErr result (λ kind. kind ≢ FaultKind.Memory → (entry : Said) → EntryFits entry → line.now ≢ entry_line (length entries.old.items) entry) }
+    ensures ok { OnOk result (TakesEntry version entries.old.items entries.new.items line.now) }
+    ensures refused { IfErr result (λ kind. kind ≢ FaultKind.Memory → (entry : Said) → EntryFits version entry → line.now ≢ entry_line (length entries.old.items) entry) }
     ensures err { OnErr result (entries.new.items ≡ entries.old.items) }
 {
-    let Some(entry) = read_entry(line, entries.len() as u32) else {
+    let Some(entry) = read_entry(line, version, entries.len() as u32) else {
         return Err(FaultKind::Form);
     };
     match entries.push(entry) {
@@ -129,25 +145,30 @@ pub fn drop_entry(entries: &mut Vec<Entry>) -> bool
 /// The entry of this page at the front of a text of whole lines, and what follows its line. It may answer `None` at any
 /// text.
 #[inline(always)]
-fn front_entry(text: &[u8], page: u32) -> Option<(Entry, &[u8])>
-    ensures { IfSome result (λ found. EntryFits found.0 × (text.now ≡ entry_line page found.0 ++ 10 ∷ found.1.now)) }
+fn front_entry(text: &[u8], version: Version, page: u32) -> Option<(Entry, &[u8])>
+    ensures { IfSome result (λ found. EntryFits version found.0 × (text.now ≡ entry_line page found.0 ++ 10 ∷ found.1.now)) }
 {
-    let (entry, rest) = entry_then(text, page)?;
+    let (entry, rest) = entry_then(text, version, page)?;
     Some((entry, after_end(rest)?))
 }
 
 /// Takes entries at the front of the bytes, those of the pages that follow, up to this number of them in all, and stops
 /// where it likes. Answers what follows, and how many they were.
-pub fn take_entries<'a>(entries: &mut Vec<Entry>, pages: u32, bytes: &'a [u8]) -> (&'a [u8], u32)
+pub fn take_entries<'a>(
+    entries: &mut Vec<Entry>,
+    version: Version,
+    pages: u32,
+    bytes: &'a [u8],
+) -> (&'a [u8], u32)
     requires { length entries.old.items ≤ pages }
-    ensures taken { TakesEntries entries.old.items entries.new.items bytes.now result.0.now result.1 }
+    ensures taken { TakesEntries version entries.old.items entries.new.items bytes.now result.0.now result.1 }
     ensures most { length entries.new.items ≤ pages }
 {
     let left = pages - entries.len() as u32;
     let mut rest = bytes;
     for at in 0..left {
         let page = entries.len() as u32;
-        let Some((entry, after)) = front_entry(rest, page) else {
+        let Some((entry, after)) = front_entry(rest, version, page) else {
             return (rest, at);
         };
         if entries.push(entry).is_err() {
@@ -158,7 +179,7 @@ pub fn take_entries<'a>(entries: &mut Vec<Entry>, pages: u32, bytes: &'a [u8]) -
     (rest, left)
 }
 
-/// Adds a page's first read or write, and the look before it.
+/// Adds a page's first use, and the look before it.
 fn push_first(out: &mut Vec<u8>, first: Option<First>) -> Result<(), AllocError>
     ensures { OnOk result (out.new.items ≡ out.old.items ++ first_text first) }
 {
@@ -171,7 +192,7 @@ fn push_first(out: &mut Vec<u8>, first: Option<First>) -> Result<(), AllocError>
     }
 }
 
-/// Adds a page's placement, its first read or write, and the look before it.
+/// Adds a page's placement, its first use, and the look before it.
 fn push_placed(out: &mut Vec<u8>, place: u32, first: Option<First>) -> Result<(), AllocError>
     ensures { OnOk result (out.new.items ≡ out.old.items ++ placed_text place first) }
 {
@@ -185,6 +206,10 @@ fn push_said(out: &mut Vec<u8>, entry: Entry) -> Result<(), AllocError>
 {
     match entry {
         Entry::Nothing => out.extend_from_slice(NONE),
+        Entry::Fresh { first } => {
+            out.extend_from_slice(FRESH_KEY)?;
+            push_number(out, first)
+        }
         Entry::Source { send, place, first } => {
             out.extend_from_slice(SOURCE_KEY)?;
             push_then(out, send)?;

@@ -3,12 +3,20 @@
 ghost use Rattle.std.specs.Prelude.{◌≡◌, ℕ, List, [], ◌∷◌, ◌++◌, IfSome, IsSomeAnd, slice_index};
 ghost use Rattle.migration_types.specs.declared.records.LogName.{LogName as Log};
 ghost use Rattle.cert_text.specs.Runs.{log_word};
+ghost use Rattle.cert_text.specs.Grammar.{header};
 
-use migration_types::LogName;
+use migration_types::{LogName, Version};
 use text_lines::after_key;
 
-/// The first line of a certificate.
-pub const CERT_HEADER: &[u8] = b"postcopy-certificate 1";
+/// The first line of a certificate of this version.
+pub fn cert_header(version: Version) -> &'static [u8]
+    ensures { result.now ≡ header version }
+{
+    match version {
+        Version::One => b"postcopy-certificate 1",
+        Version::Two => b"postcopy-certificate 2",
+    }
+}
 
 /// How the line with the number of pages begins.
 pub const PAGES_KEY: &[u8] = b"pages ";
@@ -16,16 +24,19 @@ pub const PAGES_KEY: &[u8] = b"pages ";
 /// How the line of a page's entry begins.
 pub const PAGE_KEY: &[u8] = b"page ";
 
-/// The entry of a page that was not placed.
+/// The entry of a page that was not placed, and not used at the target.
 pub const NONE: &[u8] = b"none";
+
+/// How the entry of a page begins that was not placed, and whose first use at the target released it.
+pub const FRESH_KEY: &[u8] = b"fresh ";
 
 /// How the entry of a page that was sent begins.
 pub const SOURCE_KEY: &[u8] = b"source ";
 
-/// How the entry of a released page begins.
+/// How the entry of a page that was released at the halt begins.
 pub const BALLOON_KEY: &[u8] = b"balloon ";
 
-/// Stands where a page was not read or written at the target.
+/// Stands where a page was not read, written or released at the target.
 pub const NO_FIRST: &[u8] = b"- -";
 
 /// The first line of a text of runs.

@@ -21,7 +21,7 @@ mod runs_text;
 
 pub use cert_lines::CertLines;
 use entry_lines::push_entries;
-use keys::{CERT_HEADER, PAGES_KEY, RUNS_HEADER};
+use keys::{PAGES_KEY, RUNS_HEADER, cert_header};
 use runs::push_runs;
 pub use runs_text::RunsText;
 
@@ -33,6 +33,7 @@ pub type RunsReader = TextReader<RunsText>;
 
 /// The certificate that the bytes spell: a header, an entry for each of 1 to 65,536 pages in order, at most 4,194,304
 /// runs of 1 to 1,048,576 records, of which no two neighbours are of one log, and a closing line. An LF ends each line.
+/// The header tells the version; where it is the first, a fresh page's entry is no entry.
 ///
 /// Any other input is refused, at the line with which it stops being the beginning of such a text. Lines count from 1.
 /// Where memory is refused, the fault's line is 0.
@@ -42,14 +43,14 @@ pub fn read_cert(alloc: Global, bytes: &[u8]) -> Result<Cert, TextFault>
     read_whole::<CertLines>(alloc, bytes)
 }
 
-/// The text of a certificate, which `read_cert` reads back. An error: there is no memory for it.
+/// The text of a certificate, in its version, which `read_cert` reads back. An error: there is no memory for it.
 pub fn write_cert(alloc: Global, cert: &Cert) -> Result<Vec<u8>, AllocError>
     ensures { IfOk result (λ out. IsSpelling SpellsCert cert.now out.items) }
 {
     cert.keeps_limits();
     let entries = cert.entries();
     let mut out = Vec::new(alloc);
-    push_line(&mut out, CERT_HEADER)?;
+    push_line(&mut out, cert_header(cert.version()))?;
     push_keyed(&mut out, PAGES_KEY, entries.len())?;
     push_entries(&mut out, entries)?;
     push_runs(&mut out, cert.runs())?;

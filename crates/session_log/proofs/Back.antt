@@ -9,16 +9,18 @@ use Rattle.migration_types.specs.declared.records.SourceRec.{SourceRec}
 use Rattle.migration_types.specs.declared.records.LinkRec.{LinkRec}
 use Rattle.migration_types.specs.declared.records.PagerRec.{PagerRec}
 use Rattle.migration_types.specs.declared.pages.InitPage.{InitPage}
+use Rattle.migration_types.specs.declared.version.Version.TheVariants.{One, Two}
 use Rattle.migration_types.specs.Extents.{Extent}
 use Rattle.migration_types.specs.Pages.{InitPageFits}
 use Rattle.migration_types.specs.Sessions.{GuestRecFits, SourceRecFits, LinkRecFits, PagerRecFits}
 use Rattle.session_log.specs.declared.parts.Stage.{Stage}
-use Rattle.session_log.specs.declared.parts.Stage.TheVariants.{Header, Pages, Cells, InitCount, Init, Guest, Source, Link, Pager, Done}
+use Rattle.session_log.specs.declared.parts.Stage.TheVariants.{Header, Pages, Cells, InitCount, Init, Guest, Source, Link, Lane, Pager, Done}
 use Rattle.session_log.specs.Records.{guest_line, source_line, link_line, pager_line}
 use Rattle.session_log.specs.inner.InitPages.{Rise, next_from}
-use Rattle.session_log.specs.Grammar.{header, pages_key, cells_key, init_key, guest_key, source_key, link_key, pager_key, page_line, closing}
-use Rattle.session_log.specs.inner.Held.{Draft, Part, part_onto, geometry_onto, init_onto, guest_onto, source_onto, link_onto, held_onto, InitFits, LogFits, GuestFits, SourceFits, LinkFits, Live}
+use Rattle.session_log.specs.Grammar.{header, pages_key, cells_key, init_key, guest_key, source_key, link_key, pager_key, page_line, lane, with_lane, closing}
+use Rattle.session_log.specs.inner.Held.{Draft, Part, part_onto, geometry_onto, init_onto, guest_onto, source_onto, link_onto, lane_onto, held_onto, InitFits, LogFits, GuestFits, SourceFits, LinkFits, Live}
 use Rattle.session_log.specs.inner.Steps.{count_at, StepsBack}
+use Rattle.session_log.proofs.ByVersion.{lane_long}
 use Rattle.session_log.proofs.Laws.{live_at, guest_part, source_part, link_part, pager_part}
 use Rattle.session_log.proofs.Sections.{onto_push, with_items}
 use Rattle.session_log.proofs.Goes.{live_few}
@@ -56,7 +58,7 @@ pub back : (stage at : Stage) (d new : Draft) (next : Stage) → stage ≡ at �
 back stage at d new next is live f = subst (λ (s : Stage). StepsBack s d new next) (sym is) (f (live_at stage at d is live))
 
 pub pages_back : (d : Draft) → Live Pages d → StepsBack Pages d d Header
-pages_back d live = (live, header, refl)
+pages_back d live = (live, header d.version, refl)
 
 pub cells_back : (d : Draft) → Live Cells d → StepsBack Cells d d Pages
 cells_back d live = (live.0, pages_key ++ decimal d.geometry.pages, refl)
@@ -97,10 +99,10 @@ abbrev pub with_init : Draft → Part InitPage → Draft
 with_init d new = record d { init = new; next_page = next_from 0 new.items }
 
 pub init_back : (d : Draft) (new : Part InitPage) (p : InitPage) → d.init ≡ with_items new (p ∷ []) → Live Init d → StepsBack Init d (with_init d new) Init
-init_back d new p e live = ((init_fits_back d.geometry d.next_page d.init new p e live.0, live.1), page_line p, ap (geometry_onto d.geometry) (onto_back init_key page_line d.init new p e))
+init_back d new p e live = ((init_fits_back d.geometry d.next_page d.init new p e live.0, live.1), page_line p, ap (geometry_onto d) (onto_back init_key page_line d.init new p e))
 
 pub init_none_back : (d : Draft) (new : Part InitPage) → (d.init.items ≡ []) × (new ≡ d.init) → Live Init d → StepsBack Init d (with_init d new) InitCount
-init_none_back d new e live = (((still_none d.init new e, live.1), live.0.geometry), init_key ++ decimal d.init.count, ap (geometry_onto d.geometry) (onto_empty init_key page_line d.init e.0))
+init_none_back d new e live = (((still_none d.init new e, live.1), live.0.geometry), init_key ++ decimal d.init.count, ap (geometry_onto d) (onto_empty init_key page_line d.init e.0))
 
 pub guest_back : (d : Draft) (new : Part GuestRec) (y : GuestRec) → d.guest ≡ with_items new (y ∷ []) → Live Guest d → StepsBack Guest d (record d { guest = new }) Guest
 guest_back d new y e live = ((log_back (InitFits d.geometry d.next_page d.init) d.init (GuestRecFits d.geometry) d.guest new y live.0 e, live.1), guest_line y, ap (init_onto d) (onto_back guest_key guest_line d.guest new y e))
@@ -121,10 +123,18 @@ pub link_none_back : (d : Draft) (new : Part LinkRec) → (d.link.items ≡ []) 
 link_none_back d new e live = ((live.0.before, (still_none d.link new e, live.1)), link_key ++ decimal d.link.count, ap (source_onto d) (onto_empty link_key link_line d.link e.0))
 
 pub pager_back : (d : Draft) (new : Part PagerRec) (y : PagerRec) → d.pager ≡ with_items new (y ∷ []) → Live Pager d → StepsBack Pager d (record d { pager = new }) Pager
-pager_back d new y e live = (log_back (LinkFits d) d.link (PagerRecFits d.geometry) d.pager new y live e, pager_line y, ap (link_onto d) (onto_back pager_key pager_line d.pager new y e))
+pager_back d new y e live = (log_back (LinkFits d) d.link (PagerRecFits d.geometry) d.pager new y live e, pager_line y, ap (lane_onto d) (onto_back pager_key pager_line d.pager new y e))
 
-pub pager_none_back : (d : Draft) (new : Part PagerRec) → (d.pager.items ≡ []) × (new ≡ d.pager) → Live Pager d → StepsBack Pager d (record d { pager = new }) Link
-pager_none_back d new e live = ((live.before, still_none d.pager new e), pager_key ++ decimal d.pager.count, ap (link_onto d) (onto_empty pager_key pager_line d.pager e.0))
+pub lane_back : (d : Draft) → Live Lane d → StepsBack Lane d d Link
+lane_back d live = ((live.0, live.3), lane, ap (λ (version : _). link_onto d (with_lane version [])) live.2)
+
+pub pager_none_back : (d : Draft) (new : Part PagerRec) → d.version ≡ One → (d.pager.items ≡ []) × (new ≡ d.pager) → Live Pager d → StepsBack Pager d (record d { pager = new }) Link
+pager_none_back d new first e live =
+    let line = pager_key ++ decimal d.pager.count in
+    ((live.before, still_none d.pager new e), line, ap (lane_onto d) (onto_empty pager_key pager_line d.pager e.0) ∙ ap (λ (version : _). link_onto d (with_lane version (line ∷ []))) first)
+
+pub lane_none_back : (d : Draft) (new : Part PagerRec) → d.version ≡ Two → (d.pager.items ≡ []) × (new ≡ d.pager) → Live Pager d → StepsBack Pager d (record d { pager = new }) Lane
+lane_none_back d new second e live = ((live.before, live.whole, second, still_none d.pager new e), pager_key ++ decimal d.pager.count, ap (lane_onto d) (onto_empty pager_key pager_line d.pager e.0))
 
 -- ---- how many lines came
 
@@ -142,14 +152,20 @@ counted Source d = omega (arith, part_long init_key page_line d.init (guest_part
 counted Link d =
     let l = link_part d [] in
     omega (arith, part_long init_key page_line d.init (guest_part d (source_part d l)), part_long guest_key guest_line d.guest (source_part d l), part_long source_key source_line d.source l, part_long link_key link_line d.link [])
+counted Lane d =
+    let p = with_lane d.version [] in
+    let l = link_part d p in
+    omega (arith, lane_long d.version [], part_long init_key page_line d.init (guest_part d (source_part d l)), part_long guest_key guest_line d.guest (source_part d l), part_long source_key source_line d.source l, part_long link_key link_line d.link p)
 counted Pager d =
     let p = pager_part d [] in
-    let l = link_part d p in
-    omega (arith, part_long init_key page_line d.init (guest_part d (source_part d l)), part_long guest_key guest_line d.guest (source_part d l), part_long source_key source_line d.source l, part_long link_key link_line d.link p, part_long pager_key pager_line d.pager [])
+    let q = with_lane d.version p in
+    let l = link_part d q in
+    omega (arith, lane_long d.version p, part_long init_key page_line d.init (guest_part d (source_part d l)), part_long guest_key guest_line d.guest (source_part d l), part_long source_key source_line d.source l, part_long link_key link_line d.link q, part_long pager_key pager_line d.pager [])
 counted Done d =
     let p = pager_part d (closing ∷ []) in
-    let l = link_part d p in
-    omega (arith, part_long init_key page_line d.init (guest_part d (source_part d l)), part_long guest_key guest_line d.guest (source_part d l), part_long source_key source_line d.source l, part_long link_key link_line d.link p, part_long pager_key pager_line d.pager (closing ∷ []))
+    let q = with_lane d.version p in
+    let l = link_part d q in
+    omega (arith, lane_long d.version p, part_long init_key page_line d.init (guest_part d (source_part d l)), part_long guest_key guest_line d.guest (source_part d l), part_long source_key source_line d.source l, part_long link_key link_line d.link q, part_long pager_key pager_line d.pager (closing ∷ []))
 
 pub count_is : (stage : Stage) (d : Draft) (held : List (List ℕ)) → held_onto stage d [] ≡ held → count_at stage d ≡ length held
 count_is stage d held e = sym (counted stage d) ∙ ap length e

@@ -10,23 +10,25 @@ use Rattle.migration_types.specs.declared.records.SourceRec.TheVariants.{State}
 use Rattle.migration_types.specs.declared.records.LinkRec.TheVariants.{Down}
 use Rattle.migration_types.specs.declared.records.PagerRec.TheVariants.{All}
 use Rattle.migration_types.specs.declared.pages.InitPage.{InitPage}
+use Rattle.migration_types.specs.declared.version.Version.{Version}
 use Rattle.migration_types.specs.Extents.{Extent, IsExtent}
 use Rattle.migration_types.specs.Pages.{InitPageFits}
 use Rattle.migration_types.specs.Sessions.{Recorded, IsSession, GuestRecFits, SourceRecFits, LinkRecFits, PagerRecFits}
 use Rattle.session_log.specs.declared.parts.Stage.{Stage}
-use Rattle.session_log.specs.declared.parts.Stage.TheVariants.{Header, Pages, Cells, InitCount, Init, Guest, Source, Link, Pager, Done}
+use Rattle.session_log.specs.declared.parts.Stage.TheVariants.{Header, Pages, Cells, InitCount, Init, Guest, Source, Link, Lane, Pager, Done}
 use Rattle.session_log.specs.Records.{guest_line, source_line, link_line, pager_line}
 use Rattle.session_log.specs.inner.InitPages.{Rise, rise_long, rise_increases}
-use Rattle.session_log.specs.Grammar.{header, pages_key, cells_key, init_key, guest_key, source_key, link_key, pager_key, page_line, closing, session_lines, SpellsSession}
-use Rattle.session_log.specs.inner.Held.{Draft, Part, part_onto, geometry_onto, init_onto, guest_onto, source_onto, link_onto, pager_onto, held_onto, IsWhole, InitFits, LogFits, GuestFits, SourceFits, LinkFits, PagerFits, Live}
+use Rattle.session_log.specs.Grammar.{header, pages_key, cells_key, init_key, guest_key, source_key, link_key, pager_key, page_line, with_lane, closing, session_lines, SpellsSession}
+use Rattle.session_log.specs.inner.Held.{Draft, Part, part_onto, geometry_onto, init_onto, guest_onto, source_onto, link_onto, lane_onto, pager_onto, held_onto, IsWhole, InitFits, LogFits, GuestFits, SourceFits, LinkFits, PagerFits, Live}
 use Rattle.session_log.proofs.Lists.{all_append, all_replicate}
 use Rattle.session_log.proofs.Sections.{with_items, onto_more, onto_whole, fresh, fresh_fits, missing, filled_whole, filled_fits}
-use Rattle.session_log.proofs.Laws.{held_append, StartFits, guest_part, source_part, link_part, pager_part, pager_lines, link_lines, source_lines, guest_lines, init_agrees, guest_agrees, source_agrees, link_agrees, pager_agrees}
+use Rattle.session_log.proofs.ByVersion.{lane_long, lane_short}
+use Rattle.session_log.proofs.Laws.{held_append, StartFits, guest_part, source_part, link_part, pager_part, pager_lines, lane_lines, link_lines, source_lines, guest_lines, init_agrees, guest_agrees, source_agrees, link_agrees, behind_lane, pager_agrees}
 
 -- ---- a whole draft is a session
 
 abbrev pub session_of : Draft → Recorded
-session_of d = record { geometry = d.geometry; init = d.init.items; guest = d.guest.items; source = d.source.items; link = d.link.items; pager = d.pager.items }
+session_of d = record { version = d.version; geometry = d.geometry; init = d.init.items; guest = d.guest.items; source = d.source.items; link = d.link.items; pager = d.pager.items }
 
 few_items : {X Y : Type 0} (Before : Type 0) (list : Part X) (Fits : Y → Type 0) (log : Part Y) → LogFits Before list Fits log → length log.items ≤ 1048576
 few_items Before list Fits log f = let few = f.few in let within = f.within in omega arith
@@ -55,11 +57,12 @@ whole_lines d f whole =
     let v = session_of d in
     let end_lines = closing ∷ [] in
     let pager = onto_whole pager_key pager_line d.pager end_lines end_lines whole refl in
-    let link = onto_whole link_key link_line d.link (pager_part d end_lines) (pager_lines v) f.whole pager in
-    let source = onto_whole source_key source_line d.source (link_part d (pager_part d end_lines)) (link_lines v) f.before.whole link in
-    let guest = onto_whole guest_key guest_line d.guest (source_part d (link_part d (pager_part d end_lines))) (source_lines v) f.before.before.whole source in
-    let init = onto_whole init_key page_line d.init (guest_part d (source_part d (link_part d (pager_part d end_lines)))) (guest_lines v) f.before.before.before.whole guest in
-    ap (geometry_onto d.geometry) init
+    let held = with_lane d.version (pager_part d end_lines) in
+    let link = onto_whole link_key link_line d.link (with_lane d.version (pager_part d end_lines)) (lane_lines v) f.whole (ap (with_lane d.version) pager) in
+    let source = onto_whole source_key source_line d.source (link_part d held) (link_lines v) f.before.whole link in
+    let guest = onto_whole guest_key guest_line d.guest (source_part d (link_part d held)) (source_lines v) f.before.before.whole source in
+    let init = onto_whole init_key page_line d.init (guest_part d (source_part d (link_part d held))) (guest_lines v) f.before.before.before.whole guest in
+    ap (geometry_onto d) init
 
 pub done_spells : (d : Draft) → PagerFits d → IsWhole d.pager → SpellsSession (session_of d) (held_onto Done d [])
 done_spells d f whole = (whole_fits d f, whole_lines d f whole)
@@ -76,16 +79,21 @@ pager_begins : (d : Draft) → PagerFits d → Begins SpellsSession (held_onto P
 pager_begins d f =
     let more = missing d.pager All in
     let e : Draft = record d { pager = with_items d.pager more } in
-    step Pager Done d e (map pager_line more ++ closing ∷ []) (ap (link_onto d) (onto_more pager_key pager_line d.pager more (closing ∷ [])))
+    step Pager Done d e (map pager_line more ++ closing ∷ []) (ap (lane_onto d) (onto_more pager_key pager_line d.pager more (closing ∷ [])))
     (done_begins e (filled_fits (LinkFits d) d.link (PagerRecFits d.geometry) d.pager All f tt) (filled_whole d.pager All f.within))
+
+lane_begins : (d : Draft) → LinkFits d → IsWhole d.link → Begins SpellsSession (held_onto Lane d [])
+lane_begins d f whole =
+    let e : Draft = record d { pager = fresh 0 } in
+    step Lane Pager d e ((pager_key ++ decimal 0) ∷ []) refl (pager_begins e (fresh_fits (LinkFits e) d.link (PagerRecFits d.geometry) 0 f whole (omega arith)))
 
 link_begins : (d : Draft) → LinkFits d → Begins SpellsSession (held_onto Link d [])
 link_begins d f =
     let more = missing d.link (Down 0) in
     let log = with_items d.link more in
-    let line = pager_key ++ decimal 0 in
+    let rest = with_lane d.version ((pager_key ++ decimal 0) ∷ []) in
     let e : Draft = record d { link = log; pager = fresh 0 } in
-    step Link Pager d e (map link_line more ++ line ∷ []) (ap (source_onto d) (onto_more link_key link_line d.link more (line ∷ [])))
+    step Link Pager d e (map link_line more ++ rest) (ap (source_onto d) (onto_more link_key link_line d.link more rest))
     (pager_begins e (fresh_fits (LinkFits e) log (PagerRecFits d.geometry) 0 (filled_fits (SourceFits d) d.source LinkRecFits d.link (Down 0) f (omega arith)) (filled_whole d.link (Down 0) f.within) (omega arith)))
 
 source_begins : (d : Draft) → SourceFits d → Begins SpellsSession (held_onto Source d [])
@@ -171,29 +179,29 @@ init_begins d f =
     let list = with_items d.init more in
     let line = guest_key ++ decimal 0 in
     let e : Draft = record d { init = list; next_page = top; guest = fresh 0 } in
-    step Init Guest d e (map page_line more ++ line ∷ []) (ap (geometry_onto d.geometry) (onto_more init_key page_line d.init more (line ∷ [])))
+    step Init Guest d e (map page_line more ++ line ∷ []) (ap (geometry_onto d) (onto_more init_key page_line d.init more (line ∷ [])))
     (guest_begins e (fresh_fits (StartFits e) list (GuestRecFits d.geometry) 0 filled.2 filled.3 (omega arith)))
 
-abbrev empty_draft : Extent → Draft
-empty_draft e = record { geometry = e; next_page = 0; init = fresh 0; guest = fresh 0; source = fresh 0; link = fresh 0; pager = fresh 0 }
+abbrev empty_draft : Version → Extent → Draft
+empty_draft version e = record { version = version; geometry = e; next_page = 0; init = fresh 0; guest = fresh 0; source = fresh 0; link = fresh 0; pager = fresh 0 }
 
 count_begins : (d : Draft) → IsExtent d.geometry → Begins SpellsSession (held_onto InitCount d [])
 count_begins d geo =
-    let e = empty_draft d.geometry in
+    let e = empty_draft d.version d.geometry in
     step InitCount Init d e ((init_key ++ decimal 0) ∷ []) refl (init_begins e (record { geometry = geo; within = omega arith; each = tt; rising = refl; room = omega arith }))
 
 cells_begins : (d : Draft) → 1 ≤ d.geometry.pages → d.geometry.pages ≤ 65536 → Begins SpellsSession (held_onto Cells d [])
 cells_begins d low high =
-    let e = empty_draft (record { pages = d.geometry.pages; cells = 1 }) in
+    let e = empty_draft d.version (record { pages = d.geometry.pages; cells = 1 }) in
     step Cells InitCount d e ((cells_key ++ decimal 1) ∷ []) refl (count_begins e (record { some_pages = low; few_pages = high; some_cells = omega arith; few_cells = omega arith; few_in_all = omega arith }))
 
 pages_begins : (d : Draft) → Begins SpellsSession (held_onto Pages d [])
 pages_begins d =
-    let e = empty_draft (record { pages = 1; cells = 1 }) in
+    let e = empty_draft d.version (record { pages = 1; cells = 1 }) in
     step Pages Cells d e ((pages_key ++ decimal 1) ∷ []) refl (cells_begins e (omega arith) (omega arith))
 
 pub live_begins : (stage : Stage) (d : Draft) → Live stage d → Begins SpellsSession (held_onto stage d [])
-live_begins Header d live = step Header Pages d d (header ∷ []) refl (pages_begins d)
+live_begins Header d live = step Header Pages d d (header d.version ∷ []) refl (pages_begins d)
 live_begins Pages d live = pages_begins d
 live_begins Cells d live = cells_begins d live.1 live.2
 live_begins InitCount d live = count_begins d live.1
@@ -201,6 +209,7 @@ live_begins Init d live = init_begins d live.0
 live_begins Guest d live = guest_begins d live.0
 live_begins Source d live = source_begins d live.0
 live_begins Link d live = link_begins d live.0
+live_begins Lane d live = lane_begins d live.0 live.1
 live_begins Pager d live = pager_begins d live
 live_begins Done d live = done_begins d live.0 live.1
 
@@ -232,7 +241,8 @@ not_whole_at Source d live other v fits e =
 not_whole_at Link d live other v fits e =
     let a = link_agrees d [] v live.0 fits e in
     let within = live.0.within in
-    no_rest link_line v.link d.link.items (pager_lines v) a.items (omega (arith, a.count)) (omega arith)
+    no_rest link_line v.link d.link.items (lane_lines v) a.items (omega (arith, a.count)) (omega (arith, lane_long v.version (pager_lines v)))
+not_whole_at Lane d live other v fits e = let rest = behind_lane d [] v live.0 live.1 fits e in absurd cc
 not_whole_at Pager d live other v fits e =
     let a = pager_agrees d [] v live fits e in
     let within = live.within in
@@ -276,9 +286,12 @@ link_few d more f =
     let part = part_few link_key link_line d.link more in
     omega arith
 
-pager_few : (d : Draft) (more : List (List ℕ)) → PagerFits d → length (pager_onto d more) ≤ 4259848 + length more
+lane_few : (d : Draft) (more : List (List ℕ)) → LinkFits d → length (lane_onto d more) ≤ 3211272 + length more
+lane_few d more f = let before = link_few d (with_lane d.version more) f in omega (arith, lane_long d.version more, lane_short d.version)
+
+pager_few : (d : Draft) (more : List (List ℕ)) → PagerFits d → length (pager_onto d more) ≤ 4259849 + length more
 pager_few d more f =
-    let before = link_few d (pager_part d more) f.before in
+    let before = lane_few d (pager_part d more) f.before in
     let few = few_items (LinkFits d) d.link (PagerRecFits d.geometry) d.pager f in
     let part = part_few pager_key pager_line d.pager more in
     omega arith
@@ -292,5 +305,6 @@ live_few Init d live = let few = init_few d [] live.0 in omega arith
 live_few Guest d live = let few = guest_few d [] live.0 in omega arith
 live_few Source d live = let few = source_few d [] live.0 in omega arith
 live_few Link d live = let few = link_few d [] live.0 in omega arith
+live_few Lane d live = let few = lane_few d [] live.0 in omega arith
 live_few Pager d live = let few = pager_few d [] live in omega arith
 live_few Done d live = let few = pager_few d (closing ∷ []) live.0 in omega arith

@@ -15,17 +15,20 @@ use Rattle.migration_types.specs.declared.records.SourceRec.{SourceRec}
 use Rattle.migration_types.specs.declared.records.LinkRec.{LinkRec}
 use Rattle.migration_types.specs.declared.records.PagerRec.{PagerRec}
 use Rattle.migration_types.specs.declared.pages.InitPage.{InitPage}
+use Rattle.migration_types.specs.declared.version.Version.{Version}
+use Rattle.migration_types.specs.declared.version.Version.TheVariants.{One, Two}
 use Rattle.migration_types.specs.Extents.{Extent, IsExtent}
 use Rattle.migration_types.specs.Pages.{InitPageFits}
 use Rattle.migration_types.specs.Sessions.{Recorded, IsSession, GuestRecFits, SourceRecFits, LinkRecFits, PagerRecFits}
 use Rattle.session_log.specs.declared.parts.Stage.{Stage}
-use Rattle.session_log.specs.declared.parts.Stage.TheVariants.{Header, Pages, Cells, InitCount, Init, Guest, Source, Link, Pager, Done}
+use Rattle.session_log.specs.declared.parts.Stage.TheVariants.{Header, Pages, Cells, InitCount, Init, Guest, Source, Link, Lane, Pager, Done}
 use Rattle.session_log.specs.Records.{guest_line, source_line, link_line, pager_line}
 use Rattle.session_log.specs.inner.InitPages.{IsInitContent, Rise, next_from, next_push, rise_long, rise_of, few_init}
-use Rattle.session_log.specs.Grammar.{pages_key, cells_key, init_key, guest_key, source_key, link_key, pager_key, page_key, page_line, closing, counted, session_lines, SpellsSession}
-use Rattle.session_log.specs.inner.Held.{Draft, Part, part_onto, geometry_onto, init_onto, guest_onto, source_onto, link_onto, pager_onto, held_onto, IsWhole, InitFits, GuestFits, SourceFits, LinkFits, PagerFits, Live}
+use Rattle.session_log.specs.Grammar.{header, pages_key, cells_key, init_key, guest_key, source_key, link_key, pager_key, page_key, page_line, lane, with_lane, closing, counted, session_lines, SpellsSession}
+use Rattle.session_log.specs.inner.Held.{Draft, Part, part_onto, geometry_onto, init_onto, guest_onto, source_onto, link_onto, lane_onto, pager_onto, held_onto, IsWhole, InitFits, GuestFits, SourceFits, LinkFits, PagerFits, Live}
 use Rattle.session_log.proofs.Lists.{all_at, all_append}
 use Rattle.session_log.proofs.Sections.{part_append, with_items, agrees, item_at, count_at}
+use Rattle.session_log.proofs.ByVersion.{header_tells, no_header, lane_append, lane_first, behind_lane_same}
 
 -- ---- more lines behind those held
 
@@ -42,7 +45,7 @@ abbrev pub pager_part : Draft → List (List ℕ) → List (List ℕ)
 pager_part d more = part_onto pager_key pager_line d.pager more
 
 init_append : (d : Draft) (a b : List (List ℕ)) → init_onto d a ++ b ≡ init_onto d (a ++ b)
-init_append d a b = ap (geometry_onto d.geometry) (part_append init_key page_line d.init a b)
+init_append d a b = ap (geometry_onto d) (part_append init_key page_line d.init a b)
 
 guest_append : (d : Draft) (a b : List (List ℕ)) → guest_onto d a ++ b ≡ guest_onto d (a ++ b)
 guest_append d a b = init_append d (guest_part d a) b ∙ ap (init_onto d) (part_append guest_key guest_line d.guest a b)
@@ -53,8 +56,11 @@ source_append d a b = guest_append d (source_part d a) b ∙ ap (guest_onto d) (
 link_append : (d : Draft) (a b : List (List ℕ)) → link_onto d a ++ b ≡ link_onto d (a ++ b)
 link_append d a b = source_append d (link_part d a) b ∙ ap (source_onto d) (part_append link_key link_line d.link a b)
 
+behind_append : (d : Draft) (a b : List (List ℕ)) → lane_onto d a ++ b ≡ lane_onto d (a ++ b)
+behind_append d a b = link_append d (with_lane d.version a) b ∙ ap (link_onto d) (lane_append d.version a b)
+
 pager_append : (d : Draft) (a b : List (List ℕ)) → pager_onto d a ++ b ≡ pager_onto d (a ++ b)
-pager_append d a b = link_append d (pager_part d a) b ∙ ap (link_onto d) (part_append pager_key pager_line d.pager a b)
+pager_append d a b = behind_append d (pager_part d a) b ∙ ap (lane_onto d) (part_append pager_key pager_line d.pager a b)
 
 pub held_append : (stage : Stage) (d : Draft) (a b : List (List ℕ)) → held_onto stage d a ++ b ≡ held_onto stage d (a ++ b)
 held_append Header d a b = refl
@@ -65,6 +71,7 @@ held_append Init d a b = init_append d a b
 held_append Guest d a b = guest_append d a b
 held_append Source d a b = source_append d a b
 held_append Link d a b = link_append d a b
+held_append Lane d a b = behind_append d a b
 held_append Pager d a b = pager_append d a b
 held_append Done d a b = pager_append d (closing ∷ a) b
 
@@ -111,8 +118,11 @@ init_count_at d line geo g =
 abbrev pub pager_lines : Recorded → List (List ℕ)
 pager_lines v = counted pager_key pager_line v.pager (closing ∷ [])
 
+abbrev pub lane_lines : Recorded → List (List ℕ)
+lane_lines v = with_lane v.version (pager_lines v)
+
 abbrev pub link_lines : Recorded → List (List ℕ)
-link_lines v = counted link_key link_line v.link (pager_lines v)
+link_lines v = counted link_key link_line v.link (lane_lines v)
 
 abbrev pub source_lines : Recorded → List (List ℕ)
 source_lines v = counted source_key source_line v.source (link_lines v)
@@ -121,6 +131,7 @@ abbrev pub guest_lines : Recorded → List (List ℕ)
 guest_lines v = counted guest_key guest_line v.guest (source_lines v)
 
 pub record InitAgrees (d : Draft) (more : List (List ℕ)) (v : Recorded) : Type 0 where
+  pub version : d.version ≡ v.version
   pub geometry : d.geometry ≡ v.geometry
   pub init : CountedAgree page_line d.init.count v.init d.init.items (guest_lines v) more
 
@@ -137,10 +148,12 @@ init_agrees d more v f fits e =
     let fp = fits.geometry.few_pages in
     let fc = fits.geometry.few_cells in
     let few = few_init v fits in
+    let headers : header d.version ≡ header v.version = cc in
     let pages : pages_key ++ decimal d.geometry.pages ≡ pages_key ++ decimal v.geometry.pages = cc in
     let cells : cells_key ++ decimal d.geometry.cells ≡ cells_key ++ decimal v.geometry.cells = cc in
     let rest : part_onto init_key page_line d.init more ≡ counted init_key page_line v.init (guest_lines v) = cc in
     record {
+      version = header_tells d.version v.version headers;
       geometry = extent_same d.geometry v.geometry (keyed pages_key d.geometry.pages v.geometry.pages (omega arith) (omega arith) pages) (keyed cells_key d.geometry.cells v.geometry.cells (omega arith) (omega arith) cells);
       init = counted_agree init_key page_line d.init.count v.init d.init.items (guest_lines v) more (omega arith) (omega arith) rest;
     }
@@ -160,14 +173,22 @@ source_agrees d more v f fits e = agrees source_key source_line d.source v.sourc
 pub behind_source : (d : Draft) (more : List (List ℕ)) (v : Recorded) → SourceFits d → IsWhole d.source → IsSession v → source_onto d more ≡ session_lines v → link_lines v ≡ more
 behind_source d more v f whole fits e = counted_end source_line d.source.count v.source d.source.items (link_lines v) more (source_agrees d more v f fits e) whole
 
-pub link_agrees : (d : Draft) (more : List (List ℕ)) (v : Recorded) → LinkFits d → IsSession v → link_onto d more ≡ session_lines v → CountedAgree link_line d.link.count v.link d.link.items (pager_lines v) more
-link_agrees d more v f fits e = agrees link_key link_line d.link v.link (pager_lines v) more f.few fits.few_link (behind_source d (link_part d more) v f.before f.whole fits e)
+pub link_agrees : (d : Draft) (more : List (List ℕ)) (v : Recorded) → LinkFits d → IsSession v → link_onto d more ≡ session_lines v → CountedAgree link_line d.link.count v.link d.link.items (lane_lines v) more
+link_agrees d more v f fits e = agrees link_key link_line d.link v.link (lane_lines v) more f.few fits.few_link (behind_source d (link_part d more) v f.before f.whole fits e)
 
-pub behind_link : (d : Draft) (more : List (List ℕ)) (v : Recorded) → LinkFits d → IsWhole d.link → IsSession v → link_onto d more ≡ session_lines v → pager_lines v ≡ more
-behind_link d more v f whole fits e = counted_end link_line d.link.count v.link d.link.items (pager_lines v) more (link_agrees d more v f fits e) whole
+pub behind_link : (d : Draft) (more : List (List ℕ)) (v : Recorded) → LinkFits d → IsWhole d.link → IsSession v → link_onto d more ≡ session_lines v → lane_lines v ≡ more
+behind_link d more v f whole fits e = counted_end link_line d.link.count v.link d.link.items (lane_lines v) more (link_agrees d more v f fits e) whole
+
+version_agrees : (d : Draft) (more : List (List ℕ)) (v : Recorded) → LinkFits d → IsSession v → link_onto d more ≡ session_lines v → v.version ≡ d.version
+version_agrees d more v f fits e = sym (init_agrees d (guest_part d (source_part d (link_part d more))) v f.before.before.before fits e).version
+
+pub behind_lane : (d : Draft) (more : List (List ℕ)) (v : Recorded) → LinkFits d → IsWhole d.link → IsSession v → lane_onto d more ≡ session_lines v → pager_lines v ≡ more
+behind_lane d more v f whole fits e =
+    let rest = with_lane d.version more in
+    behind_lane_same v.version d.version (pager_lines v) more (version_agrees d rest v f fits e) (behind_link d rest v f whole fits e)
 
 pub pager_agrees : (d : Draft) (more : List (List ℕ)) (v : Recorded) → PagerFits d → IsSession v → pager_onto d more ≡ session_lines v → CountedAgree pager_line d.pager.count v.pager d.pager.items (closing ∷ []) more
-pager_agrees d more v f fits e = agrees pager_key pager_line d.pager v.pager (closing ∷ []) more f.few fits.few_pager (behind_link d (pager_part d more) v f.before f.whole fits e)
+pager_agrees d more v f fits e = agrees pager_key pager_line d.pager v.pager (closing ∷ []) more f.few fits.few_pager (behind_lane d (pager_part d more) v f.before f.whole fits e)
 
 pub behind_pager : (d : Draft) (more : List (List ℕ)) (v : Recorded) → PagerFits d → IsWhole d.pager → IsSession v → pager_onto d more ≡ session_lines v → closing ∷ [] ≡ more
 behind_pager d more v f whole fits e = counted_end pager_line d.pager.count v.pager d.pager.items (closing ∷ []) more (pager_agrees d more v f fits e) whole
@@ -275,6 +296,13 @@ pages_push e old new high n bytes rest f below same within t room = record {
 
 -- ---- why a line is refused
 
+pub header_refused : (d : Draft) (line : List ℕ) → line ≢ header One → line ≢ header Two → Begins SpellsSession (held_onto Header d (line ∷ [])) → ⊥
+header_refused d line one two b =
+    let g = goes_from Header d line b in
+    let whole = g.whole in
+    let l : line ≡ header g.v.version = cc in
+    no_header line g.v.version one two l
+
 pub pages_refused : (d : Draft) (line : List ℕ) → ((n : ℕ) → 1 ≤ n → n ≤ 65536 → line ≢ pages_key ++ decimal n) → Begins SpellsSession (held_onto Pages d (line ∷ [])) → ⊥
 pages_refused d line none b =
     let g = goes_from Pages d line b in
@@ -313,13 +341,27 @@ source_count_refused d line f whole none b =
 pub link_count_refused : (d : Draft) (line : List ℕ) → SourceFits d → IsWhole d.source → ((n : ℕ) → n ≤ 1048576 → line ≢ link_key ++ decimal n) → Begins SpellsSession (held_onto Source d (line ∷ [])) → ⊥
 link_count_refused d line f whole none b =
     let g = goes_from Source d line b in
-    let n = count_at link_key link_line g.v.link (pager_lines g.v) g.more line (behind_source d (line ∷ g.more) g.v f whole g.fits g.whole) g.fits.few_link in
+    let n = count_at link_key link_line g.v.link (lane_lines g.v) g.more line (behind_source d (line ∷ g.more) g.v f whole g.fits g.whole) g.fits.few_link in
     none n.0 n.1 n.2
 
-pub pager_count_refused : (d : Draft) (line : List ℕ) → LinkFits d → IsWhole d.link → ((n : ℕ) → n ≤ 1048576 → line ≢ pager_key ++ decimal n) → Begins SpellsSession (held_onto Link d (line ∷ [])) → ⊥
-pager_count_refused d line f whole none b =
+pub pager_count_refused : (d : Draft) (line : List ℕ) → LinkFits d → IsWhole d.link → d.version ≡ One → ((n : ℕ) → n ≤ 1048576 → line ≢ pager_key ++ decimal n) → Begins SpellsSession (held_onto Link d (line ∷ [])) → ⊥
+pager_count_refused d line f whole first none b =
     let g = goes_from Link d line b in
-    let n = count_at pager_key pager_line g.v.pager (closing ∷ []) g.more line (behind_link d (line ∷ g.more) g.v f whole g.fits g.whole) g.fits.few_pager in
+    let more = line ∷ g.more in
+    let rest = behind_lane_same g.v.version One (pager_lines g.v) more (version_agrees d more g.v f g.fits g.whole ∙ first) (behind_link d more g.v f whole g.fits g.whole) in
+    let n = count_at pager_key pager_line g.v.pager (closing ∷ []) g.more line rest g.fits.few_pager in
+    none n.0 n.1 n.2
+
+pub lane_refused : (d : Draft) (line : List ℕ) → LinkFits d → IsWhole d.link → d.version ≡ Two → line ≢ lane → Begins SpellsSession (held_onto Link d (line ∷ [])) → ⊥
+lane_refused d line f whole second other b =
+    let g = goes_from Link d line b in
+    let more = line ∷ g.more in
+    other (lane_first g.v.version (pager_lines g.v) g.more line (version_agrees d more g.v f g.fits g.whole ∙ second) (behind_link d more g.v f whole g.fits g.whole))
+
+pub behind_lane_refused : (d : Draft) (line : List ℕ) → LinkFits d → IsWhole d.link → ((n : ℕ) → n ≤ 1048576 → line ≢ pager_key ++ decimal n) → Begins SpellsSession (held_onto Lane d (line ∷ [])) → ⊥
+behind_lane_refused d line f whole none b =
+    let g = goes_from Lane d line b in
+    let n = count_at pager_key pager_line g.v.pager (closing ∷ []) g.more line (behind_lane d (line ∷ g.more) g.v f whole g.fits g.whole) g.fits.few_pager in
     none n.0 n.1 n.2
 
 pub closing_refused : (d : Draft) (line : List ℕ) → PagerFits d → IsWhole d.pager → line ≢ closing → Begins SpellsSession (held_onto Pager d (line ∷ [])) → ⊥
@@ -354,13 +396,13 @@ source_refused d line f less none b =
 pub link_refused : (d : Draft) (line : List ℕ) → LinkFits d → length d.link.items < d.link.count → ((r : LinkRec) → LinkRecFits r → line ≢ link_line r) → Begins SpellsSession (held_onto Link d (line ∷ [])) → ⊥
 link_refused d line f less none b =
     let g = goes_from Link d line b in
-    let r = item_at link_line LinkRecFits d.link g.v.link (pager_lines g.v) g.more line (link_agrees d (line ∷ g.more) g.v f g.fits g.whole) less g.fits.link in
+    let r = item_at link_line LinkRecFits d.link g.v.link (lane_lines g.v) g.more line (link_agrees d (line ∷ g.more) g.v f g.fits g.whole) less g.fits.link in
     none r.0 r.1 r.2
 
 pub pager_refused : (d : Draft) (line : List ℕ) → PagerFits d → length d.pager.items < d.pager.count → ((r : PagerRec) → PagerRecFits d.geometry r → line ≢ pager_line r) → Begins SpellsSession (held_onto Pager d (line ∷ [])) → ⊥
 pager_refused d line f less none b =
     let g = goes_from Pager d line b in
     let more = line ∷ g.more in
-    let same = (init_agrees d (guest_part d (source_part d (link_part d (pager_part d more)))) g.v f.before.before.before.before g.fits g.whole).geometry in
+    let same = (init_agrees d (guest_part d (source_part d (link_part d (with_lane d.version (pager_part d more))))) g.v f.before.before.before.before g.fits g.whole).geometry in
     let r = item_at pager_line (PagerRecFits d.geometry) d.pager g.v.pager (closing ∷ []) g.more line (pager_agrees d more g.v f g.fits g.whole) less (subst (λ (e : Extent). AllByRecursion (PagerRecFits e) g.v.pager) (sym same) g.fits.pager) in
     none r.0 r.1 r.2

@@ -2,12 +2,13 @@
 use Rattle.std.proofs.Common.{◌≡◌, ℕ, zero, suc, ◌+◌, ◌-◌, ◌<◌, List, [], ◌∷◌, ◌++◌, length, map, refl, ap, ◌∙◌, arith}
 use Rattle.std.specs.Prelude.{slice_get}
 use Rattle.std.proofs.lemmas.List.{length-map}
-use Rattle.migration_types.specs.Sessions.{Recorded, line_of, log_length}
+use Rattle.migration_types.specs.Sessions.{Recorded, lane_lines as lines_of_lane, line_of, log_length}
 use Rattle.migration_types.specs.declared.records.LogName.{LogName}
 use Rattle.migration_types.specs.declared.records.LogName.TheVariants.{Guest, Source, Link, Pager}
 use Rattle.session_log.specs.Records.{guest_line, source_line, link_line, pager_line}
 use Rattle.session_log.specs.Grammar.{init_key, guest_key, source_key, link_key, pager_key, page_line, closing, counted, session_lines, record_line}
-use Rattle.session_log.proofs.Laws.{guest_lines, source_lines, link_lines, pager_lines}
+use Rattle.session_log.proofs.ByVersion.{past_lane}
+use Rattle.session_log.proofs.Laws.{guest_lines, source_lines, link_lines, lane_lines, pager_lines}
 
 past : (xs ys : List (List ℕ)) (k : ℕ) → slice_get (xs ++ ys) (length xs + k) ≡ slice_get ys k
 past [] ys k = ap (slice_get ys) (omega arith)
@@ -38,14 +39,17 @@ behind_guest s i k e = behind_init s i (1 + length s.guest + k) (omega arith) �
 behind_source : (s : Recorded) (i k : ℕ) → i ≡ 6 + length s.init + length s.guest + length s.source + k → slice_get (session_lines s) i ≡ slice_get (link_lines s) k
 behind_source s i k e = behind_guest s i (1 + length s.source + k) (omega arith) ∙ behind_list source_key source_line s.source (link_lines s) (1 + length s.source + k) k (omega arith)
 
-behind_link : (s : Recorded) (i k : ℕ) → i ≡ 7 + length s.init + length s.guest + length s.source + length s.link + k → slice_get (session_lines s) i ≡ slice_get (pager_lines s) k
-behind_link s i k e = behind_source s i (1 + length s.link + k) (omega arith) ∙ behind_list link_key link_line s.link (pager_lines s) (1 + length s.link + k) k (omega arith)
+behind_link : (s : Recorded) (i k : ℕ) → i ≡ 7 + length s.init + length s.guest + length s.source + length s.link + k → slice_get (session_lines s) i ≡ slice_get (lane_lines s) k
+behind_link s i k e = behind_source s i (1 + length s.link + k) (omega arith) ∙ behind_list link_key link_line s.link (lane_lines s) (1 + length s.link + k) k (omega arith)
+
+behind_lane : (s : Recorded) (i k : ℕ) → i ≡ 7 + length s.init + length s.guest + length s.source + length s.link + lines_of_lane s.version + k → slice_get (session_lines s) i ≡ slice_get (pager_lines s) k
+behind_lane s i k e = behind_link s i (lines_of_lane s.version + k) (omega arith) ∙ past_lane s.version (pager_lines s) (lines_of_lane s.version + k) k refl
 
 line_at : (s : Recorded) (log : LogName) (n : ℕ) → n < log_length s log → slice_get (session_lines s) (line_of s (log, n) - 1) ≡ record_line s (log, n)
 line_at s Guest n lt = behind_init s (line_of s (Guest, n) - 1) (1 + n) (omega arith) ∙ in_list guest_key guest_line s.guest (source_lines s) (1 + n) n (omega arith) lt
 line_at s Source n lt = behind_guest s (line_of s (Source, n) - 1) (1 + n) (omega arith) ∙ in_list source_key source_line s.source (link_lines s) (1 + n) n (omega arith) lt
-line_at s Link n lt = behind_source s (line_of s (Link, n) - 1) (1 + n) (omega arith) ∙ in_list link_key link_line s.link (pager_lines s) (1 + n) n (omega arith) lt
-line_at s Pager n lt = behind_link s (line_of s (Pager, n) - 1) (1 + n) (omega arith) ∙ in_list pager_key pager_line s.pager (closing ∷ []) (1 + n) n (omega arith) lt
+line_at s Link n lt = behind_source s (line_of s (Link, n) - 1) (1 + n) (omega arith) ∙ in_list link_key link_line s.link (lane_lines s) (1 + n) n (omega arith) lt
+line_at s Pager n lt = behind_lane s (line_of s (Pager, n) - 1) (1 + n) (omega arith) ∙ in_list pager_key pager_line s.pager (closing ∷ []) (1 + n) n (omega arith) lt
 
 pub line_is : (s : Recorded) (log : LogName) (n line : ℕ) → n < log_length s log → line ≡ line_of s (log, n) → slice_get (session_lines s) (line - 1) ≡ record_line s (log, n)
 line_is s log n line lt is = ap (λ (k : ℕ). slice_get (session_lines s) (k - 1)) is ∙ line_at s log n lt

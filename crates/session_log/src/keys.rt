@@ -1,8 +1,10 @@
 //! The words and whole lines of a session's text, for its reader and its writer.
 
-// The header, what begins the number of a list's items, and the last line.
+// The headers, what begins the number of a list's items, the lane's line, and the last line.
 
-pub(crate) const HEADER: &[u8] = b"postcopy-session 1";
+pub(crate) const FIRST_HEADER: &[u8] = b"postcopy-session 1";
+
+pub(crate) const SECOND_HEADER: &[u8] = b"postcopy-session 2";
 
 /// How the line with the number of pages begins.
 pub const PAGES_KEY: &[u8] = b"pages ";
@@ -18,6 +20,8 @@ pub(crate) const GUEST_KEY: &[u8] = b"guest ";
 pub(crate) const SOURCE_KEY: &[u8] = b"source ";
 
 pub(crate) const LINK_KEY: &[u8] = b"link ";
+
+pub(crate) const LANE: &[u8] = b"lane 0";
 
 pub(crate) const PAGER_KEY: &[u8] = b"pager ";
 

@@ -4,6 +4,7 @@ ghost use Rattle.std.specs.Prelude.{◌≡◌, ◌<◌, ◌-◌, slice_get};
 ghost use Rattle.migration_types.specs.Sessions.{line_of, log_length};
 ghost use Rattle.session_log.specs.Grammar.{session_lines, record_line};
 
+use crate::versions::lane_lines;
 use migration_types::{LogName, Session};
 
 /// The line, counted from 1, at which a session's text has a record: the one at a place, counted from 0, of a log.
@@ -23,6 +24,6 @@ pub fn line_of(session: &Session, log: LogName, place: u32) -> u32
         LogName::Guest => 6 + init + place,
         LogName::Source => 7 + init + guest + place,
         LogName::Link => 8 + init + guest + source + place,
-        LogName::Pager => 9 + init + guest + source + link + place,
+        LogName::Pager => 9 + init + guest + source + link + lane_lines(session.version()) + place,
     }
 }

@@ -1,21 +1,23 @@
 //! Certificates and runs: what is read of their texts.
 
 use crate::formats::{Format, fault_in, none_is_wrong};
-use crate::texts::{RELEASED, RUNS, SENT, UNUSED};
+use crate::texts::{FRESH, RELEASED, RUNS, SENT, UNUSED};
 use cert_text::{read_cert, read_runs};
-use migration_types::{Entry, First, LogName, Run};
+use migration_types::{Entry, First, LogName, Run, Version};
 use std::alloc::Global;
 
-/// A text of a certificate, its entries and the count of its runs.
+/// A text of a certificate, its version, its entries and the count of its runs.
 struct Spelled {
     text: &'static str,
+    version: Version,
     entries: &'static [Entry],
     runs: usize,
 }
 
-static CERTS: [Spelled; 3] = [
+static CERTS: [Spelled; 4] = [
     Spelled {
         text: SENT,
+        version: Version::One,
         entries: &[
             Entry::Source {
                 send: 3,
@@ -32,6 +34,7 @@ static CERTS: [Spelled; 3] = [
     },
     Spelled {
         text: RELEASED,
+        version: Version::One,
         entries: &[
             Entry::Nothing,
             Entry::Balloon {
@@ -43,6 +46,7 @@ static CERTS: [Spelled; 3] = [
     },
     Spelled {
         text: UNUSED,
+        version: Version::One,
         entries: &[
             Entry::Source {
                 send: 0,
@@ -64,11 +68,33 @@ static CERTS: [Spelled; 3] = [
         ],
         runs: 1,
     },
+    Spelled {
+        text: FRESH,
+        version: Version::Two,
+        entries: &[
+            Entry::Source {
+                send: 3,
+                place: 5,
+                first: Some(First { access: 5, see: 4 }),
+            },
+            Entry::Balloon {
+                place: 7,
+                first: None,
+            },
+            Entry::Nothing,
+            Entry::Fresh { first: 1_048_575 },
+        ],
+        runs: 1,
+    },
 ];
 
 fn is_read(alloc: Global, spelled: &Spelled) -> bool {
     match read_cert(alloc, spelled.text.as_bytes()) {
-        Ok(cert) => cert.entries() == spelled.entries && cert.runs().len() == spelled.runs,
+        Ok(cert) => {
+            cert.version() == spelled.version
+                && cert.entries() == spelled.entries
+                && cert.runs().len() == spelled.runs
+        }
         Err(_) => false,
     }
 }
@@ -121,7 +147,8 @@ fn runs_are_read(rt: HostRuntime) {
 }
 
 /// Changes of `SENT` that leave a certificate: what is changed, and what into.
-static AT_LIMITS: [(&str, &str); 3] = [
+static AT_LIMITS: [(&str, &str); 4] = [
+    ("certificate 1", "certificate 2"),
     ("3 5 5 4\n", "3 5 - -\n"),
     ("3 5 5 4\n", "3 5 5 1048575\n"),
     ("guest 2", "guest 1048576"),

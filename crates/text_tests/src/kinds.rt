@@ -2,7 +2,7 @@
 //! range, or an end that is too early or too late.
 
 use crate::formats::{Format, fault_in, none_is_wrong};
-use crate::texts::{KINDS, RUNS, SENT};
+use crate::texts::{FRESH, KINDS, LATE, RUNS, SENT};
 use FaultKind::{Ended, Form, Range};
 use std::alloc::Global;
 use text_lines::FaultKind;
@@ -11,8 +11,11 @@ use text_lines::FaultKind;
 struct Change(u32, FaultKind, &'static str, &'static str);
 
 /// Changes of `KINDS`.
-static SESSION_CHANGES: [Change; 41] = [
-    Change(1, Form, "session 1", "session 2"),
+static SESSION_CHANGES: [Change; 44] = [
+    Change(1, Form, "session 1", "session 3"),
+    Change(1, Form, "session 1", "session 0"),
+    Change(25, Form, "session 1", "session 2"),
+    Change(25, Form, "pager 9", "lane 0\npager 9"),
     Change(2, Form, "pages 3", "page 3"),
     Change(2, Form, "pages 3", "pages 03"),
     Change(2, Form, "pages 3", "pages  3"),
@@ -70,9 +73,30 @@ static SESSION_CHANGES: [Change; 41] = [
     Change(36, Ended, "end\n", "end\nx"),
 ];
 
+/// Changes of `LATE`.
+static LATE_CHANGES: [Change; 17] = [
+    Change(1, Form, "session 2", "session 3"),
+    Change(1, Form, "session 2", "session 02"),
+    Change(1, Form, "session 2", "session 2 "),
+    Change(18, Form, "session 2", "session 1"),
+    Change(18, Form, "lane 0\n", ""),
+    Change(18, Form, "lane 0", "lane 1"),
+    Change(18, Form, "lane 0", "lane 00"),
+    Change(18, Form, "lane 0", "lane"),
+    Change(18, Form, "lane 0", "lane 0 "),
+    Change(18, Form, "lane 0\n", "pager 4\nlane 0\n"),
+    Change(19, Form, "lane 0\n", "lane 0\nlane 0\n"),
+    Change(17, Form, "link 2", "link 1"),
+    Change(18, Form, "link 2", "link 3"),
+    Change(19, Range, "pager 4", "pager 1048577"),
+    Change(23, Form, "pager 4", "pager 3"),
+    Change(24, Form, "pager 4", "pager 5"),
+    Change(25, Ended, "end\n", "end\n\n"),
+];
+
 /// Changes of `SENT`.
 static CERT_CHANGES: [Change; 49] = [
-    Change(1, Form, "certificate 1", "certificate 2"),
+    Change(1, Form, "certificate 1", "certificate 3"),
     Change(2, Form, "pages 2", "page 2"),
     Change(2, Form, "pages 2", "pages 02"),
     Change(2, Range, "pages 2", "pages 0"),
@@ -121,6 +145,21 @@ static CERT_CHANGES: [Change; 49] = [
     Change(17, Ended, "end\n", "end"),
     Change(18, Ended, "end\n", "end\nx"),
     Change(18, Ended, "end\n", "end\n\n"),
+];
+
+/// Changes of `FRESH`.
+static FRESH_CHANGES: [Change; 11] = [
+    Change(1, Form, "certificate 2", "certificate 3"),
+    Change(6, Form, "certificate 2", "certificate 1"),
+    Change(5, Form, "page 2 none", "page 2 fresh"),
+    Change(6, Form, "fresh 1048575", "fresh 1048576"),
+    Change(6, Form, "fresh 1048575", "fresh"),
+    Change(6, Form, "fresh 1048575", "fresh "),
+    Change(6, Form, "fresh 1048575", "fresh 02"),
+    Change(6, Form, "fresh 1048575", "fresh  2"),
+    Change(6, Form, "fresh 1048575", "fresh 2 "),
+    Change(6, Form, "fresh 1048575", "fresh 2 1"),
+    Change(6, Form, "fresh 1048575", "fresh -"),
 ];
 
 /// Changes of `RUNS`.
@@ -176,8 +215,20 @@ fn changed_sessions_are_refused(rt: HostRuntime) {
 }
 
 #[test]
+fn changed_sessions_of_the_second_version_are_refused(rt: HostRuntime) {
+    let wrong = wrong_change(rt.alloc(), Format::Session, LATE, LATE_CHANGES.as_slice());
+    none_is_wrong(&rt, wrong);
+}
+
+#[test]
 fn changed_certificates_are_refused(rt: HostRuntime) {
     let wrong = wrong_change(rt.alloc(), Format::Cert, SENT, CERT_CHANGES.as_slice());
+    none_is_wrong(&rt, wrong);
+}
+
+#[test]
+fn changed_certificates_of_the_second_version_are_refused(rt: HostRuntime) {
+    let wrong = wrong_change(rt.alloc(), Format::Cert, FRESH, FRESH_CHANGES.as_slice());
     none_is_wrong(&rt, wrong);
 }
 

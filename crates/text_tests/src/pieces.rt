@@ -1,7 +1,7 @@
 //! Texts that come in pieces, however they are cut.
 
 use crate::formats::{Format, is_cert_text, is_session_text, none_is_wrong};
-use crate::texts::{FIRST, KINDS, RUNS, SECOND, SENT};
+use crate::texts::{FIRST, FRESH, KINDS, LATE, RUNS, SECOND, SENT};
 use crate::{fault_of, refusal_line};
 use cert_text::{CertReader, RunsReader};
 use migration_types::Run;
@@ -66,11 +66,13 @@ fn is_value_of_pieces(alloc: Global, format: Format, text: &[u8], size: usize) -
 }
 
 /// Texts of their formats.
-static TEXTS: [(Format, &str); 5] = [
+static TEXTS: [(Format, &str); 7] = [
     (Format::Session, FIRST),
     (Format::Session, SECOND),
     (Format::Session, KINDS),
+    (Format::Session, LATE),
     (Format::Cert, SENT),
+    (Format::Cert, FRESH),
     (Format::Runs, RUNS),
 ];
 

@@ -116,5 +116,7 @@ fn texts_are_refused_at_their_lines(rt: HostRuntime) -> Result<(), Fail> {
     assert_eq!(rt; line_of(read_script(alloc, late)), 11);
     let wide = b"postcopy-script 1\npages 1\ncells 1\ninit 0\npivots 17\n";
     assert_eq!(rt; line_of(read_script(alloc, wide)), 5);
+    let later = b"postcopy-script 2\npages 1\ncells 1\n";
+    assert_eq!(rt; line_of(read_script(alloc, later)), 1);
     Ok(())
 }

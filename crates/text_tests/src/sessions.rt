@@ -2,8 +2,8 @@
 
 use crate::formats::{Format, fault_in};
 use crate::slow::slow_refusal_line;
-use crate::texts::{FIRST, KINDS, SECOND};
-use migration_types::{GuestRec, InitPage, LinkRec, LogName, Session};
+use crate::texts::{FIRST, KINDS, LATE, SECOND};
+use migration_types::{GuestRec, InitPage, LinkRec, LogName, Session, Version};
 use session_log::{line_of, read_session};
 use std::alloc::Global;
 
@@ -92,9 +92,22 @@ static LINES: [(LogName, u32, Option<u32>); 9] = [
     (LogName::Pager, 7, Some(35)),
 ];
 
-/// Whether the records of a session have the lines of those of `FIRST`.
-fn has_lines(session: &Session) -> bool {
-    for (log, place, line) in &LINES {
+/// The same of `LATE`: behind the lane's line stand those of the pager.
+static LATE_LINES: [(LogName, u32, Option<u32>); 9] = [
+    (LogName::Guest, 0, Some(7)),
+    (LogName::Guest, 3, Some(10)),
+    (LogName::Source, 0, Some(12)),
+    (LogName::Source, 2, Some(14)),
+    (LogName::Link, 0, Some(16)),
+    (LogName::Link, 1, Some(17)),
+    (LogName::Pager, 0, Some(20)),
+    (LogName::Pager, 3, Some(23)),
+    (LogName::Pager, 4, None),
+];
+
+/// Whether the records of a session have these lines.
+fn has_lines(session: &Session, lines: &[(LogName, u32, Option<u32>)]) -> bool {
+    for (log, place, line) in lines {
         if line_of_record(session, *log, *place) != *line {
             return false;
         }
@@ -102,16 +115,23 @@ fn has_lines(session: &Session) -> bool {
     true
 }
 
-fn are_lines_told(alloc: Global) -> bool {
-    match read_session(alloc, FIRST.as_bytes()) {
-        Ok(session) => has_lines(&session),
+/// Whether a session of this version is read, whose records have these lines.
+fn are_lines_told(
+    alloc: Global,
+    text: &str,
+    version: Version,
+    lines: &[(LogName, u32, Option<u32>)],
+) -> bool {
+    match read_session(alloc, text.as_bytes()) {
+        Ok(session) => session.version() == version && has_lines(&session, lines),
         Err(_) => false,
     }
 }
 
 #[test]
 fn records_have_their_lines(rt: HostRuntime) {
-    assert!(rt; are_lines_told(rt.alloc()));
+    assert!(rt; are_lines_told(rt.alloc(), FIRST, Version::One, LINES.as_slice()));
+    assert!(rt; are_lines_told(rt.alloc(), LATE, Version::Two, LATE_LINES.as_slice()));
 }
 
 /// Whether a text is judged as by the slow checker.
@@ -164,5 +184,6 @@ fn changed_bytes_are_judged_as_by_the_slow_checker(rt: HostRuntime) {
     let alloc = rt.alloc();
     let is_first = is_judged_alike_throughout(alloc, FIRST);
     let is_second = is_judged_alike_throughout(alloc, SECOND);
-    assert!(rt; is_first && is_second && is_judged_alike_throughout(alloc, KINDS));
+    let is_late = is_judged_alike_throughout(alloc, LATE);
+    assert!(rt; is_first && is_second && is_late && is_judged_alike_throughout(alloc, KINDS));
 }

@@ -187,14 +187,26 @@ fn records(lines: &mut Lines, log: &str, pages: u64, cells: u64) -> Option<()> {
 
 static LOGS: [&str; 4] = ["guest", "source", "link", "pager"];
 
+/// Whether the first line is that of the second version, where it is one.
+fn is_second(header: &str) -> Option<bool> {
+    if header == "postcopy-session 1" {
+        Some(false)
+    } else if header == "postcopy-session 2" {
+        Some(true)
+    } else {
+        None
+    }
+}
+
 /// Whether the lines are a session's, up to the last that was asked for.
 fn is_session(lines: &mut Lines) -> Option<()> {
-    if lines.next()? != "postcopy-session 1" {
-        return None;
-    }
+    let has_lane = is_second(lines.next()?)?;
     let (pages, cells) = geometry(lines)?;
     initial_pages(lines, pages, cells)?;
     for log in &LOGS {
+        if has_lane && *log == "pager" && lines.next()? != "lane 0" {
+            return None;
+        }
         records(lines, *log, pages, cells)?;
     }
     if lines.next()? == "end" {

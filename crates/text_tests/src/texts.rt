@@ -16,6 +16,10 @@ pub const SECOND: &str =
 pub const KINDS: &str =
     "postcopy-session 1\npages 3\ncells 2\ninit 2\npage 0 00000000000000050000000000000000\npage 2 0000000000000000fedcba9876543210\nguest 7\nw 0 0 0 0\nr 63 2 1 18446744073709551615\nz 63 2\nmiss 63 2\nhalt\nresume 1048575\nsee 1048575\nsource 6\nhalted 1048575\nstate\nsend 2 0000000000000000ffffffffffffffff\nagain 1048575\nask 1048575\ndone\nlink 2\ndown 1048575\nup 1048575\npager 9\ngot 1048575\nready\nfault 1048575\njoin 1048575\nwant 2\nplace 2 1048575 ffffffffffffffff0000000000000000\nzero 2\nskip 1048575\nall\nend\n";
 
+/// A session of the second version, in which a page is released behind the handover.
+pub const LATE: &str =
+    "postcopy-session 2\npages 1\ncells 1\ninit 1\npage 0 0000000000000006\nguest 4\nhalt\nresume 1\nz 0 0\nr 0 0 0 0\nsource 3\nhalted 0\nstate\nsend 0 0000000000000006\nlink 2\ndown 1\ndown 2\nlane 0\npager 4\ngot 0\nready\ngot 1\nskip 2\nend\n";
+
 /// A certificate of pages that were sent.
 pub const SENT: &str =
     "postcopy-certificate 1\npages 2\npage 0 source 3 5 5 4\npage 1 source 4 7 7 6\nruns 11\nrun guest 2\nrun source 2\nrun link 1\nrun pager 2\nrun guest 2\nrun pager 2\nrun link 1\nrun source 3\nrun link 2\nrun pager 4\nrun guest 5\nend\n";
@@ -28,18 +32,24 @@ pub const RELEASED: &str =
 pub const UNUSED: &str =
     "postcopy-certificate 1\npages 3\npage 0 source 0 1048575 - -\npage 1 balloon 1048575 - -\npage 2 source 1048575 0 1048575 0\nruns 1\nrun link 1048576\nend\n";
 
+/// A certificate of the second version, with a fresh page at the limit of its number.
+pub const FRESH: &str =
+    "postcopy-certificate 2\npages 4\npage 0 source 3 5 5 4\npage 1 balloon 7 - -\npage 2 none\npage 3 fresh 1048575\nruns 1\nrun guest 3\nend\n";
+
 /// Runs of each log.
 pub const RUNS: &str =
     "postcopy-runs 1\nruns 4\nrun guest 3\nrun source 1\nrun link 1048576\nrun pager 1\nend\n";
 
 /// Texts of their formats.
-static TEXTS: [(Format, &str); 8] = [
+static TEXTS: [(Format, &str); 10] = [
     (Format::Session, FIRST),
     (Format::Session, SECOND),
     (Format::Session, KINDS),
+    (Format::Session, LATE),
     (Format::Cert, SENT),
     (Format::Cert, RELEASED),
     (Format::Cert, UNUSED),
+    (Format::Cert, FRESH),
     (Format::Runs, RUNS),
     (Format::Runs, "postcopy-runs 1\nruns 0\nend\n"),
 ];

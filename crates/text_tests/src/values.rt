@@ -2,7 +2,7 @@
 
 use migration_types::{
     Cert, Contents, Entry, First, Geometry, GeometryFault, GuestRec, LinkRec, LogName, Logs,
-    PageNo, PagerRec, Record, Run, Seq, Session, SourceRec,
+    PageNo, PagerRec, Record, Run, Seq, Session, SourceRec, Version,
 };
 use std::alloc::{AllocError, Global};
 
@@ -150,9 +150,10 @@ fn names_receipts(rt: HostRuntime) {
 }
 
 /// A session in which nothing was recorded.
-fn empty_session(alloc: Global, geometry: Geometry) -> Session {
+fn empty_session(alloc: Global, version: Version, geometry: Geometry) -> Session {
     geometry.keeps_limits();
     Session::new(
+        version,
         geometry,
         Seq::from_vec(Vec::new(alloc)),
         Logs {
@@ -173,21 +174,22 @@ fn is_empty(session: &Session) -> bool {
         && session.pager().is_empty()
 }
 
-fn keeps_parts(alloc: Global, geometry: Geometry) -> bool {
-    let session = empty_session(alloc, geometry);
-    session.geometry() == geometry && is_empty(&session)
+fn keeps_parts(alloc: Global, version: Version, geometry: Geometry) -> bool {
+    let session = empty_session(alloc, version, geometry);
+    session.version() == version && session.geometry() == geometry && is_empty(&session)
 }
 
-fn keeps_session(alloc: Global) -> bool {
+fn keeps_session(alloc: Global, version: Version) -> bool {
     match Geometry::new(2, 1) {
-        Ok(geometry) => keeps_parts(alloc, geometry),
+        Ok(geometry) => keeps_parts(alloc, version, geometry),
         Err(_) => false,
     }
 }
 
 #[test]
 fn keeps_a_session(rt: HostRuntime) {
-    assert!(rt; keeps_session(rt.alloc()));
+    assert!(rt; keeps_session(rt.alloc(), Version::One));
+    assert!(rt; keeps_session(rt.alloc(), Version::Two));
 }
 
 const ENTRY: Entry = Entry::Source {
@@ -202,25 +204,28 @@ const RUN: Run = Run {
 };
 
 /// A certificate of this entry and this run.
-fn cert_of_one(alloc: Global) -> Result<Cert, AllocError> {
+fn cert_of_one(alloc: Global, version: Version) -> Result<Cert, AllocError> {
     let entries = Vec::from_array(alloc, [ENTRY])?;
     let runs = Vec::from_array(alloc, [RUN])?;
-    Ok(Cert::new(Seq::from_vec(entries), Seq::from_vec(runs)))
+    Ok(Cert::new(version, Seq::from_vec(entries), Seq::from_vec(runs)))
 }
 
-fn is_of_one(cert: &Cert) -> bool {
+fn is_of_one(cert: &Cert, version: Version) -> bool {
     cert.keeps_limits();
-    cert.entries() == [ENTRY].as_slice() && cert.runs() == [RUN].as_slice()
+    cert.version() == version
+        && cert.entries() == [ENTRY].as_slice()
+        && cert.runs() == [RUN].as_slice()
 }
 
-fn keeps_cert(alloc: Global) -> bool {
-    match cert_of_one(alloc) {
-        Ok(cert) => is_of_one(&cert),
+fn keeps_cert(alloc: Global, version: Version) -> bool {
+    match cert_of_one(alloc, version) {
+        Ok(cert) => is_of_one(&cert, version),
         Err(_) => false,
     }
 }
 
 #[test]
 fn keeps_a_certificate(rt: HostRuntime) {
-    assert!(rt; keeps_cert(rt.alloc()));
+    assert!(rt; keeps_cert(rt.alloc(), Version::One));
+    assert!(rt; keeps_cert(rt.alloc(), Version::Two));
 }

@@ -8,6 +8,7 @@ use Rattle.text_lines.specs.Counted.{Part, part_onto, IsWhole}
 use Rattle.migration_types.specs.declared.records.LogName.{LogName}
 use Rattle.migration_types.specs.declared.cert.Run.{Run}
 use Rattle.migration_types.specs.declared.cert.Entry.{Entry}
+use Rattle.migration_types.specs.declared.version.Version.{Version}
 use Rattle.migration_types.specs.Limits.{most_pages, most_runs}
 use Rattle.migration_types.specs.Certs.{RunFits, EntryFits, Alternate}
 use Rattle.cert_text.specs.declared.run_lines.RunStage.{RunStage}
@@ -71,18 +72,19 @@ HeadedLive true runs = Unit {0}
 
 -- what came of a certificate, and the lines of its runs
 pub record Draft : Type 0 where
+  pub version : Version
   pub pages : ℕ
   pub entries : List Entry
   pub runs : List (List ℕ)
 
-abbrev pub entries_onto : ℕ → List Entry → List (List ℕ) → List (List ℕ)
-entries_onto pages entries more = header ∷ (pages_key ++ decimal pages) ∷ (entry_lines 0 entries ++ more)
+abbrev pub entries_onto : Version → ℕ → List Entry → List (List ℕ) → List (List ℕ)
+entries_onto version pages entries more = header version ∷ (pages_key ++ decimal pages) ∷ (entry_lines 0 entries ++ more)
 
 -- the lines so far
 abbrev pub held_by : Stage → Draft → List (List ℕ)
 held_by Header d = []
-held_by Pages d = header ∷ []
-held_by Entries d = entries_onto d.pages d.entries d.runs
+held_by Pages d = header d.version ∷ []
+held_by Entries d = entries_onto d.version d.pages d.entries d.runs
 
 -- nothing of the lists came
 pub record IsEmpty (d : Draft) : Type 0 where
@@ -94,7 +96,7 @@ pub record EntriesFit (d : Draft) : Type 0 where
   pub some_pages : 1 ≤ d.pages
   pub few_pages : d.pages ≤ most_pages
   pub count : length d.entries ≤ d.pages
-  pub each : AllByRecursion EntryFits d.entries
+  pub each : AllByRecursion (EntryFits d.version) d.entries
   pub runs : length d.entries < d.pages → d.runs ≡ []
 
 abbrev pub Live : Stage → Draft → Type 0

@@ -10,11 +10,13 @@ use Rattle.migration_types.specs.declared.records.LogName.TheVariants.{Guest, So
 use Rattle.migration_types.specs.declared.cert.Run.{Run}
 use Rattle.migration_types.specs.declared.cert.First.{First}
 use Rattle.migration_types.specs.declared.cert.Entry.{Entry}
-use Rattle.migration_types.specs.declared.cert.Entry.TheVariants.{Nothing, Source as Sent, Balloon}
+use Rattle.migration_types.specs.declared.cert.Entry.TheVariants.{Nothing, Fresh, Source as Sent, Balloon}
+use Rattle.migration_types.specs.declared.version.Version.{Version}
+use Rattle.migration_types.specs.declared.version.Version.TheVariants.{One, Two}
 use Rattle.migration_types.specs.Sessions.{IsNumber}
 use Rattle.migration_types.specs.Certs.{Certified, FirstFits, EntryFits, RunFits, AreRuns}
 use Rattle.cert_text.specs.Runs.{runs_text_header, runs_key, run_key, closing, log_word, run_text, run_line, runs_lines, SpellsRuns}
-use Rattle.cert_text.specs.Grammar.{header, pages_key, page_key, source_key, balloon_key, first_text, placed_text, source_text, entry_text, entry_line, entry_lines, SpellsCert}
+use Rattle.cert_text.specs.Grammar.{header, pages_key, page_key, fresh_key, source_key, balloon_key, first_text, placed_text, source_text, entry_text, entry_line, entry_lines, SpellsCert}
 
 plain_keyed : (key : List ℕ) (n : ℕ) → IsLine key → n < 2 ^ 64 → IsLine (key ++ decimal n)
 plain_keyed key n h lt = plain_append key (decimal n) h (plain_decimal n lt)
@@ -55,20 +57,30 @@ plain_first (Some first) fits = plain_spaced (decimal first.access) (decimal fir
 plain_placed : (place : ℕ) (first : Option First) → IsNumber place → FirstFits first → IsLine (placed_text place first)
 plain_placed place first lt fits = plain_spaced (decimal place) (first_text first) (plain_number place lt) (plain_first first fits)
 
-plain_text : (entry : Entry) → EntryFits entry → IsLine (entry_text entry)
-plain_text Nothing fits = plain_codes (entry_text Nothing) refl
-plain_text (Sent send place first) fits = plain_append source_key (source_text send place first) (plain_codes source_key refl) (plain_spaced (decimal send) (placed_text place first) (plain_number send fits.0) (plain_placed place first fits.1 fits.2))
-plain_text (Balloon place first) fits = plain_append balloon_key (placed_text place first) (plain_codes balloon_key refl) (plain_placed place first fits.0 fits.1)
+-- the number of a fresh page's entry is a record's
+pub fresh_number : (version : Version) (first : ℕ) → EntryFits version (Fresh first) → IsNumber first
+fresh_number One first fits = absurd fits
+fresh_number Two first fits = fits
 
-plain_entry : (page : ℕ) (entry : Entry) → page < 2 ^ 64 → EntryFits entry → IsLine (entry_line page entry)
-plain_entry page entry lt fits = plain_append page_key (decimal page ++ 32 ∷ entry_text entry) (plain_codes page_key refl) (plain_spaced (decimal page) (entry_text entry) (plain_decimal page lt) (plain_text entry fits))
+plain_text : (version : Version) (entry : Entry) → EntryFits version entry → IsLine (entry_text entry)
+plain_text version Nothing fits = plain_codes (entry_text Nothing) refl
+plain_text version (Fresh first) fits = plain_append fresh_key (decimal first) (plain_codes fresh_key refl) (plain_number first (fresh_number version first fits))
+plain_text version (Sent send place first) fits = plain_append source_key (source_text send place first) (plain_codes source_key refl) (plain_spaced (decimal send) (placed_text place first) (plain_number send fits.0) (plain_placed place first fits.1 fits.2))
+plain_text version (Balloon place first) fits = plain_append balloon_key (placed_text place first) (plain_codes balloon_key refl) (plain_placed place first fits.0 fits.1)
 
-plain_entries : (page : ℕ) (entries : List Entry) (more : List (List ℕ)) → page + length entries < 2 ^ 64 → AllByRecursion EntryFits entries → AllByRecursion IsLine more → AllByRecursion IsLine (entry_lines page entries ++ more)
-plain_entries page [] more lt fits h = h
-plain_entries page (entry ∷ entries) more lt fits h = (plain_entry page entry (omega arith) fits.0, plain_entries (page + 1) entries more (omega arith) fits.1 h)
+plain_entry : (version : Version) (page : ℕ) (entry : Entry) → page < 2 ^ 64 → EntryFits version entry → IsLine (entry_line page entry)
+plain_entry version page entry lt fits = plain_append page_key (decimal page ++ 32 ∷ entry_text entry) (plain_codes page_key refl) (plain_spaced (decimal page) (entry_text entry) (plain_decimal page lt) (plain_text version entry fits))
+
+plain_entries : (version : Version) (page : ℕ) (entries : List Entry) (more : List (List ℕ)) → page + length entries < 2 ^ 64 → AllByRecursion (EntryFits version) entries → AllByRecursion IsLine more → AllByRecursion IsLine (entry_lines page entries ++ more)
+plain_entries version page [] more lt fits h = h
+plain_entries version page (entry ∷ entries) more lt fits h = (plain_entry version page entry (omega arith) fits.0, plain_entries version (page + 1) entries more (omega arith) fits.1 h)
+
+plain_header : (version : Version) → IsLine (header version)
+plain_header One = plain_codes (header One) refl
+plain_header Two = plain_codes (header Two) refl
 
 pub plain_cert : (c : Certified) (lines : List (List ℕ)) → SpellsCert c lines → AllByRecursion IsLine lines
 plain_cert c lines s =
     let few = s.0.few_pages in
-    let entries = plain_entries 0 c.entries (runs_lines c.runs) (omega arith) s.0.entries (plain_runs c.runs s.0.runs) in
-    subst (AllByRecursion IsLine) (sym s.1) (plain_codes header refl, (plain_keyed pages_key (length c.entries) (plain_codes pages_key refl) (omega arith), entries))
+    let entries = plain_entries c.version 0 c.entries (runs_lines c.runs) (omega arith) s.0.entries (plain_runs c.runs s.0.runs) in
+    subst (AllByRecursion IsLine) (sym s.1) (plain_header c.version, (plain_keyed pages_key (length c.entries) (plain_codes pages_key refl) (omega arith), entries))
