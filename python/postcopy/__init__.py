@@ -65,6 +65,7 @@ class Reason(enum.IntEnum):
     TWICE = 15
     ALTERED = 16
     UNFIT = 17
+    OVER = 18
 
     @property
     def word(self) -> str:

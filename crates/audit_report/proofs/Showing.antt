@@ -15,7 +15,7 @@ use Rattle.migration_types.specs.Certs.{AreRuns}
 use Rattle.migration_types.specs.Receipts.{Name}
 use Rattle.migration_types.specs.Sessions.{Recorded, IsSession}
 use Rattle.audit_model.specs.declared.reasons.PageReason.{PageReason}
-use Rattle.audit_model.specs.declared.reasons.PageReason.TheVariants.{Read as WrongRead, Early, Given, Stale, Twice, Altered, Unfit}
+use Rattle.audit_model.specs.declared.reasons.PageReason.TheVariants.{Read as WrongRead, Early, Given, Stale, Twice, Altered, Unfit, Over}
 use Rattle.audit_model.specs.Names.{log_length, if_there}
 use Rattle.audit_model.specs.Mergings.{IsMerging, HasMerging, Cursors, spelled}
 use Rattle.audit_model.specs.World.{IsSafe}
@@ -23,14 +23,14 @@ use Rattle.audit_model.specs.Shape.{IsRightShape, is_placement_of, earlier}
 use Rattle.audit_model.specs.Certificates.{is_access_of}
 use Rattle.audit_model.specs.Faults.{IsEarly, GuestFault, SourceFault, PagerFault, if_fault, IsPageFault}
 use Rattle.audit_model.specs.Delayed.{rearranged, IsFirstPlacement, IsDelayedOrder}
-use Rattle.audit_model.specs.Laws.{IsFaultless, FaultsBreak, DelayedBreaks, UnplacedBreaks, BreaksAt, SafeExactlyIfClean}
+use Rattle.audit_model.specs.Laws.{IsFaultless, FaultsBreak, DelayedBreaks, DelayedOver, UnplacedBreaks, BreaksAt, SafeExactlyIfClean}
 use Rattle.audit_model.proofs.History.{earlier_true}
 use Rattle.audit_model.proofs.Clean.{false_if_not_true, clash}
 use Rattle.cert_maker.specs.Orders.{AreFoundRuns}
 use Rattle.audit_report.specs.declared.report.Report.{Report}
 use Rattle.audit_report.specs.declared.report.Report.TheVariants.{Clean, Shape, Knot, Faulty}
 use Rattle.audit_report.specs.inner.Cuts.{IsCutFor}
-use Rattle.audit_report.specs.Reports.{used_by, HasNoPlacement, IsEarlyFor, IsUndelayed, ShowsFault, IsReport, IsClean}
+use Rattle.audit_report.specs.Reports.{used_by, HasNoPlacement, IsEarlyFor, IsShownWith, IsUndelayed, ShowsFault, IsReport, IsClean}
 
 -- ---- placements
 
@@ -58,17 +58,18 @@ used_access (See k) page e = absurd (cc)
 module _ (s : Recorded) (order : List Name) (merging : IsMerging s order) where
   -- a fault that is not shown by a delayed order breaks in each merging
   undelayed_breaks : FaultsBreak s → UnplacedBreaks s → (reason : PageReason) (name : Name) → IsPageFault s reason name → IsUndelayed s reason name → BreaksAt s order name
-  undelayed_breaks faults unplaced WrongRead name f none = faults order merging WrongRead name (λ e. cc) f
-  undelayed_breaks faults unplaced Given name f none = faults order merging Given name (λ e. cc) f
-  undelayed_breaks faults unplaced Stale name f none = faults order merging Stale name (λ e. cc) f
-  undelayed_breaks faults unplaced Twice name f none = faults order merging Twice name (λ e. cc) f
-  undelayed_breaks faults unplaced Altered name f none = faults order merging Altered name (λ e. cc) f
-  undelayed_breaks faults unplaced Unfit name f none = faults order merging Unfit name (λ e. cc) f
+  undelayed_breaks faults unplaced WrongRead name f none = faults order merging WrongRead name (λ e. cc) (λ e. cc) f
+  undelayed_breaks faults unplaced Given name f none = faults order merging Given name (λ e. cc) (λ e. cc) f
+  undelayed_breaks faults unplaced Stale name f none = faults order merging Stale name (λ e. cc) (λ e. cc) f
+  undelayed_breaks faults unplaced Twice name f none = faults order merging Twice name (λ e. cc) (λ e. cc) f
+  undelayed_breaks faults unplaced Altered name f none = faults order merging Altered name (λ e. cc) (λ e. cc) f
+  undelayed_breaks faults unplaced Unfit name f none = faults order merging Unfit name (λ e. cc) (λ e. cc) f
+  undelayed_breaks faults unplaced Over name f none = absurd (none.is_not_over refl)
   undelayed_breaks faults unplaced Early (Guest, n) f none = go (slice_get s.guest n) refl f
     where
       go : (o : Option GuestRec) → slice_get s.guest n ≡ o → if_fault (GuestFault s Early n) o → BreaksAt s order (Guest, n)
       go None is f = absurd f
-      go (Some r) is f = unplaced order merging n f.0 r is f.1 (none f.0 refl (ap (λ (o : Option GuestRec). if_there used_by o) is ∙ used_access r f.0 f.1.is_access))
+      go (Some r) is f = unplaced order merging n f.0 r is f.1 (none.unplaced f.0 refl (ap (λ (o : Option GuestRec). if_there used_by o) is ∙ used_access r f.0 f.1.is_access))
   undelayed_breaks faults unplaced Early (Source, n) f none = absurd (go (slice_get s.source n) f)
     where
       go : (o : Option SourceRec) → if_fault (SourceFault s Early) o → ⊥
@@ -82,19 +83,31 @@ module _ (s : Recorded) (order : List Name) (merging : IsMerging s order) where
       go (Some r) f = f
 
   -- and an early access to a page that is placed, where the placement is delayed
-  delayed_shows : DelayedBreaks s → (reason : PageReason) (name : Name) (place : ℕ) → IsPageFault s reason name → IsEarlyFor s reason name place → (delayed : List Name) → IsDelayedOrder s order (Pager, place) delayed → IsMerging s delayed × BreaksAt s delayed name
-  delayed_shows breaks reason (Guest, n) place f early delayed late = go (slice_get s.guest n) refl (subst (λ (r : PageReason). IsPageFault s r (Guest, n)) early.is_early f) early.uses
+  early_shows : DelayedBreaks s → (reason : PageReason) (name : Name) (place : ℕ) → IsPageFault s reason name → IsEarlyFor s reason name place → (delayed : List Name) → IsDelayedOrder s order (Pager, place) delayed → IsMerging s delayed × BreaksAt s delayed name
+  early_shows breaks reason (Guest, n) place f early delayed late = go (slice_get s.guest n) refl (subst (λ (r : PageReason). IsPageFault s r (Guest, n)) early.is_early f) early.uses
     where
       go : (o : Option GuestRec) → slice_get s.guest n ≡ o → if_fault (GuestFault s Early n) o → if_there used_by o ≡ Some early.page → IsMerging s delayed × BreaksAt s delayed (Guest, n)
       go None is f uses = absurd f
       go (Some r) is f uses =
           let same : f.0 ≡ early.page = let e : Some f.0 ≡ Some early.page = sym (used_access r f.0 f.1.is_access) ∙ uses in cc in
           breaks order merging n early.page place r is (subst (λ p. IsEarly s n r p) same f.1) early.is_first delayed late
-  delayed_shows breaks reason (Source, n) place f early delayed late = absurd (let e = early.uses in cc)
-  delayed_shows breaks reason (Link, n) place f early delayed late = absurd (let e = early.uses in cc)
-  delayed_shows breaks reason (Pager, n) place f early delayed late = absurd (let e = early.uses in cc)
+  early_shows breaks reason (Source, n) place f early delayed late = absurd (let e = early.uses in cc)
+  early_shows breaks reason (Link, n) place f early delayed late = absurd (let e = early.uses in cc)
+  early_shows breaks reason (Pager, n) place f early delayed late = absurd (let e = early.uses in cc)
+
+  -- and a placement over a release, where it is delayed itself
+  delayed_shows : DelayedBreaks s → DelayedOver s → (reason : PageReason) (name : Name) (place : ℕ) → IsPageFault s reason name → IsShownWith s reason name place → (delayed : List Name) → IsDelayedOrder s order (Pager, place) delayed → IsMerging s delayed × BreaksAt s delayed name
+  delayed_shows breaks over reason name place f (inl early) delayed late = early_shows breaks reason name place f early delayed late
+  delayed_shows breaks over reason name place f (inr at) delayed late =
+      let own : IsPageFault s Over (Pager, place) = subst (λ (n : Name). IsPageFault s Over n) at.is_itself (subst (λ (r : PageReason). IsPageFault s r name) at.is_over f) in
+      subst (λ (n : Name). IsMerging s delayed × BreaksAt s delayed n) (sym at.is_itself) (over order merging place own delayed late)
 
 -- ---- the order of a fault
+
+-- where a fault is shown with a placement the found order is not the one that is given
+not_both : (s : Recorded) (reason : PageReason) (name : Name) (place : ℕ) → IsUndelayed s reason name → IsShownWith s reason name place → ⊥
+not_both s reason name place none (inl early) = clash _ early.is_first.places (none.unplaced early.page early.is_early early.uses place early.is_first.by early.is_first.stands)
+not_both s reason name place none (inr at) = none.is_not_over at.is_over
 
 -- the found order shows a fault that needs no delay
 pub found_shows : (s : Recorded) (reason : PageReason) (name : Name) (runs : List Run) → FaultsBreak s → UnplacedBreaks s → AreFoundRuns s runs → IsPageFault s reason name → IsUndelayed s reason name → ShowsFault s reason name runs
@@ -105,43 +118,44 @@ found_shows s reason name runs faults unplaced found f none = record {
   is_order = record {
     found = spelled runs;
     is_found = found.is_found;
-    delayed = λ place early. absurd (clash _ early.is_first.places (none early.page early.is_early early.uses place early.is_first.by early.is_first.stands));
+    delayed = λ place shown. absurd (not_both s reason name place none shown);
     undelayed = λ n. refl;
   };
 }
 
--- and the delayed order an early access to a page that is placed
-delayed_run : (s : Recorded) (reason : PageReason) (name : Name) (place : ℕ) (d : Cursors) (runs order : List Run) → DelayedBreaks s → AreFoundRuns s runs → IsPageFault s reason name → IsEarlyFor s reason name place → IsCutFor s place d → AreRuns order → spelled order ≡ rearranged d (spelled runs) → ShowsFault s reason name order
-delayed_run s reason name place d runs order breaks found f early cut are is =
+-- and the delayed order one that is shown with a placement
+delayed_run : (s : Recorded) (reason : PageReason) (name : Name) (place : ℕ) (d : Cursors) (runs order : List Run) → DelayedBreaks s → DelayedOver s → AreFoundRuns s runs → IsPageFault s reason name → IsShownWith s reason name place → IsCutFor s place d → AreRuns order → spelled order ≡ rearranged d (spelled runs) → ShowsFault s reason name order
+delayed_run s reason name place d runs order breaks over found f shown cut are is =
     let late : IsDelayedOrder s (spelled runs) (Pager, place) (spelled order) = record { cut = d; is_above = cut.is_above; is_delayed = cut.is_delayed; is = is } in
-    let shown = delayed_shows s (spelled runs) found.is_found.is_merging breaks reason name place f early (spelled order) late in
+    let fails = delayed_shows s (spelled runs) found.is_found.is_merging breaks over reason name place f shown (spelled order) late in
     record {
       are_runs = are;
-      is_merging = shown.0;
-      breaks = shown.1;
+      is_merging = fails.0;
+      breaks = fails.1;
       is_order = record {
         found = spelled runs;
         is_found = found.is_found;
-        delayed = λ other also. again other also late;
-        undelayed = λ none. absurd (clash _ early.is_first.places (none early.page early.is_early early.uses place early.is_first.by early.is_first.stands));
+        delayed = λ other also. subst (λ p. IsDelayedOrder s (spelled runs) (Pager, p) (spelled order)) (same_place other shown also) late;
+        undelayed = λ none. absurd (not_both s reason name place none shown);
       };
     }
   where
     -- a page has one first placement
-    same_place : (other : ℕ) → IsEarlyFor s reason name other → place ≡ other
-    same_place other also =
+    one : (page other : ℕ) → IsFirstPlacement s page place → IsFirstPlacement s page other → place ≡ other
+    one page other a b = let low = first_below s page place other a b in let high = first_below s page other place b a in omega arith
+
+    -- and a fault one that it is shown with
+    same_place : (other : ℕ) → IsShownWith s reason name place → IsShownWith s reason name other → place ≡ other
+    same_place other (inl early) (inl also) =
         let page : early.page ≡ also.page = let e : Some early.page ≡ Some also.page = sym early.uses ∙ also.uses in cc in
-        one (subst (λ p. IsFirstPlacement s p place) page early.is_first) also.is_first
-      where
-        one : IsFirstPlacement s also.page place → IsFirstPlacement s also.page other → place ≡ other
-        one a b = let low = first_below s also.page place other a b in let high = first_below s also.page other place b a in omega arith
+        one also.page other (subst (λ p. IsFirstPlacement s p place) page early.is_first) also.is_first
+    same_place other (inl early) (inr at) = absurd (let e : Early ≡ Over = sym early.is_early ∙ at.is_over in cc)
+    same_place other (inr at) (inl also) = absurd (let e : Early ≡ Over = sym also.is_early ∙ at.is_over in cc)
+    same_place other (inr at) (inr also) = ap (λ (n : Name). n.1) (sym at.is_itself ∙ also.is_itself)
 
-    again : (other : ℕ) → IsEarlyFor s reason name other → IsDelayedOrder s (spelled runs) (Pager, place) (spelled order) → IsDelayedOrder s (spelled runs) (Pager, other) (spelled order)
-    again other also late = subst (λ p. IsDelayedOrder s (spelled runs) (Pager, p) (spelled order)) (same_place other also) late
-
-pub delayed_shown : (s : Recorded) (reason : PageReason) (name : Name) (place : ℕ) (d : Cursors) (runs : List Run) (r : Result (List Run) AllocError) → DelayedBreaks s → AreFoundRuns s runs → IsPageFault s reason name → IsEarlyFor s reason name place → IsCutFor s place d → IfOk r (λ order. AreRuns order) → IfOk r (λ order. spelled order ≡ rearranged d (spelled runs)) → IfOk r (λ order. ShowsFault s reason name order)
-delayed_shown s reason name place d runs (Ok order) breaks found f early cut are is = delayed_run s reason name place d runs order breaks found f early cut are is
-delayed_shown s reason name place d runs (Err e) breaks found f early cut are is = tt
+pub delayed_shown : (s : Recorded) (reason : PageReason) (name : Name) (place : ℕ) (d : Cursors) (runs : List Run) (r : Result (List Run) AllocError) → DelayedBreaks s → DelayedOver s → AreFoundRuns s runs → IsPageFault s reason name → IsShownWith s reason name place → IsCutFor s place d → IfOk r (λ order. AreRuns order) → IfOk r (λ order. spelled order ≡ rearranged d (spelled runs)) → IfOk r (λ order. ShowsFault s reason name order)
+delayed_shown s reason name place d runs (Ok order) breaks over found f shown cut are is = delayed_run s reason name place d runs order breaks over found f shown cut are is
+delayed_shown s reason name place d runs (Err e) breaks over found f shown cut are is = tt
 
 -- a record with a fault is there
 pub fault_there : (s : Recorded) (reason : PageReason) (log : LogName) (n : ℕ) → IsPageFault s reason (log, n) → n < log_length s log

@@ -1,5 +1,5 @@
 -- Reports: what the audit of a session answers.
-use Rattle.std.specs.Prelude.{◌≡◌, ℕ, false, List, Option, Some, None, slice_get}
+use Rattle.std.specs.Prelude.{◌≡◌, ◌≢◌, ℕ, false, ◌⊎◌, List, Option, Some, None, slice_get}
 use Rattle.migration_types.specs.declared.records.LogName.TheVariants.{Guest, Pager}
 use Rattle.migration_types.specs.declared.records.GuestRec.{GuestRec}
 use Rattle.migration_types.specs.declared.records.GuestRec.TheVariants.{Read, Write}
@@ -9,7 +9,7 @@ use Rattle.migration_types.specs.Certs.{Certified, AreRuns}
 use Rattle.migration_types.specs.Receipts.{Name}
 use Rattle.migration_types.specs.Sessions.{Recorded, line_of}
 use Rattle.audit_model.specs.declared.reasons.PageReason.{PageReason}
-use Rattle.audit_model.specs.declared.reasons.PageReason.TheVariants.{Early}
+use Rattle.audit_model.specs.declared.reasons.PageReason.TheVariants.{Early, Over}
 use Rattle.audit_model.specs.Names.{if_there}
 use Rattle.audit_model.specs.Mergings.{IsMerging, spelled}
 use Rattle.audit_model.specs.Shape.{IsRightShape, is_placement_of}
@@ -46,16 +46,26 @@ pub record IsEarlyFor (s : Recorded) (reason : PageReason) (name : Name) (place 
   pub uses : page_used s name ≡ Some page
   pub is_first : IsFirstPlacement s page place
 
--- the fault is no early access to a page that is placed
-abbrev pub IsUndelayed : Recorded → PageReason → Name → Type 0
-IsUndelayed s reason name = (page : ℕ) → reason ≡ Early → page_used s name ≡ Some page → HasNoPlacement s page
+-- the fault is a placement over a release: pager record `place` itself
+pub record IsOverAt (reason : PageReason) (name : Name) (place : ℕ) : Type 0 where
+  pub is_over : reason ≡ Over
+  pub is_itself : name ≡ (Pager, place)
+
+-- the fault is shown where pager record `place` is delayed
+abbrev pub IsShownWith : Recorded → PageReason → Name → ℕ → Type 0
+IsShownWith s reason name place = IsEarlyFor s reason name place ⊎ IsOverAt reason name place
+
+-- the fault is no early access to a page that is placed, and no placement over a release
+pub record IsUndelayed (s : Recorded) (reason : PageReason) (name : Name) : Type 0 where
+  pub unplaced : (page : ℕ) → reason ≡ Early → page_used s name ≡ Some page → HasNoPlacement s page
+  pub is_not_over : reason ≢ Over
 
 -- The order that is given with a fault: the found order, or, for an early access to a page that is placed, this order with
--- the page's first placement delayed.
+-- the page's first placement delayed, or, for a placement over a release, with this placement delayed.
 pub record IsOrderFor (s : Recorded) (reason : PageReason) (name : Name) (order : List Name) : Type 0 where
   pub found : List Name
   pub is_found : IsFound s found
-  pub delayed : (place : ℕ) → IsEarlyFor s reason name place → IsDelayedOrder s found (Pager, place) order
+  pub delayed : (place : ℕ) → IsShownWith s reason name place → IsDelayedOrder s found (Pager, place) order
   pub undelayed : IsUndelayed s reason name → order ≡ found
 
 -- these runs spell the order given with a fault, which is a merging in which the demand at the faulty record fails

@@ -15,8 +15,8 @@ use migration_types::{Run, Seq, Session};
 use page_facts::PageFault;
 use std::alloc::{AllocError, Global};
 
-/// The runs of an order in which the demand at the faulty record fails: the found order, or, for an early access to a
-/// page that is placed, this order with the page's first placement delayed.
+/// The runs of an order in which the demand at the faulty record fails: the found order, or this order with a placement
+/// delayed: for an early access to a page that is placed the page's first one, and for one over a release this one.
 pub(crate) fn order_for(
     alloc: Global,
     session: &Session,

@@ -1,10 +1,11 @@
-//! The placement that an early access has to be shown with.
+//! The placement that a fault has to be shown with.
 
 ghost use Rattle.std.specs.Prelude.{◌≡◌, MatchOption};
 ghost use Rattle.migration_types.specs.Sessions.{IsSession};
 ghost use Rattle.audit_model.specs.Shape.{is_placement_of};
+ghost use Rattle.audit_model.specs.Faults.{IsPageFault};
 ghost use Rattle.audit_model.specs.Delayed.{IsFirstPlacement};
-ghost use Rattle.audit_report.specs.Reports.{page_used, HasNoPlacement, IsEarlyFor, IsUndelayed};
+ghost use Rattle.audit_report.specs.Reports.{page_used, HasNoPlacement, IsShownWith, IsUndelayed};
 
 use audit_model::PageReason;
 use migration_types::{GuestRec, LogName, PageNo, PagerRec, Session};
@@ -49,17 +50,19 @@ fn first_placement(session: &Session, page: PageNo) -> Option<u32>
     None
 }
 
-/// The first placement of the page that an early access uses; none where the fault is another one, or the page is not
-/// placed.
+/// The placement that is delayed where a fault is shown: the first one of the page that an early access uses, or the
+/// faulty one itself where it is over a release; none where the fault is another one, or the page is not placed.
 pub(crate) fn placement_for(session: &Session, fault: &PageFault) -> Option<u32>
-    requires { IsSession session.now }
-    ensures { MatchOption result (IsUndelayed session.now fault.now.reason (fault.now.log, fault.now.place)) (IsEarlyFor session.now fault.now.reason (fault.now.log, fault.now.place)) }
+    requires limits { IsSession session.now }
+    requires fault { IsPageFault session.now fault.now.reason (fault.now.log, fault.now.place) }
+    ensures { MatchOption result (IsUndelayed session.now fault.now.reason (fault.now.log, fault.now.place)) (IsShownWith session.now fault.now.reason (fault.now.log, fault.now.place)) }
 {
-    if !matches!(fault.reason, PageReason::Early) {
-        return None;
-    }
-    match page_used(session, fault.log, fault.place) {
-        Some(page) => first_placement(session, page),
-        None => None,
+    match fault.reason {
+        PageReason::Early => {
+            let page = page_used(session, fault.log, fault.place)?;
+            first_placement(session, page)
+        }
+        PageReason::Over => Some(fault.place),
+        _ => None,
     }
 }

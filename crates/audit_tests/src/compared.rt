@@ -4,15 +4,15 @@ use crate::changes::changed;
 use crate::numbers::Numbers;
 use crate::plain::{breaks_at, names_of, page_fault, shape_fault};
 use crate::texts::{
-    AT_HOME, CIRCLE, EARLY_ACCESS, HANDOVER, INITIAL_MEMORY, MIXED, RELEASED, STALE_PAGE,
-    WRONG_READ, WRONG_SHAPE,
+    AT_HOME, CIRCLE, EARLY_ACCESS, FRESH, HANDOVER, INITIAL_MEMORY, LATE_RELEASES, MIXED, OVER,
+    RELEASED, SEEN, STALE_PAGE, WRONG_READ, WRONG_SHAPE,
 };
 use audit_model::{PageReason, ShapeReason};
 use audit_report::{Report, audit};
 use cert_check::{ShapeFault, Verdict, check, check_par, shape};
 use cert_maker::{Order, find_order};
 use merge_runs::{MergeFault, is_merging, replay};
-use migration_types::{Cert, LogName, Run, Seq, Session};
+use migration_types::{Cert, LogName, Run, Seq, Session, Version};
 use page_facts::first_page_fault;
 use plain_audit::first_broken;
 use session_log::{line_of, read_session};
@@ -24,7 +24,7 @@ use std::thread::Threads;
 #[derive(Drop)]
 struct Answers {
     shape: [u32; 4],
-    page: [u32; 7],
+    page: [u32; 8],
     knots: u32,
     clean: u32,
 }
@@ -33,7 +33,7 @@ impl Answers {
     fn none() -> Answers {
         Answers {
             shape: [0; 4],
-            page: [0; 7],
+            page: [0; 8],
             knots: 0,
             clean: 0,
         }
@@ -256,7 +256,7 @@ fn agrees_on_altered<R: Threads + Sync>(
 }
 
 /// The sessions.
-static SESSIONS: [&str; 10] = [
+static SESSIONS: [&str; 14] = [
     HANDOVER,
     RELEASED,
     MIXED,
@@ -267,6 +267,10 @@ static SESSIONS: [&str; 10] = [
     WRONG_READ,
     WRONG_SHAPE,
     INITIAL_MEMORY,
+    FRESH,
+    OVER,
+    SEEN,
+    LATE_RELEASES,
 ];
 
 #[test]
@@ -279,33 +283,53 @@ fn commands_say_what_the_plain_programs_say(rt: HostRuntime) {
     }
 }
 
-/// Whether each answer came up.
-fn came_all_up(answers: &Answers) -> bool {
-    answers.clean > 0
-        && answers.knots > 0
-        && !answers.shape.contains(&0)
-        && !answers.page.contains(&0)
+/// Whether each answer came up, of the faults of pages those that are counted here.
+fn came_all_up(answers: &Answers, page: &[u32]) -> bool {
+    answers.clean > 0 && answers.knots > 0 && !answers.shape.contains(&0) && !page.contains(&0)
 }
 
-/// The session that is changed in this round.
-fn session_of_round(round: usize) -> &'static str {
-    match round % 4 {
-        0 => HANDOVER,
-        1 => RELEASED,
-        _ => MIXED,
+/// The session of this version that is changed in this round.
+fn session_of_round(version: Version, round: usize) -> &'static str {
+    match (version, round % 4) {
+        (Version::One, 0) => HANDOVER,
+        (Version::One, 1) => RELEASED,
+        (Version::One, _) => MIXED,
+        (Version::Two, 0) => FRESH,
+        (Version::Two, 1) => SEEN,
+        (Version::Two, _) => LATE_RELEASES,
     }
+}
+
+/// The first round in which not all programs agree on a random session of this version; counts the answers before it.
+fn disagreement<R: Threads + Sync>(
+    rt: &R,
+    alloc: Global,
+    version: Version,
+    rounds: usize,
+    answers: &mut Answers,
+) -> Option<usize> {
+    let mut numbers = Numbers::new(20_261_122);
+    for round in 0..rounds {
+        let text = session_of_round(version, round);
+        if !agrees_on_altered(rt, alloc, text, &mut numbers, answers) {
+            return Some(round);
+        }
+    }
+    None
 }
 
 #[test]
 fn commands_say_so_of_random_sessions(rt: HostRuntime) {
-    let mut numbers = Numbers::new(20_261_122);
     let mut answers = Answers::none();
-    for round in 0..6000usize {
-        let text = session_of_round(round);
-        assert!(rt;
-            agrees_on_altered(&rt, rt.alloc(), text, &mut numbers, &mut answers),
-            "round {round}"
-        );
-    }
-    assert!(rt; came_all_up(&answers));
+    let round = disagreement(&rt, rt.alloc(), Version::One, 6000, &mut answers);
+    assert!(rt; round == None, "{round:?}");
+    assert!(rt; came_all_up(&answers, &answers.page[..7]));
+}
+
+#[test]
+fn commands_say_so_of_random_releases_at_the_target(rt: HostRuntime) {
+    let mut answers = Answers::none();
+    let round = disagreement(&rt, rt.alloc(), Version::Two, 6000, &mut answers);
+    assert!(rt; round == None, "{round:?}");
+    assert!(rt; came_all_up(&answers, &answers.page));
 }

@@ -29,6 +29,30 @@ const WRONG: Logs = Logs {
     pager: "place 0 0 0000000000000006\nplace 0 0 0000000000000005\n",
 };
 
+/// A session in which page 0 is released at the target, and never placed.
+const FREED: Logs = Logs {
+    guest: "halt\nresume 1\nz 0 0\nr 0 0 0 0\n",
+    source: "state\nsend 0 0000000000000005\n",
+    link: "down 0\ndown 1\n",
+    pager: "got 0\nready\ngot 1\nskip 2\n",
+};
+
+/// The same, with what was sent placed.
+const PLACED_OVER: Logs = Logs {
+    guest: "halt\nresume 1\nz 0 0\nr 0 0 0 0\n",
+    source: "state\nsend 0 0000000000000005\n",
+    link: "down 0\ndown 1\n",
+    pager: "got 0\nready\ngot 1\nplace 0 2 0000000000000005\n",
+};
+
+/// The same, with a look before the release.
+const SEEN_BEFORE: Logs = Logs {
+    guest: "halt\nresume 1\nsee 3\nz 0 0\nr 0 0 0 0\n",
+    source: "state\nsend 0 0000000000000005\n",
+    link: "down 0\ndown 1\n",
+    pager: "got 0\nready\ngot 1\nplace 0 2 0000000000000005\n",
+};
+
 /// What is said of a session.
 enum Said {
     /// These are the facts of the page of this number.
@@ -46,7 +70,7 @@ struct Case {
     said: Said,
 }
 
-static CASES: [Case; 23] = [
+static CASES: [Case; 34] = [
     Case {
         is: "a page that is used",
         logs: RIGHT,
@@ -58,7 +82,8 @@ static CASES: [Case; 23] = [
                 placement: Some(3),
                 again: false,
                 altered: false,
-                access: Some(3),
+                touch: Some(3),
+                releases: false,
             },
         ),
     },
@@ -73,7 +98,8 @@ static CASES: [Case; 23] = [
                 placement: None,
                 again: false,
                 altered: false,
-                access: None,
+                touch: None,
+                releases: false,
             },
         ),
     },
@@ -88,7 +114,8 @@ static CASES: [Case; 23] = [
                 placement: Some(0),
                 again: true,
                 altered: true,
-                access: Some(3),
+                touch: Some(3),
+                releases: false,
             },
         ),
     },
@@ -335,6 +362,98 @@ static CASES: [Case; 23] = [
             log: LogName::Pager,
             place: 1,
             reason: PageReason::Unfit,
+        })),
+    },
+    Case {
+        is: "a page that is released at the target",
+        logs: FREED,
+        said: Said::Facts(
+            0,
+            PageFacts {
+                wrong_read: false,
+                wrong_send: false,
+                placement: None,
+                again: false,
+                altered: false,
+                touch: Some(2),
+                releases: true,
+            },
+        ),
+    },
+    Case {
+        is: "the release that is the page's first touch",
+        logs: FREED,
+        said: Said::Entry(0, Entry::Fresh { first: 2 }, true),
+    },
+    Case {
+        is: "the read behind it",
+        logs: FREED,
+        said: Said::Entry(0, Entry::Fresh { first: 3 }, false),
+    },
+    Case {
+        is: "nothing for a page that was released at the target",
+        logs: FREED,
+        said: Said::Entry(0, Entry::Nothing, false),
+    },
+    Case {
+        is: "an access for a release",
+        logs: Logs {
+            guest: "halt\nresume 1\nr 0 0 0 5\nz 0 0\n",
+            source: "",
+            link: "",
+            pager: "",
+        },
+        said: Said::Entry(0, Entry::Fresh { first: 2 }, false),
+    },
+    Case {
+        is: "fresh beside a placement",
+        logs: PLACED_OVER,
+        said: Said::Entry(0, Entry::Fresh { first: 2 }, false),
+    },
+    Case {
+        is: "a release that is covered",
+        logs: SEEN_BEFORE,
+        said: Said::Entry(
+            0,
+            Entry::Source {
+                send: 1,
+                place: 3,
+                first: Some(First { access: 3, see: 2 }),
+            },
+            true,
+        ),
+    },
+    Case {
+        is: "a read of a page that was released at the target",
+        logs: FREED,
+        said: Said::FirstFault(None),
+    },
+    Case {
+        is: "a placement over a release",
+        logs: PLACED_OVER,
+        said: Said::FirstFault(Some(PageFault {
+            log: LogName::Pager,
+            place: 3,
+            reason: PageReason::Over,
+        })),
+    },
+    Case {
+        is: "a placement that was seen before the release",
+        logs: SEEN_BEFORE,
+        said: Said::FirstFault(None),
+    },
+    Case {
+        is: "altered before over",
+        logs: Logs {
+            guest: "halt\nresume 1\nz 0 0\n",
+            source: "",
+            link: "",
+            pager: "place 0 0 0000000000000006\n",
+        },
+        said: Said::FirstFault(Some(PageFault {
+            log: LogName::Pager,
+            place: 0,
+            reason: PageReason::Altered,
         })),
     },
 ];

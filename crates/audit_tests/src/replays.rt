@@ -22,6 +22,41 @@ pager 0
 end
 ";
 
+/// A session whose guest releases both pages at the target, where they never come, and then writes the second.
+const FREED: &str = "postcopy-session 2
+pages 2
+cells 1
+init 1
+page 0 0000000000000005
+guest 5
+halt
+resume 1
+z 0 0
+z 0 1
+w 0 1 0 9
+source 2
+halted 0
+state
+link 1
+down 1
+lane 0
+pager 2
+got 0
+ready
+end
+";
+
+/// The order of it.
+const ONE_BY_ONE: &str = "postcopy-runs 1
+runs 5
+run guest 1
+run source 2
+run link 1
+run pager 2
+run guest 4
+end
+";
+
 /// An order in which the last placement comes behind the guest's records.
 const LATE: &str = "postcopy-runs 1
 runs 12
@@ -88,7 +123,7 @@ struct Case {
     said: Said,
 }
 
-static CASES: [Case; 5] = [
+static CASES: [Case; 6] = [
     Case {
         is: "a safe merging",
         session: HANDOVER,
@@ -118,6 +153,12 @@ static CASES: [Case; 5] = [
         session: HALTED,
         runs: GUEST,
         said: Said::Replayed(None, [3, 0]),
+    },
+    Case {
+        is: "a write of a page that was released at the target",
+        session: FREED,
+        runs: ONE_BY_ONE,
+        said: Said::Replayed(None, [0, 9]),
     },
 ];
 

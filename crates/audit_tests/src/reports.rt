@@ -2,7 +2,7 @@
 
 ghost use Rattle.audit_report.specs.Reports.{ReportFits};
 
-use crate::texts::HANDOVER;
+use crate::texts::{FRESH, HANDOVER, OVER, SEEN};
 use audit_report::{Report, audit, print_report};
 use migration_types::Session;
 use session_log::read_session;
@@ -239,6 +239,47 @@ run guest 5
 end
 ";
 
+const FRESH_REPORT: &str = "clean
+postcopy-certificate 2
+pages 1
+page 0 fresh 2
+runs 5
+run guest 1
+run source 3
+run link 2
+run pager 4
+run guest 3
+end
+";
+
+const SEEN_REPORT: &str = "clean
+postcopy-certificate 2
+pages 1
+page 0 source 2 3 3 2
+runs 5
+run guest 1
+run source 3
+run link 2
+run pager 4
+run guest 4
+end
+";
+
+const OVER_REPORT: &str = "faulty line 23 over
+postcopy-runs 1
+runs 6
+run guest 1
+run source 3
+run link 2
+run pager 3
+run guest 3
+run pager 1
+end
+";
+
+const LATE_RELEASE_REPORT: &str = "shape line 9 phases
+";
+
 /// A session, a text of it that stands there once for each that takes its place, and the report on what comes of it.
 struct Case {
     is: &'static str,
@@ -247,7 +288,7 @@ struct Case {
     report: &'static str,
 }
 
-static CASES: [Case; 13] = [
+static CASES: [Case; 17] = [
     Case {
         is: "a clean session",
         session: HANDOVER,
@@ -352,6 +393,30 @@ static CASES: [Case; 13] = [
         session: HANDOVER,
         changes: &[("place 1 6 0000000000000007", "place 1 6 0000000000000008")],
         report: ALTERED_REPORT,
+    },
+    Case {
+        is: "a release at the target, of a page that is never placed",
+        session: FRESH,
+        changes: &[],
+        report: FRESH_REPORT,
+    },
+    Case {
+        is: "that release in the first version",
+        session: FRESH,
+        changes: &[("session 2", "session 1"), ("lane 0\n", "")],
+        report: LATE_RELEASE_REPORT,
+    },
+    Case {
+        is: "a placement that may come after a release",
+        session: OVER,
+        changes: &[],
+        report: OVER_REPORT,
+    },
+    Case {
+        is: "a placement that is seen before a release",
+        session: SEEN,
+        changes: &[],
+        report: SEEN_REPORT,
     },
 ];
 

@@ -342,6 +342,138 @@ pager 0
 end
 ";
 
+/// In the second version: page 0 is released at the target, and what was sent of it never placed.
+pub const FRESH: &str = "postcopy-session 2
+pages 1
+cells 1
+init 1
+page 0 0000000000000006
+guest 4
+halt
+resume 1
+z 0 0
+r 0 0 0 0
+source 3
+halted 0
+state
+send 0 0000000000000006
+link 2
+down 1
+down 2
+lane 0
+pager 4
+got 0
+ready
+got 1
+skip 2
+end
+";
+
+/// The same, with what was sent placed, over the release or before it.
+pub const OVER: &str = "postcopy-session 2
+pages 1
+cells 1
+init 1
+page 0 0000000000000006
+guest 4
+halt
+resume 1
+z 0 0
+r 0 0 0 0
+source 3
+halted 0
+state
+send 0 0000000000000006
+link 2
+down 1
+down 2
+lane 0
+pager 4
+got 0
+ready
+got 1
+place 0 2 0000000000000006
+end
+";
+
+/// The same, with a look before the release.
+pub const SEEN: &str = "postcopy-session 2
+pages 1
+cells 1
+init 1
+page 0 0000000000000006
+guest 5
+halt
+resume 1
+see 3
+z 0 0
+r 0 0 0 0
+source 3
+halted 0
+state
+send 0 0000000000000006
+link 2
+down 1
+down 2
+lane 0
+pager 4
+got 0
+ready
+got 1
+place 0 2 0000000000000006
+end
+";
+
+/// In the second version: page 0 comes when it is missed; page 1 is pushed, seen, and then released at the target;
+/// page 2 is released there before it comes, and never placed; page 3 was released at the source.
+pub const LATE_RELEASES: &str = "postcopy-session 2
+pages 4
+cells 1
+init 1
+page 0 0000000000000005
+guest 13
+w 0 1 0 7
+z 0 3
+halt
+resume 1
+z 0 2
+w 0 2 0 4
+r 0 2 0 4
+miss 0 0
+see 5
+r 0 0 0 5
+see 8
+z 0 1
+r 0 1 0 0
+source 6
+halted 2
+state
+ask 1
+send 0 0000000000000005
+send 1 0000000000000007
+send 2 0000000000000000
+link 5
+down 1
+up 3
+down 3
+down 4
+down 5
+lane 0
+pager 11
+got 0
+ready
+fault 7
+want 0
+got 2
+place 0 4 0000000000000005
+zero 3
+got 3
+place 1 7 0000000000000007
+got 4
+skip 9
+end
+";
+
 /// How many lines a text has.
 fn lines_of(text: &str) -> u32 {
     let mut lines = 0u32;

@@ -1,6 +1,6 @@
 //! Sessions through the checker, with a change at a time.
 
-use crate::texts::{HANDOVER, RELEASED};
+use crate::texts::{FRESH, HANDOVER, RELEASED, SEEN};
 use audit_model::ShapeReason;
 use cert_check::{ShapeFault, Verdict, check, check_par, check_texts, check_texts_alone, shape};
 use cert_text::read_cert;
@@ -15,6 +15,12 @@ const HANDOVER_CERT: &str =
 
 const RELEASED_CERT: &str =
     "postcopy-certificate 1\npages 2\npage 0 none\npage 1 balloon 3 5 4\nruns 7\nrun guest 2\nrun source 2\nrun link 1\nrun pager 2\nrun guest 2\nrun pager 2\nrun guest 2\nend\n";
+
+const FRESH_CERT: &str =
+    "postcopy-certificate 2\npages 1\npage 0 fresh 2\nruns 5\nrun guest 1\nrun source 3\nrun link 2\nrun pager 4\nrun guest 3\nend\n";
+
+const SEEN_CERT: &str =
+    "postcopy-certificate 2\npages 1\npage 0 source 2 3 3 2\nruns 5\nrun guest 1\nrun source 3\nrun link 2\nrun pager 4\nrun guest 4\nend\n";
 
 /// A change of a text, and the verdict that follows it.
 struct Case {
@@ -42,7 +48,7 @@ struct Table {
 const HALTED: &str =
     "postcopy-session 1\npages 2\ncells 1\ninit 1\npage 0 0000000000000005\nguest 2\nw 0 1 0 7\nhalt\nsource 1\nhalted 1\nlink 0\npager 0\nend\n";
 
-static TABLES: [Table; 5] = [
+static TABLES: [Table; 8] = [
     // The shape of the handover.
     Table {
         session: HANDOVER,
@@ -450,6 +456,82 @@ static TABLES: [Table; 5] = [
             },
         ],
     },
+    // A page that is released at the target, and never placed.
+    Table {
+        session: FRESH,
+        cert: FRESH_CERT,
+        changed: Changed::Session,
+        cases: &[
+            Case {
+                old: "skip 2",
+                new: "place 0 2 0000000000000006",
+                verdict: Verdict::Page(3),
+            },
+            Case {
+                old: "z 0 0",
+                new: "w 0 0 0 0",
+                verdict: Verdict::Page(3),
+            },
+            Case {
+                old: "resume 1\nz 0 0",
+                new: "z 0 0\nresume 1",
+                verdict: Verdict::Shape(ShapeFault {
+                    line: 8,
+                    reason: ShapeReason::Phases,
+                }),
+            },
+            Case {
+                old: "lane 0\n",
+                new: "",
+                verdict: Verdict::SessionText(18),
+            },
+        ],
+    },
+    Table {
+        session: FRESH,
+        cert: FRESH_CERT,
+        changed: Changed::Certificate,
+        cases: &[
+            Case {
+                old: "page 0 fresh 2",
+                new: "page 0 fresh 3",
+                verdict: Verdict::Page(3),
+            },
+            Case {
+                old: "page 0 fresh 2",
+                new: "page 0 none",
+                verdict: Verdict::Page(3),
+            },
+            Case {
+                old: "postcopy-certificate 2",
+                new: "postcopy-certificate 1",
+                verdict: Verdict::CertText(3),
+            },
+        ],
+    },
+    // The same page placed, and seen before its release.
+    Table {
+        session: SEEN,
+        cert: SEEN_CERT,
+        changed: Changed::Certificate,
+        cases: &[
+            Case {
+                old: "page 0 source 2 3 3 2",
+                new: "page 0 fresh 3",
+                verdict: Verdict::Page(3),
+            },
+            Case {
+                old: "page 0 source 2 3 3 2",
+                new: "page 0 source 2 3 - -",
+                verdict: Verdict::Page(3),
+            },
+            Case {
+                old: "postcopy-certificate 2",
+                new: "postcopy-certificate 1",
+                verdict: Verdict::Yes,
+            },
+        ],
+    },
 ];
 
 /// Whether this is the verdict on two texts, of threads and of the calling thread alone.
@@ -533,7 +615,9 @@ fn are_right_texts<R: Threads + Sync>(rt: &R, alloc: Global, session: &str, cert
 fn right_certificates(rt: HostRuntime) {
     let alloc = rt.alloc();
     let are_right = are_right_texts(&rt, alloc, HANDOVER, HANDOVER_CERT)
-        && are_right_texts(&rt, alloc, RELEASED, RELEASED_CERT);
+        && are_right_texts(&rt, alloc, RELEASED, RELEASED_CERT)
+        && are_right_texts(&rt, alloc, FRESH, FRESH_CERT)
+        && are_right_texts(&rt, alloc, SEEN, SEEN_CERT);
     assert!(rt; are_right);
 }
 

@@ -1,13 +1,13 @@
 //! The plain programs on the handover, on a session with a released page, and on faulty changes of both.
 
 use crate::plain::{names_of, page_fault, shape_fault};
-use crate::texts::{FOUND, HANDOVER, RELEASED, changed_session};
+use crate::texts::{FOUND, FRESH, HANDOVER, OVER, RELEASED, SEEN, changed_session};
 use audit_model::{Home, PageReason, ShapeReason};
 use cert_text::read_runs;
 use migration_types::{LogName, PageNo, Session};
 use plain_audit::{
-    Spot, demand_holds, first_broken, flat_value, halt_place, home_before, is_merging,
-    is_page_fault, is_released, spot_after,
+    Spot, demand_holds, first_broken, flat_value, halt_place, home_before, is_freed, is_merging,
+    is_page_fault, is_released, is_touched, spot_after,
 };
 use std::alloc::Global;
 
@@ -17,6 +17,8 @@ enum Said {
     ShapeFault(u32, ShapeReason),
     /// It is of the right shape; the line of its first fault of a page, and the reason.
     PageFault(u32, PageReason),
+    /// It is of the right shape, and has no fault of a page.
+    Clean,
     /// It places page 0 a second time.
     SecondPlacement,
     /// Its guest goes through the steps of a released page.
@@ -25,6 +27,10 @@ enum Said {
     Waits,
     /// The found order is safe, and the delayed one breaks.
     Breaks,
+    /// This order is a merging, which breaks at this record, or nowhere.
+    Ordered(&'static str, Option<(LogName, u32)>),
+    /// Its guest releases page 0 at the target, where it never comes.
+    Freed,
 }
 
 /// A session with a change, and what is said of it.
@@ -36,7 +42,7 @@ struct Case {
     said: Said,
 }
 
-static CASES: [Case; 14] = [
+static CASES: [Case; 22] = [
     Case {
         is: "a fault that names no miss",
         session: HANDOVER,
@@ -135,6 +141,62 @@ static CASES: [Case; 14] = [
         new: "see 5",
         said: Said::Breaks,
     },
+    Case {
+        is: "a release at the target, of a page that is never placed",
+        session: FRESH,
+        old: "skip 2",
+        new: "skip 2",
+        said: Said::Clean,
+    },
+    Case {
+        is: "a release at the target, which frees its page",
+        session: FRESH,
+        old: "skip 2",
+        new: "skip 2",
+        said: Said::Freed,
+    },
+    Case {
+        is: "a write in place of the release",
+        session: FRESH,
+        old: "z 0 0",
+        new: "w 0 0 0 0",
+        said: Said::PageFault(9, PageReason::Early),
+    },
+    Case {
+        is: "a placement that may come after a release",
+        session: OVER,
+        old: "z 0 0",
+        new: "z 0 0",
+        said: Said::PageFault(23, PageReason::Over),
+    },
+    Case {
+        is: "that placement before the release",
+        session: OVER,
+        old: "z 0 0",
+        new: "z 0 0",
+        said: Said::Ordered(AT_ONCE, None),
+    },
+    Case {
+        is: "that placement after the release",
+        session: OVER,
+        old: "z 0 0",
+        new: "z 0 0",
+        said: Said::Ordered(AT_LAST, Some((LogName::Pager, 3))),
+    },
+    Case {
+        is: "a release after a look",
+        session: SEEN,
+        old: "z 0 0",
+        new: "z 0 0",
+        said: Said::Clean,
+    },
+    Case {
+        is: "a release before the look",
+        session: SEEN,
+        old: "see 3\nz 0 0",
+        new: "z 0 0\nsee 3",
+        said: Said::PageFault(24, PageReason::Over),
+    },
 ];
 
 /// Whether zeros for a page that was placed are a second placement, and its first placement is none.
@@ -211,10 +273,79 @@ run pager 1
 end
 ";
 
+/// An order of the sessions with a release at the target: the guest comes behind the pager.
+const AT_ONCE: &str = "postcopy-runs 1
+runs 5
+run guest 1
+run source 3
+run link 2
+run pager 4
+run guest 3
+end
+";
+
+/// The same with the pager's last record as late as it can be.
+const AT_LAST: &str = "postcopy-runs 1
+runs 6
+run guest 1
+run source 3
+run link 2
+run pager 3
+run guest 3
+run pager 1
+end
+";
+
 /// The names that an order's text spells; none where it is refused, or there is no memory.
 fn names_in(alloc: Global, text: &str) -> Option<Vec<(LogName, u32)>> {
     let runs = read_runs(alloc, text.as_bytes()).ok()?;
     names_of(alloc, runs.as_slice()).ok()
+}
+
+/// Whether an order is told as a merging of a session that breaks at this record, or nowhere.
+fn is_order_told(
+    alloc: Global,
+    session: &Session,
+    order: &str,
+    broken: Option<(LogName, u32)>,
+) -> bool {
+    match names_in(alloc, order) {
+        Some(names) => is_merging(session, &names) && first_broken(session, &names) == broken,
+        None => false,
+    }
+}
+
+/// Page 0 when all was done: zeros at the target, where it was released and never placed.
+const WHEN_FREED: Spot = Spot {
+    home: Home::AtTarget,
+    source: 6,
+    target: 0,
+    resident: true,
+    placed: false,
+    touched: true,
+    released: false,
+};
+
+/// Whether page 0 is freed and touched by the guest's third record, and by no earlier one, and released at the end.
+fn is_freed_by_release(session: &Session) -> bool {
+    let page = PageNo::new(0);
+    session.guest().len() == 4
+        && !is_freed(session, 2, page)
+        && !is_touched(session, 2, page)
+        && is_freed(session, 3, page)
+        && is_touched(session, 3, page)
+        && is_released(session, 4, page)
+}
+
+/// Whether page 0 is freed so, and zeros at the end.
+fn is_freed_page(alloc: Global, session: &Session) -> bool {
+    match names_in(alloc, AT_ONCE) {
+        Some(names) => {
+            is_freed_by_release(session)
+                && spot_after(session, &names, PageNo::new(0), 0) == WHEN_FREED
+        }
+        None => false,
+    }
 }
 
 /// Page 1 when all was done: written at the target after it was placed there.
@@ -274,10 +405,13 @@ fn holds(alloc: Global, session: &Session, said: &Said) -> bool {
         Said::PageFault(line, reason) => {
             shape_fault(session) == None && page_fault(session) == Some((*line, *reason))
         }
+        Said::Clean => shape_fault(session) == None && page_fault(session) == None,
         Said::SecondPlacement => is_second_placement(session),
         Said::Steps => goes_through_steps(session),
         Said::Waits => are_orders_told(alloc, session, true),
         Said::Breaks => are_orders_told(alloc, session, false),
+        Said::Ordered(order, broken) => is_order_told(alloc, session, order, *broken),
+        Said::Freed => is_freed_page(alloc, session),
     }
 }
 

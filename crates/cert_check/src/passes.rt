@@ -38,9 +38,9 @@ pub(crate) struct PagerPass;
 
 /// Why a guest record is not of the right shape.
 fn guest_reason(session: &Session, rec: &GuestRec, phases: Phases) -> Option<ShapeReason>
-    ensures { result ≡ first_reason (in_phase_by phases.halted phases.resumed rec.now) (guest_named session.now rec.now) true true }
+    ensures { result ≡ first_reason (in_phase_by session.now.version phases.halted phases.resumed rec.now) (guest_named session.now rec.now) true true }
 {
-    if !in_phase(rec, phases.halted, phases.resumed) {
+    if !in_phase(session.version(), rec, phases.halted, phases.resumed) {
         return Some(ShapeReason::Phases);
     }
     if !guest_named(session, rec) {

@@ -1,18 +1,23 @@
 -- From entries to a certificate.
-use Rattle.std.proofs.Common.{◌≡◌, ℕ, suc, ◌≤◌, List, [], ◌∷◌, length, get_or, Option, Some, None, refl, sym, subst, arith}
-use Rattle.std.specs.Prelude.{slice_get}
-use Rattle.std.specs.List.{AllByRecursion}
-use Rattle.std.proofs.lemmas.Option.{slice_get_within, slice_get-get_or}
+use Rattle.std.proofs.Common.{◌≡◌, ℕ, suc, ◌≤◌, Bool, true, false, List, [], ◌∷◌, length, get_or, Option, Some, None, refl, sym, ap, ◌∙◌, subst, arith}
+use Rattle.std.specs.Prelude.{slice_get, if◌then◌else◌}
+use Rattle.std.specs.List.{AllByRecursion, list_any}
+use Rattle.std.proofs.lemmas.Option.{slice_get_within, slice_get-get_or, get_or_from_slice_get}
+use Rattle.std.proofs.lemmas.List.Folds.{list_any_at}
 use Rattle.migration_types.specs.declared.cert.Run.{Run}
 use Rattle.migration_types.specs.declared.cert.First.{First}
 use Rattle.migration_types.specs.declared.cert.Entry.{Entry}
-use Rattle.migration_types.specs.declared.cert.Entry.TheVariants.{Nothing, Source, Balloon}
+use Rattle.migration_types.specs.declared.cert.Entry.TheVariants.{Nothing, Fresh, Source, Balloon}
+use Rattle.migration_types.specs.declared.version.Version.{Version}
+use Rattle.migration_types.specs.declared.version.Version.TheVariants.{One, Two}
 use Rattle.migration_types.specs.Certs.{Certified, FirstFits, EntryFits, AreRuns, IsCert}
 use Rattle.migration_types.specs.Sessions.{Recorded, IsSession, IsNumber}
 use Rattle.audit_model.specs.Mergings.{IsMerging, spelled}
+use Rattle.audit_model.specs.Shape.{IsRightShape}
+use Rattle.audit_model.specs.Laws.{FirstVersionIsPlain}
 use Rattle.audit_model.specs.Certificates.{IsCovered, IsRightEntry, IsRightCertificate}
 use Rattle.cert_maker.specs.Made.{IsMade}
-use Rattle.cert_maker.specs.inner.Entries.{HasBarePage, AreMade}
+use Rattle.cert_maker.specs.inner.Entries.{HasBarePage, AreMade, is_fresh, version_for}
 
 -- ---- limits
 
@@ -21,39 +26,68 @@ is_number log n r few is = let lt = slice_get_within log n r is in omega arith
 
 first_fits : (s : Recorded) (page place : ℕ) (first : Option First) → IsSession s → IsCovered s page place first → FirstFits first
 first_fits s page place None limits covered = tt
-first_fits s page place (Some first) limits covered = (is_number s.guest first.access _ limits.few_guest covered.is_access.stands, is_number s.guest first.see _ limits.few_guest covered.sees)
+first_fits s page place (Some first) limits covered = (is_number s.guest first.access _ limits.few_guest covered.is_touch.stands, is_number s.guest first.see _ limits.few_guest covered.sees)
 
-entry_fits : (s : Recorded) (page : ℕ) (entry : Entry) → IsSession s → IsRightEntry s page entry → EntryFits entry
-entry_fits s page Nothing limits right = tt
-entry_fits s page (Source send place first) limits right = (is_number s.source send _ limits.few_source right.1.is_sent, is_number s.pager place _ limits.few_pager right.1.is_placed, first_fits s page place first limits right.1.is_covered)
-entry_fits s page (Balloon place first) limits right = (is_number s.pager place _ limits.few_pager right.1.is_zeroed, first_fits s page place first limits right.1.is_covered)
+entry_fits : (s : Recorded) (version : Version) (page : ℕ) (entry : Entry) → IsSession s → IsRightEntry s page entry → (is_fresh entry ≡ true → version ≡ Two) → EntryFits version entry
+entry_fits s version page Nothing limits right two = tt
+entry_fits s version page (Fresh first) limits right two = subst (λ (v : Version). EntryFits v (Fresh first)) (sym (two refl)) (is_number s.guest first _ limits.few_guest right.1.is_release)
+entry_fits s version page (Source send place first) limits right two = (is_number s.source send _ limits.few_source right.1.is_sent, is_number s.pager place _ limits.few_pager right.1.is_placed, first_fits s page place first limits right.1.is_covered)
+entry_fits s version page (Balloon place first) limits right two = (is_number s.pager place _ limits.few_pager right.1.is_zeroed, first_fits s page place first limits right.1.is_covered)
 
-all_from : (entries : List Entry) → ((page : ℕ) (entry : Entry) → slice_get entries page ≡ Some entry → EntryFits entry) → AllByRecursion EntryFits entries
-all_from [] each = tt
-all_from (x ∷ xs) each = (each 0 x refl, all_from xs (λ page entry is. each (suc page) entry is))
+all_from : (P : Entry → Type 0) (entries : List Entry) → ((page : ℕ) (entry : Entry) → slice_get entries page ≡ Some entry → P entry) → AllByRecursion P entries
+all_from P [] each = tt
+all_from P (x ∷ xs) each = (each 0 x refl, all_from P xs (λ page entry is. each (suc page) entry is))
 
-pub made_cert : (s : Recorded) (entries : List Entry) (runs : List Run) → IsSession s → AreMade s entries → AreRuns runs → IsCert (record { entries = entries; runs = runs })
-made_cert s entries runs limits made are_runs = record {
+-- ---- the version
+
+-- some entry of the list is fresh, or none is
+fresh_at : (entries : List Entry) → list_any is_fresh entries ≡ true → (page : ℕ) × (first : ℕ) × (slice_get entries page ≡ Some (Fresh first))
+fresh_at [] e = absurd cc
+fresh_at (Nothing ∷ xs) e = let f = fresh_at xs e in (suc f.0, f.1, f.2)
+fresh_at (Fresh first ∷ xs) e = (0, first, refl)
+fresh_at (Source send place first ∷ xs) e = let f = fresh_at xs e in (suc f.0, f.1, f.2)
+fresh_at (Balloon place first ∷ xs) e = let f = fresh_at xs e in (suc f.0, f.1, f.2)
+
+any_fresh : (entries : List Entry) (page : ℕ) (entry : Entry) → slice_get entries page ≡ Some entry → is_fresh entry ≡ true → list_any is_fresh entries ≡ true
+any_fresh entries page entry is fresh = list_any_at is_fresh entries page entry (slice_get_within entries page entry is) (ap is_fresh (get_or_from_slice_get entries page entry entry is) ∙ fresh)
+
+two_where_fresh : (version : Version) (entries : List Entry) → list_any is_fresh entries ≡ true → version_for version entries ≡ Two
+two_where_fresh version entries e = ap (λ (b : Bool). if b then Two else version) e
+
+of_right_shape : (s : Recorded) (entries : List Entry) → FirstVersionIsPlain s → AreMade s entries → IsRightShape s → version_for s.version entries ≡ s.version
+of_right_shape s entries plain made shape = by_fresh (list_any is_fresh entries) refl
+  where
+    by_version : (page first : ℕ) → slice_get entries page ≡ Some (Fresh first) → (version : Version) → s.version ≡ version → Two ≡ version
+    by_version page first is One e = absurd ((plain e shape).none_fresh page first (made.each page (Fresh first) is).right)
+    by_version page first is Two e = refl
+
+    by_fresh : (b : Bool) → list_any is_fresh entries ≡ b → version_for s.version entries ≡ s.version
+    by_fresh true e = let f = fresh_at entries e in two_where_fresh s.version entries e ∙ by_version f.0 f.1 f.2 s.version refl
+    by_fresh false e = ap (λ (b : Bool). if b then Two else s.version) e
+
+pub made_cert : (s : Recorded) (version : Version) (entries : List Entry) (runs : List Run) → version ≡ version_for s.version entries → IsSession s → AreMade s entries → AreRuns runs → IsCert (record { version = version; entries = entries; runs = runs })
+made_cert s version entries runs is_version limits made are_runs = record {
   some_pages = let some = limits.geometry.some_pages in let e = made.pages in omega arith;
   few_pages = let few = limits.geometry.few_pages in let e = made.pages in omega arith;
-  entries = all_from entries (λ page entry is. entry_fits s page entry limits (made.each page entry is).right);
+  entries = all_from (EntryFits version) entries (λ page entry is. entry_fits s version page entry limits (made.each page entry is).right (λ fresh. is_version ∙ two_where_fresh s.version entries (any_fresh entries page entry is fresh)));
   runs = are_runs;
 }
 
 -- ---- the answers
 
-pub is_made : (s : Recorded) (entries : List Entry) (runs : List Run) (cert : Certified) → AreMade s entries → IsMerging s (spelled runs) → cert ≡ record { entries = entries; runs = runs } → IsMade s runs cert
-is_made s entries runs cert made merging e = subst (λ (x : Certified). IsMade s runs x) (sym e) whole
+pub is_made : (s : Recorded) (version : Version) (entries : List Entry) (runs : List Run) (cert : Certified) → FirstVersionIsPlain s → version ≡ version_for s.version entries → AreMade s entries → IsMerging s (spelled runs) → cert ≡ record { version = version; entries = entries; runs = runs } → IsMade s runs cert
+is_made s version entries runs cert plain is_version made merging e = subst (λ (x : Certified). IsMade s runs x) (sym e) whole
   where
-    whole : IsMade s runs (record { entries = entries; runs = runs })
+    whole : IsMade s runs (record { version = version; entries = entries; runs = runs })
     whole = record {
       is_right = record { pages = made.pages; entries = λ page entry is. (made.each page entry is).right; merging = merging };
       has_runs = refl;
+      has_version = λ shape. is_version ∙ of_right_shape s entries plain made shape;
       earliest = λ page entry is. (made.each page entry is).earliest;
     }
 
-pub bare_refused : (s : Recorded) (runs : List Run) → HasBarePage s → (entries : List Entry) → IsRightCertificate s (record { entries = entries; runs = runs }) → ⊥
-bare_refused s runs bare entries right =
+pub bare_refused : (s : Recorded) (runs : List Run) → HasBarePage s → (version : Version) (entries : List Entry) → IsRightCertificate s (record { version = version; entries = entries; runs = runs }) → ⊥
+bare_refused s runs bare version entries right =
     let within = bare.within in
     let pages = right.pages in
     let is = slice_get-get_or entries bare.page Nothing (omega arith) in

@@ -10,7 +10,7 @@ use Rattle.migration_types.specs.declared.records.PagerRec.{PagerRec}
 use Rattle.migration_types.specs.declared.records.PagerRec.TheVariants.{Got, Ready, Fault, Join, Want, Place, Zero, Skip, All}
 use Rattle.migration_types.specs.declared.cert.First.{First}
 use Rattle.migration_types.specs.declared.cert.Entry.{Entry}
-use Rattle.migration_types.specs.declared.cert.Entry.TheVariants.{Nothing, Source, Balloon}
+use Rattle.migration_types.specs.declared.cert.Entry.TheVariants.{Nothing, Fresh, Source, Balloon}
 use Rattle.migration_types.specs.Sessions.{Recorded}
 use Rattle.audit_model.specs.Names.{if_there}
 use Rattle.audit_model.specs.Shape.{passes, is_placement_of, is_send_of, earlier}
@@ -24,7 +24,7 @@ use Rattle.page_facts.proofs.Before.{some_true, some_false, first_none, first_so
 use Rattle.page_facts.proofs.RightEntry.{place_some, absent_none, place_at, zero_at, send_at, sees_at, IsPlaceAt, right_from, right_test}
 use Rattle.page_facts.specs.Looks.{first_look}
 use Rattle.cert_maker.specs.Made.{IsEarliest, NamesEarliest}
-use Rattle.cert_maker.specs.inner.Entries.{repeated, send_of, access_and_look, first_of, entry_at, placed_entry, entry_of}
+use Rattle.cert_maker.specs.inner.Entries.{repeated, send_of, touch_and_look, first_of, entry_at, unplaced_entry, entry_with, entry_of}
 use Rattle.page_facts.proofs.Looking.{earlier_some}
 
 -- looks and the page's first placement
@@ -63,14 +63,14 @@ module _ (s : Recorded) (page place : ℕ) (first : first_before (λ m. is_place
   first_sees n e = let f = first_some (λ m. looks_at s page) s.guest (length s.guest) n e in ap (λ o. passes (sees_from place) o) f.stands ∙ look_sees f.by f.passes_test
 
   -- the page's first look is the earliest that covers its first placement
-  pub earliest : (look access : Option ℕ) (first : Option First) → look ≡ first_look s (length s.guest) page → first_of access look ≡ Some first → IsEarliest s place first
-  earliest look access None e is = tt
+  pub earliest : (look touch : Option ℕ) (first : Option First) → look ≡ first_look s (length s.guest) page → first_of touch look ≡ Some first → IsEarliest s place first
+  earliest look touch None e is = tt
   earliest look None (Some f) e is = absurd (cc)
   earliest None (Some a) (Some f) e is = absurd (cc)
   earliest (Some see) (Some a) (Some f) e is = λ n k stands le. at_least n k stands le (cases_lt n f.see)
     where
-      same : access_and_look a see ≡ f
-      same = let h : Some (Some (access_and_look a see)) ≡ Some (Some f) = is in let i : Some (access_and_look a see) ≡ Some f = cc in cc
+      same : touch_and_look a see ≡ f
+      same = let h : Some (Some (touch_and_look a see)) ≡ Some (Some f) = is in let i : Some (touch_and_look a see) ≡ Some f = cc in cc
 
       sees : see ≡ f.see
       sees = ap (λ (x : First). x.see) same
@@ -83,8 +83,8 @@ module _ (s : Recorded) (page place : ℕ) (first : first_before (λ m. is_place
           let look = reach_looks k le in
           absurd (cc)
 
-  -- a first access that is covered is covered by the first look
-  pub covered_first : (look access : Option ℕ) (first : Option First) → look ≡ first_look s (length s.guest) page → covers s access place first ≡ true → (made : Option First) × (first_of access look ≡ Some made) × (covers s access place made ≡ true)
+  -- a first touch that is covered is covered by the first look
+  pub covered_first : (look touch : Option ℕ) (first : Option First) → look ≡ first_look s (length s.guest) page → covers s touch place first ≡ true → (made : Option First) × (first_of touch look ≡ Some made) × (covers s touch place made ≡ true)
   covered_first look None None e t = (None, refl, refl)
   covered_first look None (Some f) e t = absurd (cc)
   covered_first look (Some a) None e t = absurd (cc)
@@ -105,7 +105,7 @@ module _ (s : Recorded) (page place : ℕ) (first : first_before (λ m. is_place
           let look = reach_looks sees.0 sees.2 in
           absurd (cc)
       go (Some n) e = (
-        Some (access_and_look a n),
+        Some (touch_and_look a n),
         refl,
         and_from ((a == a) && nat_lt n a) (passes (sees_from place) (slice_get s.guest n)) (and_from (a == a) (nat_lt n a) (eq-eqb a a refl) (lt-ltb n a before)) (first_sees n (sym e)),
       )
@@ -140,38 +140,46 @@ module _ (s : Recorded) (page : ℕ) (f : PageFacts) (facts : IsFacts s page f) 
   once_placed : (place : ℕ) → is_once f place ≡ true → f.placement ≡ Some place
   once_placed place t = place_some f.placement place (and_parts (is_place f.placement place) (not f.again) (and_parts (is_place f.placement place && not f.again) (not f.altered) t).0).0
 
-  made_of : (place : ℕ) (first : Option First) (r : PagerRec) (entry : Entry) → f.placement ≡ Some place → first_of f.access look ≡ Some first → slice_get s.pager place ≡ Some r → entry_at s place first r ≡ Some entry → entry_of s f look ≡ Some entry
+  made_of : (place : ℕ) (first : Option First) (r : PagerRec) (entry : Entry) → f.placement ≡ Some place → first_of f.touch look ≡ Some first → slice_get s.pager place ≡ Some r → entry_at s place first r ≡ Some entry → entry_of s f look ≡ Some entry
   made_of place first r entry p a is e =
-      ap (λ o. placed_entry s f.access look o) p
+      ap (λ o. entry_with s f look o) p
       ∙ ap (λ o. if_there (λ first. if_there (entry_at s place first) (slice_get s.pager place)) o) a
       ∙ ap (λ o. if_there (entry_at s place first) o) is
       ∙ e
 
+  unplaced_of : (entry : Entry) → f.placement ≡ None → unplaced_entry f.touch f.releases ≡ entry → entry_of s f look ≡ Some entry
+  unplaced_of entry p e = ap (λ o. entry_with s f look o) p ∙ ap Some e
+
   -- where an entry passes, the made entry does
   made_passes : (entry : Entry) → is_right_of s page f entry ≡ true → (made : Entry) × (entry_of s f look ≡ Some made) × (is_right_of s page f made ≡ true)
   made_passes Nothing t =
-      let p = and_parts (is_absent f.placement) (is_absent f.access) t in
-      (Nothing, ap (λ o. placed_entry s f.access look o) (absent_none f.placement p.0), t)
+      let p = and_parts (is_absent f.placement) (is_absent f.touch) t in
+      (Nothing, unplaced_of Nothing (absent_none f.placement p.0) (ap (λ o. unplaced_entry o f.releases) (absent_none f.touch p.1)), t)
+  made_passes (Fresh first) t =
+      let a = and_parts (is_absent f.placement && is_place f.touch first) f.releases t in
+      let b = and_parts (is_absent f.placement) (is_place f.touch first) a.0 in
+      let touched : f.touch ≡ Some first = place_some f.touch first b.1 in
+      (Fresh first, unplaced_of (Fresh first) (absent_none f.placement b.0) (ap (λ o. unplaced_entry o f.releases) touched ∙ ap (unplaced_entry (Some first)) a.1), t)
   made_passes (Source send place first) t =
-      let a = and_parts (passes (is_send_of page) (slice_get s.source send) && passes (places_from s page send) (slice_get s.pager place) && is_once f place) (covers s f.access place first) t in
+      let a = and_parts (passes (is_send_of page) (slice_get s.source send) && passes (places_from s page send) (slice_get s.pager place) && is_once f place) (covers s f.touch place first) t in
       let b = and_parts (passes (is_send_of page) (slice_get s.source send) && passes (places_from s page send) (slice_get s.pager place)) (is_once f place) a.0 in
       let d = and_parts (passes (is_send_of page) (slice_get s.source send)) (passes (places_from s page send) (slice_get s.pager place)) b.0 in
       let placed = once_placed place b.1 in
       let stands : IsPlaceAt s page send place = place_at s page send place d.1 in
-      let c = covered_first s page place (sym facts.placement ∙ placed) look f.access first is_look a.1 in
+      let c = covered_first s page place (sym facts.placement ∙ placed) look f.touch first is_look a.1 in
       let sent : send_of s stands.got ≡ Some send = sent_is s page send place stands d.0 in (
         Source send place c.0,
         made_of place c.0 (Place page stands.got stands.content) (Source send place c.0) placed c.1 stands.stands (ap (λ o. if_there (λ send. Some (Source send place c.0)) o) sent),
-        and_from (passes (is_send_of page) (slice_get s.source send) && passes (places_from s page send) (slice_get s.pager place) && is_once f place) (covers s f.access place c.0) a.0 c.2,
+        and_from (passes (is_send_of page) (slice_get s.source send) && passes (places_from s page send) (slice_get s.pager place) && is_once f place) (covers s f.touch place c.0) a.0 c.2,
       )
   made_passes (Balloon place first) t =
-      let a = and_parts (passes (zeroes page) (slice_get s.pager place) && is_once f place) (covers s f.access place first) t in
+      let a = and_parts (passes (zeroes page) (slice_get s.pager place) && is_once f place) (covers s f.touch place first) t in
       let b = and_parts (passes (zeroes page) (slice_get s.pager place)) (is_once f place) a.0 in
       let placed = once_placed place b.1 in
-      let c = covered_first s page place (sym facts.placement ∙ placed) look f.access first is_look a.1 in (
+      let c = covered_first s page place (sym facts.placement ∙ placed) look f.touch first is_look a.1 in (
         Balloon place c.0,
         made_of place c.0 (Zero page) (Balloon place c.0) placed c.1 (zero_at s page place b.0) refl,
-        and_from (passes (zeroes page) (slice_get s.pager place) && is_once f place) (covers s f.access place c.0) a.0 c.2,
+        and_from (passes (zeroes page) (slice_get s.pager place) && is_once f place) (covers s f.touch place c.0) a.0 c.2,
       )
 
   -- so it is right where any entry is
@@ -186,6 +194,11 @@ module _ (s : Recorded) (page : ℕ) (f : PageFacts) (facts : IsFacts s page f) 
   pub made_earliest : (entry : Entry) → entry_of s f look ≡ Some entry → NamesEarliest s entry
   made_earliest entry e = placed f.placement refl e
     where
+      unplaced : (touch : Option ℕ) (releases : Bool) → NamesEarliest s (unplaced_entry touch releases)
+      unplaced None releases = tt
+      unplaced (Some first) true = tt
+      unplaced (Some first) false = tt
+
       sent : (place : ℕ) (first : Option First) → IsEarliest s place first → (o : Option ℕ) → if_there (λ send. Some (Source send place first)) o ≡ Some entry → NamesEarliest s entry
       sent place first is None e = absurd (cc)
       sent place first is (Some send) e = let same : Source send place first ≡ entry = cc in subst (λ (x : Entry). NamesEarliest s x) same is
@@ -205,10 +218,10 @@ module _ (s : Recorded) (page : ℕ) (f : PageFacts) (facts : IsFacts s page f) 
       there place first is None e = absurd (cc)
       there place first is (Some r) e = by_record place first is r e
 
-      covered : (place : ℕ) → f.placement ≡ Some place → (o : Option (Option First)) → first_of f.access look ≡ o → if_there (λ first. if_there (entry_at s place first) (slice_get s.pager place)) o ≡ Some entry → NamesEarliest s entry
+      covered : (place : ℕ) → f.placement ≡ Some place → (o : Option (Option First)) → first_of f.touch look ≡ o → if_there (λ first. if_there (entry_at s place first) (slice_get s.pager place)) o ≡ Some entry → NamesEarliest s entry
       covered place p None a e = absurd (cc)
-      covered place p (Some first) a e = there place first (earliest s page place (sym facts.placement ∙ p) look f.access first is_look a) (slice_get s.pager place) e
+      covered place p (Some first) a e = there place first (earliest s page place (sym facts.placement ∙ p) look f.touch first is_look a) (slice_get s.pager place) e
 
-      placed : (o : Option ℕ) → f.placement ≡ o → placed_entry s f.access look o ≡ Some entry → NamesEarliest s entry
-      placed None p e = let same : Nothing ≡ entry = cc in subst (λ (x : Entry). NamesEarliest s x) same tt
-      placed (Some place) p e = covered place p (first_of f.access look) refl e
+      placed : (o : Option ℕ) → f.placement ≡ o → entry_with s f look o ≡ Some entry → NamesEarliest s entry
+      placed None p e = let same : unplaced_entry f.touch f.releases ≡ entry = cc in subst (λ (x : Entry). NamesEarliest s x) same (unplaced f.touch f.releases)
+      placed (Some place) p e = covered place p (first_of f.touch look) refl e

@@ -4,10 +4,12 @@ use Rattle.migration_types.specs.declared.records.GuestRec.TheVariants.{See}
 use Rattle.migration_types.specs.declared.cert.Run.{Run}
 use Rattle.migration_types.specs.declared.cert.First.{First}
 use Rattle.migration_types.specs.declared.cert.Entry.{Entry}
-use Rattle.migration_types.specs.declared.cert.Entry.TheVariants.{Nothing, Source, Balloon}
+use Rattle.migration_types.specs.declared.cert.Entry.TheVariants.{Nothing, Fresh, Source, Balloon}
+use Rattle.migration_types.specs.declared.version.Version.{Version}
 use Rattle.migration_types.specs.Certs.{Certified}
 use Rattle.migration_types.specs.Sessions.{Recorded}
 use Rattle.audit_model.specs.Certificates.{IsRightCertificate}
+use Rattle.audit_model.specs.Shape.{IsRightShape}
 use Rattle.cert_maker.specs.declared.maker.MakeFault.{MakeFault}
 use Rattle.cert_maker.specs.declared.maker.MakeFault.TheVariants.{NoCertificate, Memory}
 
@@ -16,19 +18,22 @@ abbrev pub IsEarliest : Recorded → ℕ → Option First → Type 0
 IsEarliest s place None = Unit {0}
 IsEarliest s place (Some first) = (n placement : ℕ) → slice_get s.guest n ≡ Some (See placement) → place ≤ placement → first.see ≤ n
 
--- an entry with a first access names the earliest look that covers its placement
+-- an entry with a placement and a first touch names the earliest look that covers the placement
 abbrev pub NamesEarliest : Recorded → Entry → Type 0
 NamesEarliest s Nothing = Unit {0}
+NamesEarliest s (Fresh first) = Unit {0}
 NamesEarliest s (Source send place first) = IsEarliest s place first
 NamesEarliest s (Balloon place first) = IsEarliest s place first
 
--- a right certificate with these runs, and with the earliest looks
+-- a right certificate with these runs, and with the earliest looks, in the version of a session of the right shape
 pub record IsMade (s : Recorded) (runs : List Run) (cert : Certified) : Type 0 where
   pub is_right : IsRightCertificate s cert
   pub has_runs : cert.runs ≡ runs
+  pub has_version : IsRightShape s → cert.version ≡ s.version
   pub earliest : (page : ℕ) (entry : Entry) → slice_get cert.entries page ≡ Some entry → NamesEarliest s entry
 
--- no right certificate has these runs, or memory was refused
+-- no right certificate of any version has these runs, or memory was refused
 abbrev pub IsRefused : Recorded → List Run → MakeFault → Type 0
-IsRefused s runs NoCertificate = (entries : List Entry) → IsRightCertificate s (record { entries = entries; runs = runs }) → ⊥
+IsRefused s runs NoCertificate =
+    (version : Version) (entries : List Entry) → IsRightCertificate s (record { version = version; entries = entries; runs = runs }) → ⊥
 IsRefused s runs Memory = Unit {0}

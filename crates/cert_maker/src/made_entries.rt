@@ -1,15 +1,16 @@
 //! The entries of a certificate, by the facts of the pages.
 
 ghost use Rattle.std.specs.Prelude.{◌≡◌, ◌<◌, length, slice_get, IfOk, MatchOption};
+ghost use Rattle.std.specs.List.{list_any};
 ghost use Rattle.migration_types.specs.Sessions.{IsSession};
 ghost use Rattle.audit_model.specs.Names.{if_there};
 ghost use Rattle.page_facts.specs.Facts.{IsFacts};
 ghost use Rattle.page_facts.specs.Findings.{AreFindings};
 ghost use Rattle.page_facts.specs.Looks.{first_look};
-ghost use Rattle.cert_maker.specs.inner.Entries.{send_of, first_of, entry_at, entry_of, IsMadeEntry, HasNoEntry, AreMade, HasBarePage};
+ghost use Rattle.cert_maker.specs.inner.Entries.{send_of, first_of, entry_at, unplaced_entry, entry_of, IsMadeEntry, HasNoEntry, AreMade, HasBarePage, is_fresh, version_for};
 
 use audit_model::delivery;
-use migration_types::{Entry, First, PageNo, PagerRec, Seq, Session, SourceRec};
+use migration_types::{Entry, First, PageNo, PagerRec, Seq, Session, SourceRec, Version};
 use page_facts::{Findings, PageFacts, facts_of, is_right_entry};
 use std::alloc::{AllocError, Global};
 
@@ -24,15 +25,15 @@ fn send_of(session: &Session, got: u32) -> Option<u32>
     }
 }
 
-/// A page's first access with its first look, where the look is not missing.
-fn first_of(access: Option<u32>, look: Option<u32>) -> Option<Option<First>>
-    ensures { result ≡ first_of access look }
+/// A page's first touch with its first look, where the look is not missing.
+fn first_of(touch: Option<u32>, look: Option<u32>) -> Option<Option<First>>
+    ensures { result ≡ first_of touch look }
 {
-    let Some(access) = access else {
+    let Some(touch) = touch else {
         return Some(None);
     };
     let see = look?;
-    Some(Some(First { access, see }))
+    Some(Some(First { access: touch, see }))
 }
 
 /// The entry for this placement.
@@ -49,14 +50,24 @@ fn entry_at(session: &Session, place: u32, first: Option<First>) -> Option<Entry
     }
 }
 
+/// The entry of a page that is not placed.
+fn unplaced_entry(facts: &PageFacts) -> Entry
+    ensures { result ≡ unplaced_entry facts.now.touch facts.now.releases }
+{
+    match facts.touch {
+        Some(first) if facts.releases => Entry::Fresh { first },
+        _ => Entry::Nothing,
+    }
+}
+
 /// The one entry that can be right for a page with these facts and this first look.
 fn entry_of(session: &Session, facts: &PageFacts, look: Option<u32>) -> Option<Entry>
     ensures { result ≡ entry_of session.now facts.now look }
 {
     let Some(place) = facts.placement else {
-        return Some(Entry::Nothing);
+        return Some(unplaced_entry(facts));
     };
-    let first = first_of(facts.access, look)?;
+    let first = first_of(facts.touch, look)?;
     entry_at(session, place, first)
 }
 
@@ -76,6 +87,30 @@ fn made_entry(
     };
     let is_right = is_right_entry(session, page, facts, &entry);
     if is_right { Some(entry) } else { None }
+}
+
+/// Whether it is of a fresh page.
+fn is_fresh(entry: &Entry) -> bool
+    ensures { result ≡ is_fresh entry.now }
+{
+    matches!(entry, Entry::Fresh { .. })
+}
+
+/// Whether one of the pages is fresh.
+fn has_fresh(entries: &[Entry]) -> bool
+    ensures { result ≡ list_any is_fresh entries.now }
+{
+    entries.iter().any(is_fresh)
+}
+
+/// The version of a certificate with these entries: the session's, or the second where a page is fresh.
+pub(crate) fn version_for(session: &Session, entries: &Seq<Entry>) -> Version
+    ensures { result ≡ version_for session.now.version entries.now }
+{
+    if has_fresh(entries.as_slice()) {
+        return Version::Two;
+    }
+    session.version()
 }
 
 /// A right entry for each page, with the earliest look that serves, by what is found of the pages. None: a page has no right

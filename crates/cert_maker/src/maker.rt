@@ -5,7 +5,8 @@ ghost use Rattle.migration_types.specs.Certs.{AreRuns};
 ghost use Rattle.page_facts.specs.Findings.{AreFindings};
 ghost use Rattle.cert_maker.specs.Made.{IsMade, IsRefused};
 
-use crate::made_entries::entries_in;
+use crate::made_entries::{entries_in, version_for};
+use audit_model::first_version_is_plain;
 use merge_runs::is_merging;
 use migration_types::{Cert, Run, Seq, Session};
 use page_facts::{Findings, findings_of};
@@ -23,9 +24,11 @@ pub enum MakeFault {
     Memory,
 }
 
-/// The right certificate of a session with these runs. Each entry with a first access names the earliest look that
-/// covers the page's placement. Takes one pass over the runs and a few over the records, and memory for the entries,
-/// a few numbers for each page, one for each record that is of a page, and the cells of one page. On an error the runs are dropped.
+/// The right certificate of a session with these runs, in the session's version. (A session of the first version that
+/// needs an entry of the second is not of the right shape, and its certificate is of the second.) Each entry with a
+/// placement and a first touch names the earliest look that covers the placement. Takes one pass over the runs and a few
+/// over the records, and memory for the entries, a few numbers for each page, one for each record that is of a page, and
+/// the cells of one page. On an error the runs are dropped.
 pub fn make(alloc: Global, session: &Session, runs: Seq<Run>) -> Result<Cert, MakeFault>
     requires { AreRuns runs }
     ensures { MatchResult result (IsMade session.now runs) (IsRefused session.now runs) }
@@ -36,8 +39,8 @@ pub fn make(alloc: Global, session: &Session, runs: Seq<Run>) -> Result<Cert, Ma
     make_by(alloc, session, &found, runs)
 }
 
-/// The same by what is found of each page, page 0 first. Takes one pass over the runs and one over the pages, and memory for
-/// the entries alone.
+/// The same by what is found of each page, page 0 first. Takes one pass over the runs and two over the pages, and memory
+/// for the entries alone.
 pub fn make_by(
     alloc: Global,
     session: &Session,
@@ -48,6 +51,7 @@ pub fn make_by(
     requires found { AreFindings session.now found.now }
     ensures { MatchResult result (IsMade session.now runs) (IsRefused session.now runs) }
 {
+    first_version_is_plain();
     session.keeps_limits();
     if !is_merging(session, runs.as_slice()) {
         return Err(MakeFault::NoCertificate);
@@ -58,5 +62,6 @@ pub fn make_by(
     let Some(entries) = made else {
         return Err(MakeFault::NoCertificate);
     };
-    Ok(Cert::new(entries, runs))
+    let version = version_for(session, &entries);
+    Ok(Cert::new(version, entries, runs))
 }

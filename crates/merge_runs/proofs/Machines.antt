@@ -24,6 +24,7 @@ has_page e m p sized lt = record {
   ledger = let same = ap (λ (x : Extent). x.pages) sized.source.ledger in omega arith;
   target = record {
     frames = let same = ap (λ (x : Extent). x.pages) sized.target.frames in omega arith;
+    resident = omega (arith, sized.target.resident);
     placed = omega (arith, sized.target.placed);
     touched = omega (arith, sized.target.touched);
   };
@@ -68,5 +69,5 @@ pager_has e m All sized fits = tt
 pub sized_on : (e : Extent) (old new : Moving) (w : World) → IsSized e old → IsMoved old new w → IsSized e new
 sized_on e old new w sized on = record {
   source = record { frames = on.frames ∙ sized.source.frames; ledger = on.ledger ∙ sized.source.ledger };
-  target = record { frames = on.target ∙ sized.target.frames; placed = on.placed ∙ sized.target.placed; touched = on.touched ∙ sized.target.touched };
+  target = record { frames = on.target ∙ sized.target.frames; resident = on.resident ∙ sized.target.resident; placed = on.placed ∙ sized.target.placed; touched = on.touched ∙ sized.target.touched };
 }

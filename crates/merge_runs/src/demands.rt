@@ -16,12 +16,12 @@ use page_store::Store;
 /// Whether a read or a write finds its page.
 fn finds(moving: &Moving, page: PageNo) -> bool
     requires { HasPage moving.now page }
-    ensures { result ≡ finds moving.now.home (values moving.now.target.placed page) }
+    ensures { result ≡ finds moving.now.home (values moving.now.target.resident page) }
 {
     match moving.home {
         Home::AtSource => true,
         Home::Nowhere => false,
-        Home::AtTarget => moving.target.placed.at(page),
+        Home::AtTarget => moving.target.resident.at(page),
     }
 }
 

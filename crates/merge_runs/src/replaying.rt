@@ -157,7 +157,7 @@ fn run_all(session: &Session, runs: &[Run], replaying: &mut Replaying)
 }
 
 /// Replays the merging that runs spell: tells its first record whose demand fails, and the guest's memory after all
-/// records. Takes one pass over the runs and the records, and memory for the frames of three machines and three marks a
+/// records. Takes one pass over the runs and the records, and memory for the frames of three machines and four marks a
 /// page.
 pub fn replay(alloc: Global, session: &Session, runs: &[Run]) -> Result<Replay, MergeFault>
     ensures { MatchResult result (IsReplay session.now (spelled runs.now)) (IsMergeFault session.now (spelled runs.now)) }

@@ -15,24 +15,28 @@ use std::alloc::{AllocError, Global};
 pub(crate) struct Target {
     /// Its frames.
     pub frames: Store,
-    /// The pages that were placed, which are resident from then on.
+    /// The pages that were placed, or released here.
+    pub resident: Table<bool>,
+    /// The pages that were placed.
     pub placed: Table<bool>,
     /// The pages that the guest read, wrote or released here.
     pub touched: Table<bool>,
 }
 
 impl Target {
-    ghost use Rattle.merge_runs.specs.inner.Targets.{HasPage, IsBegun, IsPlaced, IsTouched};
+    ghost use Rattle.merge_runs.specs.inner.Targets.{HasPage, IsBegun, IsFreed, IsPlaced, IsTouched};
 
-    /// The machine before the first record: zeros, and no page placed or touched.
+    /// The machine before the first record: zeros, and no page resident, placed or touched.
     pub(crate) fn start(alloc: Global, geometry: Geometry) -> Result<Target, AllocError>
         ensures { IfOk result (IsBegun geometry) }
     {
         let frames = Store::zeroed(alloc, geometry)?;
+        let resident = Table::no_marks(alloc, geometry.pages())?;
         let placed = Table::no_marks(alloc, geometry.pages())?;
         let touched = Table::no_marks(alloc, geometry.pages())?;
         Ok(Target {
             frames,
+            resident,
             placed,
             touched,
         })
@@ -50,20 +54,20 @@ impl Target {
     pub(crate) fn write(&mut self, page: PageNo, cell: u16, value: u64)
         requires page { HasPage self.old page }
         requires cell { cell < self.old.frames.geometry.cells }
-        ensures { IsTouched self.old self.new page (if values self.old.placed page then with_cell page cell value (memory_of self.old.frames) else memory_of self.old.frames) }
+        ensures { IsTouched self.old self.new page (if values self.old.resident page then with_cell page cell value (memory_of self.old.frames) else memory_of self.old.frames) }
     {
-        let resident = self.placed.at(page);
+        let resident = self.resident.at(page);
         write_if(resident, &mut self.frames, page, cell, value);
         self.touched.set(page, true);
     }
 
-    /// Releases a page. One that is not resident does not change.
+    /// Releases a page, which is resident from then on.
     pub(crate) fn release(&mut self, page: PageNo)
         requires { HasPage self.old page }
-        ensures { IsTouched self.old self.new page (if values self.old.placed page then with_zeros page (memory_of self.old.frames) else memory_of self.old.frames) }
+        ensures { IsFreed self.old self.new page (with_zeros page (memory_of self.old.frames)) }
     {
-        let resident = self.placed.at(page);
-        release_if(resident, &mut self.frames, page);
+        self.frames.release(page);
+        self.resident.set(page, true);
         self.touched.set(page, true);
     }
 
@@ -74,6 +78,7 @@ impl Target {
         ensures { IsPlaced self.old self.new page (with_content page contents.now (memory_of self.old.frames)) }
     {
         self.frames.install(page, contents);
+        self.resident.set(page, true);
         self.placed.set(page, true);
     }
 
@@ -83,6 +88,7 @@ impl Target {
         ensures { IsPlaced self.old self.new page (with_zeros page (memory_of self.old.frames)) }
     {
         self.frames.release(page);
+        self.resident.set(page, true);
         self.placed.set(page, true);
     }
 }
@@ -95,15 +101,5 @@ fn write_if(test: bool, frames: &mut Store, page: PageNo, cell: u16, value: u64)
 {
     if test {
         frames.write(page, cell, value);
-    }
-}
-
-/// Gives each cell of a page the value 0 where the test is true.
-fn release_if(test: bool, frames: &mut Store, page: PageNo)
-    requires { page < frames.old.geometry.pages }
-    ensures { IsWith frames.old frames.new (if test then with_zeros page (memory_of frames.old) else memory_of frames.old) }
-{
-    if test {
-        frames.release(page);
     }
 }

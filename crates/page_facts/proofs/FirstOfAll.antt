@@ -8,15 +8,13 @@ use Rattle.migration_types.specs.declared.records.LogName.TheVariants.{Guest, So
 use Rattle.migration_types.specs.Receipts.{Name}
 use Rattle.migration_types.specs.Sessions.{Recorded, log_length, line_of}
 use Rattle.audit_model.specs.declared.reasons.PageReason.{PageReason}
-use Rattle.audit_model.specs.declared.reasons.PageReason.TheVariants.{Read, Early, Given, Stale, Twice, Altered, Unfit}
-use Rattle.audit_model.specs.Shape.{passes}
-use Rattle.audit_model.specs.Faults.{IsPageFault, HasNoPageFault}
+use Rattle.audit_model.specs.Faults.{GuestFault, SourceFault, PagerFault, if_fault, IsPageFault, HasNoPageFault}
 use Rattle.audit_model.specs.Reasons.{page_rank}
 use Rattle.audit_model.specs.FirstFault.{IsFirstPageFault}
-use Rattle.audit_model.specs.inner.PageFaultTests.{is_wrong_read, is_early, is_given, is_stale, is_second, is_altered, is_unfit, fault_test}
+use Rattle.audit_model.specs.inner.PageFaultTests.{fault_test}
 use Rattle.audit_model.proofs.PageFaultTests.{fault_Decides}
 use Rattle.page_facts.specs.declared.page_fault.PageFault.{PageFault}
-use Rattle.page_facts.specs.inner.FirstOfLog.{or_else, reason_at, IsCleanLog, IsFirstOfLog, AreMovedClean, IsFirstMoved}
+use Rattle.page_facts.specs.inner.FirstOfLog.{reason_at, IsCleanLog, IsFirstOfLog, AreMovedClean, IsFirstMoved}
 use Rattle.page_facts.proofs.LeastReason.{least_rank, least_is}
 
 -- what the least reason at a record says of its faults
@@ -32,12 +30,20 @@ fault_at s name r e = (fault_Decides s r name).0 ((least_is (λ reason. fault_te
 least_at : (s : Recorded) (name : Name) (t r : PageReason) → reason_at s name ≡ Some t → IsPageFault s r name → page_rank t ≤ page_rank r
 least_at s name t r e f = (least_is (λ reason. fault_test s reason name)).least t e r (least_rank r) ((fault_Decides s r name).1 f)
 
+-- a record that is no fault has no reason
+pub none_at : (s : Recorded) (name : Name) → ((r : PageReason) → IsPageFault s r name → ⊥) → reason_at s name ≡ None
+none_at s name none = go (reason_at s name) refl
+  where
+    go : (o : Option PageReason) → reason_at s name ≡ o → o ≡ None
+    go None e = refl
+    go (Some r) e = absurd (none r (fault_at s name r e))
+
 -- behind a log's end there is no fault
 past_end : (s : Recorded) (log : LogName) (n : ℕ) → log_length s log ≤ n → reason_at s (log, n) ≡ None
-past_end s Guest n le = ap (λ o. or_else (passes (is_wrong_read s n) o) Read (or_else (passes (is_early s n) o) Early None)) (slice_get_past s.guest n le)
-past_end s Source n le = ap (λ o. or_else (passes (is_given s) o) Given (or_else (passes (is_stale s) o) Stale None)) (slice_get_past s.source n le)
-past_end s Link n le = refl
-past_end s Pager n le = ap (λ o. or_else (passes (is_second s n) o) Twice (or_else (passes (is_altered s) o) Altered (or_else (passes (is_unfit s) o) Unfit None))) (slice_get_past s.pager n le)
+past_end s Guest n le = none_at s (Guest, n) (λ r f. subst (λ o. if_fault (GuestFault s r n) o) (slice_get_past s.guest n le) f)
+past_end s Source n le = none_at s (Source, n) (λ r f. subst (λ o. if_fault (SourceFault s r) o) (slice_get_past s.source n le) f)
+past_end s Link n le = none_at s (Link, n) (λ r f. f)
+past_end s Pager n le = none_at s (Pager, n) (λ r f. subst (λ o. if_fault (PagerFault s r n) o) (slice_get_past s.pager n le) f)
 
 within : (s : Recorded) (log : LogName) (n : ℕ) (t : PageReason) → reason_at s (log, n) ≡ Some t → n < log_length s log
 within s log n t e = go (cases_lt n (log_length s log))

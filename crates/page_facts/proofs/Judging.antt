@@ -8,12 +8,12 @@ use Rattle.migration_types.specs.Sessions.{Recorded, GuestRecFits}
 use Rattle.audit_model.specs.declared.home.Home.{Home}
 use Rattle.audit_model.specs.Flat.{changed, home_after, home, is_target}
 use Rattle.audit_model.specs.Shape.{passes}
-use Rattle.audit_model.specs.Certificates.{is_access_of}
+use Rattle.audit_model.specs.Certificates.{is_touch_of}
 use Rattle.page_tables.specs.Tables.{Values, values, or_here, IsWith}
 use Rattle.page_tables.proofs.Noting.{noted_none}
 use Rattle.page_facts.specs.Tables.{first_before, IsTable}
 use Rattle.page_facts.specs.Machines.{GuestPage, late_after}
-use Rattle.page_facts.specs.Judged.{is_late_access, accessed_by, AreAccesses}
+use Rattle.page_facts.specs.Judged.{is_late_touch, touched_by, AreTouches}
 
 pub guest_page : (e : Extent) (r : GuestRec) → GuestRecFits e r → GuestPage e.pages r
 guest_page e (Read v q d x) f = f.1
@@ -49,11 +49,11 @@ module _ {A : Type 0} (test : ℕ → ℕ → A → Bool) (log : List A) (n : �
 
 -- ---- the tables of the guest's log
 
-accessed_here : (s : Recorded) (n : ℕ) (r : GuestRec) (late : Bool) (f : ℕ → Option ℕ) → late ≡ is_target (home s n) → accessed_by late n r f ≡ here_by (is_late_access s) n r f
-accessed_here s n r late f e = go r late ∙ ap (λ b. by b r) e
+touched_here : (s : Recorded) (n : ℕ) (r : GuestRec) (late : Bool) (f : ℕ → Option ℕ) → late ≡ is_target (home s n) → touched_by late n r f ≡ here_by (is_late_touch s) n r f
+touched_here s n r late f e = go r late ∙ ap (λ b. by b r) e
   where
     by : Bool → GuestRec → ℕ → Option ℕ
-    by b r page = or_here (f page) (is_access_of page r && b) n
+    by b r page = or_here (f page) (is_touch_of page r && b) n
 
     none : (p : ℕ) → f p ≡ or_here (f p) false n
     none p = sym (noted_none (f p) n)
@@ -72,12 +72,13 @@ accessed_here s n r late f e = go r late ∙ ap (λ b. by b r) e
     unlate : (q p : ℕ) → f p ≡ or_here (f p) ((q == p) && false) n
     unlate q p = none p ∙ ap (λ t. or_here (f p) t n) (off (q == p))
 
-    go : (r : GuestRec) (late : Bool) → accessed_by late n r f ≡ by late r
+    go : (r : GuestRec) (late : Bool) → touched_by late n r f ≡ by late r
     go (Read v q c x) true = λ i p. islate q p i
     go (Read v q c x) false = λ i p. unlate q p i
     go (Write v q c x) true = λ i p. islate q p i
     go (Write v q c x) false = λ i p. unlate q p i
-    go (Release v q) late = λ i p. none p i
+    go (Release v q) true = λ i p. islate q p i
+    go (Release v q) false = λ i p. unlate q p i
     go (Miss v q) late = λ i p. none p i
     go Halt late = λ i p. none p i
     go (Resume j) late = λ i p. none p i
@@ -88,8 +89,8 @@ late_more h Halt = refl
 late_more h (Resume i) = refl
 late_more h _ = refl
 
-pub accesses_more : (s : Recorded) (n : ℕ) (r : GuestRec) (late : Bool) (old new : Values (Option ℕ)) → slice_get s.guest n ≡ Some r → late ≡ is_target (home s n) → AreAccesses s n old → IsWith old new (accessed_by late n r (values old)) → AreAccesses s (n + 1) new
-accesses_more s n r late old new is e was on = numbers_more (is_late_access s) s.guest n r s.geometry.pages old new _ is was on (accessed_here s n r late (values old) e)
+pub touches_more : (s : Recorded) (n : ℕ) (r : GuestRec) (late : Bool) (old new : Values (Option ℕ)) → slice_get s.guest n ≡ Some r → late ≡ is_target (home s n) → AreTouches s n old → IsWith old new (touched_by late n r (values old)) → AreTouches s (n + 1) new
+touches_more s n r late old new is e was on = numbers_more (is_late_touch s) s.guest n r s.geometry.pages old new _ is was on (touched_here s n r late (values old) e)
 
 pub late_next : (s : Recorded) (n : ℕ) (r : GuestRec) (late : Bool) → slice_get s.guest n ≡ Some r → late ≡ is_target (home s n) → late_after r late ≡ is_target (home s (n + 1))
 late_next s n r late is e =

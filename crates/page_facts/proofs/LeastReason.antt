@@ -2,7 +2,7 @@
 use Rattle.std.proofs.Common.{◌≡◌, ℕ, zero, suc, ◌<◌, ◌≤◌, ◌⊎◌, inl, inr, Bool, true, false, Option, Some, None, refl, sym, ap, ◌∙◌, subst, arith}
 use Rattle.std.proofs.lemmas.Bool.{cases_lt}
 use Rattle.audit_model.specs.declared.reasons.PageReason.{PageReason}
-use Rattle.audit_model.specs.declared.reasons.PageReason.TheVariants.{Read, Early, Given, Stale, Twice, Altered, Unfit}
+use Rattle.audit_model.specs.declared.reasons.PageReason.TheVariants.{Read, Early, Given, Stale, Twice, Altered, Unfit, Over}
 use Rattle.audit_model.specs.Reasons.{page_rank}
 use Rattle.page_facts.specs.inner.FirstOfLog.{or_else, least_reason}
 
@@ -14,7 +14,8 @@ of_rank (suc (suc zero)) = Given
 of_rank (suc (suc (suc zero))) = Stale
 of_rank (suc (suc (suc (suc zero)))) = Twice
 of_rank (suc (suc (suc (suc (suc zero))))) = Altered
-of_rank (suc (suc (suc (suc (suc (suc n)))))) = Unfit
+of_rank (suc (suc (suc (suc (suc (suc zero)))))) = Unfit
+of_rank (suc (suc (suc (suc (suc (suc (suc n))))))) = Over
 
 rank_back : (r : PageReason) → of_rank (page_rank r) ≡ r
 rank_back Read = refl
@@ -24,6 +25,7 @@ rank_back Stale = refl
 rank_back Twice = refl
 rank_back Altered = refl
 rank_back Unfit = refl
+rank_back Over = refl
 
 same_rank : (a b : PageReason) → page_rank a ≡ page_rank b → a ≡ b
 same_rank a b e = sym (rank_back a) ∙ ap of_rank e ∙ rank_back b
@@ -35,7 +37,7 @@ split_rank u r le = go (cases_lt (page_rank u) (page_rank r))
     go (inl lt) = inr (omega arith)
     go (inr ge) = inl (same_rank r u (omega arith))
 
-most_rank : (r : PageReason) → page_rank r ≤ 6
+most_rank : (r : PageReason) → page_rank r ≤ 7
 most_rank Read = omega arith
 most_rank Early = omega arith
 most_rank Given = omega arith
@@ -43,6 +45,7 @@ most_rank Stale = omega arith
 most_rank Twice = omega arith
 most_rank Altered = omega arith
 most_rank Unfit = omega arith
+most_rank Over = omega arith
 
 pub least_rank : (r : PageReason) → 0 ≤ page_rank r
 least_rank Read = omega arith
@@ -52,6 +55,7 @@ least_rank Stale = omega arith
 least_rank Twice = omega arith
 least_rank Altered = omega arith
 least_rank Unfit = omega arith
+least_rank Over = omega arith
 
 -- of the reasons from a number on, the least whose test holds, or that there is none
 pub record IsLeastFrom (test : PageReason → Bool) (k : ℕ) (o : Option PageReason) : Type 0 where
@@ -82,7 +86,7 @@ one_more test u o rest = go (test u) refl
         least t e r h (inl same) = let f : test r ≡ false = ap test same ∙ is in absurd (cc)
         least t e r h (inr more) = rest.least t e r more h
 
-no_more : (test : PageReason → Bool) → IsLeastFrom test 7 None
+no_more : (test : PageReason → Bool) → IsLeastFrom test 8 None
 no_more test = record {
   none = λ e r le. let most = most_rank r in absurd (omega arith);
   holds = λ t e. absurd (cc);
@@ -90,4 +94,4 @@ no_more test = record {
 }
 
 pub least_is : (test : PageReason → Bool) → IsLeastFrom test 0 (least_reason test)
-least_is test = one_more test Read _ (one_more test Early _ (one_more test Given _ (one_more test Stale _ (one_more test Twice _ (one_more test Altered _ (one_more test Unfit _ (no_more test)))))))
+least_is test = one_more test Read _ (one_more test Early _ (one_more test Given _ (one_more test Stale _ (one_more test Twice _ (one_more test Altered _ (one_more test Unfit _ (one_more test Over _ (no_more test))))))))

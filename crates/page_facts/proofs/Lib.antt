@@ -9,6 +9,9 @@ pub mod Looking
 pub mod Framing
 pub mod Listing
 pub mod Within
+pub mod Lines
+pub mod FirstFaults
+pub mod Touching
 pub mod OfPage
 pub mod OverPages
 pub mod Growing

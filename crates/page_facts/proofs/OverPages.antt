@@ -1,69 +1,34 @@
 -- The first fault of one page more, and of all pages.
-use Rattle.std.proofs.Common.{◌≡◌, ℕ, ◌+◌, ◌<◌, ◌≤◌, ◌⊎◌, inl, inr, Bool, true, false, cond, ◌&&◌, Option, Some, None, refl, sym, ap, ◌∙◌, subst, arith, eq-eqb, List, length}
-use Rattle.std.specs.Prelude.{slice_get, slice_index_or, nat_lt, ◌==◌}
+use Rattle.std.proofs.Common.{◌≡◌, ℕ, ◌+◌, ◌<◌, ◌≤◌, ◌⊎◌, inl, inr, Bool, true, false, cond, Option, Some, None, refl, sym, ap, ◌∙◌, subst, arith, List, length}
+use Rattle.std.specs.Prelude.{slice_get, slice_index_or}
 use Rattle.std.specs.Option.{MatchOption}
 use Rattle.std.proofs.lemmas.Option.{slice_get-get_or}
-use Rattle.std.proofs.lemmas.Bool.{cases_lt, cases_order, eqb-true, ltb-true, lt-ltb, or_cases, and_parts, and_from, or_left, or_right}
+use Rattle.std.proofs.lemmas.Bool.{cases_lt}
 use Rattle.migration_types.specs.declared.records.LogName.{LogName}
 use Rattle.migration_types.specs.declared.records.LogName.TheVariants.{Guest, Source, Link, Pager}
 use Rattle.migration_types.specs.declared.records.GuestRec.{GuestRec}
-use Rattle.migration_types.specs.declared.records.GuestRec.TheVariants.{Read, Write, Release, Miss, Halt, Resume, See}
+use Rattle.migration_types.specs.declared.records.GuestRec.TheVariants.{Read, Write, Release}
 use Rattle.migration_types.specs.declared.records.SourceRec.{SourceRec}
-use Rattle.migration_types.specs.declared.records.SourceRec.TheVariants.{Halted, State, Send, Again, Ask, Done}
+use Rattle.migration_types.specs.declared.records.SourceRec.TheVariants.{Send}
 use Rattle.migration_types.specs.declared.records.PagerRec.{PagerRec}
-use Rattle.migration_types.specs.declared.records.PagerRec.TheVariants.{Got, Ready, Fault, Join, Want, Place, Zero, Skip, All}
+use Rattle.migration_types.specs.declared.records.PagerRec.TheVariants.{Place, Zero}
 use Rattle.migration_types.specs.Receipts.{Name, log_index}
 use Rattle.migration_types.specs.Sessions.{Recorded, IsSession}
-use Rattle.audit_model.specs.declared.reasons.PageReason.TheVariants.{Read as WrongRead, Early, Given, Stale, Twice, Altered, Unfit}
+use Rattle.audit_model.specs.declared.reasons.PageReason.{PageReason}
+use Rattle.audit_model.specs.declared.reasons.PageReason.TheVariants.{Read as WrongRead, Early, Given, Stale, Twice, Altered, Unfit, Over}
 use Rattle.audit_model.specs.Names.{if_there}
-use Rattle.audit_model.specs.Shape.{passes}
-use Rattle.audit_model.specs.Faults.{HasNoPageFault}
+use Rattle.audit_model.specs.Faults.{GuestFault, SourceFault, PagerFault, if_fault, HasNoPageFault}
 use Rattle.audit_model.specs.FirstFault.{IsFirstPageFault}
-use Rattle.audit_model.specs.inner.PageFaultTests.{is_wrong_read, is_early, is_given, is_stale, is_second, is_altered, is_unfit}
 use Rattle.page_lists.specs.Lists.{AreWithin}
 use Rattle.page_lists.specs.Paged.{guest_page, source_page, pager_page}
 use Rattle.page_facts.specs.declared.findings.Findings.{Findings}
 use Rattle.page_facts.specs.declared.page_fault.PageFault.{PageFault}
 use Rattle.page_facts.specs.Findings.{AreFindings, IsFindings}
-use Rattle.page_facts.specs.inner.FirstOfLog.{or_else, reason_at, IsCleanLog, IsFirstOfLog}
+use Rattle.page_facts.specs.inner.FirstOfLog.{reason_at, IsCleanLog, IsFirstOfLog}
 use Rattle.page_facts.specs.PageFaults.{page_at, Precedes, AreClean, IsFirstFaultOf, IsClean, IsFirstFault, precedes, least}
-use Rattle.page_facts.proofs.FirstOfAll.{guest_first, moved_of_all}
+use Rattle.page_facts.proofs.FirstOfAll.{none_at, guest_first, moved_of_all}
+use Rattle.page_facts.proofs.Lines.{precedes_is, is_precedes, passes_on, before_both}
 use Rattle.page_facts.proofs.Within.{guest_within, source_within, pager_within}
-
--- a fault's line is less, or it is not
-precedes_is : (a b : PageFault) → precedes a b ≡ true → Precedes (a.log, a.place) (b.log, b.place)
-precedes_is a b e = go (or_cases (nat_lt (log_index a.log) (log_index b.log)) ((log_index a.log == log_index b.log) && nat_lt a.place b.place) e)
-  where
-    go : (nat_lt (log_index a.log) (log_index b.log) ≡ true) ⊎ (((log_index a.log == log_index b.log) && nat_lt a.place b.place) ≡ true) → Precedes (a.log, a.place) (b.log, b.place)
-    go (inl t) = inl (ltb-true (log_index a.log) (log_index b.log) t)
-    go (inr t) = let p = and_parts (log_index a.log == log_index b.log) (nat_lt a.place b.place) t in inr (eqb-true (log_index a.log) (log_index b.log) p.0, ltb-true a.place b.place p.1)
-
-is_precedes : (a b : PageFault) → Precedes (a.log, a.place) (b.log, b.place) → precedes a b ≡ true
-is_precedes a b (inl lt) = or_left (nat_lt (log_index a.log) (log_index b.log)) ((log_index a.log == log_index b.log) && nat_lt a.place b.place) (lt-ltb (log_index a.log) (log_index b.log) lt)
-is_precedes a b (inr p) = or_right (nat_lt (log_index a.log) (log_index b.log)) ((log_index a.log == log_index b.log) && nat_lt a.place b.place) (and_from (log_index a.log == log_index b.log) (nat_lt a.place b.place) (eq-eqb (log_index a.log) (log_index b.log) p.0) (lt-ltb a.place b.place p.1))
-
--- lines are in order
-passes_on : (a b c : Name) → Precedes a b → Precedes b c → Precedes a c
-passes_on a b c (inl x) (inl y) = inl (omega (arith, x, y))
-passes_on a b c (inl x) (inr y) = let e = y.0 in inl (omega (arith, x, e))
-passes_on a b c (inr x) (inl y) = let e = x.0 in inl (omega (arith, e, y))
-passes_on a b c (inr x) (inr y) = let e = x.0 in let f = y.0 in let p = x.1 in let q = y.1 in inr (omega (arith, e, f), omega (arith, p, q))
-
--- what does not follow another comes before all that follow it
-before_both : (a b c : Name) → Precedes a b → (Precedes c b → ⊥) → Precedes a c
-before_both a b c less no_less = go (cases_order (log_index b.0) (log_index c.0))
-  where
-    by : log_index b.0 ≡ log_index c.0 → (b.1 ≡ c.1) ⊎ ((b.1 < c.1) ⊎ (c.1 < b.1)) → Precedes a b → Precedes a c
-    by e (inr (inr gt)) _ = absurd (no_less (inr (sym e, gt)))
-    by e (inl same) (inl x) = inl (omega (arith, e, x))
-    by e (inl same) (inr x) = let f = x.0 in let p = x.1 in inr (omega (arith, e, f), omega (arith, p, same))
-    by e (inr (inl lt)) (inl x) = inl (omega (arith, e, x))
-    by e (inr (inl lt)) (inr x) = let f = x.0 in let p = x.1 in inr (omega (arith, e, f), omega (arith, p, lt))
-
-    go : (log_index b.0 ≡ log_index c.0) ⊎ ((log_index b.0 < log_index c.0) ⊎ (log_index c.0 < log_index b.0)) → Precedes a c
-    go (inl e) = by e (cases_order b.1 c.1) less
-    go (inr (inl lt)) = passes_on a b c less (inl lt)
-    go (inr (inr gt)) = absurd (no_less (inl gt))
 
 module _ (s : Recorded) (n : ℕ) where
   abbrev Below : ℕ → Type 0
@@ -123,42 +88,38 @@ module _ (s : Recorded) (n : ℕ) where
 
 -- a record that is of no page has no fault
 module _ (s : Recorded) where
-  guest_none : (n : ℕ) (o : Option GuestRec) → if_there guest_page o ≡ None → or_else (passes (is_wrong_read s n) o) WrongRead (or_else (passes (is_early s n) o) Early None) ≡ None
-  guest_none n None e = refl
-  guest_none n (Some (Read v p c x)) e = absurd (cc)
-  guest_none n (Some (Write v p c x)) e = absurd (cc)
-  guest_none n (Some (Release v p)) e = refl
-  guest_none n (Some (Miss v p)) e = refl
-  guest_none n (Some Halt) e = refl
-  guest_none n (Some (Resume i)) e = refl
-  guest_none n (Some (See k)) e = refl
+  guest_none : (n : ℕ) (r : PageReason) (x : GuestRec) → guest_page x ≡ None → GuestFault s r n x → ⊥
+  guest_none n r (Read v p c x) e f = absurd (cc)
+  guest_none n r (Write v p c x) e f = absurd (cc)
+  guest_none n r (Release v p) e f = absurd (cc)
+  guest_none n WrongRead _ e f = f
+  guest_none n Early _ e f = let t = f.1.is_access in absurd (cc)
+  guest_none n _ _ e f = f
 
-  source_none : (o : Option SourceRec) → if_there source_page o ≡ None → or_else (passes (is_given s) o) Given (or_else (passes (is_stale s) o) Stale None) ≡ None
-  source_none None e = refl
-  source_none (Some (Send p content)) e = absurd (cc)
-  source_none (Some (Halted h)) e = refl
-  source_none (Some State) e = refl
-  source_none (Some (Again i)) e = refl
-  source_none (Some (Ask i)) e = refl
-  source_none (Some Done) e = refl
+  source_none : (r : PageReason) (x : SourceRec) → source_page x ≡ None → SourceFault s r x → ⊥
+  source_none r (Send p content) e f = absurd (cc)
+  source_none Given _ e f = f
+  source_none Stale _ e f = f
+  source_none _ _ e f = f
 
-  pager_none : (n : ℕ) (o : Option PagerRec) → if_there pager_page o ≡ None → or_else (passes (is_second s n) o) Twice (or_else (passes (is_altered s) o) Altered (or_else (passes (is_unfit s) o) Unfit None)) ≡ None
-  pager_none n None e = refl
-  pager_none n (Some (Place p got content)) e = absurd (cc)
-  pager_none n (Some (Zero p)) e = absurd (cc)
-  pager_none n (Some (Got d)) e = refl
-  pager_none n (Some Ready) e = refl
-  pager_none n (Some (Fault i)) e = refl
-  pager_none n (Some (Join w)) e = refl
-  pager_none n (Some (Want q)) e = refl
-  pager_none n (Some (Skip k)) e = refl
-  pager_none n (Some All) e = refl
+  pager_none : (n : ℕ) (r : PageReason) (x : PagerRec) → pager_page x ≡ None → PagerFault s r n x → ⊥
+  pager_none n r (Place p got content) e f = absurd (cc)
+  pager_none n r (Zero p) e f = absurd (cc)
+  pager_none n Twice _ e f = f
+  pager_none n Altered _ e f = f
+  pager_none n Unfit _ e f = f
+  pager_none n Over _ e f = f
+  pager_none n _ _ e f = f
+
+  if_none : {A : Type 0} (page_of : A → Option ℕ) (fault : A → Type 0) → ((x : A) → page_of x ≡ None → fault x → ⊥) → (o : Option A) → if_there page_of o ≡ None → if_fault fault o → ⊥
+  if_none page_of fault none None e f = f
+  if_none page_of fault none (Some x) e f = none x e f
 
   no_page : (name : Name) → page_at s name ≡ None → reason_at s name ≡ None
-  no_page (Guest, n) e = guest_none n (slice_get s.guest n) e
-  no_page (Source, n) e = source_none (slice_get s.source n) e
-  no_page (Link, n) e = refl
-  no_page (Pager, n) e = pager_none n (slice_get s.pager n) e
+  no_page (Guest, n) e = none_at s (Guest, n) (λ r f. if_none guest_page (GuestFault s r n) (guest_none n r) (slice_get s.guest n) e f)
+  no_page (Source, n) e = none_at s (Source, n) (λ r f. if_none source_page (SourceFault s r) (source_none r) (slice_get s.source n) e f)
+  no_page (Link, n) e = none_at s (Link, n) (λ r f. f)
+  no_page (Pager, n) e = none_at s (Pager, n) (λ r f. if_none pager_page (PagerFault s r n) (pager_none n r) (slice_get s.pager n) e f)
 
   below_in : {A : Type 0} (page_of : A → Option ℕ) (log : List A) (n p : ℕ) → AreWithin page_of s.geometry.pages log → if_there page_of (slice_get log n) ≡ Some p → p < s.geometry.pages
   below_in {A} page_of log n p are e = go (slice_get log n) refl e

@@ -7,7 +7,7 @@ use Rattle.std.proofs.Common.{eq-eqb}
 use Rattle.std.proofs.lemmas.Option.{slice_get_within}
 use Rattle.std.proofs.lemmas.Slice.Eq.{bytes_eq-Decides}
 use Rattle.migration_types.specs.declared.records.GuestRec.{GuestRec}
-use Rattle.migration_types.specs.declared.records.GuestRec.TheVariants.{Read, See}
+use Rattle.migration_types.specs.declared.records.GuestRec.TheVariants.{Read, Release, See}
 use Rattle.migration_types.specs.declared.records.SourceRec.{SourceRec}
 use Rattle.migration_types.specs.declared.records.SourceRec.TheVariants.{Send, Again}
 use Rattle.migration_types.specs.declared.records.PagerRec.{PagerRec}
@@ -16,42 +16,42 @@ use Rattle.migration_types.specs.Memory.{page_of}
 use Rattle.migration_types.specs.Sessions.{Recorded}
 use Rattle.migration_types.specs.declared.cert.First.{First}
 use Rattle.migration_types.specs.declared.cert.Entry.{Entry}
-use Rattle.migration_types.specs.declared.cert.Entry.TheVariants.{Nothing, Source, Balloon}
+use Rattle.migration_types.specs.declared.cert.Entry.TheVariants.{Nothing, Fresh, Source, Balloon}
 use Rattle.audit_model.specs.declared.home.Home.{Home}
 use Rattle.audit_model.specs.declared.home.Home.TheVariants.{AtSource, Nowhere, AtTarget}
 use Rattle.audit_model.specs.Flat.{flat, in_ledger, home, is_target, at_halt}
 use Rattle.audit_model.specs.Shape.{passes, is_send_of, is_placement_of, delivery}
-use Rattle.audit_model.specs.Certificates.{is_access_of, IsLateAccess, IsHonest, IsOnlyPlacement, IsCovered, IsNothing, IsFromSource, IsBalloon, IsOf, IsRightEntry}
+use Rattle.audit_model.specs.Certificates.{is_touch_of, IsLateTouch, IsHonest, IsOnlyPlacement, IsCovered, IsNothing, IsFresh, IsFromSource, IsBalloon, IsOf, IsRightEntry}
 use Rattle.page_facts.specs.declared.facts.PageFacts.{PageFacts}
 use Rattle.page_facts.specs.Tables.{some_before, first_before}
 use Rattle.page_facts.specs.Facts.{IsFacts}
-use Rattle.page_facts.specs.Judged.{is_wrong_read, is_wrong_send, is_altered, is_late_access}
+use Rattle.page_facts.specs.Judged.{is_wrong_read, is_wrong_send, is_altered, is_late_touch, is_release, releases_at}
 use Rattle.page_facts.specs.Moved.{is_again}
 use Rattle.page_facts.specs.inner.EntryTests.{is_place, is_absent, sees_from, repeats, delivers_from, places_from, zeroes, covers, is_once, is_right_of, is_right_entry}
 use Rattle.page_facts.proofs.Before.{some_false, some_true, first_none, first_some, IsFirstAt}
 
--- late accesses
-target_is : (h : Home) → is_target h ≡ true → h ≡ AtTarget
+-- late touches
+pub target_is : (h : Home) → is_target h ≡ true → h ≡ AtTarget
 target_is AtSource e = absurd (cc)
 target_is Nowhere e = absurd (cc)
 target_is AtTarget e = refl
 
-late_from : (s : Recorded) (page n : ℕ) (r : GuestRec) → slice_get s.guest n ≡ Some r → is_late_access s page n r ≡ true → IsLateAccess s page n
-late_from s page n r is e = let p = and_parts (is_access_of page r) (is_target (home s n)) e in record { by = r; stands = is; is_access = p.0; is_late = target_is (home s n) p.1 }
+late_from : (s : Recorded) (page n : ℕ) (r : GuestRec) → slice_get s.guest n ≡ Some r → is_late_touch s page n r ≡ true → IsLateTouch s page n
+late_from s page n r is e = let p = and_parts (is_touch_of page r) (is_target (home s n)) e in record { by = r; stands = is; is_touch = p.0; is_late = target_is (home s n) p.1 }
 
-late_test : (s : Recorded) (page n : ℕ) (a : IsLateAccess s page n) → is_late_access s page n a.by ≡ true
-late_test s page n a = and_from (is_access_of page a.by) (is_target (home s n)) a.is_access (ap (λ h. is_target h) a.is_late)
+late_test : (s : Recorded) (page n : ℕ) (a : IsLateTouch s page n) → is_late_touch s page n a.by ≡ true
+late_test s page n a = and_from (is_touch_of page a.by) (is_target (home s n)) a.is_touch (ap (λ h. is_target h) a.is_late)
 
-none_late : (s : Recorded) (page : ℕ) → first_before (is_late_access s page) s.guest (length s.guest) ≡ None → (n : ℕ) → IsLateAccess s page n → ⊥
-none_late s page e n a = let f = first_none (is_late_access s page) s.guest (length s.guest) e n a.by a.stands (slice_get_within s.guest n a.by a.stands) in let t = late_test s page n a in absurd (cc)
+none_late : (s : Recorded) (page : ℕ) → first_before (is_late_touch s page) s.guest (length s.guest) ≡ None → (n : ℕ) → IsLateTouch s page n → ⊥
+none_late s page e n a = let f = first_none (is_late_touch s page) s.guest (length s.guest) e n a.by a.stands (slice_get_within s.guest n a.by a.stands) in let t = late_test s page n a in absurd (cc)
 
-first_late : (s : Recorded) (page k : ℕ) → first_before (is_late_access s page) s.guest (length s.guest) ≡ Some k → IsLateAccess s page k × ((n : ℕ) → IsLateAccess s page n → k ≤ n)
+pub first_late : (s : Recorded) (page k : ℕ) → first_before (is_late_touch s page) s.guest (length s.guest) ≡ Some k → IsLateTouch s page k × ((n : ℕ) → IsLateTouch s page n → k ≤ n)
 first_late s page k e = (late_from s page k f.by f.stands f.passes_test, λ n a. go n a (cases_lt n k))
   where
-    f : IsFirstAt (is_late_access s page) s.guest (length s.guest) k
-    f = first_some (is_late_access s page) s.guest (length s.guest) k e
+    f : IsFirstAt (is_late_touch s page) s.guest (length s.guest) k
+    f = first_some (is_late_touch s page) s.guest (length s.guest) k e
 
-    go : (n : ℕ) → IsLateAccess s page n → (n < k) ⊎ (k ≤ n) → k ≤ n
+    go : (n : ℕ) → IsLateTouch s page n → (n < k) ⊎ (k ≤ n) → k ≤ n
     go n a (inl lt) = let h = f.is_first n a.by a.stands lt in let t = late_test s page n a in absurd (cc)
     go n a (inr le) = le
 
@@ -67,7 +67,7 @@ sees_at s n place e = go (slice_get s.guest n) refl e
     go None is e = absurd (cc)
     go (Some r) is e = at r is e
 
-pub covered : (s : Recorded) (page place : ℕ) (access : Option ℕ) (first : Option First) → access ≡ first_before (is_late_access s page) s.guest (length s.guest) → covers s access place first ≡ true → IsCovered s page place first
+pub covered : (s : Recorded) (page place : ℕ) (touch : Option ℕ) (first : Option First) → touch ≡ first_before (is_late_touch s page) s.guest (length s.guest) → covers s touch place first ≡ true → IsCovered s page place first
 covered s page place None None e t = none_late s page (sym e)
 covered s page place None (Some f) e t = absurd (cc)
 covered s page place (Some k) None e t = absurd (cc)
@@ -79,7 +79,7 @@ covered s page place (Some k) (Some f) e t =
     let see = sees_at s f.see place p.1 in
     let lt = ltb-true f.see k q.1 in
     record {
-      is_access = subst (λ n. IsLateAccess s page n) same first.0;
+      is_touch = subst (λ n. IsLateTouch s page n) same first.0;
       is_first = λ n a. omega (arith, first.1 n a, same);
       placement = see.0;
       sees = see.1;
@@ -87,13 +87,13 @@ covered s page place (Some k) (Some f) e t =
       is_earlier = omega (arith, same);
     }
 
-pub covers_from : (s : Recorded) (page place : ℕ) (access : Option ℕ) (first : Option First) → access ≡ first_before (is_late_access s page) s.guest (length s.guest) → IsCovered s page place first → covers s access place first ≡ true
+pub covers_from : (s : Recorded) (page place : ℕ) (touch : Option ℕ) (first : Option First) → touch ≡ first_before (is_late_touch s page) s.guest (length s.guest) → IsCovered s page place first → covers s touch place first ≡ true
 covers_from s page place None None e c = refl
-covers_from s page place None (Some f) e c = absurd (none_late s page (sym e) f.access c.is_access)
+covers_from s page place None (Some f) e c = absurd (none_late s page (sym e) f.access c.is_touch)
 covers_from s page place (Some k) None e c = absurd (c k (first_late s page k (sym e)).0)
 covers_from s page place (Some k) (Some f) e c =
     let first = first_late s page k (sym e) in
-    let low = first.1 f.access c.is_access in
+    let low = first.1 f.access c.is_touch in
     let high = c.is_first k first.0 in
     let early = c.is_earlier in
     let sees : passes (sees_from place) (slice_get s.guest f.see) ≡ true = ap (λ o. passes (sees_from place) o) c.sees ∙ le-leb place c.placement c.covers in
@@ -352,19 +352,53 @@ send_at s page send e = go (slice_get s.source send) refl e
     go None is t = absurd (cc)
     go (Some r) is t = at r is t
 
+-- a touch that is a release
+pub release_of : (s : Recorded) (page n : ℕ) → IsLateTouch s page n → releases_at s (Some n) ≡ true → (vcpu : ℕ) × (slice_get s.guest n ≡ Some (Release vcpu page))
+release_of s page n touch e = at touch.by touch.stands touch.is_touch (sym (ap (λ o. passes is_release o) touch.stands) ∙ e)
+  where
+    at : (r : GuestRec) → slice_get s.guest n ≡ Some r → is_touch_of page r ≡ true → is_release r ≡ true → (vcpu : ℕ) × (slice_get s.guest n ≡ Some (Release vcpu page))
+    at (Release v p) is t e = (v, is ∙ ap (λ q. Some (Release v q)) (eqb-true p page t))
+    at _ is t e = absurd (cc)
+
+pub touch_of : (s : Recorded) (page vcpu n : ℕ) → slice_get s.guest n ≡ Some (Release vcpu page) → home s n ≡ AtTarget → IsLateTouch s page n
+touch_of s page vcpu n is late = record { by = Release vcpu page; stands = is; is_touch = same_page page; is_late = late }
+
+-- the first touch is the first that passes
+pub late_first : (s : Recorded) (page n : ℕ) → IsLateTouch s page n → ((m : ℕ) → IsLateTouch s page m → n ≤ m) → first_before (is_late_touch s page) s.guest (length s.guest) ≡ Some n
+late_first s page n touch first = go (first_before (is_late_touch s page) s.guest (length s.guest)) refl
+  where
+    go : (o : Option ℕ) → first_before (is_late_touch s page) s.guest (length s.guest) ≡ o → o ≡ Some n
+    go None e = absurd (none_late s page e n touch)
+    go (Some k) e = let h = first_late s page k e in let low = h.1 n touch in let high = first k h.0 in let same : k ≡ n = omega (arith, low, high) in ap (λ i. Some i) same
+
 -- the test is the definition
 module _ (s : Recorded) (page : ℕ) (f : PageFacts) (facts : IsFacts s page f) where
   nothing_from : is_right_of s page f Nothing ≡ true → IsNothing s page
   nothing_from t =
-      let p = and_parts (is_absent f.placement) (is_absent f.access) t in
+      let p = and_parts (is_absent f.placement) (is_absent f.touch) t in
       record {
         unplaced = λ n r is. first_none (λ m. is_placement_of page) s.pager (length s.pager) (sym facts.placement ∙ absent_none f.placement p.0) n r is (slice_get_within s.pager n r is);
-        unaccessed = none_late s page (sym facts.access ∙ absent_none f.access p.1);
+        untouched = none_late s page (sym facts.touch ∙ absent_none f.touch p.1);
+      }
+
+  fresh_from : (first : ℕ) → is_right_of s page f (Fresh first) ≡ true → IsFresh s page first
+  fresh_from first t =
+      let p = and_parts (is_absent f.placement && is_place f.touch first) f.releases t in
+      let q = and_parts (is_absent f.placement) (is_place f.touch first) p.0 in
+      let at = place_some f.touch first q.1 in
+      let late = first_late s page first (sym facts.touch ∙ at) in
+      let by = release_of s page first late.0 (sym (facts.releases ∙ ap (λ o. releases_at s o) at) ∙ p.1) in
+      record {
+        unplaced = λ n r is. first_none (λ m. is_placement_of page) s.pager (length s.pager) (sym facts.placement ∙ absent_none f.placement q.0) n r is (slice_get_within s.pager n r is);
+        vcpu = by.0;
+        is_release = by.1;
+        is_late = late.0.is_late;
+        is_first = late.1;
       }
 
   source_from : (send place : ℕ) (first : Option First) → is_right_of s page f (Source send place first) ≡ true → IsFromSource s page send place first
   source_from send place first t =
-      let a = and_parts (passes (is_send_of page) (slice_get s.source send) && passes (places_from s page send) (slice_get s.pager place) && is_once f place) (covers s f.access place first) t in
+      let a = and_parts (passes (is_send_of page) (slice_get s.source send) && passes (places_from s page send) (slice_get s.pager place) && is_once f place) (covers s f.touch place first) t in
       let b = and_parts (passes (is_send_of page) (slice_get s.source send) && passes (places_from s page send) (slice_get s.pager place)) (is_once f place) a.0 in
       let d = and_parts (passes (is_send_of page) (slice_get s.source send)) (passes (places_from s page send) (slice_get s.pager place)) b.0 in
       let sent = send_at s page send d.0 in
@@ -381,12 +415,12 @@ module _ (s : Recorded) (page : ℕ) (f : PageFacts) (facts : IsFacts s page f) 
         is_the_send = at.is_the_send;
         is_flat = place_content s page place at.got at.content (some_false (is_altered s page) s.pager (length s.pager) (sym facts.altered ∙ once.altered) place (Place page at.got at.content) at.stands (slice_get_within s.pager place (Place page at.got at.content) at.stands));
         is_only = only_from s page place (sym facts.placement ∙ once.placement) (sym facts.again ∙ once.again);
-        is_covered = covered s page place f.access first facts.access a.1;
+        is_covered = covered s page place f.touch first facts.touch a.1;
       }
 
   balloon_from : (place : ℕ) (first : Option First) → is_right_of s page f (Balloon place first) ≡ true → IsBalloon s page place first
   balloon_from place first t =
-      let a = and_parts (passes (zeroes page) (slice_get s.pager place) && is_once f place) (covers s f.access place first) t in
+      let a = and_parts (passes (zeroes page) (slice_get s.pager place) && is_once f place) (covers s f.touch place first) t in
       let b = and_parts (passes (zeroes page) (slice_get s.pager place)) (is_once f place) a.0 in
       let at = zero_at s page place b.0 in
       let once = once_from f place b.1 in
@@ -394,11 +428,12 @@ module _ (s : Recorded) (page : ℕ) (f : PageFacts) (facts : IsFacts s page f) 
         is_zeroed = at;
         is_only = only_from s page place (sym facts.placement ∙ once.placement) (sym facts.again ∙ once.again);
         is_released = zero_ledger s page place (some_false (is_altered s page) s.pager (length s.pager) (sym facts.altered ∙ once.altered) place (Zero page) at (slice_get_within s.pager place (Zero page) at));
-        is_covered = covered s page place f.access first facts.access a.1;
+        is_covered = covered s page place f.touch first facts.touch a.1;
       }
 
   of_from : (entry : Entry) → is_right_of s page f entry ≡ true → IsOf s page entry
   of_from Nothing t = nothing_from t
+  of_from (Fresh first) t = fresh_from first t
   of_from (Source send place first) t = source_from send place first t
   of_from (Balloon place first) t = balloon_from place first t
 
@@ -418,15 +453,20 @@ module _ (s : Recorded) (page : ℕ) (f : PageFacts) (facts : IsFacts s page f) 
       go None e = refl
       go (Some k) e = let w = first_some (λ m. is_placement_of page) s.pager (length s.pager) k e in let no_one = h k w.by w.stands in let t = w.passes_test in absurd (cc)
 
-  unaccessed_none : ((n : ℕ) → IsLateAccess s page n → ⊥) → first_before (is_late_access s page) s.guest (length s.guest) ≡ None
-  unaccessed_none h = go (first_before (is_late_access s page) s.guest (length s.guest)) refl
+  untouched_none : ((n : ℕ) → IsLateTouch s page n → ⊥) → first_before (is_late_touch s page) s.guest (length s.guest) ≡ None
+  untouched_none h = go (first_before (is_late_touch s page) s.guest (length s.guest)) refl
     where
-      go : (o : Option ℕ) → first_before (is_late_access s page) s.guest (length s.guest) ≡ o → o ≡ None
+      go : (o : Option ℕ) → first_before (is_late_touch s page) s.guest (length s.guest) ≡ o → o ≡ None
       go None e = refl
       go (Some k) e = absurd (h k (first_late s page k e).0)
 
   of_test : (entry : Entry) → IsOf s page entry → is_right_of s page f entry ≡ true
-  of_test Nothing e = and_from (is_absent f.placement) (is_absent f.access) (none_absent f.placement (facts.placement ∙ unplaced_none e.unplaced)) (none_absent f.access (facts.access ∙ unaccessed_none e.unaccessed))
+  of_test Nothing e = and_from (is_absent f.placement) (is_absent f.touch) (none_absent f.placement (facts.placement ∙ unplaced_none e.unplaced)) (none_absent f.touch (facts.touch ∙ untouched_none e.untouched))
+  of_test (Fresh first) e =
+      let touch = late_first s page first (touch_of s page e.vcpu first e.is_release e.is_late) e.is_first in
+      and_from (is_absent f.placement && is_place f.touch first) f.releases
+      (and_from (is_absent f.placement) (is_place f.touch first) (none_absent f.placement (facts.placement ∙ unplaced_none e.unplaced)) (ap (λ o. is_place o first) (facts.touch ∙ touch) ∙ same_page first))
+      (facts.releases ∙ ap (λ o. releases_at s o) (facts.touch ∙ touch) ∙ ap (λ o. passes is_release o) e.is_release)
   of_test (Source send place first) e =
       let own : is_placement_of page (Place page e.got e.content) ≡ true = same_page page in
       let once = once_test f place (record {
@@ -434,13 +474,13 @@ module _ (s : Recorded) (page : ℕ) (f : PageFacts) (facts : IsFacts s page f) 
         again = facts.again ∙ only_again s page place e.is_only;
         altered = facts.altered ∙ only_altered s page place (Place page e.got e.content) e.is_placed e.is_only (content_place s page place e.got e.content e.is_flat);
       }) in
-      and_from _ (covers s f.access place first)
+      and_from _ (covers s f.touch place first)
       (and_from _ (is_once f place)
       (and_from (passes (is_send_of page) (slice_get s.source send)) (passes (places_from s page send) (slice_get s.pager place))
       (ap (λ x. passes (is_send_of page) x) e.is_sent ∙ same_page page)
       (ap (λ x. passes (places_from s page send) x) e.is_placed ∙ and_from (page == page) (delivers_from s send (delivery s e.got)) (same_page page) (delivered_test s send (delivery s e.got) e.delivered e.is_delivery e.is_the_send)))
       once)
-      (covers_from s page place f.access first facts.access e.is_covered)
+      (covers_from s page place f.touch first facts.touch e.is_covered)
   of_test (Balloon place first) e =
       let own : is_placement_of page (Zero page) ≡ true = same_page page in
       let once = once_test f place (record {
@@ -448,9 +488,9 @@ module _ (s : Recorded) (page : ℕ) (f : PageFacts) (facts : IsFacts s page f) 
         again = facts.again ∙ only_again s page place e.is_only;
         altered = facts.altered ∙ only_altered s page place (Zero page) e.is_zeroed e.is_only (ledger_zero s page place e.is_released);
       }) in
-      and_from _ (covers s f.access place first)
+      and_from _ (covers s f.touch place first)
       (and_from (passes (zeroes page) (slice_get s.pager place)) (is_once f place) (ap (λ x. passes (zeroes page) x) e.is_zeroed ∙ same_page page) once)
-      (covers_from s page place f.access first facts.access e.is_covered)
+      (covers_from s page place f.touch first facts.touch e.is_covered)
 
   pub right_test : (entry : Entry) → IsRightEntry s page entry → is_right_entry s page f entry ≡ true
   right_test entry e =

@@ -4,7 +4,7 @@ use Rattle.migration_types.specs.Sessions.{Recorded}
 use Rattle.audit_model.specs.Shape.{is_placement_of}
 use Rattle.page_facts.specs.declared.facts.PageFacts.{PageFacts}
 use Rattle.page_facts.specs.Tables.{some_before, first_before}
-use Rattle.page_facts.specs.Judged.{is_wrong_read, is_wrong_send, is_altered, is_late_access}
+use Rattle.page_facts.specs.Judged.{is_wrong_read, is_wrong_send, is_altered, is_late_touch, releases_at}
 use Rattle.page_facts.specs.Moved.{is_again}
 
 -- what the whole logs say of a page
@@ -14,4 +14,5 @@ pub record IsFacts (s : Recorded) (page : ℕ) (f : PageFacts) : Type 0 where
   pub placement : f.placement ≡ first_before (λ m. is_placement_of page) s.pager (length s.pager)
   pub again : f.again ≡ some_before (is_again s page) s.pager (length s.pager)
   pub altered : f.altered ≡ some_before (is_altered s page) s.pager (length s.pager)
-  pub access : f.access ≡ first_before (is_late_access s page) s.guest (length s.guest)
+  pub touch : f.touch ≡ first_before (is_late_touch s page) s.guest (length s.guest)
+  pub releases : f.releases ≡ releases_at s f.touch

@@ -10,7 +10,7 @@ use Rattle.audit_model.specs.Shape.{is_placement_of}
 use Rattle.page_lists.specs.Lists.{AreLists}
 use Rattle.page_lists.specs.Paged.{init_page, guest_page, source_page, pager_page}
 use Rattle.page_facts.specs.Tables.{first_before, IsTable}
-use Rattle.page_facts.specs.Judged.{is_wrong_read, is_wrong_send, is_altered, is_late_access, AreAccesses}
+use Rattle.page_facts.specs.Judged.{is_wrong_read, is_wrong_send, is_altered, is_late_touch, releases_at, AreTouches}
 use Rattle.page_facts.specs.Moved.{differs, is_again}
 use Rattle.page_facts.specs.Looks.{first_look}
 use Rattle.page_facts.specs.declared.frame.Frame.{Frame}
@@ -23,7 +23,7 @@ pub record AreSessionLists (s : Recorded) (l : SessionLists) : Type 0 where
   pub guest : AreLists guest_page s.guest s.geometry.pages l.guest
   pub source : AreLists source_page s.source s.geometry.pages l.source
   pub pager : AreLists pager_page s.pager s.geometry.pages l.pager
-  pub accesses : AreAccesses s (length s.guest) l.accesses
+  pub touches : AreTouches s (length s.guest) l.touches
   pub looks : IsTable s.geometry.pages l.looks (first_look s (length s.guest))
   pub halt : l.halt ≡ at_halt s
   pub within : l.halt ≤ length s.guest
@@ -35,7 +35,8 @@ pub record IsFindings (s : Recorded) (page : ℕ) (f : Findings) : Type 0 where
   pub placement : f.placement ≡ first_before (λ m. is_placement_of page) s.pager (length s.pager)
   pub again : f.again ≡ first_before (is_again s page) s.pager (length s.pager)
   pub altered : f.altered ≡ first_before (is_altered s page) s.pager (length s.pager)
-  pub access : f.access ≡ first_before (is_late_access s page) s.guest (length s.guest)
+  pub touch : f.touch ≡ first_before (is_late_touch s page) s.guest (length s.guest)
+  pub releases : f.releases ≡ releases_at s f.touch
   pub look : f.look ≡ first_look s (length s.guest) page
   pub released : f.released ≡ in_ledger s (at_halt s) page
 

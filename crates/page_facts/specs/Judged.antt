@@ -1,8 +1,8 @@
--- Tests of a page's records, and the first use of each page.
-use Rattle.std.specs.Prelude.{ℕ, Bool, false, not, ◌==◌, ◌&&◌, ◌||◌, Option, if◌then◌else◌}
+-- Tests of a page's records, and the first touch of each page.
+use Rattle.std.specs.Prelude.{ℕ, Bool, true, false, not, ◌==◌, ◌&&◌, ◌||◌, Option, Some, None, slice_get, if◌then◌else◌}
 use Rattle.std.specs.Str.{bytes_eq}
 use Rattle.migration_types.specs.declared.records.GuestRec.{GuestRec}
-use Rattle.migration_types.specs.declared.records.GuestRec.TheVariants.{Read, Write}
+use Rattle.migration_types.specs.declared.records.GuestRec.TheVariants.{Read, Write, Release}
 use Rattle.migration_types.specs.declared.records.SourceRec.{SourceRec}
 use Rattle.migration_types.specs.declared.records.SourceRec.TheVariants.{Send}
 use Rattle.migration_types.specs.declared.records.PagerRec.{PagerRec}
@@ -10,7 +10,8 @@ use Rattle.migration_types.specs.declared.records.PagerRec.TheVariants.{Place, Z
 use Rattle.migration_types.specs.Memory.{page_of}
 use Rattle.migration_types.specs.Sessions.{Recorded}
 use Rattle.audit_model.specs.Flat.{flat, in_ledger, home, is_target, at_halt}
-use Rattle.audit_model.specs.Certificates.{is_access_of}
+use Rattle.audit_model.specs.Shape.{passes}
+use Rattle.audit_model.specs.Certificates.{is_touch_of}
 use Rattle.page_tables.specs.Tables.{Values}
 use Rattle.page_facts.specs.Tables.{first_before, noted, IsTable}
 
@@ -19,9 +20,19 @@ abbrev pub is_wrong_read : Recorded → ℕ → ℕ → GuestRec → Bool
 is_wrong_read s page n (Read vcpu p c value) = (p == page) && not (value == flat s n p c)
 is_wrong_read s page n _ = false
 
--- a read or a write of the page after handover
-abbrev pub is_late_access : Recorded → ℕ → ℕ → GuestRec → Bool
-is_late_access s page n r = is_access_of page r && is_target (home s n)
+-- a read, a write or a release of the page after handover
+abbrev pub is_late_touch : Recorded → ℕ → ℕ → GuestRec → Bool
+is_late_touch s page n r = is_touch_of page r && is_target (home s n)
+
+-- whether it is a release
+abbrev pub is_release : GuestRec → Bool
+is_release (Release vcpu page) = true
+is_release _ = false
+
+-- whether the guest's record at this place, if there is one, is a release
+abbrev pub releases_at : Recorded → Option ℕ → Bool
+releases_at s None = false
+releases_at s (Some n) = passes is_release (slice_get s.guest n)
 
 -- a send of the page with other contents than it has at the halt, or of a page that is released there
 abbrev pub is_wrong_send : Recorded → ℕ → ℕ → SourceRec → Bool
@@ -35,11 +46,12 @@ is_altered s page n (Zero p) = (p == page) && not (in_ledger s (at_halt s) p)
 is_altered s page n _ = false
 
 -- the table after a record
-abbrev pub accessed_by : Bool → ℕ → GuestRec → (ℕ → Option ℕ) → ℕ → Option ℕ
-accessed_by late n (Read vcpu p c value) at = if late then noted p n at else at
-accessed_by late n (Write vcpu p c value) at = if late then noted p n at else at
-accessed_by late n _ at = at
+abbrev pub touched_by : Bool → ℕ → GuestRec → (ℕ → Option ℕ) → ℕ → Option ℕ
+touched_by late n (Read vcpu p c value) at = if late then noted p n at else at
+touched_by late n (Write vcpu p c value) at = if late then noted p n at else at
+touched_by late n (Release vcpu p) at = if late then noted p n at else at
+touched_by late n _ at = at
 
--- the first read or write of each page after handover, before record n
-abbrev pub AreAccesses : Recorded → ℕ → Values (Option ℕ) → Type 0
-AreAccesses s n table = IsTable s.geometry.pages table (λ p. first_before (is_late_access s p) s.guest n)
+-- the first read, write or release of each page after handover, before record n
+abbrev pub AreTouches : Recorded → ℕ → Values (Option ℕ) → Type 0
+AreTouches s n table = IsTable s.geometry.pages table (λ p. first_before (is_late_touch s p) s.guest n)

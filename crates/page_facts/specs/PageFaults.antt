@@ -7,7 +7,7 @@ use Rattle.migration_types.specs.declared.records.PagerRec.TheVariants.{Zero}
 use Rattle.migration_types.specs.Receipts.{Name, log_index}
 use Rattle.migration_types.specs.Sessions.{Recorded}
 use Rattle.audit_model.specs.declared.reasons.PageReason.{PageReason}
-use Rattle.audit_model.specs.declared.reasons.PageReason.TheVariants.{Read as WrongRead, Early, Given, Stale, Twice, Altered, Unfit}
+use Rattle.audit_model.specs.declared.reasons.PageReason.TheVariants.{Read as WrongRead, Early, Given, Stale, Twice, Altered, Unfit, Over}
 use Rattle.audit_model.specs.Names.{if_there}
 use Rattle.page_lists.specs.Paged.{guest_page, source_page, pager_page}
 use Rattle.page_facts.specs.declared.findings.Findings.{Findings}
@@ -50,17 +50,37 @@ IsFirstFault s page f = IsFirstFaultOf s (λ p. p ≡ page) f
 abbrev pub fault : LogName → ℕ → PageReason → PageFault
 fault log place reason = record { log = log; place = place; reason = reason }
 
--- a first use that no look before it covers
-abbrev pub early_of : Option ℕ → Option ℕ → Option ℕ
-early_of None look = None
-early_of (Some access) look = if is_before look access then None else Some access
+-- a first touch that no look before it covers
+abbrev pub uncovered_of : Option ℕ → Option ℕ → Option ℕ
+uncovered_of None look = None
+uncovered_of (Some touch) look = if is_before look touch then None else Some touch
 
--- the first of two records, with its reason; of one record the first reason
-abbrev pub first_of_two : LogName → PageReason → PageReason → Option ℕ → Option ℕ → Option PageFault
-first_of_two log one other None None = None
-first_of_two log one other None (Some n) = Some (fault log n other)
-first_of_two log one other (Some m) None = Some (fault log m one)
-first_of_two log one other (Some m) (Some n) = if nat_lt n m then Some (fault log n other) else Some (fault log m one)
+-- the access that is too early: an uncovered first touch that is no release
+abbrev pub early_of : Findings → Option ℕ
+early_of f = if f.releases then None else uncovered_of f.touch f.look
+
+-- the placement that may come after a release: the first, where the first touch is an uncovered release
+abbrev pub over_at : Option ℕ → Option ℕ → Option ℕ
+over_at None placement = None
+over_at (Some touch) placement = placement
+
+abbrev pub over_of : Findings → Option ℕ
+over_of f = if f.releases then over_at (uncovered_of f.touch f.look) f.placement else None
+
+-- a fault of this record, if there is one
+abbrev pub told : LogName → PageReason → Option ℕ → Option PageFault
+told log reason None = None
+told log reason (Some n) = Some (fault log n reason)
+
+-- whether a fault's line is less than the other's
+abbrev pub precedes : PageFault → PageFault → Bool
+precedes a b = nat_lt (log_index a.log) (log_index b.log) || ((log_index a.log == log_index b.log) && nat_lt a.place b.place)
+
+-- the fault of least line, and of one record the first
+abbrev pub least : Option PageFault → Option PageFault → Option PageFault
+least None other = other
+least (Some f) None = Some f
+least (Some f) (Some g) = if precedes g f then Some g else Some f
 
 abbrev pub placed_reason : PagerRec → PageReason
 placed_reason (Zero page) = Unfit
@@ -82,23 +102,13 @@ or_next None next = next
 or_next (Some f) next = Some f
 
 abbrev pub guest_fault : Findings → Option PageFault
-guest_fault f = first_of_two Guest WrongRead Early f.wrong_read (early_of f.access f.look)
+guest_fault f = least (told Guest WrongRead f.wrong_read) (told Guest Early (early_of f))
 
 abbrev pub source_fault : Findings → Option PageFault
-source_fault f = first_of_two Source (sent_reason f.released) Stale f.wrong_send None
+source_fault f = told Source (sent_reason f.released) f.wrong_send
 
 abbrev pub pager_fault : Recorded → Findings → Option PageFault
-pager_fault s f = first_of_two Pager Twice (altered_reason s f.altered) f.again f.altered
+pager_fault s f = least (told Pager Twice f.again) (least (told Pager (altered_reason s f.altered) f.altered) (told Pager Over (over_of f)))
 
 abbrev pub page_fault : Recorded → Findings → Option PageFault
 page_fault s f = or_next (guest_fault f) (or_next (source_fault f) (pager_fault s f))
-
--- ---- over pages
-
-abbrev pub precedes : PageFault → PageFault → Bool
-precedes a b = nat_lt (log_index a.log) (log_index b.log) || ((log_index a.log == log_index b.log) && nat_lt a.place b.place)
-
-abbrev pub least : Option PageFault → Option PageFault → Option PageFault
-least None other = other
-least (Some f) None = Some f
-least (Some f) (Some g) = if precedes g f then Some g else Some f

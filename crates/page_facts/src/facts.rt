@@ -19,8 +19,10 @@ pub struct PageFacts {
     pub again: bool,
     /// Whether it was placed with other contents than it had at the halt, or as zeros while it was not released there.
     pub altered: bool,
-    /// The guest's first read or write of it after handover.
-    pub access: Option<u32>,
+    /// The guest's first read, write or release of it after handover.
+    pub touch: Option<u32>,
+    /// Whether that first touch is a release.
+    pub releases: bool,
 }
 
 /// The facts of a page with these findings.
@@ -34,6 +36,7 @@ pub fn facts_of(_session: &Session, findings: &Findings, _page: PageNo) -> PageF
         placement: findings.placement,
         again: findings.again.is_some(),
         altered: findings.altered.is_some(),
-        access: findings.access,
+        touch: findings.touch,
+        releases: findings.releases,
     }
 }

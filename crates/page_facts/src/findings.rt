@@ -11,6 +11,7 @@ ghost use Rattle.page_facts.specs.Frames.{one_page, IsFrame};
 ghost use Rattle.page_facts.specs.Findings.{sends_wrong, places_wrong, AreFindings, AreSessionLists, IsFindings};
 
 use crate::frame::{Frame, frame_for, place_at, run, start, the_page};
+use crate::guest::releases_at;
 use crate::moved::differs;
 use crate::session_lists::{SessionLists, lists_for};
 use migration_types::{PageNo, PagerRec, Session, SourceRec};
@@ -29,8 +30,10 @@ pub struct Findings {
     pub again: Option<u32>,
     /// The first placement with other contents than it had at the halt, or as zeros while it was not released there.
     pub altered: Option<u32>,
-    /// The guest's first read or write of it after handover.
-    pub access: Option<u32>,
+    /// The guest's first read, write or release of it after handover.
+    pub touch: Option<u32>,
+    /// Whether that first touch is a release.
+    pub releases: bool,
     /// The guest's first look at a placement of it, or at a later record of the pager.
     pub look: Option<u32>,
     /// Whether it was released at the halt.
@@ -94,8 +97,8 @@ fn first_altered(session: &Session, page: PageNo, places: &[u32], halted: &Frame
     None
 }
 
-/// Judges a page by its records, its cells at the start, and what is known of its first use and look. Takes each of its
-/// records once and no memory: the frame is one that another page was judged with, or a new one.
+/// Judges a page by its records, its cells at the start, and what is known of its first touch and look. Takes each of
+/// its records once and no memory: the frame is one that another page was judged with, or a new one.
 pub fn judge_page(
     session: &Session,
     lists: &SessionLists,
@@ -118,13 +121,15 @@ pub fn judge_page(
     let pager = lists.pager.of(session.pager(), page);
     let altered = first_altered(session, page, pager, frame);
     run(session, page, guest, frame, next, session.guest().len());
+    let touch = lists.touches.at(page);
     Findings {
         wrong_read: frame.wrong,
         wrong_send,
         placement: place_at(pager, 0),
         again: place_at(pager, 1),
         altered,
-        access: lists.accesses.at(page),
+        touch,
+        releases: releases_at(session, touch),
         look: lists.looks.at(page),
         released,
     }

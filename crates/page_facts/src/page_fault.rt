@@ -6,7 +6,7 @@ ghost use Rattle.audit_model.specs.Faults.{HasNoPageFault};
 ghost use Rattle.audit_model.specs.FirstFault.{IsFirstPageFault};
 ghost use Rattle.page_facts.specs.Findings.{AreFindings, IsFindings};
 ghost use Rattle.page_facts.specs.inner.Frontier.{is_before};
-ghost use Rattle.page_facts.specs.PageFaults.{early_of, first_of_two, altered_reason, sent_reason, or_next, guest_fault, source_fault, pager_fault, page_fault, precedes, least, AreClean, IsFirstFaultOf, IsClean, IsFirstFault};
+ghost use Rattle.page_facts.specs.PageFaults.{uncovered_of, early_of, over_at, over_of, told, precedes, least, altered_reason, sent_reason, or_next, guest_fault, source_fault, pager_fault, page_fault, AreClean, IsFirstFaultOf, IsClean, IsFirstFault};
 
 use crate::findings::{Findings, findings_of};
 use audit_model::PageReason;
@@ -34,53 +34,81 @@ fn is_before(look: Option<u32>, n: u32) -> bool
     }
 }
 
-/// A first use that no look before it covers.
-fn early_of(access: Option<u32>, look: Option<u32>) -> Option<u32>
-    ensures { result ≡ early_of access look }
+/// A first touch that no look before it covers.
+fn uncovered_of(touch: Option<u32>, look: Option<u32>) -> Option<u32>
+    ensures { result ≡ uncovered_of touch look }
 {
-    let access = access?;
-    if is_before(look, access) {
+    let touch = touch?;
+    if is_before(look, touch) {
         None
     } else {
-        Some(access)
+        Some(touch)
     }
 }
 
-/// The first of two records of a log, with its reason; where they are one record, with the first reason.
-fn first_of_two(
-    log: LogName,
-    one: PageReason,
-    other: PageReason,
-    first: Option<u32>,
-    second: Option<u32>,
-) -> Option<PageFault>
-    ensures { result ≡ first_of_two log one other first second }
+/// The access of a page that is too early: its first touch, where no look before it covers it and it is no release.
+fn early_of(findings: &Findings) -> Option<u32>
+    ensures { result ≡ early_of findings.now }
 {
-    match (first, second) {
-        (None, None) => None,
-        (None, Some(n)) => Some(PageFault {
-            log,
-            place: n,
-            reason: other,
-        }),
-        (Some(m), None) => Some(PageFault {
-            log,
-            place: m,
-            reason: one,
-        }),
-        (Some(m), Some(n)) => {
-            if n < m {
-                Some(PageFault {
-                    log,
-                    place: n,
-                    reason: other,
-                })
+    if findings.releases {
+        None
+    } else {
+        uncovered_of(findings.touch, findings.look)
+    }
+}
+
+/// The placement, where the touch is there.
+fn over_at(touch: Option<u32>, placement: Option<u32>) -> Option<u32>
+    ensures { result ≡ over_at touch placement }
+{
+    match touch {
+        Some(_) => placement,
+        None => None,
+    }
+}
+
+/// The placement of a page that may come after a release of it at the target: its first, where its first touch is a
+/// release that no look before it covers.
+fn over_of(findings: &Findings) -> Option<u32>
+    ensures { result ≡ over_of findings.now }
+{
+    if findings.releases {
+        let uncovered = uncovered_of(findings.touch, findings.look);
+        over_at(uncovered, findings.placement)
+    } else {
+        None
+    }
+}
+
+/// A fault of this record, if there is one.
+fn told(log: LogName, reason: PageReason, place: Option<u32>) -> Option<PageFault>
+    ensures { result ≡ told log reason place }
+{
+    let place = place?;
+    Some(PageFault { log, place, reason })
+}
+
+/// Whether a fault's line is less than the other's.
+fn precedes(one: &PageFault, other: &PageFault) -> bool
+    ensures { result ≡ precedes one.now other.now }
+{
+    let log = one.log.index();
+    let before = other.log.index();
+    log < before || (log == before && one.place < other.place)
+}
+
+/// The fault of least line, and where they are of one record, the first.
+fn least(first: Option<PageFault>, other: Option<PageFault>) -> Option<PageFault>
+    ensures { result ≡ least first other }
+{
+    match (first, other) {
+        (None, other) => other,
+        (Some(fault), None) => Some(fault),
+        (Some(fault), Some(other)) => {
+            if precedes(&other, &fault) {
+                Some(other)
             } else {
-                Some(PageFault {
-                    log,
-                    place: m,
-                    reason: one,
-                })
+                Some(fault)
             }
         }
     }
@@ -114,26 +142,19 @@ fn sent_reason(released: bool) -> PageReason
 fn guest_fault(findings: &Findings) -> Option<PageFault>
     ensures { result ≡ guest_fault findings.now }
 {
-    let early = early_of(findings.access, findings.look);
-    first_of_two(
-        LogName::Guest,
-        PageReason::Read,
-        PageReason::Early,
-        findings.wrong_read,
-        early,
-    )
+    let wrong = told(LogName::Guest, PageReason::Read, findings.wrong_read);
+    let early = told(LogName::Guest, PageReason::Early, early_of(findings));
+    least(wrong, early)
 }
 
 /// The first fault of a page in the source's log.
 fn source_fault(findings: &Findings) -> Option<PageFault>
     ensures { result ≡ source_fault findings.now }
 {
-    first_of_two(
+    told(
         LogName::Source,
         sent_reason(findings.released),
-        PageReason::Stale,
         findings.wrong_send,
-        None,
     )
 }
 
@@ -141,13 +162,11 @@ fn source_fault(findings: &Findings) -> Option<PageFault>
 fn pager_fault(session: &Session, findings: &Findings) -> Option<PageFault>
     ensures { result ≡ pager_fault session.now findings.now }
 {
-    first_of_two(
-        LogName::Pager,
-        PageReason::Twice,
-        altered_reason(session, findings.altered),
-        findings.again,
-        findings.altered,
-    )
+    let again = told(LogName::Pager, PageReason::Twice, findings.again);
+    let reason = altered_reason(session, findings.altered);
+    let altered = told(LogName::Pager, reason, findings.altered);
+    let over = told(LogName::Pager, PageReason::Over, over_of(findings));
+    least(again, least(altered, over))
 }
 
 /// The one that is there, or else the other.
@@ -175,32 +194,6 @@ pub fn fault_of(session: &Session, findings: &Findings, page: PageNo) -> Option<
     ensures { MatchOption result (IsClean session.now page) (IsFirstFault session.now page) }
 {
     first_in_logs(session, findings)
-}
-
-/// Whether a fault's line is less than the other's.
-fn precedes(one: &PageFault, other: &PageFault) -> bool
-    ensures { result ≡ precedes one.now other.now }
-{
-    let log = one.log.index();
-    let before = other.log.index();
-    log < before || (log == before && one.place < other.place)
-}
-
-/// The fault of least line.
-fn least(first: Option<PageFault>, other: Option<PageFault>) -> Option<PageFault>
-    ensures { result ≡ least first other }
-{
-    match (first, other) {
-        (None, other) => other,
-        (Some(fault), None) => Some(fault),
-        (Some(fault), Some(other)) => {
-            if precedes(&other, &fault) {
-                Some(other)
-            } else {
-                Some(fault)
-            }
-        }
-    }
 }
 
 /// The first fault of the pages, one after the other.

@@ -4,7 +4,7 @@ ghost use Rattle.std.specs.Prelude.{◌≡◌, ◌↔◌, IsTrue, slice_get};
 ghost use Rattle.audit_model.specs.Shape.{passes, is_send_of};
 ghost use Rattle.audit_model.specs.Certificates.{IsRightEntry};
 ghost use Rattle.page_facts.specs.Facts.{IsFacts};
-ghost use Rattle.page_facts.specs.inner.EntryTests.{sees_from, repeats, delivers_from, places_from, zeroes, covers, is_once, is_right_of, is_right_entry};
+ghost use Rattle.page_facts.specs.inner.EntryTests.{is_place, sees_from, repeats, delivers_from, places_from, zeroes, covers, is_once, is_right_of, is_right_entry};
 
 use crate::facts::PageFacts;
 use audit_model::{delivery, is_send_of};
@@ -79,16 +79,26 @@ fn zeroes_at(session: &Session, page: PageNo, n: u32) -> bool
     }
 }
 
-/// Whether an entry's first access and its look are right.
-fn covers(session: &Session, access: Option<u32>, place: u32, first: &Option<First>) -> bool
-    ensures { result ≡ covers session.now access place first.now }
+/// Whether an entry's first touch and its look are right.
+fn covers(session: &Session, touch: Option<u32>, place: u32, first: &Option<First>) -> bool
+    ensures { result ≡ covers session.now touch place first.now }
 {
-    match (access, first) {
+    match (touch, first) {
         (None, None) => true,
-        (Some(access), Some(first)) => {
-            access == first.access && first.see < access && sees_from_at(session, first.see, place)
+        (Some(touch), Some(first)) => {
+            touch == first.access && first.see < touch && sees_from_at(session, first.see, place)
         }
         _ => false,
+    }
+}
+
+/// Whether a first record is there, and has this number.
+fn is_place(first: Option<u32>, place: u32) -> bool
+    ensures { result ≡ is_place first place }
+{
+    match first {
+        Some(n) => n == place,
+        None => false,
     }
 }
 
@@ -96,10 +106,7 @@ fn covers(session: &Session, access: Option<u32>, place: u32, first: &Option<Fir
 fn is_once(facts: &PageFacts, place: u32) -> bool
     ensures { result ≡ is_once facts.now place }
 {
-    match facts.placement {
-        Some(n) => n == place && !facts.again && !facts.altered,
-        None => false,
-    }
+    is_place(facts.placement, place) && !facts.again && !facts.altered
 }
 
 /// Whether an entry is right beside the page's reads and sends.
@@ -107,17 +114,20 @@ fn is_right_of(session: &Session, page: PageNo, facts: &PageFacts, entry: &Entry
     ensures { result ≡ is_right_of session.now page facts.now entry.now }
 {
     match entry {
-        Entry::Nothing => facts.placement.is_none() && facts.access.is_none(),
+        Entry::Nothing => facts.placement.is_none() && facts.touch.is_none(),
+        Entry::Fresh { first } => {
+            facts.placement.is_none() && is_place(facts.touch, *first) && facts.releases
+        }
         Entry::Source { send, place, first } => {
             is_send_at(session, *send, page)
                 && places_from_at(session, page, *send, *place)
                 && is_once(facts, *place)
-                && covers(session, facts.access, *place, first)
+                && covers(session, facts.touch, *place, first)
         }
         Entry::Balloon { place, first } => {
             zeroes_at(session, page, *place)
                 && is_once(facts, *place)
-                && covers(session, facts.access, *place, first)
+                && covers(session, facts.touch, *place, first)
         }
     }
 }

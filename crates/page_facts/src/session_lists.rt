@@ -7,7 +7,7 @@ ghost use Rattle.page_lists.specs.Paged.{guest_page};
 ghost use Rattle.page_facts.specs.Findings.{AreSessionLists};
 ghost use Rattle.page_facts.specs.inner.Others.{AreOthers};
 
-use crate::guest::first_accesses;
+use crate::guest::first_touches;
 use crate::looks::first_looks;
 use crate::machine::halt_place;
 use migration_types::Session;
@@ -17,7 +17,7 @@ use std::alloc::{AllocError, Global};
 use std::marker::Sync;
 use std::thread::{Threads, join};
 
-/// The records of each page in a session's logs, and where the guest first used it after handover and first looked.
+/// The records of each page in a session's logs, and where the guest first touched it after handover and first looked.
 #[derive(Drop)]
 pub struct SessionLists {
     /// The pages that do not begin as zeros.
@@ -28,8 +28,8 @@ pub struct SessionLists {
     pub source: PageLists,
     /// What the pager placed.
     pub pager: PageLists,
-    /// The guest's first read or write of each page after handover.
-    pub accesses: Table<Option<u32>>,
+    /// The guest's first read, write or release of each page after handover.
+    pub touches: Table<Option<u32>>,
     /// The guest's first look at a placement of each page, or at a later record of the pager.
     pub looks: Table<Option<u32>>,
     /// The place of the first `halt`, or the length of the guest's log where there is none.
@@ -42,7 +42,7 @@ pub(crate) struct Others {
     pub(crate) init: PageLists,
     pub(crate) source: PageLists,
     pub(crate) pager: PageLists,
-    pub(crate) accesses: Table<Option<u32>>,
+    pub(crate) touches: Table<Option<u32>>,
     pub(crate) looks: Table<Option<u32>>,
     pub(crate) halt: usize,
 }
@@ -64,13 +64,13 @@ fn other_lists(alloc: Global, session: &Session) -> Result<Others, AllocError>
     let init = lists_of(alloc, session.init(), pages)?;
     let source = lists_of(alloc, session.source(), pages)?;
     let pager = lists_of(alloc, session.pager(), pages)?;
-    let accesses = first_accesses(alloc, session)?;
+    let touches = first_touches(alloc, session)?;
     let looks = first_looks(alloc, session)?;
     Ok(Others {
         init,
         source,
         pager,
-        accesses,
+        touches,
         looks,
         halt: halt_place(session.guest()),
     })
@@ -87,7 +87,7 @@ fn together(_session: &Session, guest: PageLists, others: Others) -> SessionList
         guest,
         source: others.source,
         pager: others.pager,
-        accesses: others.accesses,
+        touches: others.touches,
         looks: others.looks,
         halt: others.halt,
     }

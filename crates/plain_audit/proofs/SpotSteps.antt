@@ -7,7 +7,7 @@ use Rattle.migration_types.specs.declared.records.GuestRec.{GuestRec}
 use Rattle.migration_types.specs.declared.records.GuestRec.TheVariants.{Read, Write, Release, Miss, Halt, Resume, See}
 use Rattle.migration_types.specs.declared.records.PagerRec.{PagerRec}
 use Rattle.migration_types.specs.declared.records.PagerRec.TheVariants.{Place, Zero}
-use Rattle.migration_types.specs.Memory.{with_cell, with_zeros}
+use Rattle.migration_types.specs.Memory.{with_cell}
 use Rattle.migration_types.specs.Receipts.{Name}
 use Rattle.migration_types.specs.Sessions.{Recorded}
 use Rattle.audit_model.specs.declared.home.Home.{Home}
@@ -25,14 +25,6 @@ picked true false true r' x y same = refl
 picked true false false r' x y same = refl
 picked false q true r' x y same = refl
 picked false q false r' x y same = refl
-
-picked_page : (t r r' : Bool) (x y : ℕ) → (t ≡ true → r ≡ r') → cond r (cond t x y) y ≡ cond (t && r') x y
-picked_page true true true x y same = refl
-picked_page true true false x y same = absurd (let e = same refl in cc)
-picked_page true false true x y same = absurd (let e = same refl in cc)
-picked_page true false false x y same = refl
-picked_page false true r' x y same = refl
-picked_page false false r' x y same = refl
 
 module _ (w : World) (page cell : ℕ) where
   of_page : (p : ℕ) → (p == page) ≡ true → w.resident p ≡ w.resident page
@@ -52,9 +44,7 @@ module _ (w : World) (page cell : ℕ) where
   after_release : (h : Home) (p : ℕ) → spot_at (release_at h p w) page cell ≡ spot_released h (p == page) (spot_at w page cell)
   after_release AtSource p = refl
   after_release Nowhere p = refl
-  after_release AtTarget p =
-      let e = at_cell (w.resident p) (with_zeros p w.target) w.target ∙ picked_page (p == page) (w.resident p) (w.resident page) 0 (w.target page cell) (of_page p) in
-      ap (λ t. record (spot_at w page cell) { target = t; touched = cond (p == page) true (w.touched page) }) e
+  after_release AtTarget p = refl
 
   after_read : (h : Home) (p : ℕ) → spot_at (read_at h p w) page cell ≡ spot_read h (p == page) (spot_at w page cell)
   after_read AtSource p = refl

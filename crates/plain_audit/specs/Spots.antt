@@ -33,7 +33,7 @@ spot_written AtTarget is_page is_cell value o = record o { target = if is_page &
 abbrev pub spot_released : Home → Bool → Spot → Spot
 spot_released AtSource is_page o = record o { source = if is_page then 0 else o.source; released = if is_page then true else o.released }
 spot_released Nowhere is_page o = o
-spot_released AtTarget is_page o = record o { target = if is_page && o.resident then 0 else o.target; touched = if is_page then true else o.touched }
+spot_released AtTarget is_page o = record o { target = if is_page then 0 else o.target; resident = if is_page then true else o.resident; touched = if is_page then true else o.touched }
 
 abbrev pub spot_read : Home → Bool → Spot → Spot
 spot_read AtTarget is_page o = record o { touched = if is_page then true else o.touched }

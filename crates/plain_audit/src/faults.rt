@@ -6,9 +6,9 @@ ghost use Rattle.migration_types.specs.Sessions.{IsSession};
 ghost use Rattle.audit_model.specs.Shape.{is_placement_of, earlier, passes};
 ghost use Rattle.audit_model.specs.Faults.{looks_at, has_looked, IsPageFault};
 ghost use Rattle.audit_model.specs.Flat.{at_halt};
-ghost use Rattle.audit_model.specs.inner.PageFaultTests.{is_uncovered, is_wrong_read, is_early, is_flat_page, is_given, is_stale, is_second, is_altered, is_unfit, fault_test};
+ghost use Rattle.audit_model.specs.inner.PageFaultTests.{is_uncovered, is_wrong_read, is_early_of, is_early, is_flat_page, is_given, is_stale, is_second, is_altered, is_unfit, is_first_release, some_release, is_over_of, is_over, fault_test};
 
-use crate::flat::{flat_value, halt_place, home_before, is_released};
+use crate::flat::{flat_value, halt_place, home_before, is_freed, is_released, is_touched};
 use audit_model::{Home, PageReason, is_placement_of};
 use migration_types::{GuestRec, LogName, PageNo, PagerRec, Session, SourceRec};
 
@@ -73,20 +73,28 @@ fn is_wrong_read(session: &Session, place: usize) -> bool
     }
 }
 
-/// Whether the guest's record of this place, which is this one, uses a page at the target that no look before it
-/// covers.
+/// Whether an access of the page by the guest's record of this place is early: at the target, to a page that was not
+/// released there before, with no look before it that covers the page.
+fn is_early_of(session: &Session, place: usize, page: PageNo) -> bool
+    requires { place ≤ length session.now.guest }
+    ensures { result ≡ is_early_of session.now page place }
+{
+    !is_freed(session, place, page) && is_uncovered(session, place, page)
+}
+
+/// Whether the guest's record of this place, which is this one, is an early access.
 fn is_early_record(session: &Session, place: usize, logged: &GuestRec) -> bool
     requires { place ≤ length session.now.guest }
     ensures { result ≡ is_early session.now place logged.now }
 {
     match logged {
-        GuestRec::Read { page, .. } => is_uncovered(session, place, *page),
-        GuestRec::Write { page, .. } => is_uncovered(session, place, *page),
+        GuestRec::Read { page, .. } => is_early_of(session, place, *page),
+        GuestRec::Write { page, .. } => is_early_of(session, place, *page),
         _ => false,
     }
 }
 
-/// Whether the guest's record of this place uses a page at the target that no look before it covers.
+/// Whether the guest's record of this place is an early access.
 fn is_early(session: &Session, place: usize) -> bool
     ensures { result ≡ passes (is_early session.now place) (slice_get session.now.guest place) }
 {
@@ -172,6 +180,52 @@ fn is_unfit(session: &Session, place: usize) -> bool
     }
 }
 
+/// Whether the guest's record of this place, which is this one, releases the page at the target as its first touch
+/// there, with no look before it that covers the page.
+fn is_first_release(session: &Session, place: usize, page: PageNo, logged: &GuestRec) -> bool
+    requires { place ≤ length session.now.guest }
+    ensures { result ≡ is_first_release session.now page place logged.now }
+{
+    match *logged {
+        GuestRec::Release { page: its_page, .. } => {
+            its_page.number() == page.number()
+                && !is_touched(session, place, page)
+                && is_uncovered(session, place, page)
+        }
+        _ => false,
+    }
+}
+
+/// Whether some record of the guest is such a release.
+fn some_release(session: &Session, page: PageNo) -> bool
+    ensures { result ≡ some_release session.now page (length session.now.guest) }
+{
+    let mut found = false;
+    for n in 0..session.guest().len() {
+        found = is_first_release(session, n, page, &session.guest()[n]) || found;
+    }
+    found
+}
+
+/// Whether a placement of the page by the pager's record of this place is its first, and may come after such a release.
+fn is_over_of(session: &Session, place: usize, page: PageNo) -> bool
+    ensures { result ≡ is_over_of session.now page place }
+{
+    !placed_before(session, place, page) && some_release(session, page)
+}
+
+/// Whether the pager's record of this place is such a placement.
+fn is_over(session: &Session, place: usize) -> bool
+    ensures { result ≡ passes (is_over session.now place) (slice_get session.now.pager place) }
+{
+    match session.pager().get(place) {
+        Some(PagerRec::Place { page, .. } | PagerRec::Zero { page }) => {
+            is_over_of(session, place, *page)
+        }
+        _ => false,
+    }
+}
+
 /// Whether the record of this log and place has a fault for this reason, by a test.
 fn tests_fault(session: &Session, reason: PageReason, log: LogName, place: usize) -> bool
     requires { IsSession session.now }
@@ -185,6 +239,7 @@ fn tests_fault(session: &Session, reason: PageReason, log: LogName, place: usize
         (PageReason::Twice, LogName::Pager) => is_second(session, place),
         (PageReason::Altered, LogName::Pager) => is_altered(session, place),
         (PageReason::Unfit, LogName::Pager) => is_unfit(session, place),
+        (PageReason::Over, LogName::Pager) => is_over(session, place),
         _ => false,
     }
 }

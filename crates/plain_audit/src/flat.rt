@@ -4,7 +4,8 @@
 ghost use Rattle.std.specs.Prelude.{◌≡◌, ◌≤◌, length};
 ghost use Rattle.migration_types.specs.Memory.{initial};
 ghost use Rattle.migration_types.specs.Pages.{AreInitPages};
-ghost use Rattle.audit_model.specs.Flat.{cell_after, flat, released_after, in_ledger, home_after, home, halt_place, at_halt};
+ghost use Rattle.audit_model.specs.Flat.{cell_after, flat, released_after, in_ledger, home_after, home, freed_page, freed_after, freed, halt_place, at_halt};
+ghost use Rattle.audit_model.specs.Worlds.{touch_page, touch_after, touched};
 
 use audit_model::{Home, is_halt};
 use migration_types::{GuestRec, InitPage, PageNo, Session};
@@ -108,6 +109,79 @@ pub fn home_before(session: &Session, place: usize) -> Home
         home = home_by(record, home);
     }
     home
+}
+
+/// Whether a page is marked after a record that marks pages at the target alone, where it was `old` before.
+fn marked_by(home: Home, marks: bool, old: bool) -> bool
+    ensures frees { result ≡ freed_page home marks old }
+    ensures touches { result ≡ touch_page home marks old }
+{
+    match home {
+        Home::AtSource | Home::Nowhere => old,
+        Home::AtTarget => marks || old,
+    }
+}
+
+/// Whether a page was released at the target after a record, where it was `old` before, by where the guest is.
+fn freed_by(home: Home, page: PageNo, logged: &GuestRec, old: bool) -> bool
+    ensures { result ≡ freed_after home page logged.now old }
+{
+    match *logged {
+        GuestRec::Release { page: its_page, .. } => {
+            marked_by(home, its_page.number() == page.number(), old)
+        }
+        _ => old,
+    }
+}
+
+/// Whether the guest has released a page at the target before its record of this place. Looks at each record before it.
+pub fn is_freed(session: &Session, place: usize, page: PageNo) -> bool
+    requires { place ≤ length session.now.guest }
+    ensures { result ≡ freed session.now place page }
+{
+    let mut freed = false;
+    for n in 0..place {
+        freed = match session.guest().get(n) {
+            Some(logged) => freed_by(home_before(session, n), page, logged, freed),
+            None => freed,
+        };
+    }
+    freed
+}
+
+/// Whether a page was read, written or released at the target after a record, where it was `old` before, by where the
+/// guest is.
+fn touched_by(home: Home, page: PageNo, logged: &GuestRec, old: bool) -> bool
+    ensures { result ≡ touch_after home page logged.now old }
+{
+    match *logged {
+        GuestRec::Read { page: its_page, .. } => {
+            marked_by(home, its_page.number() == page.number(), old)
+        }
+        GuestRec::Write { page: its_page, .. } => {
+            marked_by(home, its_page.number() == page.number(), old)
+        }
+        GuestRec::Release { page: its_page, .. } => {
+            marked_by(home, its_page.number() == page.number(), old)
+        }
+        _ => old,
+    }
+}
+
+/// Whether the guest has read, written or released a page at the target before its record of this place. Looks at each
+/// record before it.
+pub fn is_touched(session: &Session, place: usize, page: PageNo) -> bool
+    requires { place ≤ length session.now.guest }
+    ensures { result ≡ touched session.now place page }
+{
+    let mut touched = false;
+    for n in 0..place {
+        touched = match session.guest().get(n) {
+            Some(logged) => touched_by(home_before(session, n), page, logged, touched),
+            None => touched,
+        };
+    }
+    touched
 }
 
 /// The place of the guest's halt, or the length of its log where there is none.

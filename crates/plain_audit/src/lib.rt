@@ -12,7 +12,7 @@ mod shape;
 mod world;
 
 pub use faults::is_page_fault;
-pub use flat::{flat_value, halt_place, home_before, is_released};
+pub use flat::{flat_value, halt_place, home_before, is_freed, is_released, is_touched};
 pub use merging::is_merging;
 pub use shape::is_right;
 pub use world::{Spot, demand_holds, first_broken, spot_after};

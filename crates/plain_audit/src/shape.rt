@@ -53,6 +53,7 @@ fn stands_in_phase(session: &Session, place: usize, logged: &GuestRec) -> bool
     ensures { result ≡ in_phase session.now place logged.now }
 {
     in_phase(
+        session.version(),
         logged,
         halted_before(session, place),
         resumed_before(session, place),

@@ -67,10 +67,9 @@ fn released(spot: Spot, is_page: bool) -> Spot
         }
         Home::Nowhere => {}
         Home::AtTarget => {
-            if is_page && spot.resident {
-                after.target = 0;
-            }
             if is_page {
+                after.resident = true;
+                after.target = 0;
                 after.touched = true;
             }
         }

@@ -12,7 +12,7 @@ use Rattle.audit_report.specs.declared.texts.Audited.{Audited}
 use Rattle.audit_report.specs.declared.texts.Audited.TheVariants.{Refused, Reported}
 use Rattle.postcopy_c.specs.declared.answer.PostcopyAnswer.{PostcopyAnswer}
 use Rattle.postcopy_c.specs.declared.kinds.TheConstants.{YES, CLEAN, SESSION_TEXT, CERT_TEXT, SHAPE, PAGES, RUNS, PAGE, KNOT, FAULTY, NO_MEMORY}
-use Rattle.postcopy_c.specs.declared.reasons.TheConstants.{PHASES, NAMED, START, SECOND_SEND, READ, EARLY, GIVEN, STALE, TWICE, ALTERED, UNFIT}
+use Rattle.postcopy_c.specs.declared.reasons.TheConstants.{PHASES, NAMED, START, SECOND_SEND, READ, EARLY, GIVEN, STALE, TWICE, ALTERED, UNFIT, OVER}
 
 abbrev pub shape_number : ShapeReason → ℕ
 shape_number shape.Phases = PHASES
@@ -28,6 +28,7 @@ page_number page.Stale = STALE
 page_number page.Twice = TWICE
 page_number page.Altered = ALTERED
 page_number page.Unfit = UNFIT
+page_number page.Over = OVER
 
 -- the kind of an answer, the line that it names or 0, its reason or 0, and the length of its text
 abbrev pub numbers : ℕ → ℕ → ℕ → ℕ → PostcopyAnswer

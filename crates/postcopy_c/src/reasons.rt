@@ -27,6 +27,8 @@ pub const ALTERED: u32 = 16;
 
 pub const UNFIT: u32 = 17;
 
+pub const OVER: u32 = 18;
+
 /// The number of a reason of shape.
 pub(crate) fn number_of_shape(reason: ShapeReason) -> u32
     ensures { result ≡ shape_number reason }
@@ -51,5 +53,6 @@ pub(crate) fn number_of_page(reason: PageReason) -> u32
         PageReason::Twice => TWICE,
         PageReason::Altered => ALTERED,
         PageReason::Unfit => UNFIT,
+        PageReason::Over => OVER,
     }
 }

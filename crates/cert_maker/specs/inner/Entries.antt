@@ -1,12 +1,15 @@
 -- The one entry that can be right for a page, by its facts and its first look.
-use Rattle.std.specs.Prelude.{◌≡◌, ℕ, ◌<◌, List, length, Option, Some, None, slice_get}
+use Rattle.std.specs.Prelude.{◌≡◌, ℕ, ◌<◌, Bool, true, false, List, length, Option, Some, None, slice_get, if◌then◌else◌}
+use Rattle.std.specs.List.{list_any}
 use Rattle.migration_types.specs.declared.records.SourceRec.{SourceRec}
 use Rattle.migration_types.specs.declared.records.SourceRec.TheVariants.{Again}
 use Rattle.migration_types.specs.declared.records.PagerRec.{PagerRec}
 use Rattle.migration_types.specs.declared.records.PagerRec.TheVariants.{Place, Zero}
 use Rattle.migration_types.specs.declared.cert.First.{First}
 use Rattle.migration_types.specs.declared.cert.Entry.{Entry}
-use Rattle.migration_types.specs.declared.cert.Entry.TheVariants.{Nothing, Source, Balloon}
+use Rattle.migration_types.specs.declared.cert.Entry.TheVariants.{Nothing, Fresh, Source, Balloon}
+use Rattle.migration_types.specs.declared.version.Version.{Version}
+use Rattle.migration_types.specs.declared.version.Version.TheVariants.{Two}
 use Rattle.migration_types.specs.Sessions.{Recorded}
 use Rattle.audit_model.specs.Names.{if_there}
 use Rattle.audit_model.specs.Shape.{delivery}
@@ -22,24 +25,30 @@ repeated delivered _ = delivered
 abbrev pub send_of : Recorded → ℕ → Option ℕ
 send_of s got = if_there (λ delivered. Some (repeated delivered (slice_get s.source delivered))) (delivery s got)
 
-abbrev pub access_and_look : ℕ → ℕ → First
-access_and_look access see = record { access = access; see = see }
+abbrev pub touch_and_look : ℕ → ℕ → First
+touch_and_look touch see = record { access = touch; see = see }
 
 abbrev pub first_of : Option ℕ → Option ℕ → Option (Option First)
 first_of None look = Some None
-first_of (Some access) look = if_there (λ see. Some (Some (access_and_look access see))) look
+first_of (Some touch) look = if_there (λ see. Some (Some (touch_and_look touch see))) look
 
 abbrev pub entry_at : Recorded → ℕ → Option First → PagerRec → Option Entry
 entry_at s place first (Place p got content) = if_there (λ send. Some (Source send place first)) (send_of s got)
 entry_at s place first (Zero p) = Some (Balloon place first)
 entry_at s place first _ = None
 
-abbrev pub placed_entry : Recorded → Option ℕ → Option ℕ → Option ℕ → Option Entry
-placed_entry s access look None = Some Nothing
-placed_entry s access look (Some place) = if_there (λ first. if_there (entry_at s place first) (slice_get s.pager place)) (first_of access look)
+-- the entry of a page that is not placed, by its first touch and whether that releases it
+abbrev pub unplaced_entry : Option ℕ → Bool → Entry
+unplaced_entry None releases = Nothing
+unplaced_entry (Some first) true = Fresh first
+unplaced_entry (Some first) false = Nothing
+
+abbrev pub entry_with : Recorded → PageFacts → Option ℕ → Option ℕ → Option Entry
+entry_with s f look None = Some (unplaced_entry f.touch f.releases)
+entry_with s f look (Some place) = if_there (λ first. if_there (entry_at s place first) (slice_get s.pager place)) (first_of f.touch look)
 
 abbrev pub entry_of : Recorded → PageFacts → Option ℕ → Option Entry
-entry_of s f look = placed_entry s f.access look f.placement
+entry_of s f look = entry_with s f look f.placement
 
 -- a right entry that names the earliest look
 pub record IsMadeEntry (s : Recorded) (page : ℕ) (entry : Entry) : Type 0 where
@@ -59,3 +68,12 @@ pub record HasBarePage (s : Recorded) : Type 0 where
 pub record AreMade (s : Recorded) (entries : List Entry) : Type 0 where
   pub pages : length entries ≡ s.geometry.pages
   pub each : (page : ℕ) (entry : Entry) → slice_get entries page ≡ Some entry → IsMadeEntry s page entry
+
+-- whether a page is fresh
+abbrev pub is_fresh : Entry → Bool
+is_fresh (Fresh first) = true
+is_fresh _ = false
+
+-- the version of a certificate with these entries: this one, or the second where a page is fresh
+abbrev pub version_for : Version → List Entry → Version
+version_for version entries = if list_any is_fresh entries then Two else version

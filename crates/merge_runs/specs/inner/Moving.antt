@@ -23,7 +23,7 @@ world_of m = record {
   home = m.home;
   source = memory_of m.source.frames;
   target = memory_of m.target.frames;
-  resident = values m.target.placed;
+  resident = values m.target.resident;
   placed = values m.target.placed;
   touched = values m.target.touched;
   ledger = released m.source.ledger;
@@ -72,6 +72,7 @@ pub record IsMoved (old new : Moving) (w : World) : Type 0 where
   pub frames : new.source.frames.geometry ≡ old.source.frames.geometry
   pub ledger : new.source.ledger.geometry ≡ old.source.ledger.geometry
   pub target : new.target.frames.geometry ≡ old.target.frames.geometry
+  pub resident : pages_of new.target.resident ≡ pages_of old.target.resident
   pub placed : pages_of new.target.placed ≡ pages_of old.target.placed
   pub touched : pages_of new.target.touched ≡ pages_of old.target.touched
   pub world : world_of new ≡ w

@@ -9,7 +9,7 @@ use Rattle.migration_types.specs.declared.records.PagerRec.TheVariants.{Place, Z
 use Rattle.migration_types.specs.Sessions.{Recorded}
 use Rattle.migration_types.specs.declared.cert.First.{First}
 use Rattle.migration_types.specs.declared.cert.Entry.{Entry}
-use Rattle.migration_types.specs.declared.cert.Entry.TheVariants.{Nothing, Source, Balloon}
+use Rattle.migration_types.specs.declared.cert.Entry.TheVariants.{Nothing, Fresh, Source, Balloon}
 use Rattle.audit_model.specs.Shape.{passes, is_send_of, delivery}
 use Rattle.page_facts.specs.declared.facts.PageFacts.{PageFacts}
 
@@ -44,18 +44,19 @@ zeroes page _ = false
 
 abbrev pub covers : Recorded → Option ℕ → ℕ → Option First → Bool
 covers s None place None = true
-covers s (Some access) place (Some first) = (access == first.access) && nat_lt first.see access && passes (sees_from place) (slice_get s.guest first.see)
+covers s (Some touch) place (Some first) = (touch == first.access) && nat_lt first.see touch && passes (sees_from place) (slice_get s.guest first.see)
 covers s _ place _ = false
 
 abbrev pub is_once : PageFacts → ℕ → Bool
 is_once f place = is_place f.placement place && not f.again && not f.altered
 
 abbrev pub is_right_of : Recorded → ℕ → PageFacts → Entry → Bool
-is_right_of s page f Nothing = is_absent f.placement && is_absent f.access
+is_right_of s page f Nothing = is_absent f.placement && is_absent f.touch
+is_right_of s page f (Fresh first) = is_absent f.placement && is_place f.touch first && f.releases
 is_right_of s page f (Source send place first) =
-    passes (is_send_of page) (slice_get s.source send) && passes (places_from s page send) (slice_get s.pager place) && is_once f place && covers s f.access place first
+    passes (is_send_of page) (slice_get s.source send) && passes (places_from s page send) (slice_get s.pager place) && is_once f place && covers s f.touch place first
 is_right_of s page f (Balloon place first) =
-    passes (zeroes page) (slice_get s.pager place) && is_once f place && covers s f.access place first
+    passes (zeroes page) (slice_get s.pager place) && is_once f place && covers s f.touch place first
 
 abbrev pub is_right_entry : Recorded → ℕ → PageFacts → Entry → Bool
 is_right_entry s page f entry = not f.wrong_read && not f.wrong_send && is_right_of s page f entry

@@ -5,7 +5,7 @@ use Rattle.migration_types.specs.declared.records.LogName.TheVariants.{Source, P
 use Rattle.migration_types.specs.Receipts.{Name}
 use Rattle.migration_types.specs.Sessions.{Recorded}
 use Rattle.audit_model.specs.declared.reasons.PageReason.{PageReason}
-use Rattle.audit_model.specs.declared.reasons.PageReason.TheVariants.{Read as WrongRead, Early, Given, Stale, Twice, Altered, Unfit}
+use Rattle.audit_model.specs.declared.reasons.PageReason.TheVariants.{Read as WrongRead, Early, Given, Stale, Twice, Altered, Unfit, Over}
 use Rattle.audit_model.specs.inner.PageFaultTests.{fault_test}
 use Rattle.page_facts.specs.declared.page_fault.PageFault.{PageFault}
 
@@ -17,7 +17,7 @@ or_else test reason rest = if test then Some reason else rest
 abbrev pub least_reason : (PageReason → Bool) → Option PageReason
 least_reason test =
     or_else (test WrongRead) WrongRead (or_else (test Early) Early (or_else (test Given) Given (or_else (test Stale) Stale
-    (or_else (test Twice) Twice (or_else (test Altered) Altered (or_else (test Unfit) Unfit None))))))
+    (or_else (test Twice) Twice (or_else (test Altered) Altered (or_else (test Unfit) Unfit (or_else (test Over) Over None)))))))
 
 -- the least reason for which the record of this name is a fault
 abbrev pub reason_at : Recorded → Name → Option PageReason

@@ -5,7 +5,7 @@ use Rattle.audit_model.specs.Flat.{at_halt}
 use Rattle.page_lists.specs.Lists.{AreLists}
 use Rattle.page_lists.specs.Paged.{init_page, source_page, pager_page}
 use Rattle.page_facts.specs.Tables.{IsTable}
-use Rattle.page_facts.specs.Judged.{AreAccesses}
+use Rattle.page_facts.specs.Judged.{AreTouches}
 use Rattle.page_facts.specs.Looks.{first_look}
 use Rattle.page_facts.specs.declared.session_lists.Others.{Others}
 
@@ -13,7 +13,7 @@ pub record AreOthers (s : Recorded) (o : Others) : Type 0 where
   pub init : AreLists init_page s.init s.geometry.pages o.init
   pub source : AreLists source_page s.source s.geometry.pages o.source
   pub pager : AreLists pager_page s.pager s.geometry.pages o.pager
-  pub accesses : AreAccesses s (length s.guest) o.accesses
+  pub touches : AreTouches s (length s.guest) o.touches
   pub looks : IsTable s.geometry.pages o.looks (first_look s (length s.guest))
   pub halt : o.halt ≡ at_halt s
   pub within : o.halt ≤ length s.guest

@@ -14,11 +14,11 @@ returns-in_default-made c =
 pub new-requires : goal.new-requires
 new-requires c =
     let s = c.args.session.now in
-    made_cert s c.in-Some.entries c.args.runs c.keeps_limits.ensures (MatchOption-at_some (HasBarePage s) (AreMade s) c.in-Some.entries c.in-Some.is c.in-Ok.ensures) c.requires.runs
+    made_cert s c.version_for-version.result c.in-Some.entries c.args.runs c.version_for-version.ensures c.keeps_limits.ensures (MatchOption-at_some (HasBarePage s) (AreMade s) c.in-Some.entries c.in-Some.is c.in-Ok.ensures) c.requires.runs
 
 pub returns : goal.returns
 returns c =
     let s = c.args.session.now in
     let made = MatchOption-at_some (HasBarePage s) (AreMade s) c.in-Some.entries c.in-Some.is c.in-Ok.ensures in
     let merging = c.if-not-is_merging.ensures.0 refl in
-    is_made s c.in-Some.entries c.args.runs c.new.result made (subst (λ (runs : List Run). IsMerging s (spelled runs)) c.as_slice.ensures merging) c.new.ensures
+    is_made s c.version_for-version.result c.in-Some.entries c.args.runs c.new.result (c.first_version_is_plain.ensures s) c.version_for-version.ensures made (subst (λ (runs : List Run). IsMerging s (spelled runs)) c.as_slice.ensures merging) c.new.ensures

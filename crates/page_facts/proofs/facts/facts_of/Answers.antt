@@ -17,5 +17,6 @@ returns c =
       placement = are.placement;
       again = c.is_some-3.ensures ∙ ap there are.again ∙ sym (some_is_first (is_again s page) s.pager (length s.pager));
       altered = c.is_some-4.ensures ∙ ap there are.altered ∙ sym (some_is_first (is_altered s page) s.pager (length s.pager));
-      access = are.access;
+      touch = are.touch;
+      releases = are.releases;
     }

@@ -23,7 +23,8 @@ returns-clause-findings c =
       placement = c.place_at.ensures ∙ placement_is s page places are;
       again = c.place_at-2.ensures ∙ again_is s page places are;
       altered = c.first_altered-altered.ensures;
-      access = c.at.ensures ∙ ap number lists.accesses.values_are;
-      look = c.at-2.ensures ∙ ap number lists.looks.values_are;
+      touch = c.at-touch.ensures ∙ ap number lists.touches.values_are;
+      releases = c.releases_at.ensures;
+      look = c.at.ensures ∙ ap number lists.looks.values_are;
       released = c.run-next.ensures.frame.released ∙ ap (λ n. in_ledger s n page) lists.halt;
     }

@@ -5,14 +5,13 @@ use Rattle.migration_types.specs.declared.records.PagerRec.{PagerRec}
 use Rattle.migration_types.specs.Extents.{Extent}
 use Rattle.page_lists.specs.Lists.{AreWithin}
 use Rattle.page_lists.specs.Paged.{source_page, pager_page}
-use Rattle.session_log.specs.inner.InitPages.{few_init}
-use Rattle.page_facts.proofs.Within.{source_within, pager_within}
+use Rattle.page_facts.proofs.Within.{few_init, source_within, pager_within}
 use Rattle.page_facts.proofs.session_lists.other_lists.Goals as goal
 
 pub lists_of-requires-clause-few : goal.lists_of-requires-clause-few
 lists_of-requires-clause-few c =
     let limits = c.keeps_limits.ensures in
-    let few = few_init c.args.session.now limits in
+    let few = few_init c.args.session.now.geometry c.args.session.now.init limits.init in
     let most = limits.geometry.few_pages in
     let all = ap (λ (xs : List InitPage). length xs) c.init.ensures in
     omega (arith, few, most, all)
