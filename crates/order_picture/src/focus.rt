@@ -6,17 +6,17 @@ ghost use Rattle.order_picture.specs.Pictures.{IsFault, IsFocus};
 
 use crate::records::{Name, is_one};
 use crate::subjects::page_of;
-use audit_model::is_placement_of;
+use audit_model::{PageReason, is_placement_of};
 use audit_report::Report;
-use migration_types::{LogName, PageNo, Session};
-use session_story::{last_change, record_at, send_of};
+use migration_types::{GuestRec, LogName, PageNo, Session};
+use session_story::{handover_of, last_change, record_at, send_of};
 
 /// Why a record stands out.
 #[derive(Clone, Copy, Debug, PartialEq, Eq)]
 pub enum Mark {
     /// It is the faulty record of the report.
     Faulty,
-    /// It is the placement, the sending or the use that the faulty record concerns.
+    /// It is the placement, the sending, the use or the release that the faulty record concerns.
     Concerned,
     /// It is about the page of the faulty record.
     OfPage,
@@ -83,6 +83,30 @@ fn first_placement(session: &Session, page: PageNo) -> Option<Name> {
     Some((LogName::Pager, u32::try_from(place).ok()?))
 }
 
+/// Whether the report is of a placement over a release.
+fn is_over(report: &Report) -> bool {
+    matches!(
+        report,
+        Report::Faulty {
+            reason: PageReason::Over,
+            ..
+        }
+    )
+}
+
+/// The guest's first release of a page at the target.
+fn first_release(session: &Session, page: PageNo) -> Option<Name> {
+    let resume = handover_of(session).resume?;
+    for (n, rec) in session.guest().iter().enumerate().skip(resume as usize) {
+        if let GuestRec::Release { page: released, .. } = *rec {
+            if released.number() == page.number() {
+                return Some((LogName::Guest, u32::try_from(n).ok()?));
+            }
+        }
+    }
+    None
+}
+
 /// The record that a fault of this record, about this page, concerns: of a use the page's first placement, of a sending
 /// the last change of the page before the halt, of a placement an earlier one, or else the page's sending.
 fn concerned_by(session: &Session, fault: Name, page: PageNo) -> Option<Name> {
@@ -115,6 +139,7 @@ pub(crate) fn focus_of(session: &Session, report: &Report) -> Focus
     };
     let page = page_of(session, name);
     let concerned = match page {
+        Some(page) if is_over(report) => first_release(session, page),
         Some(page) => concerned_by(session, name, page),
         None => None,
     };

@@ -1,8 +1,9 @@
 //! Which records of an order have a row of their own: the page's, what these receive, the halt and the resume, and those
-//! that stand next to the faulty one; of too many the first, the last, and those nearest to it.
+//! that stand next to the faulty one; of too many the first, the last, those nearest to it, and the release that a
+//! placement is over.
 
 use crate::focus::{Focus, Mark, mark_of};
-use crate::records::{Name, receipt};
+use crate::records::{Name, is_one, receipt};
 use migration_types::{GuestRec, LogName, Session};
 use std::alloc::{AllocError, Global};
 
@@ -116,6 +117,14 @@ fn leave_nearest(wanted: &mut Vec<bool>, middle: usize) {
     }
 }
 
+/// The release that the faulty placement is over: no other placement concerns a record of the guest.
+fn release_under(focus: &Focus) -> Option<Name> {
+    match (focus.fault, focus.concerned) {
+        (Some((LogName::Pager, _)), Some((LogName::Guest, place))) => Some((LogName::Guest, place)),
+        _ => None,
+    }
+}
+
 /// A single record between two that are wanted takes no more room than what would stand for it.
 fn fill_gaps(wanted: &mut Vec<bool>) {
     for n in 1..wanted.len() {
@@ -141,6 +150,10 @@ pub(crate) fn kept_in(
         want(&mut wanted, middle.saturating_add(1));
     }
     leave_nearest(&mut wanted, middle);
+    let release = release_under(focus);
+    if let Some(place) = order.iter().position(|name| is_one(release, *name)) {
+        want(&mut wanted, place);
+    }
     fill_gaps(&mut wanted);
     Ok(wanted)
 }

@@ -57,6 +57,9 @@ pub(crate) fn page_reason(reason: PageReason) -> &'static [u8] {
         PageReason::Twice => b"it places a page that was placed before",
         PageReason::Altered => b"it places other contents than the page had at the halt",
         PageReason::Unfit => b"it places zeros for a page that was not released at the halt",
+        PageReason::Over => {
+            b"it places a page that was released at the target, and no look before that release covers it"
+        }
     }
 }
 

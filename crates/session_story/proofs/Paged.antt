@@ -11,7 +11,7 @@ use Rattle.migration_types.specs.declared.records.PagerRec.TheVariants.{Got, Rea
 use Rattle.migration_types.specs.Receipts.{Name}
 use Rattle.migration_types.specs.Sessions.{Recorded, IsSession, line_of, log_length}
 use Rattle.audit_model.specs.declared.reasons.PageReason.{PageReason}
-use Rattle.audit_model.specs.declared.reasons.PageReason.TheVariants.{Read as WrongRead, Early, Given, Stale, Twice, Altered, Unfit}
+use Rattle.audit_model.specs.declared.reasons.PageReason.TheVariants.{Read as WrongRead, Early, Given, Stale, Twice, Altered, Unfit, Over}
 use Rattle.audit_model.specs.Names.{if_there}
 use Rattle.audit_model.specs.Faults.{GuestFault, SourceFault, PagerFault, if_fault, IsPageFault}
 use Rattle.std.proofs.lemmas.Option.{slice_get_within}
@@ -36,6 +36,7 @@ guest_paged s Stale n (Miss v p) e f = absurd f
 guest_paged s Twice n (Miss v p) e f = absurd f
 guest_paged s Altered n (Miss v p) e f = absurd f
 guest_paged s Unfit n (Miss v p) e f = absurd f
+guest_paged s Over n (Miss v p) e f = absurd f
 guest_paged s WrongRead n Halt e f = absurd f
 guest_paged s Early n Halt e f = let access = f.1.is_access in absurd (cc)
 guest_paged s Given n Halt e f = absurd f
@@ -43,6 +44,7 @@ guest_paged s Stale n Halt e f = absurd f
 guest_paged s Twice n Halt e f = absurd f
 guest_paged s Altered n Halt e f = absurd f
 guest_paged s Unfit n Halt e f = absurd f
+guest_paged s Over n Halt e f = absurd f
 guest_paged s WrongRead n (Resume i) e f = absurd f
 guest_paged s Early n (Resume i) e f = let access = f.1.is_access in absurd (cc)
 guest_paged s Given n (Resume i) e f = absurd f
@@ -50,6 +52,7 @@ guest_paged s Stale n (Resume i) e f = absurd f
 guest_paged s Twice n (Resume i) e f = absurd f
 guest_paged s Altered n (Resume i) e f = absurd f
 guest_paged s Unfit n (Resume i) e f = absurd f
+guest_paged s Over n (Resume i) e f = absurd f
 guest_paged s WrongRead n (See k) e f = absurd f
 guest_paged s Early n (See k) e f = let access = f.1.is_access in absurd (cc)
 guest_paged s Given n (See k) e f = absurd f
@@ -57,6 +60,7 @@ guest_paged s Stale n (See k) e f = absurd f
 guest_paged s Twice n (See k) e f = absurd f
 guest_paged s Altered n (See k) e f = absurd f
 guest_paged s Unfit n (See k) e f = absurd f
+guest_paged s Over n (See k) e f = absurd f
 
 source_paged : (s : Recorded) (reason : PageReason) (n : ℕ) (r : SourceRec) → source_page r ≡ None → SourceFault s reason r → ⊥
 source_paged s reason n (Send p x) e f = absurd (cc)
@@ -67,6 +71,7 @@ source_paged s Stale n (Halted h) e f = absurd f
 source_paged s Twice n (Halted h) e f = absurd f
 source_paged s Altered n (Halted h) e f = absurd f
 source_paged s Unfit n (Halted h) e f = absurd f
+source_paged s Over n (Halted h) e f = absurd f
 source_paged s WrongRead n State e f = absurd f
 source_paged s Early n State e f = absurd f
 source_paged s Given n State e f = absurd f
@@ -74,6 +79,7 @@ source_paged s Stale n State e f = absurd f
 source_paged s Twice n State e f = absurd f
 source_paged s Altered n State e f = absurd f
 source_paged s Unfit n State e f = absurd f
+source_paged s Over n State e f = absurd f
 source_paged s WrongRead n (Again i) e f = absurd f
 source_paged s Early n (Again i) e f = absurd f
 source_paged s Given n (Again i) e f = absurd f
@@ -81,6 +87,7 @@ source_paged s Stale n (Again i) e f = absurd f
 source_paged s Twice n (Again i) e f = absurd f
 source_paged s Altered n (Again i) e f = absurd f
 source_paged s Unfit n (Again i) e f = absurd f
+source_paged s Over n (Again i) e f = absurd f
 source_paged s WrongRead n (Ask i) e f = absurd f
 source_paged s Early n (Ask i) e f = absurd f
 source_paged s Given n (Ask i) e f = absurd f
@@ -88,6 +95,7 @@ source_paged s Stale n (Ask i) e f = absurd f
 source_paged s Twice n (Ask i) e f = absurd f
 source_paged s Altered n (Ask i) e f = absurd f
 source_paged s Unfit n (Ask i) e f = absurd f
+source_paged s Over n (Ask i) e f = absurd f
 source_paged s WrongRead n Done e f = absurd f
 source_paged s Early n Done e f = absurd f
 source_paged s Given n Done e f = absurd f
@@ -95,6 +103,7 @@ source_paged s Stale n Done e f = absurd f
 source_paged s Twice n Done e f = absurd f
 source_paged s Altered n Done e f = absurd f
 source_paged s Unfit n Done e f = absurd f
+source_paged s Over n Done e f = absurd f
 
 pager_paged : (s : Recorded) (reason : PageReason) (n : ℕ) (r : PagerRec) → pager_page r ≡ None → PagerFault s reason n r → ⊥
 pager_paged s reason n (Place p g x) e f = absurd (cc)
@@ -106,6 +115,7 @@ pager_paged s Stale n (Got d) e f = absurd f
 pager_paged s Twice n (Got d) e f = absurd f
 pager_paged s Altered n (Got d) e f = absurd f
 pager_paged s Unfit n (Got d) e f = absurd f
+pager_paged s Over n (Got d) e f = absurd f
 pager_paged s WrongRead n Ready e f = absurd f
 pager_paged s Early n Ready e f = absurd f
 pager_paged s Given n Ready e f = absurd f
@@ -113,6 +123,7 @@ pager_paged s Stale n Ready e f = absurd f
 pager_paged s Twice n Ready e f = absurd f
 pager_paged s Altered n Ready e f = absurd f
 pager_paged s Unfit n Ready e f = absurd f
+pager_paged s Over n Ready e f = absurd f
 pager_paged s WrongRead n (Fault i) e f = absurd f
 pager_paged s Early n (Fault i) e f = absurd f
 pager_paged s Given n (Fault i) e f = absurd f
@@ -120,6 +131,7 @@ pager_paged s Stale n (Fault i) e f = absurd f
 pager_paged s Twice n (Fault i) e f = absurd f
 pager_paged s Altered n (Fault i) e f = absurd f
 pager_paged s Unfit n (Fault i) e f = absurd f
+pager_paged s Over n (Fault i) e f = absurd f
 pager_paged s WrongRead n (Join i) e f = absurd f
 pager_paged s Early n (Join i) e f = absurd f
 pager_paged s Given n (Join i) e f = absurd f
@@ -127,6 +139,7 @@ pager_paged s Stale n (Join i) e f = absurd f
 pager_paged s Twice n (Join i) e f = absurd f
 pager_paged s Altered n (Join i) e f = absurd f
 pager_paged s Unfit n (Join i) e f = absurd f
+pager_paged s Over n (Join i) e f = absurd f
 pager_paged s WrongRead n (Want p) e f = absurd f
 pager_paged s Early n (Want p) e f = absurd f
 pager_paged s Given n (Want p) e f = absurd f
@@ -134,6 +147,7 @@ pager_paged s Stale n (Want p) e f = absurd f
 pager_paged s Twice n (Want p) e f = absurd f
 pager_paged s Altered n (Want p) e f = absurd f
 pager_paged s Unfit n (Want p) e f = absurd f
+pager_paged s Over n (Want p) e f = absurd f
 pager_paged s WrongRead n (Skip i) e f = absurd f
 pager_paged s Early n (Skip i) e f = absurd f
 pager_paged s Given n (Skip i) e f = absurd f
@@ -141,6 +155,7 @@ pager_paged s Stale n (Skip i) e f = absurd f
 pager_paged s Twice n (Skip i) e f = absurd f
 pager_paged s Altered n (Skip i) e f = absurd f
 pager_paged s Unfit n (Skip i) e f = absurd f
+pager_paged s Over n (Skip i) e f = absurd f
 pager_paged s WrongRead n All e f = absurd f
 pager_paged s Early n All e f = absurd f
 pager_paged s Given n All e f = absurd f
@@ -148,6 +163,7 @@ pager_paged s Stale n All e f = absurd f
 pager_paged s Twice n All e f = absurd f
 pager_paged s Altered n All e f = absurd f
 pager_paged s Unfit n All e f = absurd f
+pager_paged s Over n All e f = absurd f
 
 paged_there : {A : Type 0} (page_of : A → Option ℕ) (fault : A → Type 0) → ((r : A) → page_of r ≡ None → fault r → ⊥) → (o : Option A) → if_there page_of o ≡ None → if_fault fault o → ⊥
 paged_there page_of fault each None e f = f

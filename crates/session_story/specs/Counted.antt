@@ -1,7 +1,7 @@
 -- How many pages came in which way, and how much else there is of a session.
 use Rattle.std.specs.Prelude.{◌≡◌, ℕ, zero, suc, Bool, true, false, not, ◌==◌, List, length, slice_get}
 use Rattle.migration_types.specs.declared.cert.Entry.{Entry}
-use Rattle.migration_types.specs.declared.cert.Entry.TheVariants.{Nothing, Source, Balloon}
+use Rattle.migration_types.specs.declared.cert.Entry.TheVariants.{Nothing, Fresh, Source, Balloon}
 use Rattle.migration_types.specs.declared.records.SourceRec.{SourceRec}
 use Rattle.migration_types.specs.declared.records.SourceRec.TheVariants.{Send, Again, Ask}
 use Rattle.migration_types.specs.declared.records.LinkRec.{LinkRec}
@@ -13,10 +13,15 @@ use Rattle.audit_model.specs.Shape.{passes, is_miss}
 use Rattle.session_story.specs.Scans.{how_many}
 use Rattle.session_story.specs.declared.counting.Counts.{Counts}
 
--- the page was never placed
+-- the page was neither placed nor used at the target
 abbrev pub is_unmoved : Entry → Bool
 is_unmoved Nothing = true
 is_unmoved _ = false
+
+-- the page was released at the target and never placed
+abbrev pub is_fresh : Entry → Bool
+is_fresh (Fresh first) = true
+is_fresh _ = false
 
 -- the page was sent by the source
 abbrev pub is_sent : Entry → Bool
@@ -71,6 +76,7 @@ is_push s n _ = false
 -- the counts of a session, by its records and by the entries of its certificate
 pub record IsCounts (s : Recorded) (entries : List Entry) (c : Counts) : Type 0 where
   pub unmoved : c.unmoved ≡ how_many (λ m. is_unmoved) entries (length entries)
+  pub fresh : c.fresh ≡ how_many (λ m. is_fresh) entries (length entries)
   pub sent : c.sent ≡ how_many (λ m. is_sent) entries (length entries)
   pub zeroed : c.zeroed ≡ how_many (λ m. is_zeroed) entries (length entries)
   pub misses : c.misses ≡ how_many (λ m. is_miss) s.guest (length s.guest)

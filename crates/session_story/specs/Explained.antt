@@ -1,22 +1,25 @@
 -- What is told of a session, by the report on it.
-use Rattle.std.specs.Prelude.{◌≡◌, ℕ, ◌<◌, List, MatchOption, Option, Some, slice_get, slice_index}
+use Rattle.std.specs.Prelude.{◌≡◌, ℕ, ◌<◌, List, length, MatchOption, Option, Some, slice_get, slice_index}
 use Rattle.migration_types.specs.declared.records.LogName.{LogName}
 use Rattle.migration_types.specs.declared.records.GuestRec.TheVariants.{Read}
 use Rattle.migration_types.specs.declared.records.SourceRec.TheVariants.{Send}
 use Rattle.migration_types.specs.declared.records.PagerRec.TheVariants.{Place}
 use Rattle.migration_types.specs.Sessions.{Recorded, line_of}
 use Rattle.audit_model.specs.declared.reasons.PageReason.{PageReason}
-use Rattle.audit_model.specs.declared.reasons.PageReason.TheVariants.{Read as WrongRead, Early, Given, Stale, Twice, Altered, Unfit}
+use Rattle.audit_model.specs.declared.reasons.PageReason.TheVariants.{Read as WrongRead, Early, Given, Stale, Twice, Altered, Unfit, Over}
 use Rattle.audit_model.specs.Flat.{flat, at_halt}
 use Rattle.audit_model.specs.FirstFault.{IsFirstFault, IsFirstPageFault}
+use Rattle.page_facts.specs.Judged.{is_late_touch}
 use Rattle.page_facts.specs.PageFaults.{page_at}
+use Rattle.page_facts.specs.Tables.{first_before}
 use Rattle.audit_report.specs.declared.report.Report.{Report}
 use Rattle.audit_report.specs.declared.report.Report.TheVariants as report
 use Rattle.session_story.specs.Pages.{IsHandover, IsPageStory, first_send}
 use Rattle.session_story.specs.Values.{IsInstead, IsOther}
-use Rattle.session_story.specs.Looks.{HasNoLook, IsGreatestLook}
+use Rattle.session_story.specs.Looks.{IsFurthestLook}
 use Rattle.session_story.specs.Counted.{IsCounts}
 use Rattle.session_story.specs.Waits.{IsCircle, TakesAll}
+use Rattle.session_story.specs.declared.looks.Look.{Look}
 use Rattle.session_story.specs.declared.values.Held.{Held}
 use Rattle.session_story.specs.declared.faults.Detail.{Detail}
 use Rattle.session_story.specs.declared.faults.Detail.TheVariants.{Instead, Seen, Other, Plain}
@@ -31,13 +34,19 @@ abbrev pub IsOtherIn : Recorded → ℕ → List ℕ → Option Held → Type 0
 IsOtherIn s page content held =
     MatchOption held ((c : ℕ) → c < s.geometry.cells → slice_index content c ≡ flat s (at_halt s) page c) (IsOther s page content)
 
+-- the look that reached furthest before the page's first touch after handover
+abbrev pub IsLookBeforeTouch : Recorded → ℕ → Option Look → Type 0
+IsLookBeforeTouch s page look = (first : ℕ) → first_before (is_late_touch s page) s.guest (length s.guest) ≡ Some first → IsFurthestLook s first look
+
 -- What is told besides: of a wrong read what one machine gives, of an early access the look that reached furthest before
--- it, of contents that are not the page's the first cell that is not.
+-- it, of contents that are not the page's the first cell that is not, of a placement over a release the look that reached
+-- furthest before this release.
 abbrev pub IsDetail : Recorded → PageReason → LogName → ℕ → ℕ → Detail → Type 0
 IsDetail s WrongRead log n page (Instead held) = (vcpu cell value : ℕ) → slice_get s.guest n ≡ Some (Read vcpu page cell value) → MatchOption held ⊥ (IsInstead s n page cell)
-IsDetail s Early log n page (Seen look) = MatchOption look (HasNoLook s n) (IsGreatestLook s n)
+IsDetail s Early log n page (Seen look) = IsFurthestLook s n look
 IsDetail s Stale log n page (Other held) = (content : List ℕ) → slice_get s.source n ≡ Some (Send page content) → IsOtherIn s page content held
 IsDetail s Altered log n page (Other held) = (got : ℕ) (content : List ℕ) → slice_get s.pager n ≡ Some (Place page got content) → IsOtherIn s page content held
+IsDetail s Over log n page (Seen look) = IsLookBeforeTouch s page look
 IsDetail s Given log n page Plain = Unit {0}
 IsDetail s Twice log n page Plain = Unit {0}
 IsDetail s Unfit log n page Plain = Unit {0}

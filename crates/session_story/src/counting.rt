@@ -11,8 +11,10 @@ use migration_types::{Entry, Session};
 /// How many pages came in which way, by a certificate, and how many records there are of some kinds.
 #[derive(Clone, Copy, Debug, PartialEq, Eq)]
 pub struct Counts {
-    /// Pages that were not placed.
+    /// Pages that were neither placed nor used at the target.
     pub unmoved: u32,
+    /// Pages that were released at the target and never placed.
+    pub fresh: u32,
     /// Pages that the source sent.
     pub sent: u32,
     /// Released pages that came back as zeros.
@@ -40,6 +42,7 @@ pub fn counts_of(session: &Session, entries: &[Entry]) -> Counts
     session.keeps_limits();
     Counts {
         unmoved: count_of(session, &EntryQuestion::Unmoved, entries),
+        fresh: count_of(session, &EntryQuestion::Fresh, entries),
         sent: count_of(session, &EntryQuestion::Sent, entries),
         zeroed: count_of(session, &EntryQuestion::Zeroed, entries),
         misses: count_of(session, &GuestQuestion::Miss, session.guest()),

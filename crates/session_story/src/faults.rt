@@ -5,7 +5,8 @@ ghost use Rattle.migration_types.specs.Receipts.{Name};
 ghost use Rattle.migration_types.specs.Sessions.{log_length, line_of};
 ghost use Rattle.audit_model.specs.FirstFault.{IsFirstPageFault};
 ghost use Rattle.page_facts.specs.PageFaults.{page_at};
-ghost use Rattle.session_story.specs.Explained.{IsDetail, IsFaultStory};
+ghost use Rattle.session_story.specs.Pages.{IsPageStory};
+ghost use Rattle.session_story.specs.Explained.{IsDetail, IsFaultStory, IsLookBeforeTouch};
 
 use crate::lines::record_at;
 use crate::looks::{Look, greatest_look};
@@ -21,7 +22,8 @@ use std::alloc::{AllocError, Global};
 pub enum Detail {
     /// Of a wrong read: what one machine that never moved gives.
     Instead(Option<Held>),
-    /// Of an early access: the look before it that reached furthest, if there is one.
+    /// Of an early access, and of a placement over a release: the look before that access, or before that release, that
+    /// reached furthest, if there is one.
     Seen(Option<Look>),
     /// Of contents that are not the page's: the first cell that is not, with what the page has there at the halt.
     Other(Option<Held>),
@@ -93,6 +95,17 @@ fn other_placed(
     }
 }
 
+/// The look before a page's first use at the target that reached furthest.
+fn look_before(session: &Session, page: &PageStory) -> Option<Look>
+    requires { IsPageStory session.now page.now.page page.now }
+    ensures { IsLookBeforeTouch session.now page.now.page result }
+{
+    match page.found.touch {
+        Some(first) => greatest_look(session, first as usize),
+        None => None,
+    }
+}
+
 /// What is told of a faulty record besides its page's story.
 fn detail_of(
     alloc: Global,
@@ -100,20 +113,22 @@ fn detail_of(
     reason: PageReason,
     log: LogName,
     place: u32,
-    page: PageNo,
+    page: &PageStory,
 ) -> Result<Detail, AllocError>
-    requires page { page < session.now.geometry.pages }
+    requires page { page.now.page < session.now.geometry.pages }
+    requires story { IsPageStory session.now page.now.page page.now }
     requires there { place < log_length session.now log }
     requires guest { reason ≡ PageReason.Read → log ≡ LogName.Guest }
     requires early { reason ≡ PageReason.Early → log ≡ LogName.Guest }
-    ensures { IfOk result (IsDetail session.now reason log place page) }
+    ensures { IfOk result (IsDetail session.now reason log place page.now.page) }
 {
     let n = place as usize;
     match reason {
         PageReason::Read => Ok(Detail::Instead(instead_of(alloc, session, n)?)),
         PageReason::Early => Ok(Detail::Seen(greatest_look(session, n))),
-        PageReason::Stale => Ok(Detail::Other(other_sent(alloc, session, page, n)?)),
-        PageReason::Altered => Ok(Detail::Other(other_placed(alloc, session, page, n)?)),
+        PageReason::Stale => Ok(Detail::Other(other_sent(alloc, session, page.page, n)?)),
+        PageReason::Altered => Ok(Detail::Other(other_placed(alloc, session, page.page, n)?)),
+        PageReason::Over => Ok(Detail::Seen(look_before(session, page))),
         PageReason::Given | PageReason::Twice | PageReason::Unfit => Ok(Detail::Plain),
     }
 }
@@ -137,7 +152,7 @@ pub(crate) fn fault_at(
         unreachable!()
     };
     let story = story_of(alloc, session, page)?;
-    let detail = detail_of(alloc, session, reason, log, place, page)?;
+    let detail = detail_of(alloc, session, reason, log, place, &story)?;
     Ok(FaultStory {
         log,
         place,

@@ -54,6 +54,7 @@ pub(crate) enum PagerQuestion {
 #[derive(Clone, Copy)]
 pub(crate) enum EntryQuestion {
     Unmoved,
+    Fresh,
     Sent,
     Zeroed,
 }
@@ -217,6 +218,7 @@ impl Question for EntryQuestion {
     fn holds(&self, _session: &Session, _n: usize, entry: &Entry) -> bool {
         match *self {
             EntryQuestion::Unmoved => matches!(entry, Entry::Nothing),
+            EntryQuestion::Fresh => matches!(entry, Entry::Fresh { .. }),
             EntryQuestion::Sent => matches!(entry, Entry::Source { .. }),
             EntryQuestion::Zeroed => matches!(entry, Entry::Balloon { .. }),
         }

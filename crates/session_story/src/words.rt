@@ -10,15 +10,16 @@ use crate::explaining::Explanation;
 use crate::words::faults::push_fault;
 use crate::words::knots::push_knot;
 use crate::words::shapes::push_shape_story;
-use migration_types::Session;
+use migration_types::{Session, Version};
 pub use records::{log_word, push_place, push_record};
 use std::alloc::{AllocError, Global};
 
 /// Adds how a clean session went.
-fn push_counts(out: &mut String, counts: &Counts) -> Result<(), AllocError> {
+fn push_counts(out: &mut String, version: Version, counts: &Counts) -> Result<(), AllocError> {
     let sent = counts.sent;
     let zeroed = counts.zeroed;
     let unmoved = counts.unmoved;
+    let fresh = counts.fresh;
     let sends = counts.sends;
     let pushes = counts.pushes;
     let repeats = counts.repeats;
@@ -30,7 +31,16 @@ fn push_counts(out: &mut String, counts: &Counts) -> Result<(), AllocError> {
     )?;
     write!(out, "Pages that were sent and placed: {sent}\n")?;
     write!(out, "Released pages that came back as zeros: {zeroed}\n")?;
-    write!(out, "Pages that were not placed: {unmoved}\n")?;
+    match version {
+        Version::One => write!(out, "Pages that were not placed: {unmoved}\n")?,
+        Version::Two => {
+            write!(
+                out,
+                "Pages that were released at the target and never placed: {fresh}\n"
+            )?;
+            write!(out, "Other pages that were not placed: {unmoved}\n")?
+        }
+    }
     write!(
         out,
         "Sendings of a page: {sends}, of which unasked: {pushes}\n"
@@ -55,7 +65,7 @@ pub(crate) fn words_of(
         Explanation::Knot(Some(knot)) => push_knot(&mut out, session, knot)?,
         Explanation::Knot(None) => {}
         Explanation::Faulty(fault) => push_fault(&mut out, session, fault)?,
-        Explanation::Clean(counts) => push_counts(&mut out, counts)?,
+        Explanation::Clean(counts) => push_counts(&mut out, session.version(), counts)?,
     }
     Ok(out)
 }

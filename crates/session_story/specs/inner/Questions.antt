@@ -10,7 +10,7 @@ use Rattle.migration_types.specs.Sessions.{Recorded}
 use Rattle.audit_model.specs.Shape.{is_halt, is_resume, is_miss, is_send_of, delivers}
 use Rattle.session_story.specs.Pages.{changes, carries}
 use Rattle.session_story.specs.Values.{sets}
-use Rattle.session_story.specs.Counted.{is_unmoved, is_sent, is_zeroed, is_send, is_again, is_push, is_join, is_skip}
+use Rattle.session_story.specs.Counted.{is_unmoved, is_fresh, is_sent, is_zeroed, is_send, is_again, is_push, is_join, is_skip}
 use Rattle.session_story.specs.declared.looks.Look.{Look}
 use Rattle.session_story.specs.declared.questions.GuestQuestion.{GuestQuestion}
 use Rattle.session_story.specs.declared.questions.GuestQuestion.TheVariants as guest
@@ -46,6 +46,7 @@ asks_pager pager.Skip s n = is_skip
 
 abbrev pub asks_entry : EntryQuestion → Recorded → ℕ → Entry → Bool
 asks_entry entry.Unmoved s n = is_unmoved
+asks_entry entry.Fresh s n = is_fresh
 asks_entry entry.Sent s n = is_sent
 asks_entry entry.Zeroed s n = is_zeroed
 

@@ -26,13 +26,31 @@ fn push_read(out: &mut String, session: &Session, held: &Held) -> Result<(), All
     out.push_str(".\n")
 }
 
-/// Adds which look before an early use reaches furthest.
+/// Adds which look before a use reaches furthest.
 fn push_seen(out: &mut String, session: &Session, seen: Option<Look>) -> Result<(), AllocError> {
     let Some(look) = seen else {
         return out.push_str("The guest looks at no placement before it.\n");
     };
     out.push_str("Of the looks before it this one reaches furthest: ")?;
     push_record(out, session, LogName::Guest, look.place)?;
+    out.push_str(".\n")
+}
+
+/// Adds which look reaches a placement too late, behind what should come after it.
+fn push_late(
+    out: &mut String,
+    session: &Session,
+    look: Option<u32>,
+    behind: &str,
+) -> Result<(), AllocError> {
+    let Some(look) = look else {
+        return out.push_str("No look at all reaches it.\n");
+    };
+    write!(
+        out,
+        "The first look that reaches it stands behind the {behind}: "
+    )?;
+    push_record(out, session, LogName::Guest, look)?;
     out.push_str(".\n")
 }
 
@@ -54,12 +72,36 @@ fn push_early(
     push_place(out, session, LogName::Pager, placement)?;
     out.push_str(".\n")?;
     push_seen(out, session, seen)?;
-    let Some(look) = page.found.look else {
-        return out.push_str("No look at all reaches it.\n");
+    push_late(out, session, page.found.look, "use")
+}
+
+/// Adds what is wrong with a placement over a release.
+fn push_over(
+    out: &mut String,
+    session: &Session,
+    fault: &FaultStory,
+    seen: Option<Look>,
+) -> Result<(), AllocError> {
+    let Some(release) = fault.page.found.touch else {
+        return Ok(());
     };
-    out.push_str("The first look that reaches it stands behind the use: ")?;
-    push_record(out, session, LogName::Guest, look)?;
-    out.push_str(".\n")
+    out.push_str(
+        "The first use of the page at the target is a release, which makes it zeros there: ",
+    )?;
+    push_record(out, session, LogName::Guest, release)?;
+    out.push_str(
+        ".\nNo look before this release reaches the placement, so that it may come after the release and put ",
+    )?;
+    out.push_str(match session.pager().get(fault.place as usize) {
+        Some(PagerRec::Zero { .. }) => "zeros over what the guest writes by then",
+        _ => "old contents over the zeros",
+    })?;
+    out.push_str(".\n")?;
+    push_seen(out, session, seen)?;
+    push_late(out, session, fault.page.found.look, "release")?;
+    out.push_str(
+        "Right would be a look at this placement before the release, or no placement: the pager skips a page that is released there first.\n",
+    )
 }
 
 /// Adds what the page has where contents are others.
@@ -189,7 +231,10 @@ fn push_plain(out: &mut String, session: &Session, fault: &FaultStory) -> Result
 fn push_wrong(out: &mut String, session: &Session, fault: &FaultStory) -> Result<(), AllocError> {
     match &fault.detail {
         Detail::Instead(Some(held)) => push_read(out, session, held),
-        Detail::Seen(seen) => push_early(out, session, &fault.page, *seen),
+        Detail::Seen(seen) => match fault.log {
+            LogName::Pager => push_over(out, session, fault, *seen),
+            _ => push_early(out, session, &fault.page, *seen),
+        },
         Detail::Other(Some(held)) => match fault.log {
             LogName::Source => push_sent(out, session, fault.place, held),
             _ => push_placed(out, session, fault.place, held),
@@ -293,8 +338,12 @@ fn push_story(out: &mut String, session: &Session, fault: &FaultStory) -> Result
         out,
         session,
         LogName::Guest,
-        page.found.access,
-        ", its first use at the target",
+        page.found.touch,
+        if page.found.releases {
+            ", its first use at the target, after which it is there as zeros"
+        } else {
+            ", its first use at the target"
+        },
         "the guest does not use it at the target",
     )
 }
@@ -308,6 +357,9 @@ fn push_order(out: &mut String, fault: &FaultStory) -> Result<(), AllocError> {
         (PageReason::Early, None) => {
             out.push_str("In every order of the records the use finds no page.\n")
         }
+        (PageReason::Over, _) => out.push_str(
+            "The order that the audit shows puts the placement, and all that has to come after it, behind the release, and so over the zeros.\n",
+        ),
         _ => out.push_str("It is wrong in every order of the records.\n"),
     }
 }

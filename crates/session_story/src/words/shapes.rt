@@ -4,7 +4,7 @@ use super::records::{log_word, push_place, push_record};
 use crate::lines::line_at;
 use crate::shapes::ShapeStory;
 use audit_model::ShapeReason;
-use migration_types::{GuestRec, LinkRec, LogName, PagerRec, Session, SourceRec};
+use migration_types::{GuestRec, LinkRec, LogName, PagerRec, Session, SourceRec, Version};
 use std::alloc::AllocError;
 
 /// What a record has to name, and the log and the number that it names.
@@ -113,15 +113,21 @@ fn push_moved(out: &mut String, session: &Session, place: Option<u32>) -> Result
     }
 }
 
+/// Of a guest that is halted.
+const IDLE: &str = "The guest does nothing between its halt and its resume.";
+
 /// Adds the phase that a record of the guest breaks.
 fn push_phase(out: &mut String, session: &Session, story: &ShapeStory) -> Result<(), AllocError> {
     let rule = match session.guest().get(story.place as usize) {
         Some(GuestRec::Halt) => "The guest is halted once.",
         Some(GuestRec::Resume { .. }) => "The guest is resumed once, after its halt.",
-        Some(GuestRec::Release { .. }) => "The guest releases pages before its halt alone.",
+        Some(GuestRec::Release { .. }) => match session.version() {
+            Version::One => "The guest releases pages before its halt alone.",
+            Version::Two => IDLE,
+        },
         Some(GuestRec::Miss { .. }) => "The guest misses pages after its resume alone.",
         Some(GuestRec::See { .. }) => "The guest looks at placements after its resume alone.",
-        _ => "The guest does nothing between its halt and its resume.",
+        _ => IDLE,
     };
     out.push_str(rule)?;
     out.push_str(" Its first halt: ")?;

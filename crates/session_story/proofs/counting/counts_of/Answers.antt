@@ -12,12 +12,13 @@ returns c =
     let s = c.args.session.now in
     record {
       unmoved = c.count_of.ensures;
-      sent = c.count_of-2.ensures;
-      zeroed = c.count_of-3.ensures;
-      misses = c.count_of-4.ensures ∙ ap (λ (log : List GuestRec). how_many (λ m. is_miss) log (length log)) c.guest.ensures;
-      sends = c.count_of-5.ensures ∙ ap (λ (log : List SourceRec). how_many (λ m. is_send) log (length log)) c.source.ensures;
-      pushes = c.count_of-6.ensures ∙ ap (λ (log : List SourceRec). how_many (is_push s) log (length log)) c.source-2.ensures;
-      repeats = c.count_of-7.ensures ∙ ap (λ (log : List SourceRec). how_many (λ m. is_again) log (length log)) c.source-3.ensures;
-      waits = c.count_of-8.ensures ∙ ap (λ (log : List PagerRec). how_many (λ m. is_join) log (length log)) c.pager.ensures;
-      dropped = c.count_of-9.ensures ∙ ap (λ (log : List PagerRec). how_many (λ m. is_skip) log (length log)) c.pager-2.ensures;
+      fresh = c.count_of-2.ensures;
+      sent = c.count_of-3.ensures;
+      zeroed = c.count_of-4.ensures;
+      misses = c.count_of-5.ensures ∙ ap (λ (log : List GuestRec). how_many (λ m. is_miss) log (length log)) c.guest.ensures;
+      sends = c.count_of-6.ensures ∙ ap (λ (log : List SourceRec). how_many (λ m. is_send) log (length log)) c.source.ensures;
+      pushes = c.count_of-7.ensures ∙ ap (λ (log : List SourceRec). how_many (is_push s) log (length log)) c.source-2.ensures;
+      repeats = c.count_of-8.ensures ∙ ap (λ (log : List SourceRec). how_many (λ m. is_again) log (length log)) c.source-3.ensures;
+      waits = c.count_of-9.ensures ∙ ap (λ (log : List PagerRec). how_many (λ m. is_join) log (length log)) c.pager.ensures;
+      dropped = c.count_of-10.ensures ∙ ap (λ (log : List PagerRec). how_many (λ m. is_skip) log (length log)) c.pager-2.ensures;
     }

@@ -6,6 +6,7 @@ use Rattle.audit_model.specs.Faults.{IsPageFault}
 use Rattle.audit_model.specs.FirstFault.{IsFirstPageFault}
 use Rattle.audit_report.proofs.Showing.{fault_there}
 use Rattle.session_story.specs.Lines.{IsRecordAt}
+use Rattle.session_story.specs.Pages.{IsPageStory}
 use Rattle.session_story.proofs.Paged.{at_line, fault_paged, page_below, guest_read, guest_early}
 use Rattle.session_story.proofs.faults.fault_at.Goals as goal
 
@@ -36,7 +37,12 @@ pub story_of-requires : goal.story_of-requires
 story_of-requires c = page_is c.args.session.now c.keeps_limits.ensures (c.in-Some.log, c.in-Some.place) c.page_at.result c.in-Some-page_at.page c.in-Some-page_at.is c.page_at.ensures
 
 pub detail_of-requires-clause-page : goal.detail_of-requires-clause-page
-detail_of-requires-clause-page c = page_is c.args.session.now c.keeps_limits.ensures (c.in-Some.log, c.in-Some.place) c.page_at.result c.in-Some-page_at.page c.in-Some-page_at.is c.page_at.ensures
+detail_of-requires-clause-page c =
+    let s = c.args.session.now in
+    subst (λ (p : ℕ). p < s.geometry.pages) (sym c.in_ok-story.ensures.page_is) (page_is s c.keeps_limits.ensures (c.in-Some.log, c.in-Some.place) c.page_at.result c.in-Some-page_at.page c.in-Some-page_at.is c.page_at.ensures)
+
+pub detail_of-requires-clause-story : goal.detail_of-requires-clause-story
+detail_of-requires-clause-story c = subst (λ (p : ℕ). IsPageStory c.args.session.now p c.in_ok-story.story) (sym c.in_ok-story.ensures.page_is) c.in_ok-story.ensures
 
 pub detail_of-requires-clause-there : goal.detail_of-requires-clause-there
 detail_of-requires-clause-there c =
@@ -66,7 +72,7 @@ returns c =
       is_reason = refl;
       is_first = at.is_first;
       is_of = sym c.page_at.ensures ∙ c.in-Some-page_at.is ∙ ap (λ (p : ℕ). Some p) (sym page.page_is);
-      page = subst (λ (p : ℕ). Rattle.session_story.specs.Pages.IsPageStory s p c.in_ok-story.story) (sym page.page_is) page;
+      page = subst (λ (p : ℕ). IsPageStory s p c.in_ok-story.story) (sym page.page_is) page;
       handover = c.handover_of.ensures;
-      detail = subst (λ (p : ℕ). Rattle.session_story.specs.Explained.IsDetail s c.args.reason c.in-Some.log c.in-Some.place p c.in_ok-detail.detail) (sym page.page_is) c.in_ok-detail.ensures;
+      detail = c.in_ok-detail.ensures;
     }
