@@ -12,9 +12,11 @@ use Rattle.migration_types.specs.declared.records.LinkRec.{LinkRec}
 use Rattle.migration_types.specs.declared.records.LinkRec.TheVariants.{Down, Up}
 use Rattle.migration_types.specs.declared.records.PagerRec.{PagerRec}
 use Rattle.migration_types.specs.declared.records.PagerRec.TheVariants.{Got, Ready, Fault, Join, Want, Place, Zero, Skip, All}
+use Rattle.migration_types.specs.declared.version.Version.{Version}
+use Rattle.migration_types.specs.declared.version.Version.TheVariants.{One, Two}
 use Rattle.migration_types.specs.Sessions.{Recorded}
 use Rattle.session_log.specs.Records.{guest_line, source_line, link_line, pager_line}
-use Rattle.session_log.specs.Grammar.{header, pages_key, cells_key, init_key, guest_key, source_key, link_key, pager_key, page_line, session_lines}
+use Rattle.session_log.specs.Grammar.{header, pages_key, cells_key, init_key, guest_key, source_key, link_key, lane, pager_key, page_line, with_lane, session_lines}
 
 -- the last line is `end`, and none before it
 pub record IsClosed (lines : List (List ℕ)) : Type 0 where
@@ -80,13 +82,21 @@ pager_other All = other_line (pager_line All) refl
 page_other : (p : InitPage) → page_line p ≢ codes "end"
 page_other p = other_line (page_line p) refl
 
+header_other : (version : Version) → header version ≢ codes "end"
+header_other One = other_line (header One) refl
+header_other Two = other_line (header Two) refl
+
+closed_lane : (version : Version) (lines : List (List ℕ)) → IsClosed lines → IsClosed (with_lane version lines)
+closed_lane One lines c = c
+closed_lane Two lines c = closed_cons lane lines (other_line lane refl) c
+
 pub closed_session : (s : Recorded) → IsClosed (session_lines s)
 closed_session s =
     let pager = closed_counted pager_key pager_line s.pager (codes "end" ∷ []) (other_line (pager_key ++ decimal (length s.pager)) refl) pager_other closed_end in
-    let link = closed_counted link_key link_line s.link _ (other_line (link_key ++ decimal (length s.link)) refl) link_other pager in
+    let link = closed_counted link_key link_line s.link _ (other_line (link_key ++ decimal (length s.link)) refl) link_other (closed_lane s.version _ pager) in
     let source = closed_counted source_key source_line s.source _ (other_line (source_key ++ decimal (length s.source)) refl) source_other link in
     let guest = closed_counted guest_key guest_line s.guest _ (other_line (guest_key ++ decimal (length s.guest)) refl) guest_other source in
     let init = closed_counted init_key page_line s.init _ (other_line (init_key ++ decimal (length s.init)) refl) page_other guest in
-    closed_cons header _ (other_line header refl)
+    closed_cons (header s.version) _ (header_other s.version)
     (closed_cons (pages_key ++ decimal s.geometry.pages) _ (other_line (pages_key ++ decimal s.geometry.pages) refl)
     (closed_cons (cells_key ++ decimal s.geometry.cells) _ (other_line (cells_key ++ decimal s.geometry.cells) refl) init))

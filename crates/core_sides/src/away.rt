@@ -15,7 +15,7 @@ use active_push::SourceBook;
 use guest_script::Script;
 use link_book::LinkBook;
 use migration_events::{Direction, Event, Fate};
-use migration_types::{GuestRec, LinkRec, Logs, PagerRec, Seq, Session, SourceRec};
+use migration_types::{GuestRec, LinkRec, Logs, PagerRec, Seq, Session, SourceRec, Version};
 use std::alloc::{AllocError, Global};
 use std::marker::Model;
 use target_side::{Access, PagerBook, TargetBook};
@@ -213,7 +213,7 @@ impl<'a> Away<'a> {
             link: Seq::from_vec(link),
             pager,
         };
-        Ok(Session::new(self.source.geometry(), init, logs))
+        Ok(Session::new(Version::One, self.source.geometry(), init, logs))
     }
 
     /// What was recorded, where it is within the limits of a session; nothing of it is copied but the initial pages. An
@@ -238,7 +238,7 @@ impl<'a> Away<'a> {
             link: Seq::from_vec(link.into_log()),
             pager: Seq::from_vec(pager.into_log()),
         };
-        Ok(Session::new(geometry, init, logs))
+        Ok(Session::new(Version::One, geometry, init, logs))
     }
 
     /// Tells callers what it keeps: all is of the script's machine, and each log is within its limit.

@@ -13,7 +13,7 @@ use crate::left::{Left, all_left};
 use guest_book::GuestBook;
 use guest_script::Script;
 use link_book::LinkBook;
-use migration_types::{Geometry, GuestRec, InitPage, Logs, Seq, Session};
+use migration_types::{Geometry, GuestRec, InitPage, Logs, Seq, Session, Version};
 use std::alloc::{AllocError, Global};
 use std::marker::Model;
 use target_side::PagerBook;
@@ -185,5 +185,5 @@ fn guest_session(
         link: Seq::from_vec(Vec::new(alloc)),
         pager: Seq::from_vec(Vec::new(alloc)),
     };
-    Session::new(geometry, init, logs)
+    Session::new(Version::One, geometry, init, logs)
 }

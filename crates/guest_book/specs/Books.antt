@@ -6,6 +6,7 @@ use Rattle.migration_types.specs.declared.records.GuestRec.{GuestRec}
 use Rattle.migration_types.specs.Extents.{Extent}
 use Rattle.migration_types.specs.Limits.{most_records}
 use Rattle.migration_types.specs.Sessions.{Recorded}
+use Rattle.migration_types.specs.declared.version.Version.TheVariants.{One}
 use Rattle.audit_model.specs.Flat.{flat, in_ledger}
 use Rattle.page_store.specs.Frames.{Frames, memory_of}
 use Rattle.balloon_ledger.specs.Released.{Marks, released}
@@ -22,9 +23,9 @@ pub record GuestKept : Type 0 where
 abbrev pub part_of : GuestKept → GuestPart
 part_of b = record { geometry = b.frames.geometry; log = b.log; memory = memory_of b.frames; ledger = released b.ledger }
 
--- what is recorded of a machine where the guest's log alone has records
+-- what is recorded, in the first version, of a machine where the guest's log alone has records
 abbrev pub guest_session : Extent → List InitPage → List GuestRec → Recorded
-guest_session geometry init log = record { geometry = geometry; init = init; guest = log; source = []; link = []; pager = [] }
+guest_session geometry init log = record { version = One; geometry = geometry; init = init; guest = log; source = []; link = []; pager = [] }
 
 -- The log has reads, writes and releases alone, of pages and cells of the machine, and is within its limit. From some
 -- initial pages, the frames are those of one machine that never moved, and the released pages those of the log.

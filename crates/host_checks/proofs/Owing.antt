@@ -1,23 +1,28 @@
--- Pages with an entry that says where they were placed are resident at the end.
-use Rattle.std.proofs.Common.{◌≡◌, ◌≢◌, ℕ, ◌<◌, true, false, List, [], length, Some, get_or, refl, sym, ap, ◌∙◌, subst, arith}
+-- Pages with an entry that says where they were placed or released are resident at the end.
+use Rattle.std.proofs.Common.{◌≡◌, ◌≢◌, ℕ, zero, suc, ◌<◌, ◌≤◌, ◌⊎◌, inl, inr, Bool, true, false, cond, ◌||◌, List, [], length, Option, Some, None, get_or, refl, sym, ap, ◌∙◌, subst, arith}
 use Rattle.std.specs.Prelude.{slice_get, ◌==◌}
 use Rattle.std.proofs.lemmas.List.{append-nil}
 use Rattle.std.proofs.lemmas.Option.{slice_get_within, slice_get-get_or}
+use Rattle.std.proofs.lemmas.Bool.{cases_lt}
 use Rattle.std.proofs.lemmas.Bool.Decides.{nat_tests}
-use Rattle.migration_types.specs.declared.records.LogName.TheVariants.{Pager}
+use Rattle.migration_types.specs.declared.records.LogName.TheVariants.{Guest, Pager}
+use Rattle.migration_types.specs.declared.records.GuestRec.{GuestRec}
+use Rattle.migration_types.specs.declared.records.GuestRec.TheVariants.{Read, Write, Release, Miss, Halt, Resume, See}
 use Rattle.migration_types.specs.declared.records.PagerRec.{PagerRec}
 use Rattle.migration_types.specs.declared.cert.Entry.{Entry}
-use Rattle.migration_types.specs.declared.cert.Entry.TheVariants.{Nothing, Source, Balloon}
+use Rattle.migration_types.specs.declared.cert.Entry.TheVariants.{Nothing, Fresh, Source, Balloon}
 use Rattle.migration_types.specs.Certs.{Certified}
 use Rattle.migration_types.specs.Receipts.{Name}
 use Rattle.migration_types.specs.Sessions.{Recorded}
 use Rattle.audit_model.specs.Mergings.{IsMerging, at_start, spelled}
 use Rattle.audit_model.specs.Walks.{cursors_from}
-use Rattle.audit_model.specs.Flat.{flat, in_ledger, at_halt}
+use Rattle.audit_model.specs.Flat.{changed, flat, freed, freed_after, freed_page, home, in_ledger, at_halt}
+use Rattle.audit_model.specs.declared.home.Home.{Home}
+use Rattle.audit_model.specs.declared.home.Home.TheVariants.{AtSource, Nowhere, AtTarget}
 use Rattle.audit_model.specs.Shape.{is_placement_of}
 use Rattle.audit_model.specs.World.{world_after}
-use Rattle.audit_model.specs.Worlds.{placed_before, FollowsCursors}
-use Rattle.audit_model.specs.Certificates.{IsOf, IsRightCertificate}
+use Rattle.audit_model.specs.Worlds.{placed_before, resident_before, FollowsCursors}
+use Rattle.audit_model.specs.Certificates.{IsOf, IsFresh, IsRightCertificate}
 use Rattle.audit_model.proofs.History.{earlier_true}
 use Rattle.audit_model.proofs.Walked.{merging_is_walk}
 use Rattle.migration_types.specs.Extents.{Extent}
@@ -29,19 +34,72 @@ use Rattle.host_checks.specs.Outcomes.{IsFlatStore}
 same_page : (p : ℕ) → (p == p) ≡ true
 same_page p = grind (arith, nat_tests)
 
-placed_at_end : (s : Recorded) → FollowsCursors s → (order : List Name) → IsMerging s order → (page place : ℕ) (r : PagerRec) →
-    slice_get s.pager place ≡ Some r → is_placement_of page r ≡ true → (world_after s order).resident page ≡ true
-placed_at_end s follows order merging page place r is places =
-    let at = follows order merging order [] (sym (append-nil order)) in
-    let all : cursors_from at_start order Pager ≡ length s.pager = (merging_is_walk s order merging).1 Pager in
-    at.world.resident_is page
-    ∙ ap (λ (n : ℕ). placed_before s n page) all
-    ∙ earlier_true (is_placement_of page) s.pager place (length s.pager) r is places (slice_get_within s.pager place r is)
+-- a page that was released at the target before a record is so before all later ones
+freed_on : (h : Home) (page : ℕ) (r : GuestRec) → freed_after h page r true ≡ true
+freed_on AtSource page (Release v p) = refl
+freed_on Nowhere page (Release v p) = refl
+freed_on AtTarget page (Release v p) = either (p == page)
+  where
+    either : (b : Bool) → cond b true true ≡ true
+    either true = refl
+    either false = refl
+freed_on h page (Read v p c x) = refl
+freed_on h page (Write v p c x) = refl
+freed_on h page (Miss v p) = refl
+freed_on h page Halt = refl
+freed_on h page (Resume k) = refl
+freed_on h page (See k) = refl
 
-entry_places : (s : Recorded) (page : ℕ) (entry : Entry) → entry ≢ Nothing → IsOf s page entry → (place : ℕ) × (r : PagerRec) × (slice_get s.pager place ≡ Some r) × (is_placement_of page r ≡ true)
-entry_places s page Nothing other of = absurd (other refl)
-entry_places s page (Source send place first) other of = (place, _, of.is_placed, same_page page)
-entry_places s page (Balloon place first) other of = (place, _, of.is_zeroed, same_page page)
+freed_later : (s : Recorded) (page n m : ℕ) → n ≤ m → freed s n page ≡ true → freed s m page ≡ true
+freed_later s page n zero le is = let same : n ≡ zero = omega (arith, le) in subst (λ k. freed s k page ≡ true) same is
+freed_later s page n (suc m) le is = go (λ l. freed_later s page n m l is) (cases_lt n (suc m))
+  where
+    on : (o : Option GuestRec) → freed s m page ≡ true → changed (freed_after (home s m) page) o (freed s m page) ≡ true
+    on None so = so
+    on (Some r) so = ap (λ b. freed_after (home s m) page r b) so ∙ freed_on (home s m) page r
+
+    go : (n ≤ m → freed s m page ≡ true) → (n < suc m) ⊎ (suc m ≤ n) → freed s (suc m) page ≡ true
+    go rec (inl l) = on (slice_get s.guest m) (rec (omega (arith, l)))
+    go rec (inr l) = let same : n ≡ suc m = omega (arith, le, l) in subst (λ k. freed s k page ≡ true) same is
+
+freed_by : (s : Recorded) (page n vcpu : ℕ) → slice_get s.guest n ≡ Some (Release vcpu page) → home s n ≡ AtTarget → freed s (suc n) page ≡ true
+freed_by s page n vcpu is late =
+    ap (λ o. changed (freed_after (home s n) page) o (freed s n page)) is
+    ∙ ap (λ h. freed_page h (page == page) (freed s n page)) late
+    ∙ ap (λ b. cond b true (freed s n page)) (same_page page)
+
+-- where a page is placed or was released at the target, it is resident
+abbrev Comes : Recorded → ℕ → Type 0
+Comes s page = resident_before s (length s.guest) (length s.pager) page ≡ true
+
+or_right : (b : Bool) → (b || true) ≡ true
+or_right true = refl
+or_right false = refl
+
+placed_comes : (s : Recorded) (page place : ℕ) (r : PagerRec) → slice_get s.pager place ≡ Some r → is_placement_of page r ≡ true → Comes s page
+placed_comes s page place r is places =
+    ap (λ b. b || freed s (length s.guest) page) (earlier_true (is_placement_of page) s.pager place (length s.pager) r is places (slice_get_within s.pager place r is))
+
+fresh_comes : (s : Recorded) (page first : ℕ) → IsFresh s page first → Comes s page
+fresh_comes s page first of =
+    let lt = slice_get_within s.guest first _ of.is_release in
+    let at_end = freed_later s page (suc first) (length s.guest) (omega (arith, lt)) (freed_by s page first of.vcpu of.is_release of.is_late) in
+    ap (λ b. placed_before s (length s.pager) page || b) at_end ∙ or_right (placed_before s (length s.pager) page)
+
+entry_comes : (s : Recorded) (page : ℕ) (entry : Entry) → entry ≢ Nothing → IsOf s page entry → Comes s page
+entry_comes s page Nothing other of = absurd (other refl)
+entry_comes s page (Fresh first) other of = fresh_comes s page first of
+entry_comes s page (Source send place first) other of = placed_comes s page place _ of.is_placed (same_page page)
+entry_comes s page (Balloon place first) other of = placed_comes s page place _ of.is_zeroed (same_page page)
+
+resident_at_end : (s : Recorded) → FollowsCursors s → (order : List Name) → IsMerging s order → (page : ℕ) → Comes s page → (world_after s order).resident page ≡ true
+resident_at_end s follows order merging page comes =
+    let at = follows order merging order [] (sym (append-nil order)) in
+    let all = (merging_is_walk s order merging).1 in
+    at.world.resident_is page
+    ∙ ap (λ (n : ℕ). resident_before s n (cursors_from at_start order Pager) page) (all Guest)
+    ∙ ap (λ (n : ℕ). resident_before s (length s.guest) n page) (all Pager)
+    ∙ comes
 
 -- where each owed page has another entry than that it was not placed
 pub each_owed : (s : Recorded) (c : Certified) → FollowsCursors s → IsRightCertificate s c →
@@ -50,8 +108,7 @@ pub each_owed : (s : Recorded) (c : Certified) → FollowsCursors s → IsRightC
 each_owed s c follows right owed page within out =
     let entry = get_or c.entries page Nothing in
     let is : slice_get c.entries page ≡ Some entry = slice_get-get_or c.entries page Nothing (subst (λ (n : ℕ). page < n) (sym right.pages) within) in
-    let at = entry_places s page entry (owed page entry is out) (right.entries page entry is).1 in
-    placed_at_end s follows (spelled c.runs) right.merging page at.0 at.1 at.2 at.3
+    resident_at_end s follows (spelled c.runs) right.merging page (entry_comes s page entry (owed page entry is out) (right.entries page entry is).1)
 
 -- frames with the same in each page as those of the machine behind the guest's log
 pub flat_store : (s : Recorded) (store frames : Frames) (n : ℕ) → store.geometry ≡ s.geometry → frames.geometry ≡ s.geometry → memory_of frames ≡ flat s n → n ≡ length s.guest →

@@ -3,6 +3,7 @@
 ghost use Rattle.std.specs.Prelude.{◌≡◌, ◌<◌, ◌≤◌, IfOk, IfErr, IsTrue};
 ghost use Rattle.std.specs.List.{AllByRecursion};
 ghost use Rattle.text_lines.specs.Contents.{IsContent};
+ghost use Rattle.migration_types.specs.declared.version.Version.TheVariants.{One};
 ghost use Rattle.migration_types.specs.Sessions.{GuestRecFits, SourceRecFits, LinkRecFits, PagerRecFits, recorded, IsNumber};
 ghost use Rattle.host_checks.specs.Outcomes.{IsRefused};
 ghost use Rattle.host_checks.specs.inner.Limits.{AreShort, AreOfMachine};
@@ -11,7 +12,7 @@ use crate::outcome::RunFault;
 use guest_script::Script;
 use migration_types::{
     Contents, Geometry, GuestRec, LAST_RECORD, LAST_VCPU, LinkRec, Logs, MOST_RECORDS, PageNo,
-    PagerRec, Session, SourceRec,
+    PagerRec, Session, SourceRec, Version,
 };
 use std::alloc::Global;
 
@@ -173,8 +174,8 @@ fn are_of_machine(geometry: Geometry, logs: &Logs) -> bool
 /// The session of a script's machine with these logs. Refused: a record is beyond a session's limits, or there is no
 /// memory.
 pub(crate) fn session_of(alloc: Global, script: &Script, logs: Logs) -> Result<Session, RunFault>
-    ensures session { IfOk result (λ s. s ≡ recorded script.now.geometry script.now.init logs) }
-    ensures refused { IfErr result (IsRefused (recorded script.now.geometry script.now.init logs)) }
+    ensures session { IfOk result (λ s. s ≡ recorded One script.now.geometry script.now.init logs) }
+    ensures refused { IfErr result (IsRefused (recorded One script.now.geometry script.now.init logs)) }
 {
     script.keeps_limits();
     let geometry = script.geometry();
@@ -184,5 +185,5 @@ pub(crate) fn session_of(alloc: Global, script: &Script, logs: Logs) -> Result<S
     let Ok(init) = script.copied_init(alloc) else {
         return Err(RunFault::Memory);
     };
-    Ok(Session::new(geometry, init, logs))
+    Ok(Session::new(Version::One, geometry, init, logs))
 }

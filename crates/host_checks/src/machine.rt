@@ -36,25 +36,26 @@ fn run_to(session: &Session, machine: &mut Machine, from: usize, to: usize)
     }
 }
 
-/// Whether an entry says where its page was placed.
+/// Whether an entry says where its page was placed, or that it was released at the target.
 fn says_where(entry: &Entry) -> bool
     ensures { IsTrue result → entry.now ≢ Nothing }
 {
     match entry {
         Entry::Nothing => false,
+        Entry::Fresh { .. } => true,
         Entry::Source { .. } => true,
         Entry::Balloon { .. } => true,
     }
 }
 
-/// Whether a page is released, or its entry says where it was placed.
+/// Whether a page is released, or its entry says where it was placed or released.
 fn is_served(is_released: bool, entry: &Entry) -> bool
     ensures { IsTrue result → is_released ≡ false → entry.now ≢ Nothing }
 {
     is_released || says_where(entry)
 }
 
-/// Whether each page that the machine has not released has an entry that says where it was placed.
+/// Whether each page that the machine has not released has an entry that says where it was placed or released.
 fn owed_are_placed(machine: &Machine, entries: &[Entry]) -> bool
     requires pages { length entries.now ≡ machine.now.ledger.geometry.pages }
     requires few { length entries.now ≤ most_pages }

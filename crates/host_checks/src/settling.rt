@@ -3,6 +3,7 @@
 ghost use Rattle.std.specs.Prelude.{◌≡◌, ℕ, Some, slice_get, IfOk, IfErr, IsTrue};
 ghost use Rattle.migration_types.specs.declared.records.SourceRec.TheVariants.{Done};
 ghost use Rattle.migration_types.specs.Sessions.{recorded};
+ghost use Rattle.migration_types.specs.declared.version.Version.TheVariants.{One};
 ghost use Rattle.audit_model.specs.Mergings.{spelled};
 ghost use Rattle.audit_model.specs.World.{IsSafe};
 ghost use Rattle.audit_model.specs.Shape.{IsRightShape};
@@ -101,7 +102,7 @@ pub fn settle<R: Threads + Sync>(
     store: Store,
     transcripts: Seq<Transcript>,
 ) -> Result<Migrated, RunFault>
-    ensures session { IfOk result (λ m. m.session ≡ recorded script.now.geometry script.now.init logs) }
+    ensures session { IfOk result (λ m. m.session ≡ recorded One script.now.geometry script.now.init logs) }
     ensures checked { IfOk result (λ m. IsVerdict m.session m.cert Yes) }
     ensures safe { IfOk result (λ m. IsSafe m.session) }
     ensures operations { IfOk result (λ m. AreOfScript script.now.vcpus m.transcripts) }
@@ -109,7 +110,7 @@ pub fn settle<R: Threads + Sync>(
     ensures done { IfOk result (λ m. IsDone m.session) }
     ensures owed { IfOk result (λ m. HasEachOwed m.session (spelled m.cert.runs)) }
     ensures store { IfOk result (λ m. IsFlatStore m.session m.store) }
-    ensures refused { IfErr result (IsRefused (recorded script.now.geometry script.now.init logs)) }
+    ensures refused { IfErr result (IsRefused (recorded One script.now.geometry script.now.init logs)) }
 {
     let session = session_of(alloc, script, logs)?;
     let cert = clean(rt, alloc, &session)?;

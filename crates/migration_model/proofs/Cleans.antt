@@ -1,11 +1,11 @@
 -- The contents of a session that grows: no wrong read, no early access, and so on.
 use Rattle.audit_model.proofs.Clean.{clash}
-use Rattle.audit_model.specs.Faults.{GuestFault, HasNoPageFault, IsEarly, PagerFault, SourceFault, has_looked, if_fault, looks_at}
+use Rattle.audit_model.specs.Faults.{GuestFault, HasNoPageFault, IsEarly, IsOver, PagerFault, SourceFault, has_looked, if_fault, looks_at}
 use Rattle.audit_model.specs.Flat.{at_halt, cell_after, flat, halt_place, home, home_after, in_ledger, released_after}
 use Rattle.audit_model.specs.Shape.{earlier, is_placement_of}
 use Rattle.audit_model.specs.declared.home.Home.TheVariants.{AtSource, AtTarget}
 use Rattle.audit_model.specs.declared.reasons.PageReason.{PageReason}
-use Rattle.audit_model.specs.declared.reasons.PageReason.TheVariants.{Altered, Early, Given, Read as WrongRead, Stale, Twice, Unfit}
+use Rattle.audit_model.specs.declared.reasons.PageReason.TheVariants.{Altered, Early, Given, Over, Read as WrongRead, Stale, Twice, Unfit}
 use Rattle.migration_types.specs.Memory.{Memory, page_of}
 use Rattle.migration_types.specs.PageSets.{Pages}
 use Rattle.migration_types.specs.Sessions.{Recorded}
@@ -75,7 +75,7 @@ guest_not s n (Read v p c x) h WrongRead e = e h.0
 guest_not s n r h Early e = early_not s n r h e.0 e.1
 guest_not s n r h reason e = e
 
-module _ (s : Recorded) (memory : Memory) (ledger : Pages) (z : IsFrozen s memory ledger) where
+module _ (s : Recorded) (memory : Memory) (ledger : Pages) (z : IsFrozen s memory ledger) (none_over : (page : ℕ) → IsOver s page → ⊥) where
   source_not : (reason : PageReason) (r : SourceRec) → SourceClean s.geometry.cells memory ledger r → SourceFault s reason r → ⊥
   source_not Given (Send p content) h e = clash (ledger p) (z.ledger_is p ∙ e) h.0
   source_not Stale (Send p content) h e = e (h.1 ∙ same_page s.geometry.cells memory (flat s (at_halt s)) p (z.memory_is p))
@@ -86,6 +86,8 @@ module _ (s : Recorded) (memory : Memory) (ledger : Pages) (z : IsFrozen s memor
   pager_not n Altered (Place p got content) h e = e (h.1 ∙ same_page s.geometry.cells memory (flat s (at_halt s)) p (z.memory_is p))
   pager_not n Twice (Zero p) h e = clash (earlier (is_placement_of p) s.pager n) e h.0
   pager_not n Unfit (Zero p) h e = clash (ledger p) h.1 (z.ledger_is p ∙ e)
+  pager_not n Over (Place p got content) h e = none_over p e.1
+  pager_not n Over (Zero p) h e = none_over p e.1
   pager_not n reason r h e = e
 
   pub no_page_fault : IsClean s memory ledger → HasNoPageFault s

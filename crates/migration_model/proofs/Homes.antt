@@ -8,6 +8,7 @@ use Rattle.migration_types.specs.Memory.{Memory, with_cell, with_zeros}
 use Rattle.migration_types.specs.PageSets.{Pages, with_page, without_page}
 use Rattle.migration_types.specs.Receipts.{Name, guest_receipt}
 use Rattle.migration_types.specs.Sessions.{GuestRecFits, Recorded, log_length}
+use Rattle.migration_types.specs.declared.version.Version.TheVariants.{One}
 use Rattle.migration_types.specs.declared.records.GuestRec.{GuestRec}
 use Rattle.migration_types.specs.declared.records.GuestRec.TheVariants.{Halt, Miss, Read, Release, Resume, See, Write}
 use Rattle.migration_types.specs.declared.records.LogName.{LogName}
@@ -87,7 +88,7 @@ stays_home Halt e = absurd (cc)
 stays_home (Resume k) e = absurd (cc)
 stays_home (See k) e = refl
 
-op_phase : (r : GuestRec) → is_op r ≡ true → in_phase_by false false r ≡ true
+op_phase : (r : GuestRec) → is_op r ≡ true → in_phase_by One false false r ≡ true
 op_phase (Read v p c x) e = refl
 op_phase (Write v p c x) e = refl
 op_phase (Release v p) e = refl
@@ -123,8 +124,8 @@ op_within e Halt is fits = tt
 op_within e (Resume k) is fits = tt
 op_within e (See k) is fits = tt
 
-phase_at : {o : List Name} (h : Home) → HomeKept o h → (r : GuestRec) (b : Bool) → in_phase_by false false r ≡ b → in_phase_by (earlier is_halt h.guest.log (length h.guest.log)) (earlier is_resume h.guest.log (length h.guest.log)) r ≡ b
-phase_at h k r b e = ap (λ x. in_phase_by x (earlier is_resume h.guest.log (length h.guest.log)) r) k.unhalted ∙ ap (λ x. in_phase_by false x r) k.unresumed ∙ e
+phase_at : {o : List Name} (h : Home) → HomeKept o h → (r : GuestRec) (b : Bool) → in_phase_by One false false r ≡ b → in_phase_by One (earlier is_halt h.guest.log (length h.guest.log)) (earlier is_resume h.guest.log (length h.guest.log)) r ≡ b
+phase_at h k r b e = ap (λ x. in_phase_by One x (earlier is_resume h.guest.log (length h.guest.log)) r) k.unhalted ∙ ap (λ x. in_phase_by One false x r) k.unresumed ∙ e
 
 pub home_clean : (h : Home) (memory : Memory) (ledger : Pages) → AllAt (GuestClean (home_session h)) h.guest.log → IsClean (home_session h) memory ledger
 home_clean h memory ledger reads = record { guest = reads; source = λ n y is. nothing n y is; pager = λ n y is. nothing n y is }

@@ -10,6 +10,7 @@ use Rattle.migration_types.specs.Memory.{Memory, with_cell}
 use Rattle.migration_types.specs.PageSets.{Pages, others, with_page}
 use Rattle.migration_types.specs.Receipts.{Name, guest_receipt, pager_receipt}
 use Rattle.migration_types.specs.Sessions.{Recorded}
+use Rattle.migration_types.specs.declared.version.Version.TheVariants.{One}
 use Rattle.migration_types.specs.declared.records.GuestRec.{GuestRec}
 use Rattle.migration_types.specs.declared.records.GuestRec.TheVariants.{Miss, Read, Resume, See, Write}
 use Rattle.migration_types.specs.declared.records.LogName.TheVariants.{Guest, Pager}
@@ -88,7 +89,7 @@ flat_end r s p c = before_end (cell_after p c) _ s.guest r
 
 -- a record of the guest, and what the target's book keeps of it
 pub guest_pushed : {o : List Name} (r : GuestRec) (resumed : Bool) (target : TargetPart) (a : Away) → AwayKept o a →
-    in_phase_by true a.target.is_resumed r ≡ true → guest_named (away_session a) r ≡ true →
+    in_phase_by One true a.target.is_resumed r ≡ true → guest_named (away_session a) r ≡ true →
     IsThere (away_session a) (guest_receipt r) → GuestClean (away_session a) (length a.target.log) r → GuestWithin a.source.geometry r →
     home_after r (away_home a.target.is_resumed) ≡ away_home resumed → (is_resume r || a.target.is_resumed) ≡ resumed → (resumed ≡ true → IsReady (away_session a)) →
     TargetKept (guest_more r (away_session a)) a.source.memory target → ((p : ℕ) → target.placed p ≡ a.target.placed p) →
@@ -98,8 +99,8 @@ guest_pushed {o} r resumed target a k phase named there clean within home resume
     let t = guest_more r s in
     let x = guest_extends r s in
     let n = length s.guest in
-    let is_right : in_phase_by (earlier is_halt s.guest n) (earlier is_resume s.guest n) r ≡ true =
-    ap (λ b. in_phase_by b (earlier is_resume s.guest n) r) k.phase.halted ∙ ap (λ b. in_phase_by true b r) k.phase.resumes ∙ phase in
+    let is_right : in_phase_by One (earlier is_halt s.guest n) (earlier is_resume s.guest n) r ≡ true =
+    ap (λ b. in_phase_by One b (earlier is_resume s.guest n) r) k.phase.halted ∙ ap (λ b. in_phase_by One true b r) k.phase.resumes ∙ phase in
     record {
       named = guest_shapes r s k.named is_right named;
       started = guest_starts r s k.started;
@@ -230,7 +231,7 @@ pub resume_pushed : {o : List Name} (a : Away) → AwayKept o a → a.target.is_
 resume_pushed a kept off ready =
     let s = away_session a in
     guest_pushed (Resume 1) true a.target a kept
-    (ap (λ b. in_phase_by true b (Resume 1)) off)
+    (ap (λ b. in_phase_by One true b (Resume 1)) off)
     (passes_at is_ready s.pager 1 Ready ready refl)
     (names s (Pager, 1) (slice_get_within s.pager 1 Ready ready)) tt tt refl refl (λ e. ready)
     (target_idle (Resume 1) a kept (λ p c x. refl)) (λ q. refl)

@@ -55,12 +55,12 @@ right_shape s k b SecondSend (Link, n) = refl
 right_shape s k b SecondSend (Pager, n) = refl
 
 -- the phase of a record is as it was
-phase_push : (r : GuestRec) (s : Recorded) (n : ℕ) (x : GuestRec) → n ≤ length s.guest → in_phase (guest_more r s) n x ≡ in_phase_by (earlier is_halt s.guest n) (earlier is_resume s.guest n) x
+phase_push : (r : GuestRec) (s : Recorded) (n : ℕ) (x : GuestRec) → n ≤ length s.guest → in_phase (guest_more r s) n x ≡ in_phase_by s.version (earlier is_halt s.guest n) (earlier is_resume s.guest n) x
 phase_push r s n x le =
-    ap (λ b. in_phase_by b (earlier is_resume (guest_more r s).guest n) x) (before_push (λ y found. is_halt y || found) false s.guest (r ∷ []) n le)
-    ∙ ap (λ b. in_phase_by (earlier is_halt s.guest n) b x) (before_push (λ y found. is_resume y || found) false s.guest (r ∷ []) n le)
+    ap (λ b. in_phase_by s.version b (earlier is_resume (guest_more r s).guest n) x) (before_push (λ y found. is_halt y || found) false s.guest (r ∷ []) n le)
+    ∙ ap (λ b. in_phase_by s.version (earlier is_halt s.guest n) b x) (before_push (λ y found. is_resume y || found) false s.guest (r ∷ []) n le)
 
-pub guest_shapes : (r : GuestRec) (s : Recorded) → IsNamed s → in_phase_by (earlier is_halt s.guest (length s.guest)) (earlier is_resume s.guest (length s.guest)) r ≡ true → guest_named s r ≡ true → IsNamed (guest_more r s)
+pub guest_shapes : (r : GuestRec) (s : Recorded) → IsNamed s → in_phase_by s.version (earlier is_halt s.guest (length s.guest)) (earlier is_resume s.guest (length s.guest)) r ≡ true → guest_named s r ≡ true → IsNamed (guest_more r s)
 guest_shapes r s k phase named =
     let t = (guest_more r s) in
     let x = guest_extends r s in

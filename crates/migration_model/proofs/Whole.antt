@@ -1,5 +1,6 @@
 -- Every run is faultless.
 use Rattle.audit_model.proofs.Clean.{clean_safe}
+use Rattle.audit_model.proofs.FirstVersion.{first_version_plain}
 use Rattle.audit_model.proofs.Late.{stands_somewhere}
 use Rattle.audit_model.specs.Faults.{GuestFault, HasNoPageFault, if_fault}
 use Rattle.audit_model.specs.Flat.{changed}
@@ -36,25 +37,25 @@ use Rattle.std.proofs.lemmas.Bool.{leb-true}
 use Rattle.std.proofs.lemmas.Option.{slice_get_within}
 use Rattle.std.specs.Prelude.{is_some, nat_le, slice_get, ◌==◌}
 
--- what a page is resident for stays
-guest_leaves : (h : Seat) (r : GuestRec) (w : World) (p : ℕ) → (guest_step_at h r w).resident p ≡ w.resident p
-guest_leaves AtSource (Read v q c x) w p = refl
-guest_leaves Nowhere (Read v q c x) w p = refl
-guest_leaves AtTarget (Read v q c x) w p = refl
-guest_leaves AtSource (Write v q c x) w p = refl
-guest_leaves Nowhere (Write v q c x) w p = refl
-guest_leaves AtTarget (Write v q c x) w p = refl
-guest_leaves AtSource (Release v q) w p = refl
-guest_leaves Nowhere (Release v q) w p = refl
-guest_leaves AtTarget (Release v q) w p = refl
-guest_leaves h (Miss v q) w p = refl
-guest_leaves h Halt w p = refl
-guest_leaves h (Resume k) w p = refl
-guest_leaves h (See k) w p = refl
-
 more : (b x : Bool) → x ≡ true → cond b true x ≡ true
 more true x e = refl
 more false x e = e
+
+-- a page that is resident stays so
+guest_leaves : (h : Seat) (r : GuestRec) (w : World) (p : ℕ) → w.resident p ≡ true → (guest_step_at h r w).resident p ≡ true
+guest_leaves AtSource (Read v q c x) w p e = e
+guest_leaves Nowhere (Read v q c x) w p e = e
+guest_leaves AtTarget (Read v q c x) w p e = e
+guest_leaves AtSource (Write v q c x) w p e = e
+guest_leaves Nowhere (Write v q c x) w p e = e
+guest_leaves AtTarget (Write v q c x) w p e = e
+guest_leaves AtSource (Release v q) w p e = e
+guest_leaves Nowhere (Release v q) w p e = e
+guest_leaves AtTarget (Release v q) w p e = more (q == p) (w.resident p) e
+guest_leaves h (Miss v q) w p e = e
+guest_leaves h Halt w p e = e
+guest_leaves h (Resume k) w p e = e
+guest_leaves h (See k) w p e = e
 
 pager_leaves : (r : PagerRec) (w : World) (p : ℕ) → w.resident p ≡ true → (pager_step r w).resident p ≡ true
 pager_leaves (Place q g c) w p e = more (q == p) (w.resident p) e
@@ -83,7 +84,7 @@ step_leaves s (Guest, n) w p e = go (slice_get s.guest n)
   where
     go : (o : Option GuestRec) → (changed (λ r w. guest_step_at w.home r w) o w).resident p ≡ true
     go None = e
-    go (Some r) = guest_leaves w.home r w p ∙ e
+    go (Some r) = guest_leaves w.home r w p e
 step_leaves s (FromSource, n) w p e = e
 step_leaves s (Link, n) w p e = e
 step_leaves s (Pager, n) w p e = go (slice_get s.pager n)
@@ -120,7 +121,8 @@ away_faultless o a k room =
     let s = away_session a in
     let session = is_session s room k.named k.limits a.source.memory a.source.ledger k.source.wide k.clean in
     let shape = right_shape s k.named k.started in
-    let clean = no_page_fault s a.source.memory a.source.ledger k.frozen k.clean in
+    let plain = first_version_plain s refl shape in
+    let clean = no_page_fault s a.source.memory a.source.ledger k.frozen plain.none_over k.clean in
     record {
       faultless = record { is_session = session; shape = shape; clean = clean };
       merging = k.merges;

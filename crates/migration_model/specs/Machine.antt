@@ -8,6 +8,7 @@ use Rattle.migration_types.specs.Extents.{Extent, IsExtent}
 use Rattle.migration_types.specs.Pages.{AreInitPages}
 use Rattle.migration_types.specs.Receipts.{Name}
 use Rattle.migration_types.specs.Sessions.{Recorded}
+use Rattle.migration_types.specs.declared.version.Version.TheVariants.{One}
 use Rattle.audit_model.specs.Mergings.{run_names}
 use Rattle.active_push.specs.SourcePart.{SourcePart}
 use Rattle.link_book.specs.LinkPart.{LinkPart}
@@ -64,12 +65,13 @@ pub data Books : Type 0 where
   Before : Home → Books
   After : Away → Books
 
--- what the books have recorded
+-- what the books have recorded, in the first version
 abbrev pub home_session : Home → Recorded
-home_session h = record { geometry = h.guest.geometry; init = h.init; guest = h.guest.log; source = []; link = []; pager = [] }
+home_session h = record { version = One; geometry = h.guest.geometry; init = h.init; guest = h.guest.log; source = []; link = []; pager = [] }
 
 abbrev pub away_session : Away → Recorded
 away_session a = record {
+  version = One;
   geometry = a.source.geometry;
   init = a.init;
   guest = a.target.log;

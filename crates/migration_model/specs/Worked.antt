@@ -4,6 +4,7 @@ use Rattle.migration_types.specs.Memory.{initial}
 use Rattle.migration_types.specs.PageSets.{no_page}
 use Rattle.migration_types.specs.Receipts.{Name}
 use Rattle.migration_types.specs.Sessions.{Recorded}
+use Rattle.migration_types.specs.declared.version.Version.TheVariants.{One}
 use Rattle.migration_types.specs.declared.records.GuestRec.{GuestRec}
 use Rattle.migration_types.specs.declared.records.GuestRec.TheVariants.{Halt, Miss, Read, Release, Resume, See}
 use Rattle.migration_types.specs.declared.records.LinkRec.TheVariants.{Down, Up}
@@ -51,6 +52,7 @@ events_of_two =
 
 abbrev pub session_of_two : Recorded
 session_of_two = record {
+  version = One;
   geometry = record { pages = 2; cells = 1 };
   init = record { page = 1; cells = 7 ∷ [] } ∷ [];
   guest = Halt ∷ Resume 1 ∷ Miss 0 1 ∷ Miss 1 1 ∷ See 8 ∷ Read 0 1 0 7 ∷ Read 1 1 0 7 ∷ [];
@@ -83,6 +85,7 @@ events_of_one =
 
 abbrev pub session_of_one : Recorded
 session_of_one = record {
+  version = One;
   geometry = record { pages = 2; cells = 1 };
   init = [];
   guest = Release 0 1 ∷ Halt ∷ Resume 1 ∷ Miss 0 1 ∷ See 8 ∷ Read 0 1 0 0 ∷ [];
