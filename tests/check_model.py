@@ -2,22 +2,17 @@
 
 It goes by docs/FORMATS.md alone, and looks through the logs for each question. It takes sessions of the right shape.
 """
-from text_judge import LOGS, refusal_line
-
-# The log that a receipt names a record of.
-NAMES = {"resume": "pager", "see": "pager", "halted": "guest", "fault": "guest", "down": "source", "up": "pager", "ask": "link", "got": "link"}
+from session_text import LOGS, RECEIPTS, SessionText
+from text_judge import refusal_line
 
 
 class Session:
     def __init__(self, text):
-        lines = [line.split(" ") for line in text.splitlines()]
-        self.pages, self.cells, initial = (int(line[1]) for line in lines[1:4])
-        self.initial = {int(line[1]): self.contents(line[2]) for line in lines[4:4 + initial]}
-        self.logs, at = {}, 4 + initial
-        for log in LOGS:
-            size = int(lines[at][1])
-            self.logs[log] = lines[at + 1:at + 1 + size]
-            at += 1 + size
+        cut = SessionText(text)
+        head = [line.split(" ") for line in cut.head]
+        self.pages, self.cells = int(head[1][1]), int(head[2][1])
+        self.initial = {int(line[1]): self.contents(line[2]) for line in head[4:]}
+        self.logs = {log: [line.split(" ") for line in cut.logs[log]] for log in LOGS}
         self.guest, self.source, self.link, self.pager = (self.logs[log] for log in LOGS)
 
     def contents(self, hexadecimal):
@@ -42,9 +37,15 @@ class Session:
         uses = [record[0] for record in self.guest[:self.halt()] if record[0] in "wz" and record[2] == str(page)]
         return uses[-1:] == ["z"]
 
-    def first_access(self, page):
-        resumed = next((n for n, record in enumerate(self.guest) if record[0] == "resume"), len(self.guest))
-        return next((n for n, record in enumerate(self.guest) if n > resumed and record[0] in "rw" and record[2] == str(page)), None)
+    def resumed(self):
+        return next((n for n, record in enumerate(self.guest) if record[0] == "resume"), len(self.guest))
+
+    def first_use(self, page):
+        """The first record after the resume that reads, writes or releases a page, or None."""
+        return next((n for n, record in enumerate(self.guest) if n > self.resumed() and record[0] in "rwz" and record[2] == str(page)), None)
+
+    def placements(self, page):
+        return [n for n, record in enumerate(self.pager) if record[0] in ("place", "zero") and record[1] == str(page)]
 
     def delivers(self, got, send):
         """Whether the pager's record GOT took a `send`, or a repeat of it."""
@@ -57,12 +58,14 @@ def is_right(session, page, entry):
         if record[0] == "r" and record[2] == str(page) and session.cell_before(n, page, int(record[3])) != int(record[4]):
             return False
     sends = [n for n, record in enumerate(session.source) if record[:2] == ["send", str(page)]]
-    placements = [n for n, record in enumerate(session.pager) if record[0] in ("place", "zero") and record[1] == str(page)]
-    access, held, released = session.first_access(page), session.at_halt(page), session.is_released(page)
+    placements = session.placements(page)
+    use, held, released = session.first_use(page), session.at_halt(page), session.is_released(page)
     if sends and released or any(session.contents(session.source[n][2]) != held for n in sends):
         return False
     if entry == ["none"]:
-        return placements == [] and access is None
+        return placements == [] and use is None
+    if entry[0] == "fresh":
+        return placements == [] and use == int(entry[1]) and session.guest[use][0] == "z"
     *numbers, first, see = entry[1:]
     place = int(numbers[-1])
     if placements != [place]:
@@ -74,9 +77,9 @@ def is_right(session, page, entry):
             return False
     elif record[0] != "zero" or not released:
         return False
-    if access is None or first == "-":
-        return access is None and first == "-"
-    look = session.guest[int(see)] if int(see) < int(first) == access else [""]
+    if use is None or first == "-":
+        return use is None and first == "-"
+    look = session.guest[int(see)] if int(see) < int(first) == use else [""]
     return look[0] == "see" and place <= int(look[1])
 
 
@@ -88,7 +91,7 @@ def run_not_walked(session, runs):
             if taken[log] == len(session.logs[log]):
                 return n
             record = session.logs[log][taken[log]]
-            if record[0] in NAMES and taken[NAMES[record[0]]] <= int(record[1]):
+            if record[0] in RECEIPTS and taken[RECEIPTS[record[0]]] <= int(record[1]):
                 return n
             taken[log] += 1
     return len(runs) if any(taken[log] < len(session.logs[log]) for log in LOGS) else None

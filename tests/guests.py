@@ -1,4 +1,5 @@
 """The guest of a migration: operations at random, and what a guest's log shows of a script."""
+from session_text import SessionText
 
 
 def random_op(rng, pages, cells, is_late):
@@ -11,9 +12,7 @@ def random_op(rng, pages, cells, is_late):
 
 def guest_log(session):
     """The guest's log in a session's text."""
-    lines = session.splitlines()
-    at = 4 + int(lines[3].split(" ")[1])
-    return [tuple(line.split(" ")) for line in lines[at + 1:at + 1 + int(lines[at].split(" ")[1])]]
+    return [tuple(line.split(" ")) for line in SessionText(session).logs["guest"]]
 
 
 def strays_from_the_script(script, log):

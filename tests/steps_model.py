@@ -9,7 +9,8 @@ are well formed.
 """
 import sys
 
-LOGS = ("guest", "source", "link", "pager")
+from session_text import LOGS
+
 MOST_RECORDS = 1_048_576
 
 

@@ -1,7 +1,8 @@
 """At which line a text is refused, slowly and plainly: by the tables of docs/FORMATS.md, line by line and word by word."""
 import re
 
-LOGS = ("guest", "source", "link", "pager")
+from session_text import LOGS
+
 MOST_RECORDS = 2**20
 NUMBER = re.compile("0|[1-9][0-9]*")
 
@@ -72,9 +73,10 @@ def machine(line):
 
 
 def session(line):
-    demand(line() == "postcopy-session 1")
+    version = keyed(line(), "postcopy-session", 1, 2)
     pages, cells = machine(line)
     for log in LOGS:
+        demand(log != "pager" or version == 1 or line() == "lane 0")
         for _ in range(keyed(line(), log, 0, MOST_RECORDS)):
             fielded(line(), RECORDS[log], pages, cells)
 
@@ -94,10 +96,11 @@ def runs_alone(line):
 
 
 def certificate(line):
-    demand(line() == "postcopy-certificate 1")
+    version = keyed(line(), "postcopy-certificate", 1, 2)
     for page in range(keyed(line(), "pages", 1, 65536)):
         words = line().split(" ")
-        demand(words[:2] == ["page", str(page)] and len(words) > 2 and len(words) - 3 == {"none": 0, "source": 4, "balloon": 3}.get(words[2]))
+        demand(words[:2] == ["page", str(page)] and len(words) > 2 and len(words) - 3 == {"none": 0, "fresh": 1, "source": 4, "balloon": 3}.get(words[2]))
+        demand(words[2] != "fresh" or version == 2)
         numbers = words[3:-2] if words[-2:] == ["-", "-"] else words[3:]
         for word in numbers:
             number(word, 0, MOST_RECORDS - 1)
@@ -105,7 +108,7 @@ def certificate(line):
 
 
 def script(line):
-    demand(line() == "postcopy-script 1")
+    keyed(line(), "postcopy-script", 1, 1)
     pages, cells = machine(line)
     keyed(line(), "pivots", 1, 16)
     keyed(line(), "window", 1, 65536)
