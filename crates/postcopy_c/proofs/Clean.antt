@@ -1,13 +1,19 @@
--- The numbers of an audit say exactly whether it finds the session clean, and whether it finds a fault of a page.
-use Rattle.std.proofs.Common.{◌≡◌, ℕ, List, refl, arith}
+-- The numbers of an audit say whether there is a report, and exactly whether it finds the session clean and whether it
+-- finds a fault of a page.
+use Rattle.std.proofs.Common.{◌≡◌, ◌≢◌, ℕ, List, refl, ap, arith}
 use Rattle.audit_report.specs.declared.report.Report.TheVariants as report
 use Rattle.audit_report.specs.declared.texts.Audited.{Audited}
 use Rattle.audit_report.specs.declared.texts.Audited.TheVariants.{Refused, Reported}
-use Rattle.audit_report.specs.Texts.{FindsClean, FindsFault, IsSafeExactlyIf}
+use Rattle.audit_report.specs.Texts.{HasReport, FindsClean, FindsFault, IsSafeExactlyIf}
 use Rattle.cert_check.specs.Texts.{OfSpelled}
 use Rattle.postcopy_c.specs.declared.answer.PostcopyAnswer.{PostcopyAnswer}
-use Rattle.postcopy_c.specs.declared.kinds.TheConstants.{CLEAN, FAULTY}
+use Rattle.postcopy_c.specs.declared.kinds.TheConstants.{SESSION_TEXT, CLEAN, FAULTY}
 use Rattle.postcopy_c.specs.Numbers.{audited_numbers}
+
+-- there is a report where the number is not that of a text that is refused
+pub report_by_number : (a : Audited) (text_len : ℕ) (answer : PostcopyAnswer) → answer ≡ audited_numbers a text_len → answer.kind ≢ SESSION_TEXT → HasReport a
+report_by_number (Refused line) text_len answer e other = absurd (other (ap (λ (n : PostcopyAnswer). n.kind) e))
+report_by_number (Reported report) text_len answer e other = tt
 
 has_clean : (a : Audited) (text_len : ℕ) → FindsClean a → (audited_numbers a text_len).kind ≡ CLEAN
 has_clean (Refused line) text_len h = absurd h
