@@ -39,12 +39,12 @@ pub enum Event {
     LinkTurn { direction: Direction, fate: Fate },
     /// The pager takes what has arrived.
     PagerPop,
-    /// The pager learns of a miss.
+    /// The pager settles the pages that the guest released at the target before they came, and learns of a miss.
     PagerFault,
     /// The pager offers what it wants to the link.
     PagerFlush,
-    /// The pager lets the guest resume, or places a page.
+    /// The pager settles such pages too, and lets the guest resume, or places a page.
     PagerDeliver,
-    /// The pager asks for a page that is not placed, or says that all are.
+    /// The pager asks for a page that is neither placed nor settled, or says that there is none.
     PagerTick,
 }
