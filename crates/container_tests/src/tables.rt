@@ -66,3 +66,14 @@ fn residency_follows_placements(rt: HostRuntime) -> Result<(), Fail> {
     assert!(rt; residency.placed_at(second) == Some(5) && residency.placed_at(first).is_none());
     Ok(())
 }
+
+#[test]
+fn released_pages_are_resident(rt: HostRuntime) -> Result<(), Fail> {
+    let (first, second) = (PageNo::new(0), PageNo::new(1));
+    let mut residency = Residency::new(rt.alloc(), Geometry::new(2, 1)?)?;
+    residency.release(first);
+    assert!(rt; residency.resident(first) && residency.placed_at(first).is_none());
+    assert!(rt; residency.covers(first) && residency.frontier().is_none());
+    assert!(rt; !residency.resident(second) && !residency.covers(second));
+    Ok(())
+}

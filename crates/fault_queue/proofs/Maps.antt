@@ -3,7 +3,7 @@ use Rattle.std.proofs.Common.{◌≡◌, ℕ, Bool, true, false, cond, not, ◌|
 use Rattle.std.specs.Prelude.{◌==◌, nat_eq}
 use Rattle.indexmap.specs.IndexMap.{IndexMap, get, insert_entry}
 use Rattle.indexmap.proofs.CallerLemmas.{insert_entry-new}
-use Rattle.std.specs.List.{AllByRecursion, IsDistinct, find, list_any}
+use Rattle.std.specs.List.{AllByRecursion, AllZip, IsDistinct, find, list_any}
 use Rattle.std.specs.Map.{keys_of, values_of, lookup, remove_entry, set_value}
 use Rattle.std.specs.Option.{option_map}
 use Rattle.std.proofs.lemmas.Bool.{eqb-true}
@@ -102,3 +102,14 @@ module _ {A : Type 0} where
       ap (λ (m : IndexMap ℕ (Vec ℕ A) S). entries (insert_entry nat_eq m.entries page w)) is
       ∙ ap entries (insert_entry-new nat_eq old page w none)
       ∙ new_entries page vcpu old.entries w items
+
+  -- the same entries once more
+  pub clone_entries : (C : ℕ → ℕ → Type 0) (D : Vec ℕ A → Vec ℕ A → Type 0) → ((x y : ℕ) → C x y → y ≡ x) → ((v w : Vec ℕ A) → D v w → w.items ≡ v.items) → (es fs : List (ℕ × Vec ℕ A)) → AllZip (λ p q. C p.0 q.0 × D p.1 q.1) es fs → entries fs ≡ entries es
+  clone_entries C D page items [] [] all = refl
+  clone_entries C D page items [] (f ∷ fs) all = absurd all
+  clone_entries C D page items (e ∷ es) [] all = absurd all
+  clone_entries C D page items (e ∷ es) (f ∷ fs) all =
+      let here = page e.0 f.0 all.0.0 in
+      let same = items e.1 f.1 all.0.1 in
+      let rest = clone_entries C D page items es fs all.1 in
+      λ i. (record { page = here i; vcpus = same i }) ∷ rest i

@@ -1,11 +1,11 @@
 -- Who waits for each page, after a fault and after an entry is taken out.
-use Rattle.std.proofs.Common.{◌≡◌, ℕ, Bool, true, false, cond, not, ◌||◌, List, [], ◌∷◌, ◌++◌, Option, None, Some, is_some, refl, sym, ap, ◌∙◌}
-use Rattle.std.specs.Prelude.{◌==◌}
+use Rattle.std.proofs.Common.{◌≡◌, ℕ, zero, suc, ◌+◌, ◌<◌, length, take, arith, Bool, true, false, cond, not, ◌||◌, List, [], ◌∷◌, ◌++◌, Option, None, Some, is_some, refl, sym, ap, ◌∙◌}
+use Rattle.std.specs.Prelude.{◌==◌, slice_index_or}
 use Rattle.std.specs.List.{find}
 use Rattle.std.specs.Option.{option_map, unwrap_or}
 use Rattle.std.proofs.lemmas.Bool.{eqb-true, eq-eqb, ne_eqb, eqb-false, both_ways}
 use Rattle.std.proofs.lemmas.List.{append-nil}
-use Rattle.fault_queue.specs.Waiting.{Waiting, is_asked, waiters_of, waiting_for, with_waiter, joined, entry, asked, without}
+use Rattle.fault_queue.specs.Waiting.{Waiting, is_asked, waiters_of, waiting_for, with_waiter, joined, entry, asked, without, without_all}
 
 is_some_waiters : (p : ℕ) (es : List Waiting) → is_some (waiters_of p es) ≡ is_asked p es
 is_some_waiters p [] = refl
@@ -102,3 +102,12 @@ waiting_without p page es = ap (λ o. unwrap_or o []) (waiters_without p page es
     go : (c : Bool) → unwrap_or (cond c None (waiters_of p es)) [] ≡ cond c [] (waiting_for p es)
     go true = refl
     go false = refl
+
+-- one page's entry less
+pub without_more : (xs : List ℕ) (es : List Waiting) (i x : ℕ) → i < length xs → x ≡ slice_index_or xs i x → without x (without_all (take i xs) es) ≡ without_all (take (i + 1) xs) es
+without_more xs es i x lt is = go xs es i lt is ∙ ap (λ n. without_all (take n xs) es) (let e : suc i ≡ i + 1 = omega arith in e)
+  where
+    go : (xs : List ℕ) (es : List Waiting) (i : ℕ) → i < length xs → x ≡ slice_index_or xs i x → without x (without_all (take i xs) es) ≡ without_all (take (suc i) xs) es
+    go [] es i lt is = absurd (omega arith)
+    go (y ∷ xs) es zero lt is = ap (λ p. without p es) is
+    go (y ∷ xs) es (suc i) lt is = go xs (without y es) i (omega arith) is

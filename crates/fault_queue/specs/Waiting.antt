@@ -44,6 +44,11 @@ asked page vcpu entries = if is_asked page entries then joined page vcpu entries
 abbrev pub without : ℕ → List Waiting → List Waiting
 without page entries = filter (λ e. not (page == e.page)) entries
 
+-- the entries without those of these pages, one page after the other
+abbrev pub without_all : List ℕ → List Waiting → List Waiting
+without_all [] entries = entries
+without_all (page ∷ pages) entries = without_all pages (without page entries)
+
 -- an entry has a waiter, and its waiters have numbers below 256
 pub record IsEntry (e : Waiting) : Type 0 where
   pub waited_for : 0 < length e.vcpus

@@ -37,7 +37,7 @@ pub enum QueueFault {
 /// The pages that virtual processors wait for, in order of arrival, each with those that wait for it, in order of
 /// arrival.
 /// Each page has one entry at most, each virtual processor waits for one page at most, and each entry has a waiter.
-/// Contracts see the list of entries. Only `fault` takes memory.
+/// Contracts see the list of entries. Only `fault` and `left_without` take memory.
 #[derive(Drop)]
 pub struct FaultQueue {
     waiting: IndexMap<PageNo, Vec<u8>>,
@@ -56,7 +56,7 @@ impl Model for FaultQueue {
 }
 
 impl FaultQueue {
-    ghost use Rattle.fault_queue.specs.Waiting.{waiters_of, waiting_for, is_waiting, without, IsQueue};
+    ghost use Rattle.fault_queue.specs.Waiting.{waiters_of, waiting_for, is_waiting, without, without_all, IsQueue};
 
     /// Nobody waits. Takes no memory.
     pub fn new(alloc: Global) -> Self
@@ -93,6 +93,26 @@ impl FaultQueue {
         ensures unchanged { IfNone result (self.new ≡ self.old) }
     {
         self.waiting.shift_remove(&page)
+    }
+
+    /// A queue without the entries of these pages. The other entries stay, in their order. An error: there is no memory
+    /// for it.
+    pub fn left_without(&self, pages: &[PageNo]) -> Result<FaultQueue, AllocError>
+        ensures { IfOk result (λ left. left ≡ without_all pages.now self.now) }
+    {
+        let mut left = self.another()?;
+        for page in pages {
+            left.served(*page);
+        }
+        Ok(left)
+    }
+
+    /// The same queue once more. An error: there is no memory for it.
+    fn another(&self) -> Result<FaultQueue, AllocError>
+        ensures { IfOk result (λ same. same ≡ self.now) }
+    {
+        let waiting = self.waiting.clone()?;
+        Ok(FaultQueue { waiting })
     }
 
     /// The page of the oldest entry, or `None` where nobody waits.

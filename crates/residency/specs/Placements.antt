@@ -1,6 +1,9 @@
--- Which pages were placed, where, and what was seen of the placements.
-use Rattle.std.specs.Prelude.{◌≡◌, ℕ, ◌==◌, nat_le, nat_lt, max, List, Bool, false, Option, Some, None, slice_index_or, if◌then◌else◌}
+-- Which pages are resident: placed, where, and what was seen of the placements; or released there before.
+use Rattle.std.specs.Prelude.{◌≡◌, ℕ, ◌==◌, nat_le, nat_lt, max, List, Bool, true, false, ◌||◌, is_some, Option, Some, None, slice_index_or, if◌then◌else◌}
 use Rattle.migration_types.specs.Extents.{Extent}
+use Rattle.migration_types.specs.PageSets.{Pages}
+use Rattle.residency.specs.declared.Presence.{Presence}
+use Rattle.residency.specs.declared.Presence.TheVariants.{Absent, Placed, Freed}
 
 -- the number of each page's placement, where it was placed
 abbrev pub Placements : Type 0
@@ -14,15 +17,37 @@ no_placement page = None
 abbrev pub with_placement : ℕ → ℕ → Placements → Placements
 with_placement placed number placements page = if placed == page then Some number else placements page
 
--- a machine's geometry, the number of each page's placement, page 0 first, and the frontier
+-- a machine's geometry, what each page is, page 0 first, and the frontier
 pub record Places : Type 0 where
   pub geometry : Extent
-  pub numbers : List (Option ℕ)
+  pub pages : List Presence
   pub frontier : Option ℕ
 
--- the placements of the machine's pages; pages beyond the machine are not placed
+-- what a page is; pages beyond the machine are absent
+abbrev pub presence : Places → ℕ → Presence
+presence p page = if nat_lt page p.geometry.pages then slice_index_or p.pages page Absent else Absent
+
+abbrev pub number_of : Presence → Option ℕ
+number_of Absent = None
+number_of (Placed number) = Some number
+number_of Freed = None
+
+abbrev pub is_freed : Presence → Bool
+is_freed Absent = false
+is_freed (Placed number) = false
+is_freed Freed = true
+
+-- the placements of the machine's pages
 abbrev pub placements : Places → Placements
-placements p page = if nat_lt page p.geometry.pages then slice_index_or p.numbers page None else None
+placements p page = number_of (presence p page)
+
+-- the pages that were absent when the guest released them at the target
+abbrev pub freed : Places → Pages
+freed p page = is_freed (presence p page)
+
+-- whether a page is resident, by its placement and by whether it was so released
+abbrev pub is_resident : Option ℕ → Bool → Bool
+is_resident placed released = is_some placed || released
 
 -- the frontier that was raised to at least this number
 abbrev pub raised : ℕ → Option ℕ → Option ℕ
@@ -34,8 +59,9 @@ abbrev pub is_covered : Option ℕ → Option ℕ → Bool
 is_covered (Some number) (Some most) = nat_le number most
 is_covered _ _ = false
 
--- the same geometry, with these placements and this frontier
-pub record IsWith (before after : Places) (all : Placements) (frontier : Option ℕ) : Type 0 where
+-- the same geometry, with these placements, these pages released and this frontier
+pub record IsWith (before after : Places) (all : Placements) (released : Pages) (frontier : Option ℕ) : Type 0 where
   pub geometry : after.geometry ≡ before.geometry
   pub placements_are : placements after ≡ all
+  pub freed_are : freed after ≡ released
   pub frontier_is : after.frontier ≡ frontier

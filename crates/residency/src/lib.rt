@@ -1,19 +1,34 @@
-//! Which pages of a machine were placed at the target, by which record of the pager, and which placements were seen.
+//! Which pages of a machine are resident at the target: placed, by which record of the pager, and which placements were
+//! seen; or released there while they were absent.
 #![tactic(auto)]
 
-ghost use Rattle.std.specs.Prelude.{◌≡◌, ◌<◌, IfOk, None, is_some, replicate};
+ghost use Rattle.std.specs.Prelude.{◌≡◌, ◌<◌, ◌||◌, IfOk, None, false, is_some, replicate};
+ghost use Rattle.migration_types.specs.PageSets.{no_page, with_page};
+ghost use Rattle.residency.specs.declared.Presence.TheVariants.{Absent};
 
 use migration_types::{Geometry, PageNo};
 use std::alloc::{AllocError, Global};
 use std::marker::Model;
 
-/// The pages that were placed at the target, each with the number of the pager's record that placed it, and the
-/// frontier: the highest number of a record that the target has seen. Only `new` takes memory, one block.
+/// What a page is at the target.
+#[derive(Clone, Copy, Debug, PartialEq, Eq)]
+pub enum Presence {
+    /// It is not there.
+    Absent,
+    /// The pager placed it by its record of this number.
+    Placed(u32),
+    /// The guest released it while it was absent.
+    Freed,
+}
+
+/// The pages that are resident at the target: those that were placed, each with the number of the pager's record that
+/// placed it, and those that the guest released while they were absent. And the frontier: the highest number of a record
+/// that the target has seen. Only `new` takes memory, one block.
 #[derive(Drop)]
 pub struct Residency {
     geometry: Geometry,
-    /// The number of each page's placement, page 0 first.
-    numbers: Vec<Option<u32>>,
+    /// What each page is, page 0 first.
+    pages: Vec<Presence>,
     frontier: Option<u32>,
 }
 
@@ -23,35 +38,36 @@ impl Model for Residency {
 
     ghost Value = { Places };
 
-    ghost view = { λ r. record { geometry = r.geometry; numbers = r.numbers.items; frontier = r.frontier } };
+    ghost view = { λ r. record { geometry = r.geometry; pages = r.pages.items; frontier = r.frontier } };
 
-    ghost invariant = { λ r. length r.numbers.items ≡ r.geometry.pages };
+    ghost invariant = { λ r. length r.pages.items ≡ r.geometry.pages };
 }
 
 impl Residency {
-    ghost use Rattle.residency.specs.Placements.{placements, no_placement, with_placement, raised, is_covered, IsWith};
+    ghost use Rattle.residency.specs.Placements.{placements, freed, no_placement, with_placement, is_resident, raised, is_covered, IsWith};
 
-    /// The residency of a machine none of whose pages was placed, with no frontier. An error: there is no memory for
+    /// The residency of a machine whose pages are absent, with no frontier. An error: there is no memory for
     /// it.
     pub fn new(alloc: Global, geometry: Geometry) -> Result<Residency, AllocError>
         ensures geometry { IfOk result (λ r. r.geometry ≡ geometry) }
         ensures placements { IfOk result (λ r. placements r ≡ no_placement) }
+        ensures freed { IfOk result (λ r. freed r ≡ no_page) }
         ensures frontier { IfOk result (λ r. r.frontier ≡ None) }
     {
-        let numbers = no_numbers(alloc, geometry.pages() as usize)?;
+        let pages = no_pages(alloc, geometry.pages() as usize)?;
         Ok(Residency {
             geometry,
-            numbers,
+            pages,
             frontier: None,
         })
     }
 
-    /// Whether a page was placed.
+    /// Whether a page is resident.
     pub fn resident(&self, page: PageNo) -> bool
         requires { page < self.now.geometry.pages }
-        ensures { result ≡ is_some (placements self.now page) }
+        ensures { result ≡ is_resident (placements self.now page) (freed self.now page) }
     {
-        self.numbers[page.index()].is_some()
+        !matches!(self.pages[page.index()], Presence::Absent)
     }
 
     /// The number of the pager's record that placed a page. None: the page was not placed.
@@ -59,18 +75,31 @@ impl Residency {
         requires { page < self.now.geometry.pages }
         ensures { result ≡ placements self.now page }
     {
-        self.numbers[page.index()]
+        match self.pages[page.index()] {
+            Presence::Placed(number) => Some(number),
+            _ => None,
+        }
     }
 
-    /// Places a page that was not placed, by the pager's record of this number. The other pages and the frontier stay
-    /// as they are.
+    /// Places an absent page, by the pager's record of this number. The other pages and the frontier stay as they are.
     pub fn mark(&mut self, page: PageNo, pager_at: u32)
         requires page { page < self.old.geometry.pages }
-        requires absent { placements self.old page ≡ None }
+        requires absent { is_resident (placements self.old page) (freed self.old page) ≡ false }
         ensures { IsWith self.old self.new
-            (with_placement page pager_at (placements self.old)) self.old.frontier }
+            (with_placement page pager_at (placements self.old)) (freed self.old) self.old.frontier }
     {
-        self.numbers[page.index()] = Some(pager_at);
+        self.pages[page.index()] = Presence::Placed(pager_at);
+    }
+
+    /// Makes an absent page resident that the guest releases: no record of the pager places it, and it is covered. The
+    /// other pages and the frontier stay as they are. Takes no memory.
+    pub fn release(&mut self, page: PageNo)
+        requires page { page < self.old.geometry.pages }
+        requires absent { is_resident (placements self.old page) (freed self.old page) ≡ false }
+        ensures { IsWith self.old self.new
+            (placements self.old) (with_page page (freed self.old)) self.old.frontier }
+    {
+        self.pages[page.index()] = Presence::Freed;
     }
 
     /// The frontier: the highest number of a pager's record that was seen. None: none was seen.
@@ -83,7 +112,7 @@ impl Residency {
     /// Raises the frontier to at least this number: it never falls. The placements stay as they are.
     pub fn saw(&mut self, number: u32)
         ensures { IsWith self.old self.new
-            (placements self.old) (raised number self.old.frontier) }
+            (placements self.old) (freed self.old) (raised number self.old.frontier) }
     {
         self.frontier = Some(match self.frontier {
             Some(most) => most.max(number),
@@ -91,13 +120,14 @@ impl Residency {
         });
     }
 
-    /// Whether a page was placed by a record at or below the frontier.
+    /// Whether a page was placed by a record at or below the frontier, or was released while it was absent.
     pub fn covers(&self, page: PageNo) -> bool
         requires { page < self.now.geometry.pages }
-        ensures { result ≡ is_covered (placements self.now page) self.now.frontier }
+        ensures { result ≡ (is_covered (placements self.now page) self.now.frontier || freed self.now page) }
     {
-        match (self.numbers[page.index()], self.frontier) {
-            (Some(number), Some(most)) => number <= most,
+        match (self.pages[page.index()], self.frontier) {
+            (Presence::Placed(number), Some(most)) => number <= most,
+            (Presence::Freed, _) => true,
             _ => false,
         }
     }
@@ -110,9 +140,9 @@ impl Residency {
     }
 }
 
-/// So many pages that were not placed.
-fn no_numbers(alloc: Global, count: usize) -> Result<Vec<Option<u32>>, AllocError>
-    ensures { IfOk result (λ v. v.items ≡ replicate count None) }
+/// So many absent pages.
+fn no_pages(alloc: Global, count: usize) -> Result<Vec<Presence>, AllocError>
+    ensures { IfOk result (λ v. v.items ≡ replicate count Absent) }
 {
-    vec![in alloc; None; count]
+    vec![in alloc; Presence::Absent; count]
 }
