@@ -89,9 +89,10 @@ impl GuestBook {
     }
 
     /// Halts the guest, which is recorded: the frames and the ledger go to the source's book, which keeps at most so
-    /// many pivots, 1 to 16, and the log to the target's; with them comes the packet of the processor state, which is to
-    /// be offered. `TargetFault::LogFull` where the log has no room for the record. On an error the book comes back as
-    /// it was.
+    /// many pivots, 1 to 16, and the log to the target's; with them comes the packet of the processor state, which is
+    /// to be offered. The target's book has room for each page of the machine that the pager may have to settle, so a
+    /// release there takes memory for its record alone. `TargetFault::LogFull` where the log has no room for the
+    /// record. On an error the book comes back as it was.
     pub fn halt(
         self,
         pivots: u32,

@@ -1,21 +1,21 @@
 -- What a book keeps, as what it holds changes.
-use Rattle.std.proofs.Common.{◌≡◌, ℕ, List, [], ◌∷◌, ◌++◌, length, map, None, Result, Ok, Err, refl, sym, ap, ◌∙◌, subst, arith, length-append}
+use Rattle.std.proofs.Common.{◌≡◌, ℕ, false, List, [], ◌∷◌, ◌++◌, length, map, Result, Ok, Err, refl, sym, ap, ◌∙◌, subst, arith, length-append}
 use Rattle.std.specs.List.{AllByRecursion}
 use Rattle.std.specs.Result.{IfOk, OnOk, OnErr}
 use Rattle.migration_types.specs.declared.records.GuestRec.{GuestRec}
 use Rattle.migration_types.specs.declared.records.GuestRec.TheVariants.{Halt}
 use Rattle.migration_types.specs.Extents.{Extent}
 use Rattle.migration_events.specs.declared.ops.Op.{Op}
-use Rattle.residency.specs.Placements.{placements}
+use Rattle.residency.specs.Placements.{placements, freed, is_resident}
 use Rattle.target_book.specs.declared.Access.{Access}
 use Rattle.target_book.specs.declared.TargetFault.{TargetFault}
 use Rattle.target_book.specs.declared.book.Placement.{Placement}
-use Rattle.target_book.specs.TargetPart.{TargetPart, Accessed, halted_target, target_access, resumes, with_placed, with_zeroed}
-use Rattle.target_book.specs.History.{Happening, Did, Placed, IsHistoryOf, IsBeforeHalt, IsAccess}
+use Rattle.target_book.specs.TargetPart.{TargetPart, Accessed, halted_target, target_access, resumes, with_placed, with_zeroed, settled}
+use Rattle.target_book.specs.History.{Happening, Did, Placed, IsHistoryOf, IsBeforeHalt}
 use Rattle.target_book.specs.Kept.{Held, part_held, IsSized, HaveGrown}
 use Rattle.target_book.specs.inner.Woven.{woven, IsBook}
 use Rattle.target_book.proofs.Weaves.{within_more, within_push, woven_alone, woven_records, woven_placement}
-use Rattle.target_book.proofs.Keeping.{Keeps, keeps_same, halted_history, access_keeps, resume_keeps, place_kept, zero_kept}
+use Rattle.target_book.proofs.Keeping.{Keeps, keeps_same, halted_history, access_keeps, resume_keeps, place_kept, zero_kept, settle_keeps}
 
 woven_grown : (old new : Held) (ps : List Placement) (records : List GuestRec) → IsBook old ps → new.log ≡ old.log ++ records → woven 0 new.log ps ≡ woven 0 old.log ps ++ map Did records
 woven_grown old new ps records was is = ap (λ (l : List GuestRec). woven 0 l ps) is ∙ woven_records (length old.log) 0 old.log records ps (omega arith) was.within
@@ -54,9 +54,9 @@ unchanged_keeps : (old new : Held) → new ≡ old → Keeps (part_held old) (pa
 unchanged_keeps old new is =
     keeps_same (part_held old) (part_held new) (ap (λ (h : Held). h.log) is) (λ h was. subst (λ (x : Held). IsHistoryOf (part_held x) h) (sym is) was)
 
-pub accessed : (e : Extent) (v : ℕ) (op : Op) (old new : Held) (r : Result Access TargetFault) → IsAccess e op → IfOk r (λ a. record { book = part_held new; access = a } ≡ target_access v op (part_held old)) → OnErr r (new ≡ old) → Keeps (part_held old) (part_held new)
-accessed e v op old new (Ok a) fits ok err = subst (λ (b : TargetPart). Keeps (part_held old) b) (sym (ap (λ (x : Accessed). x.book) ok)) (access_keeps e v op (part_held old) fits)
-accessed e v op old new (Err f) fits ok err = unchanged_keeps old new err
+pub accessed : (v : ℕ) (op : Op) (old new : Held) (r : Result Access TargetFault) → IfOk r (λ a. record { book = part_held new; access = a } ≡ target_access v op (part_held old)) → OnErr r (new ≡ old) → Keeps (part_held old) (part_held new)
+accessed v op old new (Ok a) ok err = subst (λ (b : TargetPart). Keeps (part_held old) b) (sym (ap (λ (x : Accessed). x.book) ok)) (access_keeps v op (part_held old))
+accessed v op old new (Err f) ok err = unchanged_keeps old new err
 
 pub resumed : (old new : Held) (r : Result Unit TargetFault) → OnOk r (part_held new ≡ resumes (part_held old)) → OnErr r (new ≡ old) → Keeps (part_held old) (part_held new)
 resumed old new (Ok u) ok err = subst (λ (b : TargetPart). Keeps (part_held old) b) (sym ok) (resume_keeps (part_held old))
@@ -80,10 +80,16 @@ halted_book e new log sized part own = record {
 }
 
 -- the history of a book on which a page is placed
-pub place_after : (old new : Held) (ps : List Placement) (p k : ℕ) (content : List ℕ) → IsBook old ps → part_held new ≡ with_placed p k content (part_held old) → placements old.places p ≡ None → IsHistoryOf (part_held new) (woven 0 old.log ps ++ Placed p k content ∷ [])
+pub place_after : (old new : Held) (ps : List Placement) (p k : ℕ) (content : List ℕ) → IsBook old ps → part_held new ≡ with_placed p k content (part_held old) → is_resident (placements old.places p) (freed old.places p) ≡ false → IsHistoryOf (part_held new) (woven 0 old.log ps ++ Placed p k content ∷ [])
 place_after old new ps p k content was part absent =
     subst (λ (b : TargetPart). IsHistoryOf b (woven 0 old.log ps ++ Placed p k content ∷ [])) (sym part) (place_kept p k content (part_held old) (woven 0 old.log ps) absent was.history)
 
-pub zero_after : (old new : Held) (ps : List Placement) (p k : ℕ) → IsBook old ps → part_held new ≡ with_zeroed p k (part_held old) → placements old.places p ≡ None → IsHistoryOf (part_held new) (woven 0 old.log ps ++ Placed p k [] ∷ [])
+pub zero_after : (old new : Held) (ps : List Placement) (p k : ℕ) → IsBook old ps → part_held new ≡ with_zeroed p k (part_held old) → is_resident (placements old.places p) (freed old.places p) ≡ false → IsHistoryOf (part_held new) (woven 0 old.log ps ++ Placed p k [] ∷ [])
 zero_after old new ps p k was part absent =
     subst (λ (b : TargetPart). IsHistoryOf b (woven 0 old.log ps ++ Placed p k [] ∷ [])) (sym part) (zero_kept p k (part_held old) (woven 0 old.log ps) absent was.history)
+
+-- the pager has settled all
+pub settle_book : (old new : Held) (ps : List Placement) → IsBook old ps → IsSized new.frames.geometry new → part_held new ≡ settled (part_held old) → IsBook new ps
+settle_book old new ps was sized part =
+    grown old new ps was sized
+    (keeps_same (part_held old) (part_held new) (ap (λ (b : TargetPart). b.log) part) (λ h was. subst (λ (b : TargetPart). IsHistoryOf b h) (sym part) (settle_keeps (part_held old) h was)))

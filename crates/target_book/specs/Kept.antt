@@ -1,12 +1,12 @@
 -- What contracts see of a target's book.
-use Rattle.std.specs.Prelude.{◌≡◌, Bool, false, ◌<◌, ◌≤◌, List, ◌++◌, length, map, slice_index_or}
+use Rattle.std.specs.Prelude.{◌≡◌, ℕ, Bool, false, ◌<◌, ◌≤◌, List, ◌++◌, length, map, slice_index_or}
 use Rattle.std.specs.List.{AllByRecursion}
 use Rattle.migration_types.specs.declared.records.GuestRec.{GuestRec}
 use Rattle.migration_types.specs.Extents.{Extent}
 use Rattle.migration_types.specs.Limits.{most_records}
 use Rattle.migration_types.specs.PageSets.{Pages}
 use Rattle.page_store.specs.Frames.{Frames, memory_of}
-use Rattle.residency.specs.Placements.{Places, placements}
+use Rattle.residency.specs.Placements.{Places, placements, freed}
 use Rattle.target_book.specs.declared.Missing.{Missing}
 use Rattle.target_book.specs.TargetPart.{TargetPart}
 use Rattle.target_book.specs.History.{Happening, Did}
@@ -19,6 +19,7 @@ pub record Held : Type 0 where
   pub places : Places
   pub misses : List Missing
   pub standing : List Bool
+  pub unsettled : List ℕ
 
 -- the virtual processors whose mark is set
 abbrev pub marked : List Bool → Pages
@@ -30,9 +31,11 @@ part_held h = record {
   is_resumed = h.is_resumed;
   memory = memory_of h.frames;
   placed = placements h.places;
+  freed = freed h.places;
   frontier = h.places.frontier;
   misses = h.misses;
   standing = marked h.standing;
+  unsettled = h.unsettled;
 }
 
 -- the book: what the target holds, and its history
@@ -52,10 +55,11 @@ pub record HaveGrown (old new : Kept) : Type 0 where
   pub log : new.held.log ≡ old.held.log ++ records
   pub history : new.history ≡ old.history ++ map Did records
 
--- one machine's frames, residency and marks, misses of its pages, and a log within its limit
+-- one machine's frames, residency and marks, misses and pages of it, and a log within its limit
 pub record IsSized (e : Extent) (h : Held) : Type 0 where
   pub few : length h.log ≤ most_records
   pub frames : h.frames.geometry ≡ e
   pub places : h.places.geometry ≡ e
   pub marks : length h.standing ≡ 256
   pub misses : AllByRecursion (λ m. m.page < e.pages) h.misses
+  pub unsettled : AllByRecursion (λ p. p < e.pages) h.unsettled

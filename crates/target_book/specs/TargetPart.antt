@@ -1,7 +1,7 @@
 -- The target's book from the halt on, and its part of each event.
 use Rattle.std.specs.Prelude.{ℕ, Bool, true, false, List, [], ◌∷◌, ◌++◌, length, Option, Some, None, if◌then◌else◌}
 use Rattle.migration_types.specs.declared.records.GuestRec.{GuestRec}
-use Rattle.migration_types.specs.declared.records.GuestRec.TheVariants.{Read, Write, Miss, Halt, Resume, See}
+use Rattle.migration_types.specs.declared.records.GuestRec.TheVariants.{Read, Write, Release, Miss, Halt, Resume, See}
 use Rattle.migration_types.specs.Memory.{Memory, zeros, with_cell, with_content, with_zeros}
 use Rattle.migration_types.specs.PageSets.{Pages, no_page, with_page, without_page}
 use Rattle.residency.specs.Placements.{Placements, no_placement, with_placement, is_covered}
@@ -12,16 +12,19 @@ use Rattle.target_book.specs.declared.Missing.{Missing}
 use Rattle.target_book.specs.declared.Access.{Access}
 use Rattle.target_book.specs.declared.Access.TheVariants.{Done, Missed, Waiting}
 
--- The guest's log, whether the guest runs at the target, the target's memory, the placed pages, the greatest placement
--- that was seen, the misses that the pager has not taken, and the virtual processors whose miss stands.
+-- The guest's log, whether the guest runs at the target, the target's memory, the placed pages, those that were absent
+-- when the guest released them, the greatest placement that was seen, the misses that the pager has not taken, the
+-- virtual processors whose miss stands, and the pages so released that the pager has not settled.
 pub record TargetPart : Type 0 where
   pub log : List GuestRec
   pub is_resumed : Bool
   pub memory : Memory
   pub placed : Placements
+  pub freed : Pages
   pub frontier : Option ℕ
   pub misses : List Missing
   pub standing : Pages
+  pub unsettled : List ℕ
 
 -- the book after the halt, over the guest's log until then
 abbrev pub halted_target : List GuestRec → TargetPart
@@ -30,9 +33,11 @@ halted_target log = record {
   is_resumed = false;
   memory = zeros;
   placed = no_placement;
+  freed = no_page;
   frontier = None;
   misses = [];
   standing = no_page;
+  unsettled = [];
 }
 
 pub record Accessed : Type 0 where
@@ -47,7 +52,7 @@ looks k b = if is_covered (Some k) b.frontier then b else record b { log = b.log
 abbrev pub does : ℕ → Op → TargetPart → TargetPart
 does v (ReadCell p c) b = record b { log = b.log ++ Read v p c (b.memory p c) ∷ [] }
 does v (WriteCell p c x) b = record b { log = b.log ++ Write v p c x ∷ []; memory = with_cell p c x b.memory }
-does v (ReleasePage p) b = b
+does v (ReleasePage p) b = record b { log = b.log ++ Release v p ∷ []; memory = with_zeros p b.memory }
 
 -- a miss, unless one stands
 abbrev pub misses_page : ℕ → ℕ → TargetPart → Accessed
@@ -63,17 +68,32 @@ misses_page v p b =
       access = Missed;
     }
 
--- by the page's placement
-abbrev pub accesses : ℕ → Op → Option ℕ → TargetPart → Accessed
-accesses v op None b = misses_page v (page_in op) b
-accesses v op (Some k) b = record {
-  book = does v op (looks k (record b { standing = without_page v b.standing }));
+-- an absent page that is released is resident from then on, and the pager has to settle it
+abbrev pub frees : ℕ → TargetPart → TargetPart
+frees p b = record b { freed = with_page p b.freed; unsettled = b.unsettled ++ p ∷ [] }
+
+-- the operation is done over what a change leaves, and a miss of the virtual processor no longer stands
+abbrev pub done_over : (TargetPart → TargetPart) → ℕ → Op → TargetPart → Accessed
+done_over change v op b = record {
+  book = does v op (change (record b { standing = without_page v b.standing }));
   access = Done (answer_of op b.memory);
 }
 
+-- on an absent page: a read or a write misses it, a release makes it resident
+abbrev pub lacks : ℕ → Op → TargetPart → Accessed
+lacks v (ReadCell p c) b = misses_page v p b
+lacks v (WriteCell p c x) b = misses_page v p b
+lacks v (ReleasePage p) b = done_over (frees p) v (ReleasePage p) b
+
+-- by the page's placement, and by whether it was absent and released
+abbrev pub accesses : ℕ → Op → Option ℕ → Bool → TargetPart → Accessed
+accesses v op (Some k) is_freed b = done_over (looks k) v op b
+accesses v op None true b = done_over (λ c. c) v op b
+accesses v op None false b = lacks v op b
+
 -- an operation at the target
 abbrev pub target_access : ℕ → Op → TargetPart → Accessed
-target_access v op b = if b.is_resumed then accesses v op (b.placed (page_in op)) b else record { book = b; access = Waiting }
+target_access v op b = if b.is_resumed then accesses v op (b.placed (page_in op)) (b.freed (page_in op)) b else record { book = b; access = Waiting }
 
 -- the guest runs at the target
 abbrev pub resumes : TargetPart → TargetPart
@@ -89,3 +109,7 @@ with_zeroed page number b = record b { memory = with_zeros page b.memory; placed
 -- these misses are still to be taken
 abbrev pub with_misses : List Missing → TargetPart → TargetPart
 with_misses misses b = record b { misses = misses }
+
+-- the pager has settled all pages that were absent when they were released
+abbrev pub settled : TargetPart → TargetPart
+settled b = record b { unsettled = [] }

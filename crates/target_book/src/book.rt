@@ -3,10 +3,12 @@
 ghost use Rattle.std.specs.Prelude.{◌≡◌, ℕ, ◌<◌, ◌≤◌, [], ◌∷◌, ◌++◌, length, map, drop, slice_get, None, false, IfSome, IfOk, IfErr, OnOk, OnErr, IsErrOf};
 ghost use Rattle.std.specs.List.{AllByRecursion};
 ghost use Rattle.migration_types.specs.Limits.{most_records};
-ghost use Rattle.target_book.specs.TargetPart.{halted_target, target_access, resumes, with_placed, with_zeroed, with_misses};
-ghost use Rattle.target_book.specs.History.{Did, Placed, IsHistoryOf, IsBeforeHalt, IsAccess};
+ghost use Rattle.target_book.specs.TargetPart.{halted_target, target_access, resumes, with_placed, with_zeroed, with_misses, settled};
+ghost use Rattle.target_book.specs.History.{Did, Placed, IsHistoryOf, IsBeforeHalt};
 ghost use Rattle.target_book.specs.Told.{IsEarlier, IsOfHistory, IsPlacedOnce, AreSeen, AreOfPlacements};
 ghost use Rattle.migration_types.specs.declared.records.GuestRec.TheVariants.{Resume};
+ghost use Rattle.residency.specs.Placements.{is_resident};
+ghost use Rattle.migration_events.specs.Ops.{OpFits};
 ghost use Rattle.target_book.specs.Kept.{part_of, geometry_of, HaveGrown};
 
 use crate::state::State;
@@ -77,13 +79,14 @@ impl TargetBook {
         })
     }
 
-    /// An operation of a virtual processor, a read or a write. Before the guest resumes it waits. On a page that was not
-    /// placed it misses, once, and then waits until the page is placed. On a page that was placed it is done and
-    /// recorded, after a look at the placement where the guest saw none so late.
+    /// An operation of a virtual processor. Before the guest resumes it waits. On an absent page a read or a write misses,
+    /// once, and then waits until the page is resident; a release makes the page resident as zeros, and the pager has to
+    /// settle it. On a page that was placed it is done and recorded, after a look at the placement where the guest saw
+    /// none so late; on a page that was absent when it was released, it is done and recorded at once.
     /// `TargetFault::LogFull` where the log has no room for the records, `TargetFault::Memory` where there is no memory
     /// for them. On an error nothing changes.
     pub fn access(&mut self, vcpu: u8, op: Op) -> Result<Access, TargetFault>
-        requires { IsAccess (geometry_of self.old) op }
+        requires { OpFits (geometry_of self.old) op }
         ensures part { IfOk result (λ a. record { book = part_of self.new; access = a } ≡ target_access vcpu op (part_of self.old)) }
         ensures history { OnOk result (HaveGrown self.old self.new) }
         ensures geometry { geometry_of self.new ≡ geometry_of self.old }
@@ -106,12 +109,12 @@ impl TargetBook {
         self.state.resume()
     }
 
-    /// Places a page that was not placed, with these values in its cells, by the pager's record of this number. The
+    /// Places an absent page, with these values in its cells, by the pager's record of this number. The
     /// history gains the placement. An error: there is no memory for it, and then nothing changes.
     pub fn place(&mut self, page: PageNo, number: u32, contents: &[u64]) -> Result<(), AllocError>
         requires page { page < (geometry_of self.old).pages }
         requires contents { length contents.now ≡ (geometry_of self.old).cells }
-        requires absent { (part_of self.old).placed page ≡ None }
+        requires absent { is_resident ((part_of self.old).placed page) ((part_of self.old).freed page) ≡ false }
         ensures part { OnOk result (part_of self.new ≡ with_placed page number contents.now (part_of self.old)) }
         ensures history { OnOk result (self.new.history ≡ self.old.history ++ Placed page number contents.now ∷ []) }
         ensures geometry { geometry_of self.new ≡ geometry_of self.old }
@@ -130,11 +133,11 @@ impl TargetBook {
         Ok(())
     }
 
-    /// Places a page that was not placed, as zeros, by the pager's record of this number. The history gains the
+    /// Places an absent page, as zeros, by the pager's record of this number. The history gains the
     /// placement. An error: there is no memory for it, and then nothing changes.
     pub fn zero(&mut self, page: PageNo, number: u32) -> Result<(), AllocError>
         requires page { page < (geometry_of self.old).pages }
-        requires absent { (part_of self.old).placed page ≡ None }
+        requires absent { is_resident ((part_of self.old).placed page) ((part_of self.old).freed page) ≡ false }
         ensures part { OnOk result (part_of self.new ≡ with_zeroed page number (part_of self.old)) }
         ensures history { OnOk result (self.new.history ≡ self.old.history ++ Placed page number [] ∷ []) }
         ensures geometry { geometry_of self.new ≡ geometry_of self.old }
@@ -169,6 +172,32 @@ impl TargetBook {
         self.state.misses.pop_front();
     }
 
+    /// The pages that were absent when the guest released them and that the pager has not settled, the oldest first, all
+    /// of the machine.
+    pub fn unsettled(&self) -> &[PageNo]
+        ensures pages { result.now ≡ (part_of self.now).unsettled }
+        ensures machine { AllByRecursion (λ p. p < (geometry_of self.now).pages) result.now }
+    {
+        &self.state.unsettled
+    }
+
+    /// The pager has settled all of these pages. Nothing else changes. Gives no memory back.
+    pub fn settle(&mut self)
+        ensures part { part_of self.new ≡ settled (part_of self.old) }
+        ensures history { self.new.history ≡ self.old.history }
+        ensures geometry { geometry_of self.new ≡ geometry_of self.old }
+    {
+        self.state.settle();
+    }
+
+    /// Whether a page is resident: it was placed, or it was absent when the guest released it.
+    pub fn resident(&self, page: PageNo) -> bool
+        requires { page < (geometry_of self.now).pages }
+        ensures { result ≡ is_resident ((part_of self.now).placed page) ((part_of self.now).freed page) }
+    {
+        self.state.places.resident(page)
+    }
+
     /// Whether the guest has resumed at the target.
     pub fn is_resumed(&self) -> bool
         ensures { result ≡ (part_of self.now).is_resumed }
@@ -199,9 +228,10 @@ impl TargetBook {
     }
 
     /// Tells callers what the book keeps: it holds what follows from its history, and its log is within its limit. In
-    /// the history each page is placed at most once; once the guest has resumed, each read and write is of a page that
-    /// was placed before and whose placement, or a later one, the guest has looked at, and each read gives what was last
-    /// written after the placement, or else what was placed; and each look is at an earlier placement.
+    /// the history each page is placed at most once, and none after its release at the target; once the guest has resumed,
+    /// each read and write is of a page that was released there, or that was placed before and whose placement, or a later
+    /// one, the guest has looked at, and each read gives what was last written since the page was last placed or released
+    /// there, or else what was placed, or zero; and each look is at an earlier placement.
     pub fn keeps_history(&self)
         ensures history { IsHistoryOf (part_of self.now) self.now.history }
         ensures book { IsOfHistory (part_of self.now) self.now.history }

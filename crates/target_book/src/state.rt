@@ -3,13 +3,12 @@
 ghost use Rattle.std.specs.Prelude.{◌≡◌, [], ◌∷◌, ◌++◌, ◌<◌, ◌≤◌, ◌+◌, Some, None, false, replicate, vec_len, vec_capacity, length, IfOk, IfErr, OnOk, OnErr, IsErrOf};
 ghost use Rattle.migration_types.specs.Limits.{most_records};
 ghost use Rattle.migration_types.specs.Extents.{Extent};
-ghost use Rattle.migration_events.specs.Ops.{page_in, answer_of};
-ghost use Rattle.target_book.specs.History.{IsAccess};
+ghost use Rattle.migration_events.specs.Ops.{page_in, answer_of, OpFits};
 ghost use Rattle.page_store.specs.Frames.{memory_of};
-ghost use Rattle.residency.specs.Placements.{placements, no_placement, is_covered};
+ghost use Rattle.residency.specs.Placements.{placements, freed, no_placement, is_resident, is_covered};
 ghost use Rattle.migration_types.specs.Memory.{zeros};
-ghost use Rattle.migration_types.specs.PageSets.{without_page};
-ghost use Rattle.target_book.specs.TargetPart.{halted_target, target_access, accesses, misses_page, does, resumes, with_placed, with_zeroed};
+ghost use Rattle.migration_types.specs.PageSets.{no_page, without_page};
+ghost use Rattle.target_book.specs.TargetPart.{halted_target, target_access, accesses, misses_page, looks, frees, done_over, does, resumes, with_placed, with_zeroed, settled};
 ghost use Rattle.target_book.specs.Kept.{IsSized, part_held, marked};
 ghost use Rattle.target_book.specs.inner.States.{held};
 
@@ -37,6 +36,8 @@ pub(crate) struct State {
     pub(crate) misses: VecDeque<Missing>,
     /// A mark for each virtual processor whose miss stands.
     pub(crate) standing: Vec<bool>,
+    /// The pages that were absent when the guest released them and that the pager has not settled, the oldest first.
+    pub(crate) unsettled: Vec<PageNo>,
 }
 
 impl State {
@@ -60,6 +61,9 @@ impl State {
         let Ok((frames, places, standing)) = nothing_placed(alloc, geometry) else {
             return Err((log, TargetFault::Memory));
         };
+        let Ok(unsettled) = Vec::with_capacity(alloc, geometry.pages() as usize) else {
+            return Err((log, TargetFault::Memory));
+        };
         log.push_reserved(GuestRec::Halt);
         Ok(State {
             log,
@@ -68,13 +72,14 @@ impl State {
             places,
             misses: VecDeque::new(alloc),
             standing,
+            unsettled,
         })
     }
 
     /// An operation of a virtual processor.
     pub(crate) fn access(&mut self, vcpu: u8, op: &Op) -> Result<Access, TargetFault>
         requires sized { IsSized (held self.old).frames.geometry (held self.old) }
-        requires fits { IsAccess (held self.old).frames.geometry op.now }
+        requires fits { OpFits (held self.old).frames.geometry op.now }
         ensures ok { IfOk result (λ a. record { book = part_held (held self.new); access = a } ≡ target_access vcpu op.now (part_held (held self.old))) }
         ensures full { IsErrOf result TargetFault.LogFull → most_records < length (target_access vcpu op.now (part_held (held self.old))).book.log }
         ensures sized { (e : Extent) → IsSized e (held self.old) → IsSized e (held self.new) }
@@ -84,10 +89,49 @@ impl State {
             return Ok(Access::Waiting);
         }
         let page = op.page();
-        let Some(number) = self.places.placed_at(page) else {
-            return self.miss(vcpu, page);
-        };
-        self.perform(vcpu, op, number)
+        if let Some(number) = self.places.placed_at(page) {
+            return self.perform(vcpu, op, number);
+        }
+        if self.places.resident(page) {
+            return self.again(vcpu, op);
+        }
+        match op {
+            Op::Release { .. } => self.free(vcpu, op),
+            _ => self.miss(vcpu, page),
+        }
+    }
+
+    /// An operation on a page that was absent when the guest released it.
+    fn again(&mut self, vcpu: u8, op: &Op) -> Result<Access, TargetFault>
+        requires sized { IsSized (held self.old).frames.geometry (held self.old) }
+        requires fits { OpFits (held self.old).frames.geometry op.now }
+        ensures ok { IfOk result (λ a. record { book = part_held (held self.new); access = a } ≡ done_over (λ c. c) vcpu op.now (part_held (held self.old))) }
+        ensures full { IsErrOf result TargetFault.LogFull → most_records < length (done_over (λ c. c) vcpu op.now (part_held (held self.old))).book.log }
+        ensures sized { (e : Extent) → IsSized e (held self.old) → IsSized e (held self.new) }
+        ensures err { OnErr result (held self.new ≡ held self.old) }
+    {
+        room(&mut self.log, 1)?;
+        Ok(Access::Done(self.act(vcpu, op)))
+    }
+
+    /// A release of an absent page, which the pager has to settle.
+    fn free(&mut self, vcpu: u8, op: &Op) -> Result<Access, TargetFault>
+        requires sized { IsSized (held self.old).frames.geometry (held self.old) }
+        requires fits { OpFits (held self.old).frames.geometry op.now }
+        requires absent { is_resident (placements self.old.places (page_in op.now)) (freed self.old.places (page_in op.now)) ≡ false }
+        ensures ok { IfOk result (λ a. record { book = part_held (held self.new); access = a } ≡ done_over (frees (page_in op.now)) vcpu op.now (part_held (held self.old))) }
+        ensures full { IsErrOf result TargetFault.LogFull → most_records < length (done_over (frees (page_in op.now)) vcpu op.now (part_held (held self.old))).book.log }
+        ensures sized { (e : Extent) → IsSized e (held self.old) → IsSized e (held self.new) }
+        ensures err { OnErr result (held self.new ≡ held self.old) }
+    {
+        room(&mut self.log, 1)?;
+        if self.unsettled.reserve(1).is_err() {
+            return Err(TargetFault::Memory);
+        }
+        let page = op.page();
+        self.unsettled.push_reserved(page);
+        self.places.release(page);
+        Ok(Access::Done(self.act(vcpu, op)))
     }
 
     /// A virtual processor misses a page, unless a miss of it stands.
@@ -117,10 +161,10 @@ impl State {
     /// An operation on a page that the pager's record of this number placed.
     fn perform(&mut self, vcpu: u8, op: &Op, number: u32) -> Result<Access, TargetFault>
         requires sized { IsSized (held self.old).frames.geometry (held self.old) }
-        requires fits { IsAccess (held self.old).frames.geometry op.now }
+        requires fits { OpFits (held self.old).frames.geometry op.now }
         requires placed { placements self.old.places (page_in op.now) ≡ Some number }
-        ensures ok { IfOk result (λ a. record { book = part_held (held self.new); access = a } ≡ accesses vcpu op.now (Some number) (part_held (held self.old))) }
-        ensures full { IsErrOf result TargetFault.LogFull → most_records < length (accesses vcpu op.now (Some number) (part_held (held self.old))).book.log }
+        ensures ok { IfOk result (λ a. record { book = part_held (held self.new); access = a } ≡ done_over (looks number) vcpu op.now (part_held (held self.old))) }
+        ensures full { IsErrOf result TargetFault.LogFull → most_records < length (done_over (looks number) vcpu op.now (part_held (held self.old))).book.log }
         ensures sized { (e : Extent) → IsSized e (held self.old) → IsSized e (held self.new) }
         ensures err { OnErr result (held self.new ≡ held self.old) }
     {
@@ -145,10 +189,10 @@ impl State {
         self.places.saw(number);
     }
 
-    /// The operation itself, on a page that was placed. A miss of the virtual processor no longer stands.
+    /// The operation itself, on a resident page. A miss of the virtual processor no longer stands.
     fn act(&mut self, vcpu: u8, op: &Op) -> u64
         requires sized { IsSized (held self.old).frames.geometry (held self.old) }
-        requires fits { IsAccess (held self.old).frames.geometry op.now }
+        requires fits { OpFits (held self.old).frames.geometry op.now }
         requires few { length self.old.log.items < most_records }
         requires room { vec_len self.old.log < vec_capacity self.old.log }
         ensures part { part_held (held self.new) ≡ does vcpu op.now (record (part_held (held self.old)) { standing = without_page vcpu (marked self.old.standing.items) }) }
@@ -177,7 +221,11 @@ impl State {
                 self.frames.write(page, cell, value);
                 value
             }
-            Op::Release { .. } => 0,
+            Op::Release { page } => {
+                self.log.push_reserved(GuestRec::Release { vcpu, page });
+                self.frames.release(page);
+                0
+            }
         }
     }
 
@@ -200,7 +248,7 @@ impl State {
         requires frames { page < (held self.old).frames.geometry.pages }
         requires places { page < (held self.old).places.geometry.pages }
         requires cells { length cells.now ≡ (held self.old).frames.geometry.cells }
-        requires absent { placements self.old.places page ≡ None }
+        requires absent { is_resident (placements self.old.places page) (freed self.old.places page) ≡ false }
         ensures part { part_held (held self.new) ≡ with_placed page number cells.now (part_held (held self.old)) }
         ensures log { self.new.log ≡ self.old.log }
         ensures sized { (e : Extent) → IsSized e (held self.old) → IsSized e (held self.new) }
@@ -209,11 +257,20 @@ impl State {
         self.places.mark(page, number);
     }
 
+    /// The pager has settled all pages that were absent when they were released.
+    pub(crate) fn settle(&mut self)
+        ensures part { part_held (held self.new) ≡ settled (part_held (held self.old)) }
+        ensures log { self.new.log ≡ self.old.log }
+        ensures sized { (e : Extent) → IsSized e (held self.old) → IsSized e (held self.new) }
+    {
+        self.unsettled.clear();
+    }
+
     /// A page is placed as zeros.
     pub(crate) fn zero(&mut self, page: PageNo, number: u32)
         requires frames { page < (held self.old).frames.geometry.pages }
         requires places { page < (held self.old).places.geometry.pages }
-        requires absent { placements self.old.places page ≡ None }
+        requires absent { is_resident (placements self.old.places page) (freed self.old.places page) ≡ false }
         ensures part { part_held (held self.new) ≡ with_zeroed page number (part_held (held self.old)) }
         ensures log { self.new.log ≡ self.old.log }
         ensures sized { (e : Extent) → IsSized e (held self.old) → IsSized e (held self.new) }
@@ -247,6 +304,7 @@ fn nothing_placed(
     ensures memory { IfOk result (λ t. memory_of t.0 ≡ zeros) }
     ensures places { IfOk result (λ t. t.1.geometry ≡ geometry) }
     ensures placed { IfOk result (λ t. placements t.1 ≡ no_placement) }
+    ensures freed { IfOk result (λ t. freed t.1 ≡ no_page) }
     ensures frontier { IfOk result (λ t. t.1.frontier ≡ None) }
     ensures marks { IfOk result (λ t. t.2.items ≡ replicate 256 false) }
 {

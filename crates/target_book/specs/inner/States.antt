@@ -10,4 +10,5 @@ held s = record {
   places = s.places;
   misses = s.misses.items;
   standing = s.standing.items;
+  unsettled = s.unsettled.items;
 }

@@ -9,7 +9,7 @@ use Rattle.target_book.proofs.book.TargetBook.access.Goals as goal
 
 keeps : (c : goal.After-access) → Keeps (part_held (held c.self.inside.state)) (part_held (held c.access.new.self))
 keeps c =
-    accessed (geometry_of c.args.self.now) c.args.vcpu c.args.op (held c.self.inside.state) (held c.access.new.self) c.access.result c.requires c.access.ensures.ok c.access.ensures.err
+    accessed c.args.vcpu c.args.op (held c.self.inside.state) (held c.access.new.self) c.access.result c.access.ensures.ok c.access.ensures.err
 
 pub invariant_of-self : goal.invariant_of-self
 invariant_of-self c =

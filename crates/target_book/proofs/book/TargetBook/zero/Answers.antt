@@ -1,5 +1,5 @@
-use Rattle.std.proofs.Common.{rules, ◌≡◌, ℕ, List, [], ◌∷◌, ◌++◌, length, None, ap, ◌∙◌, sym, subst}
-use Rattle.residency.specs.Placements.{placements}
+use Rattle.std.proofs.Common.{rules, ◌≡◌, ℕ, List, [], ◌∷◌, ◌++◌, length, false, ap, ◌∙◌, sym, subst}
+use Rattle.residency.specs.Placements.{placements, freed, is_resident}
 use Rattle.target_book.specs.declared.book.Placement.{Placement}
 use Rattle.target_book.specs.History.{Placed, IsHistoryOf}
 use Rattle.target_book.specs.Kept.{Kept, part_of, part_held}
@@ -27,7 +27,8 @@ invariant_of-self-2 c =
     let old = held i.state in
     let new = held c.zero.new.self in
     let e = i.state.frames.geometry in
-    let absent : placements old.places c.args.page ≡ None = ap (λ (k : Kept). (part_of k).placed c.args.page) c.self.view_is ∙ c.requires.absent in
+    let absent : is_resident (placements old.places c.args.page) (freed old.places c.args.page) ≡ false =
+    ap (λ (k : Kept). is_resident ((part_of k).placed c.args.page) ((part_of k).freed c.args.page)) c.self.view_is ∙ c.requires.absent in
     let history = subst (λ (xs : List ℕ). IsHistoryOf (part_held new) (woven 0 old.log i.placements.items ++ Placed c.args.page c.args.number xs ∷ [])) (sym (stored c))
     (zero_after old new i.placements.items c.args.page c.args.number c.self.invariant c.zero.ensures.part absent) in
     rw (c.push_reserved.ensures.items, c.reserve.ensures.items)

@@ -1,8 +1,8 @@
-use Rattle.std.proofs.Common.{rules, ◌≡◌, true, false, Some, arith}
-use Rattle.residency.specs.Placements.{is_covered}
+use Rattle.std.proofs.Common.{rules, true, false, ap, ◌∙◌, sym, arith}
+use Rattle.residency.specs.Placements.{presence, number_of}
 use Rattle.target_book.specs.Kept.{part_held}
 use Rattle.target_book.specs.inner.States.{held}
-use Rattle.target_book.proofs.Parts.{seen_length, unseen_length}
+use Rattle.target_book.proofs.Parts.{placed_cover, seen_length, unseen_length}
 use Rattle.target_book.proofs.state.State.perform.Goals.{then-covers+in_ok-room, else-covers+in_ok-room-2}
 use Rattle.target_book.proofs.state.State.perform.Goals as goal
 
@@ -13,8 +13,8 @@ returns-in_err-room-clause-full c =
     let test = c.if-covers.true in
     let page = c.page.ensures in
     let placed = c.requires.placed in
-    let seen : is_covered (Some c.args.number) s.places.frontier ≡ true = cc in
-    rw (seen_length s.frames.geometry c.args.vcpu c.args.op.now c.args.number (part_held (held s)) c.requires.fits seen) (search rules)
+    let seen = placed_cover (presence s.places c.page.result) c.args.number s.places.frontier true (ap (λ p. number_of (presence s.places p)) page ∙ placed) (sym test ∙ covers) in
+    rw (seen_length c.args.vcpu c.args.op.now c.args.number (part_held (held s)) seen) (search rules)
 
 pub returns-in_err-room-2-clause-full : goal.returns-in_err-room-2-clause-full
 returns-in_err-room-2-clause-full c =
@@ -23,8 +23,8 @@ returns-in_err-room-2-clause-full c =
     let test = c.if-covers.false in
     let page = c.page.ensures in
     let placed = c.requires.placed in
-    let unseen : is_covered (Some c.args.number) s.places.frontier ≡ false = cc in
-    rw (unseen_length s.frames.geometry c.args.vcpu c.args.op.now c.args.number (part_held (held s)) c.requires.fits unseen) (search rules)
+    let unseen = placed_cover (presence s.places c.page.result) c.args.number s.places.frontier false (ap (λ p. number_of (presence s.places p)) page ∙ placed) (sym test ∙ covers) in
+    rw (unseen_length c.args.vcpu c.args.op.now c.args.number (part_held (held s)) unseen) (search rules)
 
 pub returns-clause-sized : goal.returns-clause-sized
 returns-clause-sized c = elim c.if-covers.branch [
