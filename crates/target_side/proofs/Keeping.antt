@@ -5,7 +5,7 @@ use Rattle.std.proofs.lemmas.List.Folds.{list_any-append}
 use Rattle.std.specs.Prelude.{is_some, slice_get, ◌==◌}
 use Rattle.std.specs.List.{AllByRecursion, list_any}
 use Rattle.migration_types.specs.declared.records.PagerRec.{PagerRec}
-use Rattle.migration_types.specs.declared.records.PagerRec.TheVariants.{Got, Ready, Fault, Join, Want, Place, Zero, Skip, All}
+use Rattle.migration_types.specs.declared.records.PagerRec.TheVariants.{Got, Ready, Want, All}
 use Rattle.migration_types.specs.Extents.{Extent}
 use Rattle.migration_types.specs.Limits.{most_records}
 use Rattle.migration_types.specs.PageSets.{with_page}
@@ -15,8 +15,8 @@ use Rattle.fault_queue.specs.Waiting.{Waiting, entry, joined, with_waiter, witho
 use Rattle.page_stream.specs.declared.Packet.{Packet}
 use Rattle.page_stream.specs.declared.Packet.TheVariants.{State as StatePacket, Page as PagePacket, Want as WantPacket, All as AllPacket}
 use Rattle.target_side.specs.declared.Incoming.{Incoming}
-use Rattle.target_side.specs.PagerPart.{PagerPart, pops_by, wants_page, oldest}
-use Rattle.target_side.specs.PagerLists.{HasBegun, HasCome, IsSaid, IsWanted, IsTied, IsKept, IsPacketOf}
+use Rattle.target_side.specs.PagerPart.{PagerPart, wants_page, oldest}
+use Rattle.target_side.specs.PagerLists.{HasBegun, HasCome, IsSaid, IsWanted, IsTied, IsKept}
 use Rattle.target_side.proofs.Lists.{get_old, get_new, each_push, each_weaker, each_filtered, each_mapped}
 
 -- a record more in the log

@@ -5,3 +5,4 @@ mod Sounds
 mod Ticking
 mod Paging
 mod Branches
+mod Settling

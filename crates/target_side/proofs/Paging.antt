@@ -1,8 +1,7 @@
 -- The pager's calls on the target's book.
-use Rattle.std.proofs.Common.{◌≡◌, ℕ, zero, suc, ◌+◌, ◌<◌, ◌≤◌, Bool, true, false, cond, ◌||◌, List, [], ◌∷◌, ◌++◌, length, Option, Some, None, ◌⊎◌, inl, inr, refl, sym, ap, ◌∙◌, subst, arith}
-use Rattle.std.specs.Prelude.{is_some, slice_get, drop, ◌==◌}
-use Rattle.std.specs.List.{AllByRecursion, list_any}
-use Rattle.std.specs.Option.{option_map, unwrap_or}
+use Rattle.std.proofs.Common.{◌≡◌, ℕ, ◌+◌, ◌<◌, ◌≤◌, Bool, true, false, cond, ◌||◌, List, [], ◌∷◌, ◌++◌, length, Option, Some, ◌⊎◌, inl, inr, refl, sym, ap, ◌∙◌, subst, arith}
+use Rattle.std.specs.Prelude.{is_some, ◌==◌}
+use Rattle.std.specs.List.{AllByRecursion}
 use Rattle.std.proofs.lemmas.Bool.{eqb-true, eq-eqb, or_cases}
 use Rattle.migration_types.specs.declared.records.PagerRec.{PagerRec}
 use Rattle.migration_types.specs.declared.records.PagerRec.TheVariants.{Fault, Join, Want, Place, Zero, Skip}
@@ -10,18 +9,17 @@ use Rattle.migration_types.specs.Extents.{Extent}
 use Rattle.migration_types.specs.Limits.{most_records}
 use Rattle.migration_types.specs.PageSets.{Pages, with_page}
 use Rattle.page_tables.specs.Tables.{Values, pages_of, values, with_value}
-use Rattle.fault_queue.specs.Waiting.{Waiting, is_asked, is_waiting, waiting_for, joined, entry, asked, without}
+use Rattle.fault_queue.specs.Waiting.{Waiting, is_asked, waiting_for, joined, entry, without}
 use Rattle.fault_queue.specs.declared.Asked.{Asked}
 use Rattle.fault_queue.specs.declared.Asked.TheVariants.{New, Joined}
 use Rattle.page_stream.specs.declared.Packet.{Packet}
 use Rattle.page_stream.specs.declared.Packet.TheVariants.{Want as WantPacket}
-use Rattle.target_book.specs.TargetPart.{TargetPart, with_placed, with_zeroed, with_misses}
-use Rattle.target_book.specs.declared.Missing.{Missing}
+use Rattle.target_book.specs.TargetPart.{TargetPart, with_placed, with_zeroed}
 use Rattle.target_side.specs.declared.Incoming.{Incoming}
-use Rattle.target_side.specs.PagerPart.{PagerPart, Paged, wants_page, fault_new, fault_join, fault_absent, fault_at, faults, zeroes, places, is_released, is_listed}
-use Rattle.target_side.specs.PagerLists.{PagerLists, part_of, IsWanted, IsKept, HasCome}
+use Rattle.target_side.specs.PagerPart.{PagerPart, wants_page, fault_new, fault_join, zeroes, places, is_released}
+use Rattle.target_side.specs.PagerLists.{PagerLists, part_of, IsWanted, IsKept}
 use Rattle.target_side.specs.inner.Sound.{IsSound}
-use Rattle.target_side.specs.inner.Steps.{learned, asks, skips, places_next}
+use Rattle.target_side.specs.inner.Steps.{learned, asks, places_next}
 use Rattle.target_side.proofs.Lists.{length_more, get_new}
 use Rattle.target_side.proofs.Keeping.{with_record, kept_more, kept_placed, kept_taken, kept_served, kept_joined, kept_wanting, kept_sending, kept_asked}
 
@@ -34,20 +32,21 @@ kept_skipped b x inbox log is e grown few k =
     rw grown (kept_more (Skip x.got) (record b { inbox = inbox }) is (λ p. refl) (omega (arith, length_more b.log (Skip x.got))) (kept_taken x inbox b e k).1)
 
 -- a page is placed
-still : (c a r : Bool) → (r || a) ≡ true → (r || cond c true a) ≡ true
-still true a true e = refl
-still true a false e = refl
-still false a r e = e
+still : (c a r s : Bool) → (r || (a || s)) ≡ true → (r || (cond c true a || s)) ≡ true
+still true a true s e = refl
+still true a false s e = refl
+still false a r s e = e
 
 pub sound_placed : {b : PagerLists} {marks : Values Bool} {bound : ℕ} (page : ℕ) (log : List PagerRec) (placed : Values Bool) (inbox : List Incoming) (waiting : List Waiting) → IsSound b marks bound → pages_of placed ≡ pages_of b.placed → values placed ≡ with_page page (values b.placed) → IsKept (part_of (record b { log = log; placed = placed; inbox = inbox; waiting = waiting })) → IsSound (record b { log = log; placed = placed; inbox = inbox; waiting = waiting }) marks bound
 sound_placed {b} {marks} {bound} page log placed inbox waiting s pages are k = record {
   kept = k;
   placed_pages = pages ∙ s.placed_pages;
+  settled_pages = s.settled_pages;
   wants_pages = s.wants_pages;
   marked_pages = s.marked_pages;
   marked = s.marked;
   in_range = s.in_range;
-  settled = λ p lt. ap (λ (at : ℕ → Bool). is_released b.released p || at p) are ∙ still (page == p) (values b.placed p) (is_released b.released p) (s.settled p lt);
+  passed = λ p lt. ap (λ (at : ℕ → Bool). is_released b.released p || (at p || values b.settled p)) are ∙ still (page == p) (values b.placed p) (is_released b.released p) (values b.settled p) (s.passed p lt);
 }
 
 pub kept_zeroed : (b : PagerPart) (page miss : ℕ) (log : List PagerRec) (placed : Pages) → is_some b.released ≡ true → log ≡ (b.log ++ Fault miss ∷ []) ++ Zero page ∷ [] → placed ≡ with_page page b.placed → length b.log + 2 ≤ most_records → IsKept b → IsKept (record b { log = log; placed = placed })

@@ -1,13 +1,12 @@
 -- The fields of the pager's book, through its calls.
 use Rattle.std.proofs.Common.{◌≡◌, ℕ, ◌+◌, ◌<◌, ◌≤◌, Bool, true, false, ◌||◌, List, [], ◌∷◌, ◌++◌, length, Option, Some, None, refl, sym, ap, ◌∙◌, subst, arith}
 use Rattle.std.specs.Prelude.{is_some, slice_get}
-use Rattle.std.specs.List.{AllByRecursion, list_any}
 use Rattle.migration_types.specs.declared.records.PagerRec.{PagerRec}
-use Rattle.migration_types.specs.declared.records.PagerRec.TheVariants.{Got, Ready, Skip, Want, All}
+use Rattle.migration_types.specs.declared.records.PagerRec.TheVariants.{Got, Ready, Skip}
 use Rattle.migration_types.specs.Extents.{Extent}
 use Rattle.migration_types.specs.Limits.{most_records}
 use Rattle.audit_model.specs.Shape.{is_placement_of}
-use Rattle.page_tables.specs.Tables.{Values, all_at, pages_of, values}
+use Rattle.page_tables.specs.Tables.{Values, all_at, values}
 use Rattle.fault_queue.specs.Waiting.{Waiting}
 use Rattle.page_stream.specs.declared.Packet.{Packet}
 use Rattle.target_side.specs.declared.Incoming.{Incoming}
@@ -18,9 +17,9 @@ use Rattle.target_side.proofs.Lists.{length_more, get_new}
 use Rattle.target_side.proofs.Keeping.{with_record, kept_more, kept_first, kept_incoming}
 
 -- the book before anything has come
-pub new_part : (e : Extent) (log : List PagerRec) (placed : Values Bool) (inbox : List Incoming) (outbox : List Packet) (waiting : List Waiting) (wants : Values (Option ℕ)) → log ≡ [] → values placed ≡ all_at false → inbox ≡ [] → outbox ≡ [] → waiting ≡ [] → values wants ≡ all_at None → part_of (record { geometry = e; log = log; released = None; placed = placed; inbox = inbox; outbox = outbox; waiting = waiting; wants = wants }) ≡ new_pager e
-new_part e log placed inbox outbox waiting wants l p i o w n =
-    λ j. record { geometry = e; log = l j; released = None; placed = p j; inbox = i j; outbox = o j; waiting = w j; wants = n j }
+pub new_part : (e : Extent) (log : List PagerRec) (placed settled : Values Bool) (inbox : List Incoming) (outbox : List Packet) (waiting : List Waiting) (wants : Values (Option ℕ)) → log ≡ [] → values placed ≡ all_at false → values settled ≡ all_at false → inbox ≡ [] → outbox ≡ [] → waiting ≡ [] → values wants ≡ all_at None → part_of (record { geometry = e; log = log; released = None; placed = placed; settled = settled; inbox = inbox; outbox = outbox; waiting = waiting; wants = wants }) ≡ new_pager e
+new_part e log placed settled inbox outbox waiting wants l p s i o w n =
+    λ j. record { geometry = e; log = l j; released = None; placed = p j; settled = s j; inbox = i j; outbox = o j; waiting = w j; wants = n j }
 
 pub new_kept : (e : Extent) → IsKept (new_pager e)
 new_kept e = record {
@@ -34,11 +33,12 @@ pub sound_with : {b : PagerLists} {marks : Values Bool} {bound : ℕ} (log : Lis
 sound_with log inbox outbox waiting s k = record {
   kept = k;
   placed_pages = s.placed_pages;
+  settled_pages = s.settled_pages;
   wants_pages = s.wants_pages;
   marked_pages = s.marked_pages;
   marked = s.marked;
   in_range = s.in_range;
-  settled = s.settled;
+  passed = s.passed;
 }
 
 -- a record more

@@ -1,8 +1,7 @@
 -- A tick of the pager.
 use Rattle.std.proofs.Common.{◌≡◌, ℕ, zero, suc, ◌+◌, ◌<◌, ◌≤◌, Bool, true, false, cond, ◌||◌, List, [], ◌∷◌, ◌++◌, length, Option, Some, None, ◌⊎◌, inl, inr, refl, sym, ap, ◌∙◌, subst, arith}
-use Rattle.std.specs.Prelude.{is_some, slice_get}
+use Rattle.std.specs.Prelude.{is_some}
 use Rattle.std.specs.List.{range_with_len}
-use Rattle.std.specs.Option.{option_map}
 use Rattle.std.proofs.lemmas.Bool.{cases_lt}
 use Rattle.migration_types.specs.declared.records.PagerRec.{PagerRec}
 use Rattle.migration_types.specs.declared.records.PagerRec.TheVariants.{Want, All}
@@ -16,9 +15,9 @@ use Rattle.target_side.specs.PagerPart.{PagerPart, Sent, wants_page, oldest, is_
 use Rattle.target_side.specs.PagerLists.{PagerLists, part_of, IsKept}
 use Rattle.target_side.specs.inner.Sound.{IsSound}
 use Rattle.target_side.proofs.Lists.{length_more}
-use Rattle.target_side.proofs.Keeping.{kept_wanting, oldest_fits}
+use Rattle.target_side.proofs.Keeping.{kept_wanting}
 
--- the least page that is neither listed nor placed
+-- the least page that is neither listed nor there
 none_absent : (k n : ℕ) (list : List ℕ) (there : Pages) → ((p : ℕ) → k ≤ p → p < k + n → (is_listed p list || there p) ≡ true) → first_absent (range_with_len k n) list there ≡ None
 none_absent k zero list there all = refl
 none_absent k (suc n) list there all =
@@ -37,13 +36,13 @@ least_absent k (suc n) p list there ge lt all here =
         let none : (is_listed k list || there k) ≡ false = subst (λ q. (is_listed q list || there q) ≡ false) (sym same) here in
         ap (λ b. cond b (first_absent (range_with_len (k + 1) n) list there) (Some k)) none ∙ ap (λ q. Some q) same
 
-pub ticks_done : (o : Option (List ℕ)) (b : PagerPart) → is_some o ≡ true → ((p : ℕ) → p < b.geometry.pages → (is_released o p || b.placed p) ≡ true) → ticks o b ≡ ticks_at None b
+pub ticks_done : (o : Option (List ℕ)) (b : PagerPart) → is_some o ≡ true → ((p : ℕ) → p < b.geometry.pages → (is_released o p || (b.placed p || b.settled p)) ≡ true) → ticks o b ≡ ticks_at None b
 ticks_done None b is all = absurd (cc)
-ticks_done (Some list) b is all = ap (λ f. ticks_at f b) (none_absent 0 b.geometry.pages list b.placed (λ p ge lt. all p (omega arith)))
+ticks_done (Some list) b is all = ap (λ f. ticks_at f b) (none_absent 0 b.geometry.pages list (λ q. b.placed q || b.settled q) (λ p ge lt. all p (omega arith)))
 
-pub ticks_wanting : (o : Option (List ℕ)) (b : PagerPart) (p : ℕ) → is_some o ≡ true → p < b.geometry.pages → ((q : ℕ) → q < p → (is_released o q || b.placed q) ≡ true) → (is_released o p || b.placed p) ≡ false → ticks o b ≡ ticks_at (Some p) b
+pub ticks_wanting : (o : Option (List ℕ)) (b : PagerPart) (p : ℕ) → is_some o ≡ true → p < b.geometry.pages → ((q : ℕ) → q < p → (is_released o q || (b.placed q || b.settled q)) ≡ true) → (is_released o p || (b.placed p || b.settled p)) ≡ false → ticks o b ≡ ticks_at (Some p) b
 ticks_wanting None b p is fits all here = absurd (cc)
-ticks_wanting (Some list) b p is fits all here = ap (λ f. ticks_at f b) (least_absent 0 b.geometry.pages p list b.placed (omega arith) (omega arith) (λ q ge lt. all q lt) here)
+ticks_wanting (Some list) b p is fits all here = ap (λ f. ticks_at f b) (least_absent 0 b.geometry.pages p list (λ q. b.placed q || b.settled q) (omega arith) (omega arith) (λ q ge lt. all q lt) here)
 
 -- what the tick answers
 pub said_all : (b : PagerPart) (log : List PagerRec) (n : ℕ) → log ≡ b.log ++ All ∷ [] → n ≡ length b.log → record { book = record b { log = log }; packet = Some (AllPacket n) } ≡ ticks_at None b
@@ -60,33 +59,35 @@ kept_wants b page log wants is fits few grown given k =
     let e : record b { log = log; wants = wants } ≡ wants_page page b = λ i. record b { log = grown i; wants = given i } in
     subst IsKept (sym e) (kept_wanting page b is fits (omega (arith, length_more b.log (Want page))) k)
 
--- the bound goes up to a page below which all are released or placed
-pub sound_up : {b : PagerLists} {marks : Values Bool} {bound : ℕ} (absent : ℕ) → IsSound b marks bound → absent ≤ b.geometry.pages → ((p : ℕ) → bound ≤ p → p < absent → (values marks p || values b.placed p) ≡ true) → IsSound b marks absent
+-- the bound goes up to a page below which all are released, placed or settled
+pub sound_up : {b : PagerLists} {marks : Values Bool} {bound : ℕ} (absent : ℕ) → IsSound b marks bound → absent ≤ b.geometry.pages → ((p : ℕ) → bound ≤ p → p < absent → (values marks p || (values b.placed p || values b.settled p)) ≡ true) → IsSound b marks absent
 sound_up {b} {marks} {bound} absent s few more = record {
   kept = s.kept;
   placed_pages = s.placed_pages;
+  settled_pages = s.settled_pages;
   wants_pages = s.wants_pages;
   marked_pages = s.marked_pages;
   marked = s.marked;
   in_range = few;
-  settled = λ p lt. go p lt (cases_lt p bound);
+  passed = λ p lt. go p lt (cases_lt p bound);
 }
   where
-    go : (p : ℕ) → p < absent → (p < bound) ⊎ (bound ≤ p) → (is_released b.released p || values b.placed p) ≡ true
-    go p lt (inl below) = s.settled p below
-    go p lt (inr above) = sym (ap (λ (at : ℕ → Bool). at p || values b.placed p) s.marked) ∙ more p above lt
+    go : (p : ℕ) → p < absent → (p < bound) ⊎ (bound ≤ p) → (is_released b.released p || (values b.placed p || values b.settled p)) ≡ true
+    go p lt (inl below) = s.passed p below
+    go p lt (inr above) = sym (ap (λ (at : ℕ → Bool). at p || (values b.placed p || values b.settled p)) s.marked) ∙ more p above lt
 
-pub unsettled : {b : PagerLists} {marks : Values Bool} {bound : ℕ} (p : ℕ) → IsSound b marks bound → (values marks p || values b.placed p) ≡ false → (is_released b.released p || values b.placed p) ≡ false
-unsettled {b} {marks} {bound} p s e = sym (ap (λ (at : ℕ → Bool). at p || values b.placed p) s.marked) ∙ e
+pub unsettled : {b : PagerLists} {marks : Values Bool} {bound : ℕ} (p : ℕ) → IsSound b marks bound → (values marks p || (values b.placed p || values b.settled p)) ≡ false → (is_released b.released p || (values b.placed p || values b.settled p)) ≡ false
+unsettled {b} {marks} {bound} p s e = sym (ap (λ (at : ℕ → Bool). at p || (values b.placed p || values b.settled p)) s.marked) ∙ e
 
 -- a change of the log, the queues and the wants alone
 pub sound_wanting : {b : PagerLists} {marks : Values Bool} {bound : ℕ} (log : List PagerRec) (outbox : List Packet) (waiting : List Waiting) (wants : Values (Option ℕ)) → IsSound b marks bound → pages_of wants ≡ pages_of b.wants → IsKept (part_of (record b { log = log; outbox = outbox; waiting = waiting; wants = wants })) → IsSound (record b { log = log; outbox = outbox; waiting = waiting; wants = wants }) marks bound
 sound_wanting log outbox waiting wants s pages k = record {
   kept = k;
   placed_pages = s.placed_pages;
+  settled_pages = s.settled_pages;
   wants_pages = pages ∙ s.wants_pages;
   marked_pages = s.marked_pages;
   marked = s.marked;
   in_range = s.in_range;
-  settled = s.settled;
+  passed = s.passed;
 }

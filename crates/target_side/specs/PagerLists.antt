@@ -1,11 +1,11 @@
 -- The pager's book as its contracts see it, and what it keeps of its own log.
-use Rattle.std.specs.Prelude.{◌≡◌, ℕ, ◌<◌, ◌≤◌, Bool, List, [], ◌∷◌, length, Option, Some, None, slice_get}
+use Rattle.std.specs.Prelude.{◌≡◌, ℕ, ◌<◌, ◌≤◌, Bool, List, [], length, Option, Some, None, slice_get}
 use Rattle.std.specs.List.{AllByRecursion, list_any}
 use Rattle.migration_types.specs.declared.records.PagerRec.{PagerRec}
 use Rattle.migration_types.specs.declared.records.PagerRec.TheVariants.{Got, Ready, Want, All}
 use Rattle.migration_types.specs.Extents.{Extent}
 use Rattle.migration_types.specs.Limits.{most_records}
-use Rattle.page_tables.specs.Tables.{Values, pages_of, values}
+use Rattle.page_tables.specs.Tables.{Values, values}
 use Rattle.audit_model.specs.Shape.{is_placement_of}
 use Rattle.fault_queue.specs.Waiting.{Waiting}
 use Rattle.page_stream.specs.declared.Packet.{Packet}
@@ -19,6 +19,7 @@ pub record PagerLists : Type 0 where
   pub log : List PagerRec
   pub released : Option (List ℕ)
   pub placed : Values Bool
+  pub settled : Values Bool
   pub inbox : List Incoming
   pub outbox : List Packet
   pub waiting : List Waiting
@@ -31,6 +32,7 @@ part_of b = record {
   log = b.log;
   released = b.released;
   placed = values b.placed;
+  settled = values b.settled;
   inbox = b.inbox;
   outbox = b.outbox;
   waiting = b.waiting;

@@ -9,17 +9,20 @@ use Rattle.page_tables.specs.Tables.{all_at, with_value}
 use Rattle.fault_queue.specs.Waiting.{Waiting, is_asked, is_waiting, waiting_for, joined, entry, without}
 use Rattle.page_stream.specs.declared.Packet.{Packet}
 use Rattle.page_stream.specs.declared.Packet.TheVariants.{State as StatePacket, Page as PagePacket, Want as WantPacket, All as AllPacket}
-use Rattle.target_book.specs.TargetPart.{TargetPart, resumes, with_placed, with_zeroed, with_misses}
+use Rattle.residency.specs.Placements.{is_resident}
+use Rattle.target_book.specs.TargetPart.{TargetPart, settled as with_settled, resumes, with_placed, with_zeroed, with_misses}
 use Rattle.target_book.specs.declared.Missing.{Missing}
 use Rattle.target_side.specs.declared.Incoming.{Incoming}
 
--- The pager's log, the pages that the source released once the state has come, the placed pages, the pages that have
--- come, the wants that are not offered yet, who waits for which page, and the number of each page's last `want`.
+-- The pager's log, the pages that the source released once the state has come, the placed pages, those that the guest
+-- released at the target before they came, as far as they are settled, the pages that have come, the wants that are not
+-- offered yet, who waits for which page, and the number of each page's last `want`.
 pub record PagerPart : Type 0 where
   pub geometry : Extent
   pub log : List PagerRec
   pub released : Option (List ℕ)
   pub placed : Pages
+  pub settled : Pages
   pub inbox : List Incoming
   pub outbox : List Packet
   pub waiting : List Waiting
@@ -31,6 +34,7 @@ new_pager geometry = record {
   log = [];
   released = None;
   placed = no_page;
+  settled = no_page;
   inbox = [];
   outbox = [];
   waiting = [];
@@ -71,6 +75,11 @@ pops_by (Some released) down packet b = pops_later down packet b
 abbrev pub pager_pop : ℕ → Packet → PagerPart → PagerPart
 pager_pop down packet b = pops_by b.released down packet b
 
+-- pages that the guest released at the target before they came: nobody waits for them any more
+abbrev pub settles : List ℕ → PagerPart → PagerPart
+settles [] b = b
+settles (p ∷ ps) b = settles ps (record b { settled = with_page p b.settled; waiting = without p b.waiting })
+
 -- PagerFault
 abbrev pub is_listed : ℕ → List ℕ → Bool
 is_listed page pages = list_any (λ p. p == page) pages
@@ -107,16 +116,15 @@ fault_absent p v b t =
     else if is_asked p b.waiting then record { pager = fault_join p v (b.wants p) b; target = t; woken = [] }
     else record { pager = fault_new p v b; target = t; woken = [] }
 
-abbrev pub fault_at : ℕ → ℕ → Option ℕ → PagerPart → TargetPart → Paged
-fault_at p v (Some k) b t = record { pager = b; target = t; woken = [] }
-fault_at p v None b t = fault_absent p v b t
+abbrev pub fault_at : ℕ → ℕ → PagerPart → TargetPart → Paged
+fault_at p v b t = if is_resident (t.placed p) (t.freed p) then record { pager = b; target = t; woken = [] } else fault_absent p v b t
 
 abbrev pub faults : List Missing → PagerPart → TargetPart → Paged
 faults [] b t = record { pager = b; target = t; woken = [] }
-faults (x ∷ rest) b t = fault_at x.page x.vcpu (t.placed x.page) (record b { log = b.log ++ Fault x.number ∷ [] }) (with_misses rest t)
+faults (x ∷ rest) b t = fault_at x.page x.vcpu (record b { log = b.log ++ Fault x.number ∷ [] }) (with_misses rest t)
 
 abbrev pub next_fault : PagerPart → TargetPart → Paged
-next_fault b t = faults t.misses b t
+next_fault b t = faults t.misses (settles t.unsettled b) (with_settled t)
 
 -- PagerFlush
 abbrev pub flushes : List Packet → PagerPart → Sent
@@ -138,13 +146,12 @@ places x b t = record {
   woken = waiting_for x.page b.waiting;
 }
 
-abbrev pub delivers_at : Incoming → Option ℕ → PagerPart → TargetPart → Paged
-delivers_at x (Some k) b t = record { pager = record b { log = b.log ++ Skip x.got ∷ [] }; target = t; woken = [] }
-delivers_at x None b t = places x b t
+abbrev pub delivers_at : Incoming → PagerPart → TargetPart → Paged
+delivers_at x b t = if is_resident (t.placed x.page) (t.freed x.page) then record { pager = record b { log = b.log ++ Skip x.got ∷ [] }; target = t; woken = [] } else places x b t
 
 abbrev pub delivers_next : List Incoming → PagerPart → TargetPart → Paged
 delivers_next [] b t = record { pager = b; target = t; woken = [] }
-delivers_next (x ∷ rest) b t = delivers_at x (t.placed x.page) (record b { inbox = rest }) t
+delivers_next (x ∷ rest) b t = delivers_at x (record b { inbox = rest }) t
 
 abbrev pub delivers_by : Option (List ℕ) → PagerPart → TargetPart → Paged
 delivers_by None b t = record { pager = b; target = t; woken = [] }
@@ -152,9 +159,9 @@ delivers_by (Some released) b t =
     if t.is_resumed then delivers_next b.inbox b t else record { pager = b; target = resumes t; woken = [] }
 
 abbrev pub deliver : PagerPart → TargetPart → Paged
-deliver b t = delivers_by b.released b t
+deliver b t = delivers_by b.released (settles t.unsettled b) (with_settled t)
 
--- PagerTick: the least owed page that is not placed
+-- PagerTick: the least owed page that is neither placed nor settled
 abbrev pub first_absent : List ℕ → List ℕ → Pages → Option ℕ
 first_absent [] released there = None
 first_absent (p ∷ ps) released there = if is_listed p released || there p then first_absent ps released there else Some p
@@ -170,7 +177,7 @@ ticks_at (Some p) b = record { book = wants_page (oldest b.waiting p) b; packet 
 
 abbrev pub ticks : Option (List ℕ) → PagerPart → Sent
 ticks None b = record { book = b; packet = None }
-ticks (Some released) b = ticks_at (first_absent (range_with_len 0 b.geometry.pages) released b.placed) b
+ticks (Some released) b = ticks_at (first_absent (range_with_len 0 b.geometry.pages) released (λ p. b.placed p || b.settled p)) b
 
 abbrev pub pager_tick : PagerPart → Sent
 pager_tick b = ticks b.released b

@@ -20,10 +20,12 @@ use std::marker::Model;
 mod arrivals;
 mod deliveries;
 mod faults;
+mod settling;
 mod ticks;
 
-/// The pager's book: its log, the pages that the source released, the pages that it placed, those that have come, its
-/// packets that are not offered yet, who waits for which page, and the number of the last `want` of each page.
+/// The pager's book: its log, the pages that the source released, the pages that it placed, those that the guest
+/// released at the target before they came, those that have come, its packets that are not offered yet, who waits for
+/// which page, and the number of the last `want` of each page.
 ///
 /// Its log has at most 1,048,576 records. It is empty until the state has come, and begins with its `got` and `ready`
 /// from then on. A page is marked as placed just where the log places it. Each page that has come names its `got`,
@@ -38,7 +40,9 @@ pub struct PagerBook {
     /// The same pages, as marks.
     marks: Table<bool>,
     placed: Table<bool>,
-    /// Each page below this one is released or placed.
+    /// The pages that the guest released at the target before they came, as far as they are settled.
+    settled: Table<bool>,
+    /// Each page below this one is released, placed or settled.
     bound: u32,
     inbox: VecDeque<Incoming>,
     outbox: VecDeque<Packet>,
@@ -52,9 +56,9 @@ impl Model for PagerBook {
 
     ghost Value = { PagerLists };
 
-    ghost view = { λ b. record { geometry = b.geometry; log = b.log.items; released = b.released; placed = b.placed; inbox = b.inbox.items; outbox = b.outbox.items; waiting = b.waiting; wants = b.wants } };
+    ghost view = { λ b. record { geometry = b.geometry; log = b.log.items; released = b.released; placed = b.placed; settled = b.settled; inbox = b.inbox.items; outbox = b.outbox.items; waiting = b.waiting; wants = b.wants } };
 
-    ghost invariant = { λ b. IsSound (record { geometry = b.geometry; log = b.log.items; released = b.released; placed = b.placed; inbox = b.inbox.items; outbox = b.outbox.items; waiting = b.waiting; wants = b.wants }) b.marks b.bound };
+    ghost invariant = { λ b. IsSound (record { geometry = b.geometry; log = b.log.items; released = b.released; placed = b.placed; settled = b.settled; inbox = b.inbox.items; outbox = b.outbox.items; waiting = b.waiting; wants = b.wants }) b.marks b.bound };
 }
 
 impl PagerBook {
@@ -66,6 +70,7 @@ impl PagerBook {
         let pages = geometry.pages();
         let marks = Table::no_marks(alloc, pages)?;
         let placed = Table::no_marks(alloc, pages)?;
+        let settled = Table::no_marks(alloc, pages)?;
         let wants = Table::no_numbers(alloc, pages)?;
         Ok(PagerBook {
             alloc,
@@ -74,6 +79,7 @@ impl PagerBook {
             released: None,
             marks,
             placed,
+            settled,
             bound: 0,
             inbox: VecDeque::new(alloc),
             outbox: VecDeque::new(alloc),

@@ -1,5 +1,5 @@
 -- The parts of a call on both books.
-use Rattle.std.specs.Prelude.{ℕ, List, [], ◌∷◌, ◌++◌, length, if◌then◌else◌}
+use Rattle.std.specs.Prelude.{ℕ, List, [], ◌∷◌, ◌++◌, if◌then◌else◌}
 use Rattle.migration_types.specs.declared.records.PagerRec.TheVariants.{Fault, Skip}
 use Rattle.fault_queue.specs.Waiting.{is_asked}
 use Rattle.target_book.specs.TargetPart.{TargetPart}

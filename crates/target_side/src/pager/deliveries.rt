@@ -1,11 +1,12 @@
 //! The pager lets the guest resume, and places the pages that have come.
 
-ghost use Rattle.std.specs.Prelude.{◌≡◌, ◌<◌, ◌⊎◌, [], true, length, slice_get, is_some, Some, None, IfOk, OnOk, OnErr, IsErrOf};
+ghost use Rattle.std.specs.Prelude.{◌≡◌, ◌<◌, ◌⊎◌, [], true, false, length, slice_get, is_some, Some, None, IfOk, OnOk, OnErr, IsErrOf};
 ghost use Rattle.std.specs.Option.{option_map, unwrap_or};
 ghost use Rattle.migration_types.specs.Limits.{most_records};
+ghost use Rattle.residency.specs.Placements.{is_resident};
 ghost use Rattle.target_book.specs.Kept.{geometry_of, part_of as target_of};
 ghost use Rattle.target_side.specs.declared.Incoming.{Incoming};
-ghost use Rattle.target_side.specs.PagerPart.{deliver};
+ghost use Rattle.target_side.specs.PagerPart.{deliver, delivers_by};
 ghost use Rattle.target_side.specs.PagerLists.{part_of};
 ghost use Rattle.target_side.specs.inner.Steps.{skips, places_next};
 
@@ -16,14 +17,40 @@ use std::alloc::Global;
 use target_book::{TargetBook, TargetFault};
 
 impl PagerBook {
-    /// Once the state has come, lets the guest resume at the target. After that it takes the oldest page that has come:
-    /// it places it, and answers the virtual processors that wait for it, in their order, or drops it where it was placed
-    /// already. Otherwise nobody is answered. The books are of one machine. On an error nothing changes.
+    /// Settles the pages that the guest released at the target before they came: nobody waits for them any more, and
+    /// nobody is answered for them. Once the state has come, lets the guest resume at the target. After that it takes
+    /// the oldest page that has come: it places it, and answers the virtual processors that wait for it, in their
+    /// order, or drops it where it is resident already. Otherwise nobody is answered. The books are of one machine. On
+    /// an error nothing changes.
     pub fn deliver(&mut self, target: &mut TargetBook) -> Result<Seq<u8>, TargetFault>
         requires { geometry_of target.old ≡ self.old.geometry }
         ensures ok { IfOk result (λ woken. record { pager = part_of self.new; target = target_of target.new; woken = woken } ≡ deliver (part_of self.old) (target_of target.old)) }
         ensures machine { geometry_of target.new ≡ geometry_of target.old }
         ensures full { IsErrOf result TargetFault.LogFull → let after = deliver (part_of self.old) (target_of target.old) in (most_records < length after.pager.log) ⊎ (most_records < length after.target.log) }
+        ensures err { OnErr result ((self.new ≡ self.old) × (target.new ≡ target.old)) }
+    {
+        if target.unsettled().is_empty() {
+            return self.bring(target);
+        }
+        let before = self.drop_waiters(target)?;
+        match self.bring(target) {
+            Ok(woken) => {
+                self.mark_settled(target);
+                Ok(woken)
+            }
+            Err(fault) => {
+                self.waiting = before;
+                Err(fault)
+            }
+        }
+    }
+
+    /// Lets the guest resume, or takes the oldest page that has come, once the pages are settled.
+    fn bring(&mut self, target: &mut TargetBook) -> Result<Seq<u8>, TargetFault>
+        requires { geometry_of target.old ≡ self.old.geometry }
+        ensures ok { IfOk result (λ woken. record { pager = part_of self.new; target = target_of target.new; woken = woken } ≡ delivers_by self.old.released (part_of self.old) (target_of target.old)) }
+        ensures machine { geometry_of target.new ≡ geometry_of target.old }
+        ensures full { IsErrOf result TargetFault.LogFull → let after = delivers_by self.old.released (part_of self.old) (target_of target.old) in (most_records < length after.pager.log) ⊎ (most_records < length after.target.log) }
         ensures err { OnErr result ((self.new ≡ self.old) × (target.new ≡ target.old)) }
     {
         if self.released.is_none() {
@@ -36,7 +63,7 @@ impl PagerBook {
         let Some(page) = self.next_page() else {
             return Ok(nobody(self.alloc));
         };
-        if target.placed_at(page).is_some() {
+        if target.resident(page) {
             self.skip_page()?;
             return Ok(nobody(self.alloc));
         }
@@ -64,7 +91,7 @@ impl PagerBook {
         requires machine { geometry_of target.old ≡ self.old.geometry }
         requires ready { is_some self.old.released ≡ true }
         requires come { 0 < length self.old.inbox }
-        requires absent { (x : Incoming) → slice_get self.old.inbox 0 ≡ Some x → (target_of target.old).placed x.page ≡ None }
+        requires absent { (x : Incoming) → slice_get self.old.inbox 0 ≡ Some x → is_resident ((target_of target.old).placed x.page) ((target_of target.old).freed x.page) ≡ false }
         ensures ok { IfOk result (λ woken. record { pager = part_of self.new; target = target_of target.new; woken = woken } ≡ places_next self.old.inbox (part_of self.old) (target_of target.old)) }
         ensures machine { geometry_of target.new ≡ geometry_of target.old }
         ensures full { IsErrOf result TargetFault.LogFull → most_records < length (places_next self.old.inbox (part_of self.old) (target_of target.old)).pager.log }

@@ -2,9 +2,10 @@
 
 ghost use Rattle.std.specs.Prelude.{◌≡◌, ◌<◌, [], true, false, length, is_some, None, OnOk, OnErr, IsErrOf};
 ghost use Rattle.migration_types.specs.Limits.{most_records};
+ghost use Rattle.residency.specs.Placements.{is_resident};
 ghost use Rattle.fault_queue.specs.Waiting.{is_waiting};
 ghost use Rattle.target_book.specs.Kept.{geometry_of, part_of as target_of};
-ghost use Rattle.target_side.specs.PagerPart.{next_fault, fault_at, zeroes};
+ghost use Rattle.target_side.specs.PagerPart.{next_fault, faults, fault_at, zeroes};
 ghost use Rattle.target_side.specs.PagerLists.{part_of};
 ghost use Rattle.target_side.specs.inner.Steps.{learned, asks};
 
@@ -16,16 +17,38 @@ use page_stream::Packet;
 use target_book::{Missing, TargetBook, TargetFault};
 
 impl PagerBook {
-    /// Learns of the oldest miss that was not taken. Where its page is neither placed nor released, the page is asked
+    /// Settles the pages that the guest released at the target before they came: nobody waits for them any more. Then
+    /// learns of the oldest miss that was not taken. Where its page is neither resident nor released, the page is asked
     /// for, or its virtual processor waits with those that wait for it; a released page is placed as zeros at once.
-    /// Nothing happens where there is no miss. The books are of one machine, and a miss comes only once the state has.
-    /// On an error nothing changes.
+    /// Where there is no miss nothing more happens. The books are of one machine, and a miss comes only once the state
+    /// has. On an error nothing changes.
     pub fn next_fault(&mut self, target: &mut TargetBook) -> Result<(), TargetFault>
         requires machine { geometry_of target.old ≡ self.old.geometry }
         requires ready { self.old.released ≡ None → (target_of target.old).misses ≡ [] }
         ensures ok { OnOk result (record { pager = part_of self.new; target = target_of target.new; woken = [] } ≡ next_fault (part_of self.old) (target_of target.old)) }
         ensures machine { geometry_of target.new ≡ geometry_of target.old }
         ensures full { IsErrOf result TargetFault.LogFull → most_records < length (next_fault (part_of self.old) (target_of target.old)).pager.log }
+        ensures err { OnErr result ((self.new ≡ self.old) × (target.new ≡ target.old)) }
+    {
+        if target.unsettled().is_empty() {
+            return self.fault(target);
+        }
+        let before = self.drop_waiters(target)?;
+        if let Err(fault) = self.fault(target) {
+            self.waiting = before;
+            return Err(fault);
+        }
+        self.mark_settled(target);
+        Ok(())
+    }
+
+    /// Learns of the oldest miss, once the pages are settled.
+    fn fault(&mut self, target: &mut TargetBook) -> Result<(), TargetFault>
+        requires machine { geometry_of target.old ≡ self.old.geometry }
+        requires ready { self.old.released ≡ None → (target_of target.old).misses ≡ [] }
+        ensures ok { OnOk result (record { pager = part_of self.new; target = target_of target.new; woken = [] } ≡ faults (target_of target.old).misses (part_of self.old) (target_of target.old)) }
+        ensures machine { geometry_of target.new ≡ geometry_of target.old }
+        ensures full { IsErrOf result TargetFault.LogFull → most_records < length (faults (target_of target.old).misses (part_of self.old) (target_of target.old)).pager.log }
         ensures err { OnErr result ((self.new ≡ self.old) × (target.new ≡ target.old)) }
     {
         let Some(missing) = target.next_miss() else {
@@ -41,12 +64,12 @@ impl PagerBook {
         requires machine { geometry_of target.old ≡ self.old.geometry }
         requires ready { is_some self.old.released ≡ true }
         requires page { missing.page < self.old.geometry.pages }
-        ensures ok { OnOk result (record { pager = part_of self.new; target = target_of target.new; woken = [] } ≡ fault_at missing.page missing.vcpu ((target_of target.old).placed missing.page) (learned missing.number (part_of self.old)) (target_of target.old)) }
+        ensures ok { OnOk result (record { pager = part_of self.new; target = target_of target.new; woken = [] } ≡ fault_at missing.page missing.vcpu (learned missing.number (part_of self.old)) (target_of target.old)) }
         ensures machine { geometry_of target.new ≡ geometry_of target.old }
-        ensures full { IsErrOf result TargetFault.LogFull → most_records < length (fault_at missing.page missing.vcpu ((target_of target.old).placed missing.page) (learned missing.number (part_of self.old)) (target_of target.old)).pager.log }
+        ensures full { IsErrOf result TargetFault.LogFull → most_records < length (fault_at missing.page missing.vcpu (learned missing.number (part_of self.old)) (target_of target.old)).pager.log }
         ensures err { OnErr result ((self.new ≡ self.old) × (target.new ≡ target.old)) }
     {
-        if target.placed_at(missing.page).is_some() || self.waiting.is_waiting(missing.vcpu) {
+        if target.resident(missing.page) || self.waiting.is_waiting(missing.vcpu) {
             return self.learn(missing.number);
         }
         if self.marks.at(missing.page) {
@@ -72,7 +95,7 @@ impl PagerBook {
         requires machine { geometry_of target.old ≡ self.old.geometry }
         requires ready { is_some self.old.released ≡ true }
         requires page { missing.page < self.old.geometry.pages }
-        requires absent { (target_of target.old).placed missing.page ≡ None }
+        requires absent { is_resident ((target_of target.old).placed missing.page) ((target_of target.old).freed missing.page) ≡ false }
         ensures ok { OnOk result (record { pager = part_of self.new; target = target_of target.new; woken = [] } ≡ zeroes missing.page (learned missing.number (part_of self.old)) (target_of target.old)) }
         ensures machine { geometry_of target.new ≡ geometry_of target.old }
         ensures full { IsErrOf result TargetFault.LogFull → most_records < length (zeroes missing.page (learned missing.number (part_of self.old)) (target_of target.old)).pager.log }

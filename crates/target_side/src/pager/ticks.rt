@@ -14,9 +14,9 @@ use page_stream::Packet;
 use target_book::TargetFault;
 
 impl PagerBook {
-    /// Wants a page once more: the page that is waited for longest, or where nobody waits the least page that is neither
-    /// released nor placed. Where each page is released or placed, it says so. None: the state has not come, and nothing
-    /// changes. On an error nothing changes.
+    /// Wants a page once more: the page that is waited for longest, or where nobody waits the least page that is not
+    /// released, placed or settled. Where each page is one of these, it says so. None: the state has not come, and
+    /// nothing changes. On an error nothing changes.
     pub fn tick(&mut self) -> Result<Option<Packet>, TargetFault>
         ensures ok { IfOk result (λ packet. record { book = part_of self.new; packet = packet } ≡ pager_tick (part_of self.old)) }
         ensures full { IsErrOf result TargetFault.LogFull → most_records < length (pager_tick (part_of self.old)).book.log }
@@ -28,7 +28,7 @@ impl PagerBook {
         make_room(&mut self.log, 1)?;
         let pages = self.geometry.pages();
         self.geometry.keeps_limits();
-        let absent = first_unmarked(&self.marks, &self.placed, self.bound, pages);
+        let absent = first_unmarked(&self.marks, &self.placed, &self.settled, self.bound, pages);
         self.bound = absent;
         if absent == pages {
             let number = append(&mut self.log, PagerRec::All);

@@ -1,8 +1,7 @@
-use Rattle.std.proofs.Common.{◌≡◌, ℕ, ◌<◌, true, false, Bool, None, length, refl, sym, ap, subst, ◌∙◌}
-use Rattle.std.specs.Prelude.{is_some}
+use Rattle.std.proofs.Common.{◌≡◌, ℕ, ◌<◌, true, false, Bool, length, sym, ap, subst, ◌∙◌}
 use Rattle.std.proofs.lemmas.Result.{on_ok_weaker}
 use Rattle.migration_types.specs.Limits.{most_records}
-use Rattle.page_tables.proofs.Noting.{none_is}
+use Rattle.residency.specs.Placements.{is_resident}
 use Rattle.fault_queue.specs.Waiting.{is_waiting}
 use Rattle.target_book.specs.Kept.{part_of as target_of}
 use Rattle.target_side.specs.PagerPart.{Paged, fault_at, zeroes, is_released}
@@ -11,9 +10,9 @@ use Rattle.target_side.specs.inner.Steps.{learned, asks}
 use Rattle.target_side.proofs.Branches.{unchanged, fault_zero, fault_asks}
 use Rattle.target_side.proofs.pager.PagerBook.learn_of.Goals as goal
 
-zero_is : (c : goal.After-zero) → fault_at c.args.missing.page c.args.missing.vcpu ((target_of c.args.target.now).placed c.args.missing.page) (learned c.args.missing.number (part_of c.args.self.now)) (target_of c.args.target.now) ≡ zeroes c.args.missing.page (learned c.args.missing.number (part_of c.args.self.now)) (target_of c.args.target.now)
+zero_is : (c : goal.After-zero) → fault_at c.args.missing.page c.args.missing.vcpu (learned c.args.missing.number (part_of c.args.self.now)) (target_of c.args.target.now) ≡ zeroes c.args.missing.page (learned c.args.missing.number (part_of c.args.self.now)) (target_of c.args.target.now)
 zero_is c =
-    let none : (target_of c.args.target.now).placed c.args.missing.page ≡ None = none_is _ (sym (ap is_some c.placed_at.ensures) ∙ sym c.is_some.ensures ∙ c.if-is_some.false) in
+    let none : is_resident ((target_of c.args.target.now).placed c.args.missing.page) ((target_of c.args.target.now).freed c.args.missing.page) ≡ false = sym c.resident.ensures ∙ c.if-resident.false in
     let away : is_waiting c.args.missing.vcpu c.args.self.now.waiting ≡ false =
     sym (ap (λ (v : PagerLists). is_waiting c.args.missing.vcpu v.waiting) c.self.view_is) ∙ sym c.is_waiting.ensures ∙ c.if-is_waiting.false
     in
@@ -22,11 +21,11 @@ zero_is c =
     ∙ sym (ap (λ (at : ℕ → Bool). at c.args.missing.page) c.self-2.invariant.marked)
     ∙ sym c.at.ensures ∙ c.if-at.true
     in
-    fault_zero c.args.missing.page c.args.missing.vcpu ((target_of c.args.target.now).placed c.args.missing.page) (learned c.args.missing.number (part_of c.args.self.now)) (target_of c.args.target.now) none away marked
+    fault_zero c.args.missing.page c.args.missing.vcpu (learned c.args.missing.number (part_of c.args.self.now)) (target_of c.args.target.now) none away marked
 
-ask_is : (c : goal.After-ask) → fault_at c.args.missing.page c.args.missing.vcpu ((target_of c.args.target.now).placed c.args.missing.page) (learned c.args.missing.number (part_of c.args.self.now)) (target_of c.args.target.now) ≡ unchanged (asks c.args.missing.page c.args.missing.vcpu (learned c.args.missing.number (part_of c.args.self.now))) (target_of c.args.target.now)
+ask_is : (c : goal.After-ask) → fault_at c.args.missing.page c.args.missing.vcpu (learned c.args.missing.number (part_of c.args.self.now)) (target_of c.args.target.now) ≡ unchanged (asks c.args.missing.page c.args.missing.vcpu (learned c.args.missing.number (part_of c.args.self.now))) (target_of c.args.target.now)
 ask_is c =
-    let none : (target_of c.args.target.now).placed c.args.missing.page ≡ None = none_is _ (sym (ap is_some c.placed_at.ensures) ∙ sym c.is_some.ensures ∙ c.if-is_some.false) in
+    let none : is_resident ((target_of c.args.target.now).placed c.args.missing.page) ((target_of c.args.target.now).freed c.args.missing.page) ≡ false = sym c.resident.ensures ∙ c.if-resident.false in
     let away : is_waiting c.args.missing.vcpu c.args.self.now.waiting ≡ false =
     sym (ap (λ (v : PagerLists). is_waiting c.args.missing.vcpu v.waiting) c.self.view_is) ∙ sym c.is_waiting.ensures ∙ c.if-is_waiting.false
     in
@@ -35,7 +34,7 @@ ask_is c =
     ∙ sym (ap (λ (at : ℕ → Bool). at c.args.missing.page) c.self-2.invariant.marked)
     ∙ sym c.at.ensures ∙ c.if-at.false
     in
-    fault_asks c.args.missing.page c.args.missing.vcpu ((target_of c.args.target.now).placed c.args.missing.page) (learned c.args.missing.number (part_of c.args.self.now)) (target_of c.args.target.now) none away unmarked
+    fault_asks c.args.missing.page c.args.missing.vcpu (learned c.args.missing.number (part_of c.args.self.now)) (target_of c.args.target.now) none away unmarked
 
 pub returns-then-at-clause-ok : goal.returns-then-at-clause-ok
 returns-then-at-clause-ok c = on_ok_weaker c.zero.result (λ e. e ∙ sym (zero_is c)) c.zero.ensures.ok

@@ -1,4 +1,4 @@
-use Rattle.std.proofs.Common.{◌≡◌, ℕ, ◌+◌, ◌<◌, ◌≤◌, ◌++◌, ◌∷◌, [], true, false, List, length, sym, ap, ◌∙◌, subst, arith}
+use Rattle.std.proofs.Common.{◌≡◌, ℕ, ◌+◌, ◌<◌, ◌≤◌, ◌||◌, ◌++◌, ◌∷◌, [], true, false, List, length, sym, ap, ◌∙◌, subst, arith}
 use Rattle.std.specs.Prelude.{is_some}
 use Rattle.std.specs.List.{AllByRecursion}
 use Rattle.std.proofs.lemmas.Grind.{common_steps}
@@ -8,6 +8,7 @@ use Rattle.migration_types.specs.declared.records.PagerRec.TheVariants.{Got, Rea
 use Rattle.page_tables.specs.Tables.{values}
 use Rattle.target_side.specs.PagerPart.{is_listed}
 use Rattle.target_side.specs.PagerLists.{PagerLists}
+use Rattle.target_side.proofs.Listed.{marked_alone}
 use Rattle.target_side.proofs.Sounds.{sound_with, popped_again, popped_first, unmarked, still_settled}
 use Rattle.target_side.proofs.pager.PagerBook.pop_state.Goals as goal
 
@@ -22,13 +23,8 @@ invariant_of-self-then-is_some c =
     ∙ ap (λ (l : List PagerRec). (l ++ Got c.args.link_number ∷ []) ++ Skip c.append-got.result ∷ []) c.make_room.ensures.same)
     room c.self.invariant.kept)
 
-pub mark_all-requires-clause-none : goal.mark_all-requires-clause-none
-mark_all-requires-clause-none c =
-    let away : is_some c.self.inside.released ≡ false = grind (arith, common_steps) in
-    unmarked c.self.inside.released c.self.inside.marks away c.self.invariant.marked
-
-pub mark_all-requires-clause-fit : goal.mark_all-requires-clause-fit
-mark_all-requires-clause-fit c =
+pub mark_all-requires : goal.mark_all-requires
+mark_all-requires c =
     rw c.as_slice.ensures (subst (λ (n : ℕ). AllByRecursion (λ p. p < n) c.args.released.now)
     (sym (ap (λ (v : PagerLists). v.geometry.pages) c.self.view_is) ∙ sym c.self.invariant.marked_pages)
     c.requires)
@@ -44,9 +40,10 @@ invariant_of-self-2 c =
           ∙ ap (λ (l : List PagerRec). (l ++ Got c.args.link_number ∷ []) ++ Ready ∷ []) c.make_room.ensures.same)
           c.self.invariant.kept;
       placed_pages = c.self.invariant.placed_pages;
+      settled_pages = c.self.invariant.settled_pages;
       wants_pages = c.self.invariant.wants_pages;
       marked_pages = c.mark_all.ensures.pages ∙ c.self.invariant.marked_pages;
-      marked = c.mark_all.ensures.marked ∙ sym (ap (λ (xs : List ℕ). λ (page : ℕ). is_listed page xs) list);
+      marked = c.mark_all.ensures.marked ∙ marked_alone c.as_slice.result.now (values c.self.inside.marks) (unmarked c.self.inside.released c.self.inside.marks away c.self.invariant.marked) ∙ sym (ap (λ (xs : List ℕ). λ (page : ℕ). is_listed page xs) list);
       in_range = c.self.invariant.in_range;
-      settled = λ p lt. still_settled c.self.inside.released c.in-Ok.pages (values c.self.inside.placed) p away (c.self.invariant.settled p lt);
+      passed = λ p lt. still_settled c.self.inside.released c.in-Ok.pages (λ q. values c.self.inside.placed q || values c.self.inside.settled q) p away (c.self.invariant.passed p lt);
     }

@@ -1,4 +1,4 @@
-use Rattle.std.proofs.Common.{◌≡◌, ◌++◌, ◌∷◌, [], true, refl, ap, subst, ◌∙◌}
+use Rattle.std.proofs.Common.{◌≡◌, ◌++◌, ◌∷◌, [], true, ap, ◌∙◌}
 use Rattle.std.specs.Prelude.{is_some}
 use Rattle.migration_types.specs.declared.records.PagerRec.TheVariants.{Skip}
 use Rattle.target_side.specs.PagerLists.{PagerLists}

@@ -1,7 +1,6 @@
-use Rattle.std.proofs.Common.{◌≡◌, ℕ, ◌+◌, ◌<◌, ◌≤◌, ◌||◌, ◌++◌, ◌∷◌, [], true, false, Some, List, length, refl, sym, ap, ◌∙◌, subst, arith}
+use Rattle.std.proofs.Common.{◌≡◌, ℕ, ◌<◌, ◌||◌, ◌++◌, ◌∷◌, [], true, Some, List, length, refl, sym, ap, ◌∙◌, subst, arith}
 use Rattle.std.specs.Prelude.{is_some}
 use Rattle.std.proofs.lemmas.Grind.{common_steps}
-use Rattle.migration_types.specs.Limits.{most_records}
 use Rattle.migration_types.specs.declared.records.PagerRec.{PagerRec}
 use Rattle.migration_types.specs.declared.records.PagerRec.TheVariants.{Want, All}
 use Rattle.page_tables.specs.Tables.{values, with_value}
@@ -23,8 +22,8 @@ pub returns-then-absent-pages-clause-ok : goal.returns-then-absent-pages-clause-
 returns-then-absent-pages-clause-ok c =
     let there : is_some c.self.inside.released ≡ true = grind (arith, common_steps) in
     let up = sound_up c.first_unmarked-absent.result c.self.invariant (omega (arith, c.first_unmarked-absent.ensures.ends, c.pages-pages.ensures)) c.first_unmarked-absent.ensures.marked in
-    let all : (p : ℕ) → p < c.self.inside.geometry.pages → (is_released c.self.inside.released p || values c.self.inside.placed p) ≡ true =
-    λ p lt. up.settled p (omega (arith, c.if-absent-pages.true, c.pages-pages.ensures)) in
+    let all : (p : ℕ) → p < c.self.inside.geometry.pages → (is_released c.self.inside.released p || (values c.self.inside.placed p || values c.self.inside.settled p)) ≡ true =
+    λ p lt. up.passed p (omega (arith, c.if-absent-pages.true, c.pages-pages.ensures)) in
     said_all _ c.append-number.new.log.items c.append-number.result
     (c.append-number.ensures.items ∙ ap (λ l. l ++ All ∷ []) c.make_room.ensures.same)
     (c.append-number.ensures.number ∙ ap length c.make_room.ensures.same)
@@ -61,5 +60,5 @@ returns-clause-ok c =
     (log_is c) (wants_are c)
     (c.want_page-number.ensures.number ∙ ap length c.make_room.ensures.same)
     (c.oldest_or-page.ensures ∙ ap (oldest c.self.inside.waiting) c.new.ensures)
-    ∙ sym (ticks_wanting c.self.inside.released _ c.first_unmarked-absent.result there below up.settled here)
+    ∙ sym (ticks_wanting c.self.inside.released _ c.first_unmarked-absent.result there below up.passed here)
     ∙ ap (λ (v : PagerLists). pager_tick (part_of v)) c.self.view_is
