@@ -16,7 +16,7 @@ use Rattle.migration_events.specs.declared.events.Event.TheVariants.{Halt}
 use Rattle.guest_script.specs.declared.event_steps.EventStage.{EventStage}
 use Rattle.guest_script.specs.declared.event_steps.EventStage.TheVariants.{Header, Count, Events, Done}
 use Rattle.guest_script.specs.Events.{events_header, events_key, closing, event_line, event_lines, EventFits, AreEvents, SpellsEvents}
-use Rattle.guest_script.specs.inner.EventHeld.{events_held, EventsLeft, EventsRest, PartFits, EventsFit, EventsLive}
+use Rattle.guest_script.specs.inner.EventHeld.{events_held, EventsLeft, EventsRest, EventsFit, EventsLive}
 use Rattle.guest_script.proofs.Exactly.{exact_step, exact_refuses, exact_begins, exact_whole, exact_left}
 use Rattle.guest_script.proofs.Lists.{keyed_same, all_at, all_append, all_replicate, none_left}
 use Rattle.guest_script.proofs.Tells.{event_tells}

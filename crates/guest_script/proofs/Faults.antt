@@ -5,16 +5,17 @@ use Rattle.std.specs.List.{AllByRecursion}
 use Rattle.std.proofs.lemmas.List.{take-append-drop, take_more}
 use Rattle.std.proofs.lemmas.Option.{get_or_from_slice_get, slice_get_within}
 use Rattle.migration_types.specs.declared.pages.InitPage.{InitPage}
+use Rattle.migration_types.specs.declared.version.Version.{Version}
 use Rattle.migration_types.specs.Extents.{Extent}
 use Rattle.migration_types.specs.Pages.{AreInitPages, InitPageFits}
-use Rattle.migration_events.specs.Ops.{OpFits}
+use Rattle.migration_events.specs.Ops.{OpFits, LateOpFits}
 use Rattle.session_log.specs.inner.InitPages.{Rise, rise_of}
 use Rattle.guest_script.specs.declared.vcpus.Vcpu.{Vcpu as Processor}
 use Rattle.guest_script.specs.declared.script_fault.ScriptFault.{ScriptFault}
 use Rattle.guest_script.specs.declared.script_fault.ScriptFault.TheVariants.{Init, Pivots, Window, Down, Up, Vcpus, Vcpu}
 use Rattle.guest_script.specs.declared.script_fault.VcpuFault.{VcpuFault}
 use Rattle.guest_script.specs.declared.script_fault.VcpuFault.TheVariants.{ManyBefore, ManyAfter, Before, After}
-use Rattle.guest_script.specs.Scenarios.{Scenario, IsScenario, LateOpFits, VcpuFits}
+use Rattle.guest_script.specs.Scenarios.{Scenario, IsScenario, VcpuFits}
 use Rattle.guest_script.specs.ScriptFaults.{IsScriptFault, IsVcpuFault}
 use Rattle.guest_script.proofs.Lists.{all_at}
 use Rattle.guest_script.proofs.Pages.{are_pages}
@@ -43,15 +44,15 @@ pages_take e n ps h =
     let front = rise_front 0 rise.0 (take n ps) (drop n ps) (subst (λ (qs : List InitPage). Rise 0 qs rise.0) (sym (take-append-drop n ps)) rise.2) in
     are_pages e (take n ps) front.0 (all_take (InitPageFits e) n ps h.each) front.1
 
-vcpu_none : (e : Extent) (vcpu : Processor) (fault : VcpuFault) → IsVcpuFault e vcpu fault → VcpuFits e vcpu → ⊥
-vcpu_none e vcpu ManyBefore h fits = absurd (omega (arith, h, fits.few_before))
-vcpu_none e vcpu ManyAfter h fits = absurd (omega (arith, h.1, fits.few_after))
-vcpu_none e vcpu (Before n) h fits = h.1.1 (all_take (OpFits e) (n + 1) vcpu.before_move fits.before_move)
-vcpu_none e vcpu (After n) h fits = h.2.1 (all_take (LateOpFits e) (n + 1) vcpu.after_move fits.after_move)
+vcpu_none : (version : Version) (e : Extent) (vcpu : Processor) (fault : VcpuFault) → IsVcpuFault version e vcpu fault → VcpuFits version e vcpu → ⊥
+vcpu_none version e vcpu ManyBefore h fits = absurd (omega (arith, h, fits.few_before))
+vcpu_none version e vcpu ManyAfter h fits = absurd (omega (arith, h.1, fits.few_after))
+vcpu_none version e vcpu (Before n) h fits = h.1.1 (all_take (OpFits e) (n + 1) vcpu.before_move fits.before_move)
+vcpu_none version e vcpu (After n) h fits = h.2.1 (all_take (LateOpFits version e) (n + 1) vcpu.after_move fits.after_move)
 
-found_none : (e : Extent) (fault : VcpuFault) (found : Option Processor) → ((vcpu : Processor) → found ≡ Some vcpu → VcpuFits e vcpu) → IsSomeAnd found (λ vcpu. IsVcpuFault e vcpu fault) → ⊥
-found_none e fault None fits h = h
-found_none e fault (Some vcpu) fits h = vcpu_none e vcpu fault h (fits vcpu refl)
+found_none : (version : Version) (e : Extent) (fault : VcpuFault) (found : Option Processor) → ((vcpu : Processor) → found ≡ Some vcpu → VcpuFits version e vcpu) → IsSomeAnd found (λ vcpu. IsVcpuFault version e vcpu fault) → ⊥
+found_none version e fault None fits h = h
+found_none version e fault (Some vcpu) fits h = vcpu_none version e vcpu fault h (fits vcpu refl)
 
 pub none_with_fault : (s : Scenario) (fault : ScriptFault) → IsScriptFault s fault → IsScenario s → ⊥
 none_with_fault s (Init n) h fits = h.1 (pages_take s.geometry (n + 1) s.init fits.init)
@@ -60,4 +61,4 @@ none_with_fault s Window h fits = h.1 (fits.some_window, fits.few_window)
 none_with_fault s Down h fits = h.1 fits.few_down
 none_with_fault s Up h fits = h.1 fits.few_up
 none_with_fault s Vcpus h fits = h.1 (fits.some_vcpus, fits.few_vcpus)
-none_with_fault s (Vcpu n fault) h fits = found_none s.geometry fault (slice_get s.vcpus n) (λ vcpu is. all_get (VcpuFits s.geometry) n s.vcpus vcpu fits.vcpus is) h.1.1
+none_with_fault s (Vcpu n fault) h fits = found_none s.version s.geometry fault (slice_get s.vcpus n) (λ vcpu is. all_get (VcpuFits s.version s.geometry) n s.vcpus vcpu fits.vcpus is) h.1.1

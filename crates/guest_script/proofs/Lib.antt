@@ -1,5 +1,7 @@
 pub mod Exactly
 pub mod Lists
+pub mod ByVersion
+pub mod LateOps
 pub mod Tells
 pub mod EventSteps
 pub mod ScriptTells

@@ -5,21 +5,22 @@ use Rattle.std.specs.List.{AllByRecursion}
 use Rattle.std.proofs.lemmas.List.{length-map, length-replicate}
 use Rattle.text_lines.specs.Text.{Begins}
 use Rattle.migration_types.specs.declared.pages.InitPage.{InitPage}
+use Rattle.migration_types.specs.declared.version.Version.{Version}
 use Rattle.migration_types.specs.Extents.{Extent, IsExtent}
 use Rattle.migration_types.specs.Pages.{AreInitPages}
 use Rattle.migration_events.specs.declared.ops.Op.{Op}
 use Rattle.migration_events.specs.declared.ops.Op.TheVariants.{Read}
-use Rattle.migration_events.specs.declared.events.Fate.{Fate}
-use Rattle.migration_events.specs.Ops.{OpFits}
+use Rattle.migration_events.specs.Ops.{OpFits, LateOpFits}
 use Rattle.session_log.specs.Grammar.{page_line, closing}
 use Rattle.session_log.specs.inner.InitPages.{next_from, rise_increases}
 use Rattle.session_log.proofs.Goes.{init_filled}
 use Rattle.guest_script.specs.declared.vcpus.Vcpu.{Vcpu}
 use Rattle.guest_script.specs.declared.stages.ScriptStage.{ScriptStage}
-use Rattle.guest_script.specs.declared.stages.ScriptStage.TheVariants.{Header, Pages, Cells, InitCount, Init, Window, Down, Up, Count, First, Ops, Done}
-use Rattle.guest_script.specs.Scenarios.{Scenario, LateOpFits, VcpuFits, IsScenario}
-use Rattle.guest_script.specs.Scripts.{op_line, vcpus_onto, vcpus_lines, up_lines, down_lines, window_lines, pivots_lines, init_lines, cells_lines, pages_lines, script_lines, SpellsScript}
-use Rattle.guest_script.specs.inner.ScriptHeld.{Draft, scenario_of, script_held, vcpu_of, ScriptRest, ScriptFits, ScriptLive, FitsPivots, FitsWindow, FitsDown, FitsUp, FitsCount}
+use Rattle.guest_script.specs.declared.stages.ScriptStage.TheVariants.{Header, Pages, Cells, InitCount, Init, Window, Down, Up, Lanes, Count, First, Ops, Done}
+use Rattle.guest_script.specs.Scenarios.{Scenario, VcpuFits, IsScenario}
+use Rattle.guest_script.specs.Scripts.{op_line, vcpus_onto, vcpus_lines, lanes_lines, up_lines, down_lines, window_lines, pivots_lines, init_lines, cells_lines, pages_lines, script_lines, SpellsScript}
+use Rattle.guest_script.specs.inner.ScriptHeld.{Draft, scenario_of, script_held, vcpu_of, ScriptRest, ScriptFits, ScriptLive, FitsPivots, FitsWindow, FitsDown, FitsUp}
+use Rattle.guest_script.proofs.ByVersion.{lanes_long, lanes_short}
 use Rattle.guest_script.proofs.Exactly.{exact_refuses, exact_begins, exact_whole, exact_left}
 use Rattle.guest_script.proofs.Lists.{all_append, all_replicate}
 use Rattle.guest_script.proofs.ScriptSteps.{few_init}
@@ -29,9 +30,9 @@ use Rattle.guest_script.proofs.ScriptSteps.{few_init}
 no_init : (e : Extent) → AreInitPages e []
 no_init e = record { each = tt; rising = λ k lt. absurd (omega (arith, lt)) }
 
-first_scenario : (e : Extent) (init : List InitPage) → IsExtent e → AreInitPages e init → (v : Scenario) × IsScenario v × (v.geometry ≡ e) × (v.init ≡ init)
-first_scenario e init h pages = (
-  record { geometry = e; init = init; pivots = 1; window = 1; down = []; up = []; vcpus = vcpu_of [] [] ∷ [] },
+first_scenario : (version : Version) (e : Extent) (init : List InitPage) → IsExtent e → AreInitPages e init → (v : Scenario) × IsScenario v × (v.version ≡ version) × (v.geometry ≡ e) × (v.init ≡ init)
+first_scenario version e init h pages = (
+  record { version = version; geometry = e; init = init; pivots = 1; window = 1; down = []; up = []; vcpus = vcpu_of [] [] ∷ [] },
   record {
     geometry = h;
     init = pages;
@@ -47,10 +48,11 @@ first_scenario e init h pages = (
   },
   refl,
   refl,
+  refl,
 )
 
 -- any pivots, window and fates, and any virtual processors
-scenario_fits : (d : Draft) (vcpus : List Vcpu) → FitsUp d → 1 ≤ length vcpus → length vcpus ≤ 64 → AllByRecursion (VcpuFits d.geometry) vcpus → IsScenario (record { geometry = d.geometry; init = d.init.items; pivots = d.pivots; window = d.window; down = d.down; up = d.up; vcpus = vcpus })
+scenario_fits : (d : Draft) (vcpus : List Vcpu) → FitsUp d → 1 ≤ length vcpus → length vcpus ≤ 64 → AllByRecursion (VcpuFits d.version d.geometry) vcpus → IsScenario (record { version = d.version; geometry = d.geometry; init = d.init.items; pivots = d.pivots; window = d.window; down = d.down; up = d.up; vcpus = vcpus })
 scenario_fits d vcpus u some few each =
     let w = u.before.before in
     let p = w.before in
@@ -66,8 +68,8 @@ small_down d = record d { down = []; up = [] }
 abbrev small_up : Draft → Draft
 small_up d = record d { up = [] }
 
-one_idle : (e : Extent) → AllByRecursion (VcpuFits e) (vcpu_of [] [] ∷ [])
-one_idle e = (record { few_before = omega arith; few_after = omega arith; before_move = tt; after_move = tt }, tt)
+one_idle : (version : Version) (e : Extent) → AllByRecursion (VcpuFits version e) (vcpu_of [] [] ∷ [])
+one_idle version e = (record { few_before = omega arith; few_after = omega arith; before_move = tt; after_move = tt }, tt)
 
 fits_small_window : (d : Draft) → FitsPivots d → FitsUp (small_window d)
 fits_small_window d p = record { before = record { before = record { before = record { geometry = p.geometry; init = p.init; some = p.some; few = p.few }; some = omega arith; few = omega arith }; few = omega arith }; few = omega arith }
@@ -79,38 +81,39 @@ fits_small_up : (d : Draft) → FitsDown d → FitsUp (small_up d)
 fits_small_up d f = let w = f.before in let p = w.before in record { before = record { before = record { before = record { geometry = p.geometry; init = p.init; some = p.some; few = p.few }; some = w.some; few = w.few }; few = f.few }; few = omega arith }
 
 abbrev with_vcpus : Draft → List Vcpu → Scenario
-with_vcpus d vcpus = record { geometry = d.geometry; init = d.init.items; pivots = d.pivots; window = d.window; down = d.down; up = d.up; vcpus = vcpus }
+with_vcpus d vcpus = record { version = d.version; geometry = d.geometry; init = d.init.items; pivots = d.pivots; window = d.window; down = d.down; up = d.up; vcpus = vcpus }
 
 -- virtual processors that do nothing
 abbrev idles : ℕ → List Vcpu
 idles n = replicate n (vcpu_of [] [])
 
-idles_fit : (e : Extent) (n : ℕ) → AllByRecursion (VcpuFits e) (idles n)
-idles_fit e n = all_replicate (VcpuFits e) n (vcpu_of [] []) (record { few_before = omega arith; few_after = omega arith; before_move = tt; after_move = tt })
+idles_fit : (version : Version) (e : Extent) (n : ℕ) → AllByRecursion (VcpuFits version e) (idles n)
+idles_fit version e n = all_replicate (VcpuFits version e) n (vcpu_of [] []) (record { few_before = omega arith; few_after = omega arith; before_move = tt; after_move = tt })
 
 rest_of : (stage : ScriptStage) (d : Draft) → ScriptFits stage d → (v : Scenario) × (more : List (List ℕ)) × ScriptRest stage d v more
-rest_of Header d fits = let s = first_scenario (record { pages = 1; cells = 1 }) [] (record { some_pages = omega arith; few_pages = omega arith; some_cells = omega arith; few_cells = omega arith; few_in_all = omega arith }) (no_init _) in (s.0, script_lines s.0, (s.1, refl))
-rest_of Pages d fits = let s = first_scenario (record { pages = 1; cells = 1 }) [] (record { some_pages = omega arith; few_pages = omega arith; some_cells = omega arith; few_cells = omega arith; few_in_all = omega arith }) (no_init _) in (s.0, pages_lines s.0, (s.1, refl))
+rest_of Header d fits = let s = first_scenario d.version (record { pages = 1; cells = 1 }) [] (record { some_pages = omega arith; few_pages = omega arith; some_cells = omega arith; few_cells = omega arith; few_in_all = omega arith }) (no_init _) in (s.0, script_lines s.0, (s.1, refl))
+rest_of Pages d fits = let s = first_scenario d.version (record { pages = 1; cells = 1 }) [] (record { some_pages = omega arith; few_pages = omega arith; some_cells = omega arith; few_cells = omega arith; few_in_all = omega arith }) (no_init _) in (s.0, pages_lines s.0, (s.1, s.2, refl))
 rest_of Cells d fits =
     let e : Extent = record { pages = d.geometry.pages; cells = 1 } in
-    let s = first_scenario e [] (record { some_pages = fits.0; few_pages = fits.1; some_cells = omega arith; few_cells = omega arith; few_in_all = omega (arith, fits.1) }) (no_init e) in
-    (s.0, cells_lines s.0, (s.1, ap (λ (x : Extent). x.pages) s.2, refl))
-rest_of InitCount d fits = let s = first_scenario d.geometry [] fits (no_init d.geometry) in (s.0, init_lines s.0, (s.1, s.2, refl))
+    let s = first_scenario d.version e [] (record { some_pages = fits.0; few_pages = fits.1; some_cells = omega arith; few_cells = omega arith; few_in_all = omega (arith, fits.1) }) (no_init e) in
+    (s.0, cells_lines s.0, (s.1, s.2, ap (λ (x : Extent). x.pages) s.3, refl))
+rest_of InitCount d fits = let s = first_scenario d.version d.geometry [] fits (no_init d.geometry) in (s.0, init_lines s.0, (s.1, s.2, s.3, refl))
 rest_of Init d fits =
     let filled = init_filled d.geometry (next_from 0 d.init.items) d.init fits in
     let more = filled.0 in
-    let s = first_scenario d.geometry (d.init.items ++ more) fits.geometry (record { each = filled.2.each; rising = rise_increases 0 filled.1 (d.init.items ++ more) filled.2.rising }) in
-    (s.0, map page_line more ++ pivots_lines s.0, record { fits = s.1; geometry = s.2; count = ap (λ (t : List InitPage). length t) s.3 ∙ filled.3; back = more; whole = s.3; lines = refl })
-rest_of Window d fits = (with_vcpus (small_window d) (idles 1), window_lines (with_vcpus (small_window d) (idles 1)), (scenario_fits (small_window d) (vcpu_of [] [] ∷ []) (fits_small_window d fits) (omega arith) (omega arith) (one_idle d.geometry), ((refl, refl), refl), refl))
-rest_of Down d fits = (with_vcpus (small_down d) (idles 1), down_lines (with_vcpus (small_down d) (idles 1)), (scenario_fits (small_down d) (vcpu_of [] [] ∷ []) (fits_small_down d fits) (omega arith) (omega arith) (one_idle d.geometry), (((refl, refl), refl), refl), refl))
-rest_of Up d fits = (with_vcpus (small_up d) (idles 1), up_lines (with_vcpus (small_up d) (idles 1)), (scenario_fits (small_up d) (vcpu_of [] [] ∷ []) (fits_small_up d fits) (omega arith) (omega arith) (one_idle d.geometry), ((((refl, refl), refl), refl), refl), refl))
-rest_of Count d fits = (with_vcpus d (idles 1), vcpus_lines (with_vcpus d (idles 1)), (scenario_fits d (vcpu_of [] [] ∷ []) fits (omega arith) (omega arith) (one_idle d.geometry), (((((refl, refl), refl), refl), refl), refl), refl))
+    let s = first_scenario d.version d.geometry (d.init.items ++ more) fits.geometry (record { each = filled.2.each; rising = rise_increases 0 filled.1 (d.init.items ++ more) filled.2.rising }) in
+    (s.0, map page_line more ++ pivots_lines s.0, record { fits = s.1; version = s.2; geometry = s.3; count = ap (λ (t : List InitPage). length t) s.4 ∙ filled.3; back = more; whole = s.4; lines = refl })
+rest_of Window d fits = (with_vcpus (small_window d) (idles 1), window_lines (with_vcpus (small_window d) (idles 1)), (scenario_fits (small_window d) (vcpu_of [] [] ∷ []) (fits_small_window d fits) (omega arith) (omega arith) (one_idle d.version d.geometry), ((refl, refl, refl), refl), refl))
+rest_of Down d fits = (with_vcpus (small_down d) (idles 1), down_lines (with_vcpus (small_down d) (idles 1)), (scenario_fits (small_down d) (vcpu_of [] [] ∷ []) (fits_small_down d fits) (omega arith) (omega arith) (one_idle d.version d.geometry), (((refl, refl, refl), refl), refl), refl))
+rest_of Up d fits = (with_vcpus (small_up d) (idles 1), up_lines (with_vcpus (small_up d) (idles 1)), (scenario_fits (small_up d) (vcpu_of [] [] ∷ []) (fits_small_up d fits) (omega arith) (omega arith) (one_idle d.version d.geometry), ((((refl, refl, refl), refl), refl), refl), refl))
+rest_of Lanes d fits = (with_vcpus d (idles 1), lanes_lines (with_vcpus d (idles 1)), (scenario_fits d (vcpu_of [] [] ∷ []) fits.0 (omega arith) (omega arith) (one_idle d.version d.geometry), (((((refl, refl, refl), refl), refl), refl), refl), refl))
+rest_of Count d fits = (with_vcpus d (idles 1), vcpus_lines (with_vcpus d (idles 1)), (scenario_fits d (vcpu_of [] [] ∷ []) fits (omega arith) (omega arith) (one_idle d.version d.geometry), (((((refl, refl, refl), refl), refl), refl), refl), refl))
 rest_of First d fits =
     let f = fits.0 in
     let some = f.some in
     let few = f.few in
     let long = length-replicate d.count (vcpu_of [] []) in
-    (with_vcpus d (idles d.count), vcpus_onto (idles d.count) (closing ∷ []), (scenario_fits d (idles d.count) f.before (omega arith) (omega arith) (idles_fit d.geometry d.count), (((((refl, refl), refl), refl), refl), refl), long, refl))
+    (with_vcpus d (idles d.count), vcpus_onto (idles d.count) (closing ∷ []), (scenario_fits d (idles d.count) f.before (omega arith) (omega arith) (idles_fit d.version d.geometry d.count), (((((refl, refl, refl), refl), refl), refl), refl), long, refl))
 rest_of Ops d fits =
     let c = fits.before in
     let h = c.before.before.before.before.geometry in
@@ -136,18 +139,18 @@ rest_of Ops d fits =
     let this = vcpu_of (d.before.items ++ befores) (d.after.items ++ afters) in
     let vcpus = d.vcpus ++ this ∷ idles m in
     let count : length vcpus ≡ d.count = omega (arith, length-append d.vcpus (this ∷ idles m), lm) in
-    let this_fits : VcpuFits d.geometry this = record {
+    let this_fits : VcpuFits d.version d.geometry this = record {
       few_before = omega arith;
       few_after = omega arith;
       before_move = all_append (OpFits d.geometry) d.before.items befores fits.before_move (all_replicate (OpFits d.geometry) nb (Read 0 0) (omega arith, omega arith));
-      after_move = all_append (LateOpFits d.geometry) d.after.items afters fits.after_move (all_replicate (LateOpFits d.geometry) na (Read 0 0) (omega arith, omega arith));
+      after_move = all_append (LateOpFits d.version d.geometry) d.after.items afters fits.after_move (all_replicate (LateOpFits d.version d.geometry) na (Read 0 0) (omega arith, omega arith));
     } in
-    let each = all_append (VcpuFits d.geometry) d.vcpus (this ∷ idles m) c.vcpus (this_fits, idles_fit d.geometry m) in (
+    let each = all_append (VcpuFits d.version d.geometry) d.vcpus (this ∷ idles m) c.vcpus (this_fits, idles_fit d.version d.geometry m) in (
       with_vcpus d vcpus,
       map op_line befores ++ (map op_line afters ++ vcpus_onto (idles m) (closing ∷ [])),
       record {
         fits = scenario_fits d vcpus c.before (omega arith) (omega arith) each;
-        agrees = (((((refl, refl), refl), refl), refl), refl);
+        agrees = (((((refl, refl, refl), refl), refl), refl), refl);
         count = count;
         befores = befores;
         afters = afters;
@@ -162,17 +165,17 @@ rest_of Done d fits =
     let f = fits.0 in
     let some = f.some in
     let few = f.few in
-    (with_vcpus d d.vcpus, [], (scenario_fits d d.vcpus f.before (omega (arith, fits.1)) (omega (arith, fits.1)) f.vcpus, (((((refl, refl), refl), refl), refl), refl), refl, refl))
+    (with_vcpus d d.vcpus, [], (scenario_fits d d.vcpus f.before (omega (arith, fits.1)) (omega (arith, fits.1)) f.vcpus, (((((refl, refl, refl), refl), refl), refl), refl), refl, refl))
 
 pub live_begins : (stage : ScriptStage) (d : Draft) → ScriptLive stage d → Begins SpellsScript (script_held stage d)
 live_begins stage d live = let r = rest_of stage d live.fits in exact_begins SpellsScript (ScriptRest stage d) (script_held stage d) live.exact r.0 r.1 r.2
 
 -- ---- the lines are few
 
-vcpus_few : (e : Extent) (vcpus : List Vcpu) (more : List (List ℕ)) → AllByRecursion (VcpuFits e) vcpus → length (vcpus_onto vcpus more) ≤ 131073 * length vcpus + length more
-vcpus_few e [] more fits = omega arith
-vcpus_few e (vcpu ∷ vcpus) more fits =
-    let rest = vcpus_few e vcpus more fits.1 in
+vcpus_few : (version : Version) (e : Extent) (vcpus : List Vcpu) (more : List (List ℕ)) → AllByRecursion (VcpuFits version e) vcpus → length (vcpus_onto vcpus more) ≤ 131073 * length vcpus + length more
+vcpus_few version e [] more fits = omega arith
+vcpus_few version e (vcpu ∷ vcpus) more fits =
+    let rest = vcpus_few version e vcpus more fits.1 in
     let early = fits.0.few_before in
     let late = fits.0.few_after in
     omega (arith, length-append (map op_line vcpu.before_move) (map op_line vcpu.after_move ++ vcpus_onto vcpus more), length-append (map op_line vcpu.after_move) (vcpus_onto vcpus more), length-map vcpu.before_move op_line, length-map vcpu.after_move op_line)
@@ -182,7 +185,8 @@ script_few v fits =
     let init = few_init v fits in
     let pages = fits.geometry.few_pages in
     let few = fits.few_vcpus in
-    let vcpus = vcpus_few v.geometry v.vcpus (closing ∷ []) fits.vcpus in
+    let vcpus = vcpus_few v.version v.geometry v.vcpus (closing ∷ []) fits.vcpus in
+    let lanes = lanes_short v.version (vcpus_lines v) in
     omega (arith, length-append (map page_line v.init) (pivots_lines v), length-map v.init page_line)
 
 pub live_few : (stage : ScriptStage) (d : Draft) → ScriptLive stage d → length (script_held stage d) + 1 < 2 ^ 32
@@ -199,7 +203,7 @@ done_spells d live =
     let f = live.fits.0 in
     let some = f.some in
     let few = f.few in
-    exact_whole SpellsScript (ScriptRest Done d) (script_held Done d) live.exact (scenario_of d) (scenario_fits d d.vcpus f.before (omega (arith, live.fits.1)) (omega (arith, live.fits.1)) f.vcpus, (((((refl, refl), refl), refl), refl), refl), refl, refl)
+    exact_whole SpellsScript (ScriptRest Done d) (script_held Done d) live.exact (scenario_of d) (scenario_fits d d.vcpus f.before (omega (arith, live.fits.1)) (omega (arith, live.fits.1)) f.vcpus, (((((refl, refl, refl), refl), refl), refl), refl), refl, refl)
 
 live_at : (stage at : ScriptStage) (d : Draft) → stage ≡ at → ScriptLive stage d → ScriptLive at d
 live_at stage at d is live = subst (λ (s : ScriptStage). ScriptLive s d) is live
@@ -217,13 +221,14 @@ some_lines (vcpu ∷ vcpus) = omega arith
 
 rest_not_none : (stage : ScriptStage) (d : Draft) → stage ≢ Done → (v : Scenario) → ScriptRest stage d v [] → ⊥
 rest_not_none Header d other v r = let e = r.1 in absurd cc
-rest_not_none Pages d other v r = let e = r.1 in absurd cc
-rest_not_none Cells d other v r = let e = r.2 in absurd cc
-rest_not_none InitCount d other v r = let e = r.2 in absurd cc
+rest_not_none Pages d other v r = let e = r.2 in absurd cc
+rest_not_none Cells d other v r = let e = r.3 in absurd cc
+rest_not_none InitCount d other v r = let e = r.3 in absurd cc
 rest_not_none Init d other v r = let n = ap (λ (t : List (List ℕ)). length t) r.lines in absurd (omega (arith, n, length-append (map page_line r.back) (pivots_lines v)))
 rest_not_none Window d other v r = let e = r.2 in absurd cc
 rest_not_none Down d other v r = let e = r.2 in absurd cc
 rest_not_none Up d other v r = let e = r.2 in absurd cc
+rest_not_none Lanes d other v r = let n = ap (λ (t : List (List ℕ)). length t) r.2 in absurd (omega (arith, n, lanes_long v.version (vcpus_lines v)))
 rest_not_none Count d other v r = let e = r.2 in absurd cc
 rest_not_none First d other v r = let n = ap (λ (t : List (List ℕ)). length t) r.3 in absurd (omega (arith, n, some_lines v.vcpus))
 rest_not_none Ops d other v r = let n = ap (λ (t : List (List ℕ)). length t) r.lines in absurd (omega (arith, n, length-append (map op_line r.befores) (map op_line r.afters ++ vcpus_onto r.back (closing ∷ [])), length-append (map op_line r.afters) (vcpus_onto r.back (closing ∷ [])), some_lines r.back))

@@ -1,23 +1,27 @@
 -- A reader of scripts takes the lines that may come before the virtual processors, and no others.
-use Rattle.std.proofs.Common.{◌≡◌, ◌≢◌, ℕ, ◌+◌, ◌-◌, ◌<◌, ◌≤◌, ◌^◌, List, [], ◌∷◌, ◌++◌, length, map, refl, sym, ap, subst, ◌∙◌, append_assoc, length-append, arith}
+use Rattle.std.proofs.Common.{◌≡◌, ◌≢◌, ℕ, ◌-◌, ◌<◌, ◌≤◌, ◌^◌, List, [], ◌∷◌, ◌++◌, length, map, refl, sym, ap, subst, ◌∙◌, append_assoc, length-append, arith}
 use Rattle.std.specs.List.{AllByRecursion}
+use Rattle.std.specs.Prelude.{codes}
 use Rattle.std.specs.Fmt.{decimal}
 use Rattle.std.proofs.lemmas.List.{append-nil, append_cancel_left}
 use Rattle.text_lines.specs.Counted.{Part, IsWhole}
 use Rattle.text_lines.proofs.Sections.{section_push}
 use Rattle.migration_types.specs.declared.pages.InitPage.{InitPage}
+use Rattle.migration_types.specs.declared.version.Version.{Version}
+use Rattle.migration_types.specs.declared.version.Version.TheVariants.{One, Two}
 use Rattle.migration_types.specs.Extents.{Extent, IsExtent}
-use Rattle.migration_types.specs.Pages.{AreInitPages, InitPageFits}
+use Rattle.migration_types.specs.Pages.{InitPageFits}
 use Rattle.migration_events.specs.declared.events.Fate.{Fate}
 use Rattle.session_log.specs.Grammar.{pages_key, cells_key, init_key, page_line}
 use Rattle.session_log.specs.inner.InitPages.{IsInitContent, Rise, next_from, next_push, rise_of, rise_long, rise_increases}
 use Rattle.session_log.proofs.Laws.{extent_same, page_push, rise_at}
 use Rattle.session_log.proofs.Values.{init_page_tells}
 use Rattle.guest_script.specs.declared.stages.ScriptStage.{ScriptStage}
-use Rattle.guest_script.specs.declared.stages.ScriptStage.TheVariants.{Header, Pages, Cells, InitCount, Init, Window, Down, Up, Count, First}
+use Rattle.guest_script.specs.declared.stages.ScriptStage.TheVariants.{Header, Pages, Cells, InitCount, Init, Window, Down, Up, Lanes, Count}
 use Rattle.guest_script.specs.Scenarios.{Scenario, IsScenario}
-use Rattle.guest_script.specs.Scripts.{script_header, pivots_key, window_key, down_key, up_key, vcpus_key, fates_text, vcpus_onto, vcpus_lines, up_lines, down_lines, window_lines, pivots_lines, init_lines, cells_lines, pages_lines, SpellsScript}
-use Rattle.guest_script.specs.inner.ScriptHeld.{Draft, script_held, InitLeft, ScriptRest, InitPart, FitsPivots, FitsWindow, FitsDown, FitsUp, ScriptFits, ScriptLive}
+use Rattle.guest_script.specs.Scripts.{script_header, pivots_key, window_key, down_key, up_key, fates_text, vcpus_lines, with_lanes, lanes_lines, up_lines, down_lines, window_lines, pivots_lines, init_lines, cells_lines, pages_lines, SpellsScript}
+use Rattle.guest_script.specs.inner.ScriptHeld.{Draft, held_down, held_up, script_held, InitLeft, ScriptRest, InitPart, FitsDown, FitsUp, ScriptFits, ScriptLive}
+use Rattle.guest_script.proofs.ByVersion.{header_tells, no_header}
 use Rattle.guest_script.proofs.Exactly.{exact_step}
 use Rattle.guest_script.proofs.Lists.{keyed_same, all_at, none_left}
 use Rattle.guest_script.proofs.ScriptTells.{fates_tell}
@@ -48,30 +52,36 @@ step stage next d new line live fits grown on back = (record { exact = exact_ste
 
 -- ---- the machine
 
-pub header_taken : (d : Draft) (line : List ℕ) → ScriptLive Header d → line ≡ script_header → Taken Header Pages d d line
-header_taken d line live is = step Header Pages d d line live tt (ap (λ (l : List ℕ). l ∷ []) (sym is))
-    (λ v more r. (r.0, (cons_parts line script_header more (pages_lines v) r.1).1))
-    (λ v more r. (r.0, cons_same line script_header more (pages_lines v) is r.1))
+abbrev pub with_version : Version → Draft → Draft
+with_version version d = record d { version = version }
+
+pub header_taken : (d : Draft) (version : Version) (line : List ℕ) → ScriptLive Header d → line ≡ script_header version → Taken Header Pages d (with_version version d) line
+header_taken d version line live is = step Header Pages d (with_version version d) line live tt (ap (λ (l : List ℕ). l ∷ []) (sym is))
+    (λ v more r. let parts = cons_parts line (script_header v.version) more (pages_lines v) r.1 in (r.0, header_tells v.version version (sym parts.0 ∙ is), parts.1))
+    (λ v more r. (r.0, cons_same line (script_header v.version) more (pages_lines v) (is ∙ ap script_header (sym r.1)) r.2))
+
+pub header_refused : (d : Draft) (line : List ℕ) → line ≢ script_header One → line ≢ script_header Two → RefusesAt Header d line
+header_refused d line one two v more r = no_header line v.version one two (cons_parts line (script_header v.version) more (pages_lines v) r.1).0
 
 abbrev pub with_pages : ℕ → Draft → Draft
 with_pages n d = record d { geometry = record { pages = n; cells = d.geometry.cells } }
 
 pub pages_taken : (d : Draft) (n : ℕ) (line : List ℕ) → ScriptLive Pages d → 1 ≤ n → n ≤ 65536 → line ≡ pages_key ++ decimal n → Taken Pages Cells d (with_pages n d) line
-pages_taken d n line live some few is = step Pages Cells d (with_pages n d) line live (some, few) (ap (λ (l : List ℕ). script_header ∷ l ∷ []) (sym is))
-    (λ v more r. let top = r.0.geometry.few_pages in let k = keyed_on pages_key n v.geometry.pages line more (cells_lines v) (omega arith) (omega arith) is r.1 in (r.0, k.0, k.1))
-    (λ v more r. (r.0, keyed_back pages_key n v.geometry.pages line more (cells_lines v) is r.1 r.2))
+pages_taken d n line live some few is = step Pages Cells d (with_pages n d) line live (some, few) (ap (λ (l : List ℕ). script_header d.version ∷ l ∷ []) (sym is))
+    (λ v more r. let top = r.0.geometry.few_pages in let k = keyed_on pages_key n v.geometry.pages line more (cells_lines v) (omega arith) (omega arith) is r.2 in (r.0, r.1, k.0, k.1))
+    (λ v more r. (r.0, r.1, keyed_back pages_key n v.geometry.pages line more (cells_lines v) is r.2 r.3))
 
 abbrev pub with_cells : ℕ → Draft → Draft
 with_cells n d = record d { geometry = record { pages = d.geometry.pages; cells = n } }
 
 pub cells_taken : (d : Draft) (n : ℕ) (line : List ℕ) → ScriptLive Cells d → IsExtent (record { pages = d.geometry.pages; cells = n }) → line ≡ cells_key ++ decimal n → Taken Cells InitCount d (with_cells n d) line
-cells_taken d n line live fits is = step Cells InitCount d (with_cells n d) line live fits (ap (λ (l : List ℕ). script_header ∷ (pages_key ++ decimal d.geometry.pages) ∷ l ∷ []) (sym is))
+cells_taken d n line live fits is = step Cells InitCount d (with_cells n d) line live fits (ap (λ (l : List ℕ). script_header d.version ∷ (pages_key ++ decimal d.geometry.pages) ∷ l ∷ []) (sym is))
     (λ v more r.
     let top = r.0.geometry.few_cells in
     let few = fits.few_cells in
-    let k = keyed_on cells_key n v.geometry.cells line more (init_lines v) (omega arith) (omega arith) is r.2 in
-    (r.0, extent_same v.geometry (record { pages = d.geometry.pages; cells = n }) r.1 k.0, k.1))
-    (λ v more r. (r.0, ap (λ (e : Extent). e.pages) r.1, keyed_back cells_key n v.geometry.cells line more (init_lines v) is (ap (λ (e : Extent). e.cells) r.1) r.2))
+    let k = keyed_on cells_key n v.geometry.cells line more (init_lines v) (omega arith) (omega arith) is r.3 in
+    (r.0, r.1, extent_same v.geometry (record { pages = d.geometry.pages; cells = n }) r.2 k.0, k.1))
+    (λ v more r. (r.0, r.1, ap (λ (e : Extent). e.pages) r.2, keyed_back cells_key n v.geometry.cells line more (init_lines v) is (ap (λ (e : Extent). e.cells) r.2) r.3))
 
 -- ---- initial pages
 
@@ -94,17 +104,17 @@ init_count_taken d part line live none few is =
     (λ v more r.
     let most = few_init v r.0 in
     let top = r.0.geometry.few_pages in
-    let k = keyed_on init_key part.count (length v.init) line more (map page_line v.init ++ pivots_lines v) (omega arith) (omega arith) is r.2 in
-    record { fits = r.0; geometry = r.1; count = k.0; back = v.init; whole = ap (λ (t : List InitPage). t ++ v.init) (sym none); lines = k.1 })
+    let k = keyed_on init_key part.count (length v.init) line more (map page_line v.init ++ pivots_lines v) (omega arith) (omega arith) is r.3 in
+    record { fits = r.0; version = r.1; geometry = r.2; count = k.0; back = v.init; whole = ap (λ (t : List InitPage). t ++ v.init) (sym none); lines = k.1 })
     (λ v more r.
     let same : r.back ≡ v.init = sym (r.whole ∙ ap (λ (t : List InitPage). t ++ r.back) none) in
-    (r.fits, r.geometry, keyed_back init_key part.count (length v.init) line more (map page_line v.init ++ pivots_lines v) is r.count (r.lines ∙ ap (λ (t : List InitPage). map page_line t ++ pivots_lines v) same)))
+    (r.fits, r.version, r.geometry, keyed_back init_key part.count (length v.init) line more (map page_line v.init ++ pivots_lines v) is r.count (r.lines ∙ ap (λ (t : List InitPage). map page_line t ++ pivots_lines v) same)))
 
 pub init_count_refused : (d : Draft) (line : List ℕ) → ((n : ℕ) → n ≤ d.geometry.pages → line ≢ init_key ++ decimal n) → RefusesAt InitCount d line
 init_count_refused d line none v more r =
     let most = few_init v r.0 in
-    let pages = ap (λ (e : Extent). e.pages) r.1 in
-    none (length v.init) (omega arith) (cons_parts line (init_key ++ decimal (length v.init)) more (map page_line v.init ++ pivots_lines v) r.2).0
+    let pages = ap (λ (e : Extent). e.pages) r.2 in
+    none (length v.init) (omega arith) (cons_parts line (init_key ++ decimal (length v.init)) more (map page_line v.init ++ pivots_lines v) r.3).0
 
 -- the page that may come
 pub record NextPage (d : Draft) (v : Scenario) (line : List ℕ) (more : List (List ℕ)) : Type 0 where
@@ -131,12 +141,12 @@ page_taken d p part line live less is low high content spelled =
     let fits = page_push d.geometry d.init (next_from 0 d.init.items) (next_from 0 (d.init.items ++ p ∷ [])) p (next_push 0 d.init.items p) live.fits less low high content in
     let own = all_at (InitPageFits d.geometry) d.init.items p [] fits.each in
     rw is (step Init Init d (with_init new d) line live fits
-    (ap (λ (t : List (List ℕ)). script_header ∷ (pages_key ++ decimal d.geometry.pages) ∷ (cells_key ++ decimal d.geometry.cells) ∷ (init_key ++ decimal d.init.count) ∷ t) (sym (append-nil (map page_line (d.init.items ++ p ∷ []))) ∙ section_push page_line d.init.items p [] ∙ ap (λ (l : List ℕ). map page_line d.init.items ++ l ∷ []) (sym spelled)))
+    (ap (λ (t : List (List ℕ)). script_header d.version ∷ (pages_key ++ decimal d.geometry.pages) ∷ (cells_key ++ decimal d.geometry.cells) ∷ (init_key ++ decimal d.init.count) ∷ t) (sym (append-nil (map page_line (d.init.items ++ p ∷ []))) ∙ section_push page_line d.init.items p [] ∙ ap (λ (l : List ℕ). map page_line d.init.items ++ l ∷ []) (sym spelled)))
     (λ v more r.
     let n = next_page d line v more r less in
     let same = init_page_tells d.geometry live.fits.geometry p n.page own n.fits (sym spelled ∙ n.spelled) in
-    record { fits = r.fits; geometry = r.geometry; count = r.count; back = n.back; whole = n.whole ∙ ap (λ (q : InitPage). d.init.items ++ q ∷ n.back) (sym same) ∙ sym (append_assoc d.init.items (p ∷ []) n.back); lines = n.lines })
-    (λ v more r. record { fits = r.fits; geometry = r.geometry; count = r.count; back = p ∷ r.back; whole = r.whole ∙ append_assoc d.init.items (p ∷ []) r.back; lines = cons_same line (page_line p) more (map page_line r.back ++ pivots_lines v) spelled r.lines }))
+    record { fits = r.fits; version = r.version; geometry = r.geometry; count = r.count; back = n.back; whole = n.whole ∙ ap (λ (q : InitPage). d.init.items ++ q ∷ n.back) (sym same) ∙ sym (append_assoc d.init.items (p ∷ []) n.back); lines = n.lines })
+    (λ v more r. record { fits = r.fits; version = r.version; geometry = r.geometry; count = r.count; back = p ∷ r.back; whole = r.whole ∙ append_assoc d.init.items (p ∷ []) r.back; lines = cons_same line (page_line p) more (map page_line r.back ++ pivots_lines v) spelled r.lines }))
 
 pub page_refused : (d : Draft) (line : List ℕ) (last : ℕ) → InitPart d → length d.init.items < d.init.count → last ≡ d.geometry.pages - (d.init.count - length d.init.items) → ((p : InitPage) → (p.page ≤ last) × IsInitContent d.geometry.cells p.cells → next_from 0 d.init.items ≤ p.page → line ≢ page_line p) → RefusesAt Init d line
 page_refused d line last fits less is none v more r =
@@ -171,8 +181,8 @@ pivots_taken d n line live all some few is = step Init Window d (with_pivots n d
     let top = r.fits.few_pivots in
     let left = no_page d v (line ∷ more) r all in
     let k = keyed_on pivots_key n v.pivots line more (window_lines v) (omega arith) (omega arith) is left.1 in
-    (r.fits, ((r.geometry, left.0), k.0), k.1))
-    (λ v more r. record { fits = r.0; geometry = r.1.0.0; count = ap (λ (t : List InitPage). length t) r.1.0.1 ∙ all; back = []; whole = r.1.0.1 ∙ sym (append-nil d.init.items); lines = keyed_back pivots_key n v.pivots line more (window_lines v) is r.1.1 r.2 })
+    (r.fits, ((r.version, r.geometry, left.0), k.0), k.1))
+    (λ v more r. record { fits = r.0; version = r.1.0.0; geometry = r.1.0.1; count = ap (λ (t : List InitPage). length t) r.1.0.2 ∙ all; back = []; whole = r.1.0.2 ∙ sym (append-nil d.init.items); lines = keyed_back pivots_key n v.pivots line more (window_lines v) is r.1.1 r.2 })
 
 pub pivots_refused : (d : Draft) (line : List ℕ) → IsWhole d.init → ((n : ℕ) → 1 ≤ n → n ≤ 16 → line ≢ pivots_key ++ decimal n) → RefusesAt Init d line
 pivots_refused d line all none v more r = let left = no_page d v (line ∷ more) r all in none v.pivots r.fits.some_pivots r.fits.few_pivots (cons_parts line (pivots_key ++ decimal v.pivots) more (window_lines v) left.1).0
@@ -212,15 +222,38 @@ down_refused d line none v more r = none v.down r.0.few_down (cons_parts line (d
 abbrev pub with_up : List Fate → Draft → Draft
 with_up fates d = record d { up = fates }
 
-pub up_taken : (d : Draft) (fates : List Fate) (line : List ℕ) → ScriptLive Up d → length fates ≤ 4096 → line ≡ up_key ++ fates_text fates → Taken Up Count d (with_up fates d) line
-up_taken d fates line live few is =
-    let f = live.fits in
-    let p = f.before.before in
-    step Up Count d (with_up fates d) line live
-    (record { before = record { before = record { before = record { geometry = p.geometry; init = p.init; some = p.some; few = p.few }; some = f.before.some; few = f.before.few }; few = f.few }; few = few })
+up_fits : (d : Draft) (fates : List Fate) → FitsDown d → length fates ≤ 4096 → FitsUp (with_up fates d)
+up_fits d fates f few = let p = f.before.before in record { before = record { before = record { before = record { geometry = p.geometry; init = p.init; some = p.some; few = p.few }; some = f.before.some; few = f.before.few }; few = f.few }; few = few }
+
+-- a scenario of this version has these lines from here on
+lanes_at : (version : Version) (v : Scenario) → v.version ≡ version → lanes_lines v ≡ with_lanes version (vcpus_lines v)
+lanes_at version v is = ap (λ (x : Version). with_lanes x (vcpus_lines v)) is
+
+pub first_up_taken : (d : Draft) (fates : List Fate) (line : List ℕ) → ScriptLive Up d → d.version ≡ One → length fates ≤ 4096 → line ≡ up_key ++ fates_text fates → Taken Up Count d (with_up fates d) line
+first_up_taken d fates line live one few is = step Up Count d (with_up fates d) line live (up_fits d fates live.fits few)
+    (ap (λ (x : Version). held_up (with_up fates d) ++ with_lanes x []) one ∙ append-nil (held_up (with_up fates d)) ∙ ap (λ (l : List ℕ). held_down d ++ l ∷ []) (sym is))
+    (λ v more r. let k = fates_on up_key fates v.up line more (lanes_lines v) is r.2 in (r.0, (r.1, k.0), k.1 ∙ lanes_at One v (r.1.0.0.0.0 ∙ one)))
+    (λ v more r. (r.0, r.1.0, fates_back up_key fates v.up line more (lanes_lines v) is r.1.1 (r.2 ∙ sym (lanes_at One v (r.1.0.0.0.0.0 ∙ one)))))
+
+pub second_up_taken : (d : Draft) (fates : List Fate) (line : List ℕ) → ScriptLive Up d → d.version ≡ Two → length fates ≤ 4096 → line ≡ up_key ++ fates_text fates → Taken Up Lanes d (with_up fates d) line
+second_up_taken d fates line live two few is = step Up Lanes d (with_up fates d) line live (up_fits d fates live.fits few, two)
     (rw is refl)
-    (λ v more r. let k = fates_on up_key fates v.up line more (vcpus_lines v) is r.2 in (r.0, (r.1, k.0), k.1))
-    (λ v more r. (r.0, r.1.0, fates_back up_key fates v.up line more (vcpus_lines v) is r.1.1 r.2))
+    (λ v more r. let k = fates_on up_key fates v.up line more (lanes_lines v) is r.2 in (r.0, (r.1, k.0), k.1))
+    (λ v more r. (r.0, r.1.0, fates_back up_key fates v.up line more (lanes_lines v) is r.1.1 r.2))
 
 pub up_refused : (d : Draft) (line : List ℕ) → ((fates : List Fate) → length fates ≤ 4096 → line ≢ up_key ++ fates_text fates) → RefusesAt Up d line
-up_refused d line none v more r = none v.up r.0.few_up (cons_parts line (up_key ++ fates_text v.up) more (vcpus_lines v) r.2).0
+up_refused d line none v more r = none v.up r.0.few_up (cons_parts line (up_key ++ fates_text v.up) more (lanes_lines v) r.2).0
+
+-- ---- the number of links that carry packets down
+
+lanes_come : (d : Draft) (line : List ℕ) → ScriptLive Lanes d → (v : Scenario) (more : List (List ℕ)) → ScriptRest Lanes d v (line ∷ more) → line ∷ more ≡ codes "lanes 1" ∷ vcpus_lines v
+lanes_come d line live v more r = r.2 ∙ lanes_at Two v (r.1.0.0.0.0.0 ∙ live.fits.1)
+
+pub lanes_taken : (d : Draft) (line : List ℕ) → ScriptLive Lanes d → line ≡ codes "lanes 1" → Taken Lanes Count d d line
+lanes_taken d line live is = step Lanes Count d d line live live.fits.0
+    (ap (λ (x : Version). held_up d ++ with_lanes x []) live.fits.1 ∙ ap (λ (l : List ℕ). held_up d ++ l ∷ []) (sym is))
+    (λ v more r. (r.0, r.1, (cons_parts line (codes "lanes 1") more (vcpus_lines v) (lanes_come d line live v more r)).1))
+    (λ v more r. (r.0, r.1, cons_same line (codes "lanes 1") more (vcpus_lines v) is r.2 ∙ sym (lanes_at Two v (r.1.0.0.0.0.0 ∙ live.fits.1))))
+
+pub lanes_refused : (d : Draft) (line : List ℕ) → ScriptLive Lanes d → line ≢ codes "lanes 1" → RefusesAt Lanes d line
+lanes_refused d line live other v more r = other (cons_parts line (codes "lanes 1") more (vcpus_lines v) (lanes_come d line live v more r)).0

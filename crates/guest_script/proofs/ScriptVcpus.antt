@@ -1,22 +1,22 @@
 -- A reader of scripts takes the lines that may come of the virtual processors, and no others.
-use Rattle.std.proofs.Common.{◌≡◌, ◌≢◌, ℕ, ◌+◌, ◌-◌, ◌<◌, ◌≤◌, ◌^◌, List, [], ◌∷◌, ◌++◌, length, map, refl, sym, ap, subst, ◌∙◌, append_assoc, length-append, arith}
+use Rattle.std.proofs.Common.{◌≡◌, ◌≢◌, ℕ, ◌+◌, ◌<◌, ◌≤◌, List, [], ◌∷◌, ◌++◌, length, map, refl, sym, ap, subst, ◌∙◌, append_assoc, length-append, arith}
 use Rattle.std.specs.List.{AllByRecursion}
 use Rattle.std.specs.Fmt.{decimal}
 use Rattle.std.proofs.lemmas.List.{append-nil}
-use Rattle.text_lines.specs.Counted.{Part}
 use Rattle.text_lines.proofs.Sections.{section_push}
-use Rattle.migration_types.specs.Extents.{Extent, IsExtent}
+use Rattle.migration_types.specs.declared.version.Version.{Version}
+use Rattle.migration_types.specs.Extents.{Extent}
 use Rattle.migration_events.specs.declared.ops.Op.{Op}
-use Rattle.migration_events.specs.declared.ops.Op.TheVariants.{Read, Write, Release}
-use Rattle.migration_events.specs.Ops.{OpFits}
+use Rattle.migration_events.specs.Ops.{OpFits, LateOpFits}
 use Rattle.session_log.specs.Grammar.{closing}
 use Rattle.guest_script.specs.declared.vcpus.Vcpu.{Vcpu}
 use Rattle.guest_script.specs.declared.stages.ScriptStage.TheVariants.{Count, First, Ops, Done}
-use Rattle.guest_script.specs.Scenarios.{Scenario, LateOpFits, VcpuFits, IsScenario}
+use Rattle.guest_script.specs.Scenarios.{Scenario, VcpuFits, IsScenario}
 use Rattle.guest_script.specs.Scripts.{vcpus_key, op_line, counts_line, vcpu_onto, vcpus_onto}
-use Rattle.guest_script.specs.inner.ScriptHeld.{Draft, held_up, held_vcpus, held_ops, vcpu_of, AgreesUp, OpsLeft, FitsUp, FitsCount, FitsOps, ScriptLive}
+use Rattle.guest_script.specs.inner.ScriptHeld.{Draft, held_lanes, held_vcpus, held_ops, vcpu_of, AgreesUp, OpsLeft, FitsCount, FitsOps, ScriptLive}
 use Rattle.guest_script.specs.inner.ScriptDraft.{HasAllOps, begun, ended}
 use Rattle.guest_script.proofs.Lists.{keyed_same, all_at, all_append, none_left}
+use Rattle.guest_script.proofs.LateOps.{late_op}
 use Rattle.guest_script.proofs.ScriptTells.{counts_tell, op_tells}
 use Rattle.guest_script.proofs.ScriptSteps.{cons_parts, cons_same, Taken, RefusesAt, step}
 
@@ -43,9 +43,9 @@ pub record NextVcpu (back : List Vcpu) (line : List ℕ) (more : List (List ℕ)
   pub few_before : length vcpu.before_move ≤ 65536
   pub few_after : length vcpu.after_move ≤ 65536
 
-next_vcpu : (e : Extent) (back : List Vcpu) (line : List ℕ) (more : List (List ℕ)) → AllByRecursion (VcpuFits e) back → 0 < length back → line ∷ more ≡ vcpus_onto back (closing ∷ []) → NextVcpu back line more
-next_vcpu e [] line more fits some is = absurd (omega arith)
-next_vcpu e (vcpu ∷ others) line more fits some is =
+next_vcpu : (version : Version) (e : Extent) (back : List Vcpu) (line : List ℕ) (more : List (List ℕ)) → AllByRecursion (VcpuFits version e) back → 0 < length back → line ∷ more ≡ vcpus_onto back (closing ∷ []) → NextVcpu back line more
+next_vcpu version e [] line more fits some is = absurd (omega arith)
+next_vcpu version e (vcpu ∷ others) line more fits some is =
     let parts = cons_parts line (counts_line (length vcpu.before_move) (length vcpu.after_move)) more (map op_line vcpu.before_move ++ (map op_line vcpu.after_move ++ vcpus_onto others (closing ∷ []))) is in
     record { vcpu = vcpu; others = others; whole = refl; spelled = parts.0; lines = parts.1; few_before = fits.0.few_before; few_after = fits.0.few_after }
 
@@ -65,7 +65,7 @@ count_taken d n line live some few is =
     let p = w.before in
     step Count First d (with_count n d) line live
     (record { before = record { before = record { before = record { before = record { geometry = p.geometry; init = p.init; some = p.some; few = p.few }; some = w.some; few = w.few }; few = f.before.few }; few = f.few }; some = some; few = few; vcpus = tt }, refl)
-    (append-nil (held_up d ++ (vcpus_key ++ decimal n) ∷ []) ∙ ap (λ (l : List ℕ). held_up d ++ l ∷ []) (sym is))
+    (append-nil (held_lanes d ++ (vcpus_key ++ decimal n) ∷ []) ∙ ap (λ (l : List ℕ). held_lanes d ++ l ∷ []) (sym is))
     (λ v more r.
     let top = r.0.few_vcpus in
     let parts = cons_parts line (vcpus_key ++ decimal (length v.vcpus)) more (vcpus_onto v.vcpus (closing ∷ [])) r.2 in
@@ -101,7 +101,7 @@ first_taken d new b a line made live few_before few_after is =
     (ap (λ (l : List ℕ). held_vcpus d ++ l ∷ []) (sym is))
     (λ v more r.
     let many = r.0.some_vcpus in
-    let n = next_vcpu v.geometry v.vcpus line more r.0.vcpus (omega arith) r.3 in
+    let n = next_vcpu v.version v.geometry v.vcpus line more r.0.vcpus (omega arith) r.3 in
     let same = counts_tell b a (length n.vcpu.before_move) (length n.vcpu.after_move) few_before few_after n.few_before n.few_after (sym is ∙ n.spelled) in
     record { fits = r.0; agrees = r.1; count = r.2; befores = n.vcpu.before_move; afters = n.vcpu.after_move; back = n.others; whole = n.whole ∙ ap (λ (t : List Vcpu). t ++ n.vcpu ∷ n.others) (sym none); all_before = sym same.0; all_after = sym same.1; lines = n.lines })
     (λ v more r.
@@ -113,16 +113,18 @@ first_taken d new b a line made live few_before few_after is =
 pub first_refused : (d : Draft) (line : List ℕ) → ((b a : ℕ) → b ≤ 65536 → a ≤ 65536 → line ≢ counts_line b a) → RefusesAt First d line
 first_refused d line none v more r =
     let many = r.0.some_vcpus in
-    let n = next_vcpu v.geometry v.vcpus line more r.0.vcpus (omega arith) r.3 in
+    let n = next_vcpu v.version v.geometry v.vcpus line more r.0.vcpus (omega arith) r.3 in
     none (length n.vcpu.before_move) (length n.vcpu.after_move) n.few_before n.few_after n.spelled
 
 -- ---- operations
 
 -- the virtual processor that is coming, as it will be
-this_vcpu : (d : Draft) (v : Scenario) (lines : List (List ℕ)) (r : OpsLeft d v lines) → VcpuFits d.geometry (vcpu_of (d.before.items ++ r.befores) (d.after.items ++ r.afters))
+this_vcpu : (d : Draft) (v : Scenario) (lines : List (List ℕ)) (r : OpsLeft d v lines) → VcpuFits d.version d.geometry (vcpu_of (d.before.items ++ r.befores) (d.after.items ++ r.afters))
 this_vcpu d v lines r =
     let w = vcpu_of (d.before.items ++ r.befores) (d.after.items ++ r.afters) in
-    subst (λ (e : Extent). VcpuFits e w) r.agrees.0.0.0.0.0 (all_at (VcpuFits v.geometry) d.vcpus w r.back (subst (AllByRecursion (VcpuFits v.geometry)) r.whole r.fits.vcpus))
+    let own = all_at (VcpuFits v.version v.geometry) d.vcpus w r.back (subst (AllByRecursion (VcpuFits v.version v.geometry)) r.whole r.fits.vcpus) in
+    let agrees = r.agrees.0.0.0.0 in
+    subst (λ (e : Extent). VcpuFits d.version e w) agrees.1 (subst (λ (x : Version). VcpuFits x v.geometry w) agrees.0 own)
 
 -- an operation that may come before the move
 record NextEarly (d : Draft) (line : List ℕ) (more : List (List ℕ)) (befores : List Op) (tail : List (List ℕ)) : Type 0 where
@@ -196,21 +198,16 @@ early_refused d line less none v more r = let n = next_early d line v more r les
 no_early : (d : Draft) (v : Scenario) (lines : List (List ℕ)) (r : OpsLeft d v lines) → length d.before.items ≡ d.before.count → r.befores ≡ []
 no_early d v lines r all = none_left (d.before.items ++ r.befores) d.before.items r.befores refl (r.all_before ∙ sym all)
 
-pub late_op : (e : Extent) (op : Op) → LateOpFits e op → OpFits e op
-late_op e (Read p c) fits = fits
-late_op e (Write p c x) fits = fits
-late_op e (Release p) fits = absurd fits
-
 next_late : (d : Draft) (line : List ℕ) (v : Scenario) (more : List (List ℕ)) (r : OpsLeft d v (line ∷ more)) → length d.before.items ≡ d.before.count → length d.after.items < d.after.count → NextEarly d line more r.afters (vcpus_onto r.back (closing ∷ []))
 next_late d line v more r all less = next_op d line more r.afters (vcpus_onto r.back (closing ∷ [])) (omega (arith, r.all_after, length-append d.after.items r.afters)) (r.lines ∙ ap (λ (t : List Op). map op_line t ++ tail_of d v (line ∷ more) r) (no_early d v (line ∷ more) r all))
 
-late_fits : (d : Draft) (line : List ℕ) (v : Scenario) (more : List (List ℕ)) (r : OpsLeft d v (line ∷ more)) (op : Op) (others : List Op) → r.afters ≡ op ∷ others → LateOpFits d.geometry op
-late_fits d line v more r op others is = all_at (LateOpFits d.geometry) d.after.items op others (subst (λ (t : List Op). AllByRecursion (LateOpFits d.geometry) (d.after.items ++ t)) is (this_vcpu d v (line ∷ more) r).after_move)
+late_fits : (d : Draft) (line : List ℕ) (v : Scenario) (more : List (List ℕ)) (r : OpsLeft d v (line ∷ more)) (op : Op) (others : List Op) → r.afters ≡ op ∷ others → LateOpFits d.version d.geometry op
+late_fits d line v more r op others is = all_at (LateOpFits d.version d.geometry) d.after.items op others (subst (λ (t : List Op). AllByRecursion (LateOpFits d.version d.geometry) (d.after.items ++ t)) is (this_vcpu d v (line ∷ more) r).after_move)
 
 abbrev pub with_after : List Op → Draft → Draft
 with_after ops d = record d { after = record { count = d.after.count; items = ops } }
 
-pub late_taken : (d : Draft) (op : Op) (ops : List Op) (line : List ℕ) → ScriptLive Ops d → length d.before.items ≡ d.before.count → length d.after.items < d.after.count → ops ≡ d.after.items ++ op ∷ [] → LateOpFits d.geometry op → line ≡ op_line op → Taken Ops Ops d (with_after ops d) line
+pub late_taken : (d : Draft) (op : Op) (ops : List Op) (line : List ℕ) → ScriptLive Ops d → length d.before.items ≡ d.before.count → length d.after.items < d.after.count → ops ≡ d.after.items ++ op ∷ [] → LateOpFits d.version d.geometry op → line ≡ op_line op → Taken Ops Ops d (with_after ops d) line
 late_taken d op ops line live all less is fits spelled =
     let f = live.fits in
     let c = f.before in
@@ -226,13 +223,13 @@ late_taken d op ops line live all less is fits spelled =
       within_before = f.within_before;
       within_after = omega (arith, length-append d.after.items (op ∷ []));
       before_move = f.before_move;
-      after_move = all_append (LateOpFits d.geometry) d.after.items (op ∷ []) f.after_move (fits, tt);
+      after_move = all_append (LateOpFits d.version d.geometry) d.after.items (op ∷ []) f.after_move (fits, tt);
       in_turn = λ lt. absurd (omega (arith, lt, all));
     })
     (held_grown d (map op_line d.before.items ++ map op_line d.after.items) (map op_line d.before.items ++ map op_line (d.after.items ++ op ∷ [])) line (late_grown d.before.items d.after.items op line spelled))
     (λ v more r.
     let n = next_late d line v more r all less in
-    let same = op_tells d.geometry p.geometry op n.op (late_op d.geometry op fits) (late_op d.geometry n.op (late_fits d line v more r n.op n.others n.whole)) (sym spelled ∙ n.spelled) in
+    let same = op_tells d.geometry p.geometry op n.op (late_op d.version d.geometry op fits) (late_op d.version d.geometry n.op (late_fits d line v more r n.op n.others n.whole)) (sym spelled ∙ n.spelled) in
     let afters : d.after.items ++ r.afters ≡ (d.after.items ++ op ∷ []) ++ n.others = ap (λ (t : List Op). d.after.items ++ t) (n.whole ∙ ap (λ (x : Op). x ∷ n.others) (sym same)) ∙ sym (append_assoc d.after.items (op ∷ []) n.others) in
     let none = no_early d v (line ∷ more) r all in
     record { fits = r.fits; agrees = r.agrees; count = r.count; befores = []; afters = n.others; back = r.back; whole = r.whole ∙ ap (λ (t : List Op). d.vcpus ++ vcpu_of (d.before.items ++ t) (d.after.items ++ r.afters) ∷ r.back) none ∙ ap (λ (t : List Op). d.vcpus ++ vcpu_of (d.before.items ++ []) t ∷ r.back) afters; all_before = ap (λ (t : List Op). length (d.before.items ++ t)) (sym none) ∙ r.all_before; all_after = ap (λ (t : List Op). length t) (sym afters) ∙ r.all_after; lines = n.lines })
@@ -241,7 +238,7 @@ late_taken d op ops line live all less is fits spelled =
     let none = none_left (d.before.items ++ r.befores) d.before.items r.befores refl (r.all_before ∙ sym all) in
     record { fits = r.fits; agrees = r.agrees; count = r.count; befores = []; afters = op ∷ r.afters; back = r.back; whole = r.whole ∙ ap (λ (t : List Op). d.vcpus ++ vcpu_of (d.before.items ++ t) ((d.after.items ++ op ∷ []) ++ r.afters) ∷ r.back) none ∙ ap (λ (t : List Op). d.vcpus ++ vcpu_of (d.before.items ++ []) t ∷ r.back) afters; all_before = ap (λ (t : List Op). length (d.before.items ++ t)) (sym none) ∙ r.all_before; all_after = ap (λ (t : List Op). length t) (sym afters) ∙ r.all_after; lines = cons_same line (op_line op) more (map op_line r.afters ++ vcpus_onto r.back (closing ∷ [])) spelled (r.lines ∙ ap (λ (t : List Op). map op_line t ++ (map op_line r.afters ++ vcpus_onto r.back (closing ∷ []))) none) }))
 
-pub late_refused : (d : Draft) (line : List ℕ) → length d.before.items ≡ d.before.count → length d.after.items < d.after.count → ((op : Op) → LateOpFits d.geometry op → line ≢ op_line op) → RefusesAt Ops d line
+pub late_refused : (d : Draft) (line : List ℕ) → length d.before.items ≡ d.before.count → length d.after.items < d.after.count → ((op : Op) → LateOpFits d.version d.geometry op → line ≢ op_line op) → RefusesAt Ops d line
 late_refused d line all less none v more r = let n = next_late d line v more r all less in none n.op (late_fits d line v more r n.op n.others n.whole) n.spelled
 
 -- ---- behind the last operation
@@ -280,7 +277,7 @@ with_no_op d v lines back fits agrees count all n = record {
 ended_held : (d : Draft) → HasAllOps d → held_vcpus (ended d) ≡ held_ops d
 ended_held d all =
     let w = vcpu_of d.before.items d.after.items in
-    let h = held_up d ++ (vcpus_key ++ decimal d.count) ∷ [] in
+    let h = held_lanes d ++ (vcpus_key ++ decimal d.count) ∷ [] in
     let counts : counts_line (length d.before.items) (length d.after.items) ≡ counts_line d.before.count d.after.count = ap (λ (k : ℕ). counts_line k (length d.after.items)) all.0 ∙ ap (λ (k : ℕ). counts_line d.before.count k) all.1 in
     let ops : map op_line d.before.items ++ (map op_line d.after.items ++ []) ≡ map op_line d.before.items ++ map op_line d.after.items = ap (λ (t : List (List ℕ)). map op_line d.before.items ++ t) (append-nil (map op_line d.after.items)) in
     let this : vcpu_onto w [] ≡ counts_line d.before.count d.after.count ∷ (map op_line d.before.items ++ map op_line d.after.items) = cons_same (counts_line (length d.before.items) (length d.after.items)) (counts_line d.before.count d.after.count) (map op_line d.before.items ++ (map op_line d.after.items ++ [])) (map op_line d.before.items ++ map op_line d.after.items) counts ops in
@@ -301,7 +298,7 @@ ended_fits d f =
       before = record { before = record { before = record { before = record { geometry = p.geometry; init = p.init; some = p.some; few = p.few }; some = w.some; few = w.few }; few = u.before.few }; few = u.few };
       some = c.some;
       few = c.few;
-      vcpus = all_append (VcpuFits d.geometry) d.vcpus (vcpu_of d.before.items d.after.items ∷ []) c.vcpus (record { few_before = omega arith; few_after = omega arith; before_move = f.before_move; after_move = f.after_move }, tt);
+      vcpus = all_append (VcpuFits d.version d.geometry) d.vcpus (vcpu_of d.before.items d.after.items ∷ []) c.vcpus (record { few_before = omega arith; few_after = omega arith; before_move = f.before_move; after_move = f.after_move }, tt);
     }
 
 pub next_taken : (d new : Draft) (b a : ℕ) (line : List ℕ) → new ≡ begun b a (ended d) → ScriptLive Ops d → HasAllOps d → length d.vcpus + 1 < d.count → b ≤ 65536 → a ≤ 65536 → line ≡ counts_line b a → Taken Ops Ops d new line
@@ -313,8 +310,8 @@ next_taken d new b a line is live all more_come few_before few_after spelled =
     (λ v more r.
     let left = no_op d v (line ∷ more) r all in
     let long = ap (λ (t : List Vcpu). length t) left.whole in
-    let each = all_behind (VcpuFits v.geometry) d.vcpus (this ∷ r.back) (subst (AllByRecursion (VcpuFits v.geometry)) left.whole r.fits.vcpus) in
-    let n = next_vcpu v.geometry r.back line more each.1 (omega (arith, long, length-append d.vcpus (this ∷ r.back), r.count)) left.tail in
+    let each = all_behind (VcpuFits v.version v.geometry) d.vcpus (this ∷ r.back) (subst (AllByRecursion (VcpuFits v.version v.geometry)) left.whole r.fits.vcpus) in
+    let n = next_vcpu v.version v.geometry r.back line more each.1 (omega (arith, long, length-append d.vcpus (this ∷ r.back), r.count)) left.tail in
     let same = counts_tell b a (length n.vcpu.before_move) (length n.vcpu.after_move) few_before few_after n.few_before n.few_after (sym spelled ∙ n.spelled) in
     record { fits = r.fits; agrees = r.agrees; count = r.count; befores = n.vcpu.before_move; afters = n.vcpu.after_move; back = n.others; whole = left.whole ∙ ap (λ (t : List Vcpu). d.vcpus ++ this ∷ t) n.whole ∙ sym (append_assoc d.vcpus (this ∷ []) (n.vcpu ∷ n.others)); all_before = sym same.0; all_after = sym same.1; lines = n.lines })
     (λ v more r.
@@ -330,8 +327,8 @@ next_refused d line all more_come none v more r =
     let this = vcpu_of d.before.items d.after.items in
     let left = no_op d v (line ∷ more) r all in
     let long = ap (λ (t : List Vcpu). length t) left.whole in
-    let each = all_behind (VcpuFits v.geometry) d.vcpus (this ∷ r.back) (subst (AllByRecursion (VcpuFits v.geometry)) left.whole r.fits.vcpus) in
-    let n = next_vcpu v.geometry r.back line more each.1 (omega (arith, long, length-append d.vcpus (this ∷ r.back), r.count)) left.tail in
+    let each = all_behind (VcpuFits v.version v.geometry) d.vcpus (this ∷ r.back) (subst (AllByRecursion (VcpuFits v.version v.geometry)) left.whole r.fits.vcpus) in
+    let n = next_vcpu v.version v.geometry r.back line more each.1 (omega (arith, long, length-append d.vcpus (this ∷ r.back), r.count)) left.tail in
     none (length n.vcpu.before_move) (length n.vcpu.after_move) n.few_before n.few_after n.spelled
 
 -- no virtual processor is left

@@ -1,6 +1,5 @@
 -- A line tells its event.
-use Rattle.std.proofs.Common.{◌≡◌, ℕ, ◌+◌, ◌*◌, ◌<◌, ◌^◌, List, ◌∷◌, ◌++◌, get_or, refl, sym, ap, ◌∙◌, arith}
-use Rattle.std.specs.Fmt.{decimal}
+use Rattle.std.proofs.Common.{◌≡◌, ℕ, ◌+◌, ◌*◌, List, ◌++◌, get_or, refl, ap, arith}
 use Rattle.std.proofs.lemmas.List.{append_cancel_left}
 use Rattle.migration_events.specs.declared.events.Direction.{Direction}
 use Rattle.migration_events.specs.declared.events.Direction.TheVariants.{Down, Up}

@@ -2,18 +2,18 @@
 use Rattle.std.specs.Prelude.{ℕ, ◌≤◌, List, length}
 use Rattle.std.specs.List.{AllByRecursion}
 use Rattle.migration_types.specs.declared.pages.InitPage.{InitPage}
+use Rattle.migration_types.specs.declared.version.Version.{Version}
 use Rattle.migration_types.specs.Extents.{Extent, IsExtent}
 use Rattle.migration_types.specs.Pages.{AreInitPages}
 use Rattle.migration_events.specs.declared.events.Fate.{Fate}
-use Rattle.migration_events.specs.declared.ops.Op.{Op}
-use Rattle.migration_events.specs.declared.ops.Op.TheVariants.{Read, Write, Release}
-use Rattle.migration_events.specs.Ops.{OpFits}
+use Rattle.migration_events.specs.Ops.{OpFits, LateOpFits}
 use Rattle.guest_script.specs.declared.vcpus.Vcpu.{Vcpu}
 
--- The machine and the pages that do not begin as zeros; how many pivots are kept at most, and how many packets may be
+-- The version; the machine and the pages that do not begin as zeros; how many pivots are kept at most, and how many packets may be
 -- under way when a page is pushed; what becomes of the packets in each direction, one after another; and what each
 -- virtual processor does.
 pub record Scenario : Type 0 where
+  pub version : Version
   pub geometry : Extent
   pub init : List InitPage
   pub pivots : ℕ
@@ -22,17 +22,11 @@ pub record Scenario : Type 0 where
   pub up : List Fate
   pub vcpus : List Vcpu
 
--- the machine has the page and the cell, and no page is released after the move
-abbrev pub LateOpFits : Extent → Op → Type 0
-LateOpFits e (Read page cell) = OpFits e (Read page cell)
-LateOpFits e (Write page cell value) = OpFits e (Write page cell value)
-LateOpFits e (Release page) = ⊥
-
-pub record VcpuFits (e : Extent) (vcpu : Vcpu) : Type 0 where
+pub record VcpuFits (version : Version) (e : Extent) (vcpu : Vcpu) : Type 0 where
   pub few_before : length vcpu.before_move ≤ 65536
   pub few_after : length vcpu.after_move ≤ 65536
   pub before_move : AllByRecursion (OpFits e) vcpu.before_move
-  pub after_move : AllByRecursion (LateOpFits e) vcpu.after_move
+  pub after_move : AllByRecursion (LateOpFits version e) vcpu.after_move
 
 -- what a script says is within all limits
 pub record IsScenario (s : Scenario) : Type 0 where
@@ -46,4 +40,4 @@ pub record IsScenario (s : Scenario) : Type 0 where
   pub few_up : length s.up ≤ 4096
   pub some_vcpus : 1 ≤ length s.vcpus
   pub few_vcpus : length s.vcpus ≤ 64
-  pub vcpus : AllByRecursion (VcpuFits s.geometry) s.vcpus
+  pub vcpus : AllByRecursion (VcpuFits s.version s.geometry) s.vcpus

@@ -1,16 +1,17 @@
 -- Why parts are no script: the first that applies, in the order of a script's text.
 use Rattle.std.specs.Prelude.{ℕ, ◌+◌, ◌<◌, ◌≤◌, List, length, take, slice_get, IsSomeAnd}
 use Rattle.std.specs.List.{AllByRecursion}
+use Rattle.migration_types.specs.declared.version.Version.{Version}
 use Rattle.migration_types.specs.Extents.{Extent}
 use Rattle.migration_types.specs.Pages.{AreInitPages}
 use Rattle.migration_events.specs.declared.events.Fate.{Fate}
-use Rattle.migration_events.specs.Ops.{OpFits}
+use Rattle.migration_events.specs.Ops.{OpFits, LateOpFits}
 use Rattle.guest_script.specs.declared.vcpus.Vcpu.{Vcpu as Processor}
 use Rattle.guest_script.specs.declared.script_fault.ScriptFault.{ScriptFault}
 use Rattle.guest_script.specs.declared.script_fault.ScriptFault.TheVariants.{Init, Pivots, Window, Down, Up, Vcpus, Vcpu}
 use Rattle.guest_script.specs.declared.script_fault.VcpuFault.{VcpuFault}
 use Rattle.guest_script.specs.declared.script_fault.VcpuFault.TheVariants.{ManyBefore, ManyAfter, Before, After}
-use Rattle.guest_script.specs.Scenarios.{Scenario, LateOpFits, VcpuFits}
+use Rattle.guest_script.specs.Scenarios.{Scenario, VcpuFits}
 
 -- the first so many items are right, and with the next they are not
 abbrev pub IsFirstWrong : {A : Type 0} → (List A → Type 0) → List A → ℕ → Type 0
@@ -19,15 +20,15 @@ IsFirstWrong AreRight items n = AreRight (take n items) × (AreRight (take (n + 
 abbrev pub FewOps : Processor → Type 0
 FewOps vcpu = (length vcpu.before_move ≤ 65536) × (length vcpu.after_move ≤ 65536)
 
-abbrev pub IsVcpuFault : Extent → Processor → VcpuFault → Type 0
-IsVcpuFault e vcpu ManyBefore = 65536 < length vcpu.before_move
-IsVcpuFault e vcpu ManyAfter = (length vcpu.before_move ≤ 65536) × (65536 < length vcpu.after_move)
-IsVcpuFault e vcpu (Before n) = FewOps vcpu × IsFirstWrong (AllByRecursion (OpFits e)) vcpu.before_move n
-IsVcpuFault e vcpu (After n) = FewOps vcpu × AllByRecursion (OpFits e) vcpu.before_move × IsFirstWrong (AllByRecursion (LateOpFits e)) vcpu.after_move n
+abbrev pub IsVcpuFault : Version → Extent → Processor → VcpuFault → Type 0
+IsVcpuFault version e vcpu ManyBefore = 65536 < length vcpu.before_move
+IsVcpuFault version e vcpu ManyAfter = (length vcpu.before_move ≤ 65536) × (65536 < length vcpu.after_move)
+IsVcpuFault version e vcpu (Before n) = FewOps vcpu × IsFirstWrong (AllByRecursion (OpFits e)) vcpu.before_move n
+IsVcpuFault version e vcpu (After n) = FewOps vcpu × AllByRecursion (OpFits e) vcpu.before_move × IsFirstWrong (AllByRecursion (LateOpFits version e)) vcpu.after_move n
 
 -- the virtual processors before one are within their limits, and it has this fault
-abbrev pub IsFirstVcpuFault : Extent → List Processor → ℕ → VcpuFault → Type 0
-IsFirstVcpuFault e vcpus n fault = AllByRecursion (VcpuFits e) (take n vcpus) × IsSomeAnd (slice_get vcpus n) (λ vcpu. IsVcpuFault e vcpu fault)
+abbrev pub IsFirstVcpuFault : Version → Extent → List Processor → ℕ → VcpuFault → Type 0
+IsFirstVcpuFault version e vcpus n fault = AllByRecursion (VcpuFits version e) (take n vcpus) × IsSomeAnd (slice_get vcpus n) (λ vcpu. IsVcpuFault version e vcpu fault)
 
 abbrev pub ArePivots : ℕ → Type 0
 ArePivots pivots = (1 ≤ pivots) × (pivots ≤ 16)
@@ -64,4 +65,4 @@ IsScriptFault s Window = ToPivots s × (IsWindow s.window → ⊥)
 IsScriptFault s Down = ToWindow s × (AreFates s.down → ⊥)
 IsScriptFault s Up = ToDown s × (AreFates s.up → ⊥)
 IsScriptFault s Vcpus = ToUp s × (AreAsMany s.vcpus → ⊥)
-IsScriptFault s (Vcpu n fault) = ToCount s × IsFirstVcpuFault s.geometry s.vcpus n fault
+IsScriptFault s (Vcpu n fault) = ToCount s × IsFirstVcpuFault s.version s.geometry s.vcpus n fault

@@ -1,5 +1,5 @@
 -- The text of a script. Its lines, each ended by a line feed:
---     postcopy-script 1
+--     postcopy-script 1   or: postcopy-script 2
 --     pages N             the machine's pages: 1 to 65,536
 --     cells C             the cells of each page: 1 to 512, and N times C is at most 1,048,576
 --     init K              the pages that do not begin as zeros, and then a line for each, as in a session's text
@@ -7,15 +7,18 @@
 --     window W            1 to 65,536
 --     down FATES          what becomes of the packets on their way down, one after another: a dash for none, or 1 to
 --     up FATES            4,096 letters, d to deliver, l to lose, r to repeat, b for back; and so on their way up
+--     lanes 1             in the second version alone
 --     vcpus M             1 to 64
 --     vcpu B A            M times: the operations before and after a move, each 0 to 65,536, and then a line for each
 --     end
--- The lines of operations, of which the last stands before the move alone:
+-- The lines of operations, of which the last stands after a move in the second version alone:
 --     r PAGE CELL     w PAGE CELL VALUE     z PAGE
 -- Numbers are in decimal form, with no leading zero.
 use Rattle.std.specs.Prelude.{◌≡◌, ℕ, List, [], ◌∷◌, ◌++◌, map, length, codes}
 use Rattle.std.specs.Fmt.{decimal}
 use Rattle.text_lines.specs.Counted.{counted}
+use Rattle.migration_types.specs.declared.version.Version.{Version}
+use Rattle.migration_types.specs.declared.version.Version.TheVariants.{One, Two}
 use Rattle.migration_events.specs.declared.events.Fate.{Fate}
 use Rattle.migration_events.specs.declared.events.Fate.TheVariants.{Deliver, Lose, Repeat, Back}
 use Rattle.migration_events.specs.declared.ops.Op.{Op}
@@ -24,8 +27,9 @@ use Rattle.session_log.specs.Grammar.{pages_key, cells_key, init_key, page_line,
 use Rattle.guest_script.specs.declared.vcpus.Vcpu.{Vcpu}
 use Rattle.guest_script.specs.Scenarios.{Scenario, IsScenario}
 
-abbrev pub script_header : List ℕ
-script_header = codes "postcopy-script 1"
+abbrev pub script_header : Version → List ℕ
+script_header One = codes "postcopy-script 1"
+script_header Two = codes "postcopy-script 2"
 
 abbrev pub pivots_key : List ℕ
 pivots_key = codes "pivots "
@@ -83,8 +87,16 @@ vcpus_onto (vcpu ∷ vcpus) more = vcpu_onto vcpu (vcpus_onto vcpus more)
 abbrev pub vcpus_lines : Scenario → List (List ℕ)
 vcpus_lines s = (vcpus_key ++ decimal (length s.vcpus)) ∷ vcpus_onto s.vcpus (closing ∷ [])
 
+-- how many links carry packets down, which scripts of the second version tell
+abbrev pub with_lanes : Version → List (List ℕ) → List (List ℕ)
+with_lanes One more = more
+with_lanes Two more = codes "lanes 1" ∷ more
+
+abbrev pub lanes_lines : Scenario → List (List ℕ)
+lanes_lines s = with_lanes s.version (vcpus_lines s)
+
 abbrev pub up_lines : Scenario → List (List ℕ)
-up_lines s = (up_key ++ fates_text s.up) ∷ vcpus_lines s
+up_lines s = (up_key ++ fates_text s.up) ∷ lanes_lines s
 
 abbrev pub down_lines : Scenario → List (List ℕ)
 down_lines s = (down_key ++ fates_text s.down) ∷ up_lines s
@@ -105,7 +117,7 @@ abbrev pub pages_lines : Scenario → List (List ℕ)
 pages_lines s = (pages_key ++ decimal s.geometry.pages) ∷ cells_lines s
 
 abbrev pub script_lines : Scenario → List (List ℕ)
-script_lines s = script_header ∷ pages_lines s
+script_lines s = script_header s.version ∷ pages_lines s
 
 -- these lines are the text of this script, which is within all limits
 abbrev pub SpellsScript : Scenario → List (List ℕ) → Type 0

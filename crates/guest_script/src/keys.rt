@@ -39,8 +39,11 @@ pub fn fate_word_of(fate: Fate) -> &'static [u8]
     }
 }
 
-/// The first line of a script's text.
-pub const SCRIPT_HEADER: &[u8] = b"postcopy-script 1";
+/// The first line of a script's text, in the first version.
+pub const FIRST_SCRIPT: &[u8] = b"postcopy-script 1";
+
+/// The same, in the second.
+pub const SECOND_SCRIPT: &[u8] = b"postcopy-script 2";
 
 /// How the line with the number of pivots begins.
 pub const PIVOTS_KEY: &[u8] = b"pivots ";
@@ -53,6 +56,9 @@ pub const DOWN_KEY: &[u8] = b"down ";
 
 /// How the line with the fates on the way up begins.
 pub const UP_KEY: &[u8] = b"up ";
+
+/// The line that says that one link carries packets down.
+pub const ONE_LANE: &[u8] = b"lanes 1";
 
 /// How the line with the number of virtual processors begins.
 pub const VCPUS_KEY: &[u8] = b"vcpus ";

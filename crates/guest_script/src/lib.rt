@@ -26,19 +26,20 @@ mod script_reader;
 mod script_steps;
 mod stages;
 mod vcpus;
+mod versions;
 
 use event_form::EventForm;
 use event_reader::EventLines;
 use fates::push_fates;
 use keys::{
-    CLOSING, DOWN_KEY, EVENTS_HEADER, EVENTS_KEY, PIVOTS_KEY, SCRIPT_HEADER, UP_KEY, VCPUS_KEY,
-    WINDOW_KEY,
+    CLOSING, DOWN_KEY, EVENTS_HEADER, EVENTS_KEY, PIVOTS_KEY, UP_KEY, VCPUS_KEY, WINDOW_KEY,
 };
 use op_form::push_vcpus;
 pub use script::Script;
 pub use script_fault::{ScriptFault, VcpuFault};
 use script_reader::ScriptLines;
 pub use vcpus::{MOST_FATES, MOST_OPS, MOST_PIVOTS, MOST_VCPUS, MOST_WINDOW, Vcpu};
+use versions::{push_lanes, script_header};
 
 /// The events that the bytes are the text of, at most 1,048,576.
 ///
@@ -92,7 +93,7 @@ pub fn write_script(alloc: Global, script: &Script) -> Result<Vec<u8>, AllocErro
     let geometry = script.geometry();
     let vcpus = script.vcpus();
     let mut out = Vec::new(alloc);
-    push_line(&mut out, SCRIPT_HEADER)?;
+    push_line(&mut out, script_header(script.version()))?;
     push_keyed(&mut out, PAGES_KEY, geometry.pages())?;
     push_keyed(&mut out, CELLS_KEY, geometry.cells())?;
     push_counted::<InitLines>(&mut out, INIT_KEY, script.init())?;
@@ -100,6 +101,7 @@ pub fn write_script(alloc: Global, script: &Script) -> Result<Vec<u8>, AllocErro
     push_keyed(&mut out, WINDOW_KEY, script.window())?;
     push_fates(&mut out, DOWN_KEY, script.down())?;
     push_fates(&mut out, UP_KEY, script.up())?;
+    push_lanes(&mut out, script.version())?;
     push_keyed(&mut out, VCPUS_KEY, vcpus.len())?;
     push_vcpus(&mut out, vcpus)?;
     push_line(&mut out, CLOSING)?;

@@ -9,7 +9,8 @@ ghost use Rattle.guest_script.specs.Scripts.{counts_line, op_line, place_text, v
 ghost use Rattle.guest_script.specs.inner.Ops.{OpFitsAt, TakesOp};
 
 use crate::keys::{READ_KEY, RELEASE_KEY, VCPU_KEY, WRITE_KEY};
-use crate::vcpus::{MOST_OPS, Vcpu};
+use crate::vcpus::{MOST_OPS, Vcpu, When};
+use crate::versions::may_release;
 use migration_events::Op;
 use migration_types::PageNo;
 use session_log::Machine;
@@ -51,9 +52,9 @@ fn read_value(text: &[u8], machine: Machine) -> Option<(PageNo, u16, u64)>
 }
 
 /// The operation that a line spells, for a machine, before a move or after it.
-fn read_op(line: &[u8], machine: Machine, is_late: bool) -> Option<Op>
+fn read_op(line: &[u8], machine: Machine, when: When) -> Option<Op>
     requires { IsExtent (record { pages = machine.pages; cells = machine.cells }) }
-    ensures { MatchOption result ((op : Done) → OpFitsAt is_late (record { pages = machine.pages; cells = machine.cells }) op → line.now ≢ op_line op) (λ op. OpFitsAt is_late (record { pages = machine.pages; cells = machine.cells }) op × (line.now ≡ op_line op)) }
+    ensures { MatchOption result ((op : Done) → OpFitsAt when (record { pages = machine.pages; cells = machine.cells }) op → line.now ≢ op_line op) (λ op. OpFitsAt when (record { pages = machine.pages; cells = machine.cells }) op × (line.now ≡ op_line op)) }
 {
     if let Some(text) = after_key(line, READ_KEY) {
         let (page, cell) = read_place(text, machine)?;
@@ -63,7 +64,7 @@ fn read_op(line: &[u8], machine: Machine, is_late: bool) -> Option<Op>
         let (page, cell, value) = read_value(text, machine)?;
         return Some(Op::Write { page, cell, value });
     }
-    if is_late {
+    if !may_release(when) {
         return None;
     }
     let text = after_key(line, RELEASE_KEY)?;
@@ -77,15 +78,15 @@ fn read_op(line: &[u8], machine: Machine, is_late: bool) -> Option<Op>
 pub fn take_op(
     ops: &mut Vec<Op>,
     machine: Machine,
-    is_late: bool,
+    when: When,
     line: &[u8],
 ) -> Result<(), FaultKind>
     requires { IsExtent (record { pages = machine.pages; cells = machine.cells }) }
-    ensures ok { OnOk result (TakesOp is_late (record { pages = machine.pages; cells = machine.cells }) ops.old.items ops.new.items line.now) }
-    ensures refused { IfErr result (λ kind. kind ≢ FaultKind.Memory → (op : Done) → OpFitsAt is_late (record { pages = machine.pages; cells = machine.cells }) op → line.now ≢ op_line op) }
+    ensures ok { OnOk result (TakesOp when (record { pages = machine.pages; cells = machine.cells }) ops.old.items ops.new.items line.now) }
+    ensures refused { IfErr result (λ kind. kind ≢ FaultKind.Memory → (op : Done) → OpFitsAt when (record { pages = machine.pages; cells = machine.cells }) op → line.now ≢ op_line op) }
     ensures err { OnErr result (ops.new.items ≡ ops.old.items) }
 {
-    let Some(op) = read_op(line, machine, is_late) else {
+    let Some(op) = read_op(line, machine, when) else {
         return Err(FaultKind::Form);
     };
     match ops.push(op) {

@@ -7,7 +7,7 @@ ghost use Rattle.guest_script.specs.ScriptFaults.{IsScriptFault};
 use crate::script_fault::{ScriptFault, first_vcpu_fault, first_wrong_page};
 use crate::vcpus::{MOST_FATES, MOST_PIVOTS, MOST_VCPUS, MOST_WINDOW, Vcpu};
 use migration_events::Fate;
-use migration_types::{Contents, Geometry, InitPage, Seq};
+use migration_types::{Contents, Geometry, InitPage, Seq, Version};
 use std::alloc::{AllocError, Global};
 use std::marker::Model;
 
@@ -16,6 +16,7 @@ use std::marker::Model;
 /// and what each virtual processor does.
 #[derive(Drop)]
 pub struct Script {
+    version: Version,
     geometry: Geometry,
     init: Seq<InitPage>,
     pivots: u32,
@@ -30,13 +31,14 @@ impl Model for Script {
 
     ghost Value = { Scenario };
 
-    ghost view = { λ a. record { geometry = a.geometry; init = a.init; pivots = a.pivots; window = a.window; down = a.down; up = a.up; vcpus = a.vcpus } };
+    ghost view = { λ a. record { version = a.version; geometry = a.geometry; init = a.init; pivots = a.pivots; window = a.window; down = a.down; up = a.up; vcpus = a.vcpus } };
 
-    ghost invariant = { λ a. IsScenario (record { geometry = a.geometry; init = a.init; pivots = a.pivots; window = a.window; down = a.down; up = a.up; vcpus = a.vcpus }) };
+    ghost invariant = { λ a. IsScenario (record { version = a.version; geometry = a.geometry; init = a.init; pivots = a.pivots; window = a.window; down = a.down; up = a.up; vcpus = a.vcpus }) };
 }
 
 /// The first fault of parts that are no script.
 fn fault_in(
+    version: Version,
     geometry: Geometry,
     init: &[InitPage],
     pivots: u32,
@@ -45,7 +47,7 @@ fn fault_in(
     up: &[Fate],
     vcpus: &[Vcpu],
 ) -> Option<ScriptFault>
-    ensures { let parts : Scenario = record { geometry = geometry; init = init.now; pivots = pivots; window = window; down = down.now; up = up.now; vcpus = vcpus.now } in MatchOption result (IsScenario parts) (IsScriptFault parts) }
+    ensures { let parts : Scenario = record { version = version; geometry = geometry; init = init.now; pivots = pivots; window = window; down = down.now; up = up.now; vcpus = vcpus.now } in MatchOption result (IsScenario parts) (IsScriptFault parts) }
 {
     if let Some(place) = first_wrong_page(geometry, init) {
         return Some(ScriptFault::Init(place));
@@ -65,7 +67,7 @@ fn fault_in(
     if vcpus.is_empty() || vcpus.len() > MOST_VCPUS as usize {
         return Some(ScriptFault::Vcpus);
     }
-    let (vcpu, fault) = first_vcpu_fault(geometry, vcpus)?;
+    let (vcpu, fault) = first_vcpu_fault(version, geometry, vcpus)?;
     Some(ScriptFault::Vcpu { vcpu, fault })
 }
 
@@ -77,8 +79,9 @@ impl Script {
     /// The first fault, in the order of `ScriptFault`: that of the initial pages, which rise, are the machine's and have a
     /// value for each cell, not all of them zero; 1 to 16 pivots; a window of 1 to 65,536; at most 4,096 fates on each
     /// way; 1 to 64 virtual processors, of which each has at most 65,536 operations before its move and after it, on pages
-    /// and cells of the machine, and no release after it. The parts are then let go.
+    /// and cells of the machine, and in a script of the first version no release after it. The parts are then let go.
     pub fn new(
+        version: Version,
         geometry: Geometry,
         init: Seq<InitPage>,
         pivots: u32,
@@ -87,10 +90,11 @@ impl Script {
         up: Seq<Fate>,
         vcpus: Seq<Vcpu>,
     ) -> Result<Self, ScriptFault>
-        ensures value { let parts : Scenario = record { geometry = geometry; init = init; pivots = pivots; window = window; down = down; up = up; vcpus = vcpus } in MatchResult result (λ script. (script ≡ parts) × IsScenario parts) (IsScriptFault parts) }
-        ensures refused { let parts : Scenario = record { geometry = geometry; init = init; pivots = pivots; window = window; down = down; up = up; vcpus = vcpus } in OnErr result (IsScenario parts → ⊥) }
+        ensures value { let parts : Scenario = record { version = version; geometry = geometry; init = init; pivots = pivots; window = window; down = down; up = up; vcpus = vcpus } in MatchResult result (λ script. (script ≡ parts) × IsScenario parts) (IsScriptFault parts) }
+        ensures refused { let parts : Scenario = record { version = version; geometry = geometry; init = init; pivots = pivots; window = window; down = down; up = up; vcpus = vcpus } in OnErr result (IsScenario parts → ⊥) }
     {
         match fault_in(
+            version,
             geometry,
             init.as_slice(),
             pivots,
@@ -100,12 +104,13 @@ impl Script {
             vcpus.as_slice(),
         ) {
             Some(fault) => Err(fault),
-            None => Ok(Script::of_parts(geometry, init, pivots, window, down, up, vcpus)),
+            None => Ok(Script::of_parts(version, geometry, init, pivots, window, down, up, vcpus)),
         }
     }
 
     /// The script of these parts. Takes no memory.
     pub(crate) fn of_parts(
+        version: Version,
         geometry: Geometry,
         init: Seq<InitPage>,
         pivots: u32,
@@ -114,10 +119,11 @@ impl Script {
         up: Seq<Fate>,
         vcpus: Seq<Vcpu>,
     ) -> Self
-        requires { IsScenario (record { geometry = geometry; init = init; pivots = pivots; window = window; down = down; up = up; vcpus = vcpus }) }
-        ensures { result ≡ record { geometry = geometry; init = init; pivots = pivots; window = window; down = down; up = up; vcpus = vcpus } }
+        requires { IsScenario (record { version = version; geometry = geometry; init = init; pivots = pivots; window = window; down = down; up = up; vcpus = vcpus }) }
+        ensures { result ≡ record { version = version; geometry = geometry; init = init; pivots = pivots; window = window; down = down; up = up; vcpus = vcpus } }
     {
         Script {
+            version,
             geometry,
             init,
             pivots,
@@ -126,6 +132,13 @@ impl Script {
             up,
             vcpus,
         }
+    }
+
+    /// The version of its text. In the second a virtual processor may release pages after its move.
+    pub fn version(&self) -> Version
+        ensures { result ≡ self.now.version }
+    {
+        self.version
     }
 
     /// The machine's geometry.

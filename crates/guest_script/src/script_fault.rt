@@ -9,9 +9,10 @@ ghost use Rattle.guest_script.specs.ScriptFaults.{AreAsMany, IsFirstVcpuFault, I
 ghost use Rattle.guest_script.specs.inner.Ops.{OpFitsAt};
 ghost use Rattle.session_log.specs.inner.InitPages.{IsInitContent};
 
-use crate::vcpus::{MOST_OPS, Vcpu};
+use crate::vcpus::{MOST_OPS, Vcpu, When};
+use crate::versions::may_release;
 use migration_events::Op;
-use migration_types::{Geometry, InitPage, PageNo};
+use migration_types::{Geometry, InitPage, PageNo, Version};
 use thiserror::Error;
 
 /// Why the operations of a virtual processor are none. Of several faults, the first here is told.
@@ -27,9 +28,9 @@ pub enum VcpuFault {
     /// have.
     #[error("operation {0} before the move is on no page or cell of the machine")]
     Before(usize),
-    /// The operation of this number after the move, counted from 0, is a release, or on a page or a cell that the machine
-    /// does not have.
-    #[error("operation {0} after the move is a release, or on no page or cell of the machine")]
+    /// The operation of this number after the move, counted from 0, is on a page or a cell that the machine does not have,
+    /// or a release in a script of the first version.
+    #[error("operation {0} after the move is on no page or cell of the machine, or a release in the first version")]
     After(usize),
 }
 
@@ -90,21 +91,21 @@ fn has_cell(geometry: Geometry, page: PageNo, cell: u16) -> bool
 }
 
 /// Whether an operation fits before a move, or after it.
-fn op_fits_at(geometry: Geometry, op: Op, is_late: bool) -> bool
-    ensures { MatchBool result (OpFitsAt is_late geometry op) (OpFitsAt is_late geometry op → ⊥) }
+fn op_fits_at(geometry: Geometry, op: Op, when: When) -> bool
+    ensures { MatchBool result (OpFitsAt when geometry op) (OpFitsAt when geometry op → ⊥) }
 {
-    if is_late && matches!(op, Op::Release { .. }) {
+    if matches!(op, Op::Release { .. }) && !may_release(when) {
         return false;
     }
     op_fits(geometry, op)
 }
 
 /// The place of the first operation that does not fit.
-fn first_wrong_op(geometry: Geometry, ops: &[Op], is_late: bool) -> Option<usize>
-    ensures { MatchOption result (AllByRecursion (OpFitsAt is_late geometry) ops.now) (IsFirstWrong (AllByRecursion (OpFitsAt is_late geometry)) ops.now) }
+fn first_wrong_op(geometry: Geometry, ops: &[Op], when: When) -> Option<usize>
+    ensures { MatchOption result (AllByRecursion (OpFitsAt when geometry) ops.now) (IsFirstWrong (AllByRecursion (OpFitsAt when geometry)) ops.now) }
 {
     for (place, op) in ops.iter().enumerate() {
-        if !op_fits_at(geometry, *op, is_late) {
+        if !op_fits_at(geometry, *op, when) {
             return Some(place);
         }
     }
@@ -112,8 +113,8 @@ fn first_wrong_op(geometry: Geometry, ops: &[Op], is_late: bool) -> Option<usize
 }
 
 /// The first fault of a virtual processor.
-fn vcpu_fault(geometry: Geometry, vcpu: &Vcpu) -> Option<VcpuFault>
-    ensures { MatchOption result (VcpuFits geometry vcpu.now) (IsVcpuFault geometry vcpu.now) }
+fn vcpu_fault(version: Version, geometry: Geometry, vcpu: &Vcpu) -> Option<VcpuFault>
+    ensures { MatchOption result (VcpuFits version geometry vcpu.now) (IsVcpuFault version geometry vcpu.now) }
 {
     let before = vcpu.before_move.as_slice();
     let after = vcpu.after_move.as_slice();
@@ -123,22 +124,26 @@ fn vcpu_fault(geometry: Geometry, vcpu: &Vcpu) -> Option<VcpuFault>
     if after.len() > MOST_OPS as usize {
         return Some(VcpuFault::ManyAfter);
     }
-    if let Some(place) = first_wrong_op(geometry, before, false) {
+    if let Some(place) = first_wrong_op(geometry, before, When::BeforeMove) {
         return Some(VcpuFault::Before(place));
     }
-    if let Some(place) = first_wrong_op(geometry, after, true) {
+    if let Some(place) = first_wrong_op(geometry, after, When::AfterMove(version)) {
         return Some(VcpuFault::After(place));
     }
     None
 }
 
 /// The first virtual processor that has a fault, with its fault.
-pub fn first_vcpu_fault(geometry: Geometry, vcpus: &[Vcpu]) -> Option<(u8, VcpuFault)>
+pub fn first_vcpu_fault(
+    version: Version,
+    geometry: Geometry,
+    vcpus: &[Vcpu],
+) -> Option<(u8, VcpuFault)>
     requires { AreAsMany vcpus.now }
-    ensures { MatchOption result (AllByRecursion (VcpuFits geometry) vcpus.now) (λ f. IsFirstVcpuFault geometry vcpus.now f.0 f.1) }
+    ensures { MatchOption result (AllByRecursion (VcpuFits version geometry) vcpus.now) (λ f. IsFirstVcpuFault version geometry vcpus.now f.0 f.1) }
 {
     for (number, vcpu) in vcpus.iter().enumerate() {
-        if let Some(fault) = vcpu_fault(geometry, vcpu) {
+        if let Some(fault) = vcpu_fault(version, geometry, vcpu) {
             return Some((number as u8, fault));
         }
     }

@@ -5,13 +5,14 @@ ghost use Rattle.guest_script.specs.inner.ScriptDraft.{draft_of, ScriptStep, Has
 ghost use Rattle.guest_script.specs.inner.ScriptHeld.{ScriptFits, ScriptLive, scenario_of};
 
 use crate::fates::read_fates;
-use crate::keys::{DOWN_KEY, PIVOTS_KEY, SCRIPT_HEADER, UP_KEY, VCPUS_KEY, WINDOW_KEY};
+use crate::keys::{DOWN_KEY, ONE_LANE, PIVOTS_KEY, UP_KEY, VCPUS_KEY, WINDOW_KEY};
 use crate::op_form::{read_counts, take_op};
 use crate::script::Script;
 use crate::stages::ScriptStage;
-use crate::vcpus::{MOST_PIVOTS, MOST_VCPUS, MOST_WINDOW, Vcpu};
+use crate::vcpus::{MOST_PIVOTS, MOST_VCPUS, MOST_WINDOW, Vcpu, When};
+use crate::versions::script_header;
 use migration_events::{Fate, Op};
-use migration_types::{Geometry, InitPage, Seq};
+use migration_types::{Geometry, InitPage, Seq, Version};
 use session_log::{CLOSING, INIT_KEY, InitLines, Machine, read_cells, read_pages, read_some};
 use std::alloc::Global;
 use std::mem;
@@ -20,6 +21,7 @@ use text_lines::{Counted, FaultKind, is_line};
 /// What came of a script.
 #[derive(Drop)]
 pub struct ScriptParts {
+    pub version: Version,
     pub machine: Machine,
     pub init: Counted<InitPage>,
     pub pivots: u32,
@@ -44,6 +46,7 @@ impl ScriptParts {
         ensures { ScriptLive ScriptStage.Header (draft_of result) }
     {
         ScriptParts {
+            version: Version::One,
             machine: Machine {
                 alloc,
                 pages: 0,
@@ -70,6 +73,7 @@ impl ScriptParts {
     {
         match Geometry::new(self.machine.pages, self.machine.cells) {
             Ok(geometry) => Some(Script::of_parts(
+                self.version,
                 geometry,
                 Seq::from_vec(self.init.into_vec()),
                 self.pivots,
@@ -96,6 +100,7 @@ impl ScriptParts {
             ScriptStage::Window => self.at_window(line),
             ScriptStage::Down => self.at_down(line),
             ScriptStage::Up => self.at_up(line),
+            ScriptStage::Lanes => self.at_lanes(line),
             ScriptStage::Count => self.at_count(line),
             ScriptStage::First => self.at_first(line),
             ScriptStage::Ops => self.at_ops(line),
@@ -103,15 +108,20 @@ impl ScriptParts {
         }
     }
 
-    /// Takes the header.
-    fn at_header(&self, line: &[u8]) -> Result<ScriptStage, FaultKind>
-        requires { ScriptLive ScriptStage.Header (draft_of self.now) }
-        ensures { ScriptStep ScriptStage.Header (draft_of self.now) line.now (draft_of self.now) result }
+    /// Takes the header, which tells the version.
+    fn at_header(&mut self, line: &[u8]) -> Result<ScriptStage, FaultKind>
+        requires { ScriptLive ScriptStage.Header (draft_of self.old) }
+        ensures { ScriptStep ScriptStage.Header (draft_of self.old) line.now (draft_of self.new) result }
     {
-        if !is_line(line, SCRIPT_HEADER) {
-            return Err(FaultKind::Form);
+        if is_line(line, script_header(Version::One)) {
+            self.version = Version::One;
+            return Ok(ScriptStage::Pages);
         }
-        Ok(ScriptStage::Pages)
+        if is_line(line, script_header(Version::Two)) {
+            self.version = Version::Two;
+            return Ok(ScriptStage::Pages);
+        }
+        Err(FaultKind::Form)
     }
 
     /// Takes the number of pages.
@@ -189,6 +199,20 @@ impl ScriptParts {
     {
         let up = read_fates(self.machine.alloc, line, UP_KEY)?;
         self.up = up;
+        match self.version {
+            Version::One => Ok(ScriptStage::Count),
+            Version::Two => Ok(ScriptStage::Lanes),
+        }
+    }
+
+    /// Takes the number of links that carry packets down, which is one.
+    fn at_lanes(&self, line: &[u8]) -> Result<ScriptStage, FaultKind>
+        requires { ScriptLive ScriptStage.Lanes (draft_of self.now) }
+        ensures { ScriptStep ScriptStage.Lanes (draft_of self.now) line.now (draft_of self.now) result }
+    {
+        if !is_line(line, ONE_LANE) {
+            return Err(FaultKind::Form);
+        }
         Ok(ScriptStage::Count)
     }
 
@@ -219,11 +243,12 @@ impl ScriptParts {
         ensures { ScriptStep ScriptStage.Ops (draft_of self.old) line.now (draft_of self.new) result }
     {
         if self.before.len() < self.before_count as usize {
-            take_op(&mut self.before, self.machine, false, line)?;
+            take_op(&mut self.before, self.machine, When::BeforeMove, line)?;
             return Ok(ScriptStage::Ops);
         }
         if self.after.len() < self.after_count as usize {
-            take_op(&mut self.after, self.machine, true, line)?;
+            let when = When::AfterMove(self.version);
+            take_op(&mut self.after, self.machine, when, line)?;
             return Ok(ScriptStage::Ops);
         }
         if self.vcpus.len() + 1 < self.count as usize {
@@ -231,6 +256,7 @@ impl ScriptParts {
         }
         self.at_end(line)
     }
+
     /// Takes the numbers of operations of the next virtual processor, behind the last operation of one.
     fn at_next(&mut self, line: &[u8]) -> Result<ScriptStage, FaultKind>
         requires live { ScriptLive ScriptStage.Ops (draft_of self.old) }

@@ -19,6 +19,8 @@ pub enum ScriptStage {
     Down,
     /// The fates on the way up.
     Up,
+    /// The number of links that carry packets down, in the second version.
+    Lanes,
     /// The number of virtual processors.
     Count,
     /// The first virtual processor.

@@ -1,13 +1,21 @@
 //! What the virtual processors of a guest do.
 
 use migration_events::Op;
-use migration_types::Seq;
+use migration_types::{Seq, Version};
 
 /// What a virtual processor does before its move, while the guest runs at the source, and after it, at the target.
 #[derive(Drop)]
 pub struct Vcpu {
     pub before_move: Seq<Op>,
     pub after_move: Seq<Op>,
+}
+
+/// When a virtual processor does an operation.
+#[derive(Clone, Copy, Debug, PartialEq, Eq)]
+pub enum When {
+    BeforeMove,
+    /// After the move, in a script of this version.
+    AfterMove(Version),
 }
 
 /// There are 1 to so many pivots.

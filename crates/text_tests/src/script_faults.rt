@@ -2,14 +2,15 @@
 
 use guest_script::{Script, ScriptFault, Vcpu, VcpuFault, write_script};
 use migration_events::{Fate, Op};
-use migration_types::{Contents, Geometry, InitPage, PageNo, Seq};
+use migration_types::{Contents, Geometry, InitPage, PageNo, Seq, Version};
 use std::alloc::{AllocError, Global};
 use std::test::Fail;
 
-/// What a script of two pages of one cell is made of: an initial page with its value, the pivots, the window, so many lost
-/// packets each way, so many virtual processors, the page that each reads before its move, and whether it releases page 0
-/// after it or reads it.
+/// What a script of two pages of one cell is made of: its version, an initial page with its value, the pivots, the window,
+/// so many lost packets each way, so many virtual processors, the page that each reads before its move, and whether it
+/// releases page 0 after it or reads it.
 struct Parts {
+    version: Version,
     page: u16,
     value: u64,
     pivots: u32,
@@ -21,6 +22,7 @@ struct Parts {
 }
 
 const RIGHT: Parts = Parts {
+    version: Version::One,
     page: 1,
     value: 7,
     pivots: 16,
@@ -35,7 +37,18 @@ const RIGHT: Parts = Parts {
 const TEXT: &[u8] =
     b"postcopy-script 1\npages 2\ncells 1\ninit 1\npage 1 0000000000000007\npivots 16\nwindow 65536\ndown ll\nup ll\nvcpus 1\nvcpu 1 1\nr 1 0\nr 0 0\nend\n";
 
-/// Parts that differ from these, and their fault.
+/// Those that release page 0 after the move, as only a script of the second version may.
+const LATE: Parts = Parts {
+    version: Version::Two,
+    releases: true,
+    ..RIGHT
+};
+
+/// The text of these.
+const LATE_TEXT: &[u8] =
+    b"postcopy-script 2\npages 2\ncells 1\ninit 1\npage 1 0000000000000007\npivots 16\nwindow 65536\ndown ll\nup ll\nlanes 1\nvcpus 1\nvcpu 1 1\nr 1 0\nz 0\nend\n";
+
+/// Parts that differ from the first, and their fault.
 static FAULTS: [(Parts, ScriptFault); 10] = [
     (Parts { page: 2, ..RIGHT }, ScriptFault::Init(0)),
     (Parts { value: 0, ..RIGHT }, ScriptFault::Init(0)),
@@ -147,7 +160,16 @@ fn made_of(
     let down = lost(alloc, parts.lost)?;
     let up = lost(alloc, parts.lost)?;
     let vcpus = vcpus_of(alloc, parts)?;
-    Ok(Script::new(geometry, init, parts.pivots, parts.window, down, up, vcpus))
+    Ok(Script::new(
+        parts.version,
+        geometry,
+        init,
+        parts.pivots,
+        parts.window,
+        down,
+        up,
+        vcpus,
+    ))
 }
 
 /// Whether these parts have this fault.
@@ -190,8 +212,9 @@ fn wrong_fault(alloc: Global) -> Option<usize> {
 }
 
 #[test]
-fn a_script_is_made_by_hand(rt: HostRuntime) -> Result<(), Fail> {
+fn scripts_are_made_by_hand(rt: HostRuntime) -> Result<(), Fail> {
     assert!(rt; has_text(rt.alloc(), &RIGHT, TEXT));
+    assert!(rt; has_text(rt.alloc(), &LATE, LATE_TEXT));
     Ok(())
 }
 

@@ -1,8 +1,8 @@
-//! Texts of two worked scripts and of their events, read and written, and lines at which texts are refused.
+//! Texts of worked scripts and of their events, read and written, and lines at which texts are refused.
 
 use guest_script::{Script, read_events, read_script, write_events, write_script};
 use migration_events::{Direction, Event, Fate, Op};
-use migration_types::{PageNo, TextFault};
+use migration_types::{PageNo, TextFault, Version};
 use std::alloc::Global;
 use std::test::Fail;
 
@@ -17,6 +17,10 @@ const OF_ONE: &[u8] =
 /// Fates in both directions, and a write.
 const OF_FATES: &[u8] =
     b"postcopy-script 1\npages 2\ncells 1\ninit 0\npivots 16\nwindow 65536\ndown dlrb\nup b\nvcpus 1\nvcpu 0 1\nw 1 0 9\nend\n";
+
+/// One of the second version, that releases a page after its move and reads it then.
+const OF_LATE: &[u8] =
+    b"postcopy-script 2\npages 1\ncells 1\ninit 1\npage 0 0000000000000006\npivots 1\nwindow 4\ndown -\nup -\nlanes 1\nvcpus 1\nvcpu 0 2\nz 0\nr 0 0\nend\n";
 
 const EVENTS_OF_TWO: &[u8] =
     b"postcopy-events 1\nevents 20\nhalt\nlink down deliver\npop\ndeliver\nguest 0\nguest 1\nfault\nfault\nflush\nlink up deliver\nserve\nlink down lose\npager-tick\nlink up deliver\nserve\nlink down deliver\npop\ndeliver\nguest 0\nguest 1\nend\n";
@@ -67,6 +71,7 @@ fn scripts_come_back(rt: HostRuntime) -> Result<(), Fail> {
     assert!(rt; script_comes_back(rt.alloc(), OF_TWO));
     assert!(rt; script_comes_back(rt.alloc(), OF_ONE));
     assert!(rt; script_comes_back(rt.alloc(), OF_FATES));
+    assert!(rt; script_comes_back(rt.alloc(), OF_LATE));
     Ok(())
 }
 
@@ -82,6 +87,22 @@ fn a_script_says_what_its_lines_do(rt: HostRuntime) -> Result<(), Fail> {
         )
     );
     assert_eq!(rt; script.window(), 2);
+    assert_eq!(rt; script.version(), Version::One);
+    Ok(())
+}
+
+#[test]
+fn a_script_of_the_second_version_releases_a_page_late(rt: HostRuntime) -> Result<(), Fail> {
+    let script = read_script(rt.alloc(), OF_LATE).expect(&rt, "a script's text");
+    let page = PageNo::new(0);
+    assert!(rt;
+        does(
+            &script,
+            &[],
+            &[Op::Release { page }, Op::Read { page, cell: 0 }]
+        )
+    );
+    assert_eq!(rt; script.version(), Version::Two);
     Ok(())
 }
 
@@ -111,12 +132,34 @@ fn texts_are_refused_at_their_lines(rt: HostRuntime) -> Result<(), Fail> {
     assert_eq!(rt; line_of(read_events(alloc, high)), 4);
     let short = b"postcopy-events 1\nevents 2\nhalt\n";
     assert_eq!(rt; line_of(read_events(alloc, short)), 4);
-    let late =
-        b"postcopy-script 1\npages 1\ncells 1\ninit 0\npivots 1\nwindow 1\ndown -\nup -\nvcpus 1\nvcpu 0 1\nz 0\nend\n";
-    assert_eq!(rt; line_of(read_script(alloc, late)), 11);
     let wide = b"postcopy-script 1\npages 1\ncells 1\ninit 0\npivots 17\n";
     assert_eq!(rt; line_of(read_script(alloc, wide)), 5);
-    let later = b"postcopy-script 2\npages 1\ncells 1\n";
+    let later = b"postcopy-script 3\npages 1\ncells 1\n";
     assert_eq!(rt; line_of(read_script(alloc, later)), 1);
+    let second = b"postcopy-script 2\npages 1\ncells 1\n";
+    assert_eq!(rt; line_of(read_script(alloc, second)), 4);
+    Ok(())
+}
+
+#[test]
+fn a_late_release_is_refused_in_the_first_version(rt: HostRuntime) -> Result<(), Fail> {
+    let late =
+        b"postcopy-script 1\npages 1\ncells 1\ninit 0\npivots 1\nwindow 1\ndown -\nup -\nvcpus 1\nvcpu 0 1\nz 0\nend\n";
+    assert_eq!(rt; line_of(read_script(rt.alloc(), late)), 11);
+    Ok(())
+}
+
+#[test]
+fn other_lanes_than_the_version_has_are_refused(rt: HostRuntime) -> Result<(), Fail> {
+    let alloc = rt.alloc();
+    let two =
+        b"postcopy-script 2\npages 1\ncells 1\ninit 0\npivots 1\nwindow 1\ndown -\nup -\nlanes 2\nvcpus 1\nvcpu 0 0\nend\n";
+    assert_eq!(rt; line_of(read_script(alloc, two)), 9);
+    let none =
+        b"postcopy-script 2\npages 1\ncells 1\ninit 0\npivots 1\nwindow 1\ndown -\nup -\nvcpus 1\nvcpu 0 0\nend\n";
+    assert_eq!(rt; line_of(read_script(alloc, none)), 9);
+    let first =
+        b"postcopy-script 1\npages 1\ncells 1\ninit 0\npivots 1\nwindow 1\ndown -\nup -\nlanes 1\nvcpus 1\nvcpu 0 0\nend\n";
+    assert_eq!(rt; line_of(read_script(alloc, first)), 9);
     Ok(())
 }

@@ -10,6 +10,7 @@ use Rattle.guest_script.specs.inner.ScriptHeld.{Draft, ScriptLive, ScriptRest, s
 
 abbrev pub draft_of : ScriptParts → Draft
 draft_of p = record {
+  version = p.version;
   geometry = record { pages = p.machine.pages; cells = p.machine.cells };
   init = p.init;
   pivots = p.pivots;

@@ -1,4 +1,4 @@
-use Rattle.guest_script.proofs.ScriptLaws.{own_if, own_written}
+use Rattle.guest_script.proofs.ScriptLaws.{own_if}
 use Rattle.guest_script.proofs.op_form.push_vcpu.Goals as goal
 
 pub returns : goal.returns

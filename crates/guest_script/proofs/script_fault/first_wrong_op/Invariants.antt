@@ -4,4 +4,4 @@ use Rattle.guest_script.specs.inner.Ops.{OpFitsAt}
 use Rattle.guest_script.proofs.script_fault.first_wrong_op.Given as goal
 
 abbrev pub invariant-loop-place : goal.invariant-loop-place
-invariant-loop-place l = AllByRecursion (OpFitsAt l.is_late l.geometry) (take l.place l.ops)
+invariant-loop-place l = AllByRecursion (OpFitsAt l.when l.geometry) (take l.place l.ops)

@@ -1,5 +1,4 @@
-use Rattle.std.proofs.Common.{refl, sym, ap, ◌∙◌, arith}
-use Rattle.std.proofs.lemmas.Result.{err_from_is_err_and}
+use Rattle.std.proofs.Common.{refl}
 use Rattle.guest_script.specs.inner.ScriptDraft.{draft_of}
 use Rattle.guest_script.proofs.ScriptVcpus.{end_taken}
 use Rattle.guest_script.proofs.script_steps.ScriptParts.at_end.Goals as goal

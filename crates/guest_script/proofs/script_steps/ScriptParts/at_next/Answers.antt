@@ -1,4 +1,4 @@
-use Rattle.std.proofs.Common.{refl, sym, ap, ◌∙◌, arith}
+use Rattle.std.proofs.Common.{refl, ap, ◌∙◌}
 use Rattle.std.proofs.lemmas.Result.{err_from_is_err_and}
 use Rattle.guest_script.specs.inner.ScriptDraft.{begun, draft_of}
 use Rattle.guest_script.proofs.ScriptVcpus.{next_taken, next_refused}

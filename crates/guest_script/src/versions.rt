@@ -1,0 +1,45 @@
+//! What a script has by its version.
+
+ghost use Rattle.std.specs.Prelude.{◌≡◌, [], ◌++◌, MatchBool, OnOk};
+ghost use Rattle.text_lines.specs.Text.{ended};
+ghost use Rattle.guest_script.specs.Scripts.{script_header, with_lanes};
+ghost use Rattle.guest_script.specs.inner.Ops.{MayRelease};
+
+use crate::keys::{FIRST_SCRIPT, ONE_LANE, SECOND_SCRIPT};
+use crate::vcpus::When;
+use migration_types::Version;
+use std::alloc::AllocError;
+use text_lines::push_line;
+
+/// The first line.
+pub fn script_header(version: Version) -> &'static [u8]
+    ensures { result.now ≡ script_header version }
+{
+    match version {
+        Version::One => FIRST_SCRIPT,
+        Version::Two => SECOND_SCRIPT,
+    }
+}
+
+/// Adds the line that says how many links carry packets down, where the version has it.
+pub fn push_lanes(out: &mut Vec<u8>, version: Version) -> Result<(), AllocError>
+    ensures { OnOk result (out.new.items ≡ out.old.items ++ ended (with_lanes version [])) }
+{
+    match version {
+        Version::One => Ok(()),
+        Version::Two => push_line(out, ONE_LANE),
+    }
+}
+
+/// Whether a virtual processor may release pages, before its move or after it.
+pub fn may_release(when: When) -> bool
+    ensures { MatchBool result (MayRelease when) (MayRelease when → ⊥) }
+{
+    match when {
+        When::BeforeMove => true,
+        When::AfterMove(version) => match version {
+            Version::One => false,
+            Version::Two => true,
+        },
+    }
+}
