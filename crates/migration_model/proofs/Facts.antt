@@ -1,19 +1,20 @@
 -- What the books and the recording keep, from the halt on.
 use Rattle.active_push.specs.SourcePart.{SourcePart}
 use Rattle.audit_model.proofs.Consistent.{there}
-use Rattle.audit_model.specs.Flat.{flat, home}
+use Rattle.audit_model.specs.Faults.{IsOver}
+use Rattle.audit_model.specs.Flat.{flat, freed as was_freed, home}
 use Rattle.audit_model.specs.Mergings.{IsMerging}
 use Rattle.audit_model.specs.Shape.{earlier, is_first_send, is_halt, is_placement_of, is_resume, is_send_of, link_named, pager_named, source_named}
 use Rattle.audit_model.specs.declared.home.Home.{Home as Seat}
 use Rattle.audit_model.specs.declared.home.Home.TheVariants.{AtTarget, Nowhere}
 use Rattle.balloon_ledger.specs.Released.{pages_below, released}
 use Rattle.bubbling.specs.Bubbling.{Ring}
-use Rattle.fault_queue.specs.Waiting.{Waiting}
+use Rattle.fault_queue.specs.Waiting.{Waiting, without}
 use Rattle.link_book.specs.LinkPart.{LinkPart, with_back, with_front, with_up}
 use Rattle.link_book.specs.declared.Arrival.{Arrival}
 use Rattle.migration_types.specs.Extents.{Extent}
 use Rattle.migration_types.specs.Memory.{Memory}
-use Rattle.migration_types.specs.PageSets.{Pages}
+use Rattle.migration_types.specs.PageSets.{Pages, with_page}
 use Rattle.migration_types.specs.Receipts.{Name, link_receipt, pager_receipt, source_receipt}
 use Rattle.migration_types.specs.Sessions.{Recorded}
 use Rattle.migration_types.specs.declared.records.GuestRec.{GuestRec}
@@ -25,24 +26,27 @@ use Rattle.migration_types.specs.declared.records.PagerRec.{PagerRec}
 use Rattle.migration_types.specs.declared.records.PagerRec.TheVariants.{All, Got, Ready, Want}
 use Rattle.migration_types.specs.declared.records.SourceRec.{SourceRec}
 use Rattle.migration_types.specs.declared.records.SourceRec.TheVariants.{Again, Done, Send, State}
+use Rattle.migration_types.specs.declared.version.Version.{Version}
 use Rattle.page_stream.specs.Packets.{number_of}
 use Rattle.page_stream.specs.declared.Packet.{Packet}
 use Rattle.page_stream.specs.declared.Packet.TheVariants.{All as AllPacket, Page as PagePacket, State as StatePacket, Want as WantPacket}
-use Rattle.migration_model.proofs.Cleans.{IsClean, IsFrozen, PagerClean, SourceClean, link_cleans, pager_cleans, source_cleans}
+use Rattle.migration_model.proofs.Cleans.{IsClean, IsFrozen, PagerClean, SourceClean, link_cleans, over_link, over_pager, over_source, pager_cleans, source_cleans}
 use Rattle.migration_model.proofs.Grows.{Extends, IsThere, guest_more, link_extends, link_merges, link_more, pager_extends, pager_merges, pager_more, source_extends, source_merges, source_more}
 use Rattle.migration_model.proofs.Limits.{IsLimited, IsWide, PagerWithin, SourceWithin, link_limits, pager_limits, source_limits}
-use Rattle.migration_model.proofs.Lists.{Index, all_push, each_push, each_weaker, index_other}
+use Rattle.migration_model.proofs.Lists.{Index, all_push, each_kept, each_push, each_weaker, index_other}
 use Rattle.migration_model.proofs.Orders.{order_guest, order_guest_two, order_link, order_none, order_pager, order_pager_two, order_source, order_source_two}
 use Rattle.migration_model.proofs.Shapes.{IsNamed, IsStarted, goes_on, link_shapes, link_starts, pager_goes_on, pager_shapes, pager_starts, source_shapes, source_starts}
 use Rattle.migration_model.specs.Machine.{Away, Vcpu, VcpuFits, away_session, new_names}
-use Rattle.std.proofs.Common.{Bool, List, None, Option, Some, [], ap, false, inl, inr, length, refl, subst, sym, true, ℕ, ◌++◌, ◌<◌, ◌∙◌, ◌∷◌, ◌≡◌, ◌≤◌, ◌⊎◌}
+use Rattle.residency.specs.Placements.{is_resident}
+use Rattle.std.proofs.Common.{Bool, List, None, Option, Some, [], ap, cond, false, inl, inr, length, not, refl, subst, sym, true, ℕ, ◌++◌, ◌<◌, ◌∙◌, ◌∷◌, ◌≡◌, ◌≤◌, ◌⊎◌}
+use Rattle.std.proofs.lemmas.Bool.{eqb-true}
 use Rattle.std.proofs.lemmas.Option.{slice_get_within}
 use Rattle.std.specs.List.{AllByRecursion}
-use Rattle.std.specs.Prelude.{is_some, slice_get}
-use Rattle.target_side.specs.PagerPart.{PagerPart}
-use Rattle.target_book.specs.TargetPart.{TargetPart}
-use Rattle.target_side.specs.declared.Incoming.{Incoming}
+use Rattle.std.specs.Prelude.{is_some, slice_get, ◌==◌}
+use Rattle.target_book.specs.TargetPart.{TargetPart, settled as with_settled}
 use Rattle.target_book.specs.declared.Missing.{Missing}
+use Rattle.target_side.specs.PagerPart.{PagerPart, settles}
+use Rattle.target_side.specs.declared.Incoming.{Incoming}
 
 -- source record n is the state, or repeats it
 abbrev pub IsStateNumber : Recorded → ℕ → Type 0
@@ -119,25 +123,32 @@ pub record PhaseKept (s : Recorded) (resumed : Bool) : Type 0 where
   pub resumes : earlier is_resume s.guest (length s.guest) ≡ resumed
   pub home_is : home s (length s.guest) ≡ away_home resumed
 
+-- the page was placed, or it was absent when the guest released it at the target
+abbrev pub is_there : TargetPart → ℕ → Bool
+is_there target p = is_resident (target.placed p) (target.freed p)
+
 pub record TargetKept (s : Recorded) (memory : Memory) (target : TargetPart) : Type 0 where
   pub places : Index is_placement_of target.placed s.pager
   pub frontier : (k : ℕ) → target.frontier ≡ Some k → (n : ℕ) × (slice_get s.guest n ≡ Some (See k))
-  pub frames : (p k c : ℕ) → target.placed p ≡ Some k → c < s.geometry.cells → target.memory p c ≡ flat s (length s.guest) p c
-  pub untouched : (p c : ℕ) → target.placed p ≡ None → flat s (length s.guest) p c ≡ memory p c
+  pub frames : (p c : ℕ) → is_there target p ≡ true → c < s.geometry.cells → target.memory p c ≡ flat s (length s.guest) p c
+  pub untouched : (p c : ℕ) → is_there target p ≡ false → flat s (length s.guest) p c ≡ memory p c
+  pub released : (p : ℕ) → target.freed p ≡ true → (target.placed p ≡ None) × (was_freed s (length s.guest) p ≡ true)
+  pub over : (p : ℕ) → IsOver s p → target.freed p ≡ true
+  pub unsettled : AllByRecursion (λ p. target.freed p ≡ true) target.unsettled
   pub misses : AllByRecursion (HasMissed s) target.misses
   pub wide : IsWide target.memory
 
--- each owed page is placed
-abbrev pub IsComplete : ℕ → Pages → (ℕ → Option ℕ) → Type 0
-IsComplete pages ledger placed = (p : ℕ) → p < pages → ledger p ≡ false → is_some (placed p) ≡ true
+-- each owed page is resident
+abbrev pub IsComplete : ℕ → Pages → Pages → Type 0
+IsComplete pages ledger there = (p : ℕ) → p < pages → ledger p ≡ false → there p ≡ true
 
-pub record EndKept (s : Recorded) (ledger : Pages) (placed : ℕ → Option ℕ) : Type 0 where
-  pub all : (n : ℕ) → slice_get s.pager n ≡ Some All → IsComplete s.geometry.pages ledger placed
-  pub done : (n : ℕ) → slice_get s.source n ≡ Some Done → IsComplete s.geometry.pages ledger placed
+pub record EndKept (s : Recorded) (ledger : Pages) (there : Pages) : Type 0 where
+  pub all : (n : ℕ) → slice_get s.pager n ≡ Some All → IsComplete s.geometry.pages ledger there
+  pub done : (n : ℕ) → slice_get s.source n ≡ Some Done → IsComplete s.geometry.pages ledger there
 
-pub record VcpusKept (e : Extent) (vcpus : List Vcpu) : Type 0 where
+pub record VcpusKept (version : Version) (e : Extent) (vcpus : List Vcpu) : Type 0 where
   pub few : length vcpus ≤ 64
-  pub each : AllByRecursion (VcpuFits e) vcpus
+  pub each : AllByRecursion (VcpuFits version e) vcpus
 
 abbrev pub released_of : Away → List ℕ
 released_of a = pages_below a.source.geometry.pages a.source.ledger
@@ -155,9 +166,10 @@ pub record AwayKept (o : List Name) (a : Away) : Type 0 where
   pub link : LinkKept (away_session a) (released_of a) a.link
   pub pager : PagerKept (away_session a) (released_of a) a.pager
   pub placed : (p : ℕ) → a.pager.placed p ≡ is_some (a.target.placed p)
+  pub settled : (p : ℕ) → a.pager.settled p ≡ true → a.target.freed p ≡ true
   pub target : TargetKept (away_session a) a.source.memory a.target
-  pub ends : EndKept (away_session a) a.source.ledger a.target.placed
-  pub vcpus : VcpusKept a.source.geometry a.vcpus
+  pub ends : EndKept (away_session a) a.source.ledger (is_there a.target)
+  pub vcpus : VcpusKept a.version a.source.geometry a.vcpus
 
 -- the books after an event, with the order that it leaves
 abbrev pub Arrives : List Name → Away → Away → Type 0
@@ -230,7 +242,7 @@ pub source_pushed : {o : List Name} (r : SourceRec) (sent : ℕ → Option ℕ) 
     SourceClean a.source.geometry.cells a.source.memory a.source.ledger r →
     SourceWithin a.source.geometry r →
     Index is_send_of sent (a.source.log ++ r ∷ []) →
-    (r ≡ Done → IsComplete a.source.geometry.pages a.source.ledger a.target.placed) →
+    (r ≡ Done → IsComplete a.source.geometry.pages a.source.ledger (is_there a.target)) →
     AwayKept (o ++ (FromSource, length a.source.log) ∷ []) (record a { source = record a.source { log = a.source.log ++ r ∷ []; sent = sent; ring = ring; was_asked = was_asked; is_done = is_done } })
 source_pushed {o} r sent ring was_asked is_done a k named first there on clean within index done =
     let s = away_session a in
@@ -250,7 +262,18 @@ source_pushed {o} r sent ring was_asked is_done a k named first there on clean w
       link = link_stays s t x (released_of a) a.link k.link;
       pager = pager_stays s t x (released_of a) a.pager k.pager.unready refl k.pager;
       placed = k.placed;
-      target = record { places = k.target.places; frontier = k.target.frontier; frames = k.target.frames; untouched = k.target.untouched; misses = misses_stay s t x a.target.misses k.target.misses; wide = k.target.wide };
+      settled = k.settled;
+      target = record {
+        places = k.target.places;
+        frontier = k.target.frontier;
+        frames = k.target.frames;
+        untouched = k.target.untouched;
+        released = k.target.released;
+        over = λ p h. k.target.over p (over_source r s p h);
+        unsettled = k.target.unsettled;
+        misses = misses_stay s t x a.target.misses k.target.misses;
+        wide = k.target.wide;
+      };
       ends = record { all = k.ends.all; done = not_new s.source r Done k.ends.done done };
       vcpus = k.vcpus;
     }
@@ -277,7 +300,18 @@ link_pushed {o} r link a k named there new =
       link = record { down = new.down; up = new.up; down_arrivals = new.down_arrivals; up_arrivals = new.up_arrivals };
       pager = pager_stays s t x (released_of a) a.pager k.pager.unready refl k.pager;
       placed = k.placed;
-      target = record { places = k.target.places; frontier = k.target.frontier; frames = k.target.frames; untouched = k.target.untouched; misses = misses_stay s t x a.target.misses k.target.misses; wide = k.target.wide };
+      settled = k.settled;
+      target = record {
+        places = k.target.places;
+        frontier = k.target.frontier;
+        frames = k.target.frames;
+        untouched = k.target.untouched;
+        released = k.target.released;
+        over = λ p h. k.target.over p (over_link r s p h);
+        unsettled = k.target.unsettled;
+        misses = misses_stay s t x a.target.misses k.target.misses;
+        wide = k.target.wide;
+      };
       ends = record { all = k.ends.all; done = k.ends.done };
       vcpus = k.vcpus;
     }
@@ -295,7 +329,7 @@ pub pager_pushed : {o : List Name} (r : PagerRec) (a : Away) → AwayKept o a �
     ((p : ℕ) → is_placement_of p r ≡ false) →
     PagerClean a.source.geometry.cells a.source.memory a.source.ledger a.pager.log (length a.pager.log) r →
     PagerWithin a.source.geometry r →
-    (r ≡ All → IsComplete a.source.geometry.pages a.source.ledger a.target.placed) →
+    (r ≡ All → IsComplete a.source.geometry.pages a.source.ledger (is_there a.target)) →
     AwayKept (o ++ (Pager, length a.pager.log) ∷ []) (record a { pager = record a.pager { log = a.pager.log ++ r ∷ [] } })
 pager_pushed {o} r a k ready named there on other clean within all =
     let s = away_session a in
@@ -316,7 +350,18 @@ pager_pushed {o} r a k ready named there on other clean within all =
       link = link_stays s t x (released_of a) a.link k.link;
       pager = record { geometry = new.geometry; unready = new.unready; ready = new.ready; inbox = new.inbox; outbox = new.outbox; waiting = new.waiting; wants = new.wants };
       placed = k.placed;
-      target = record { places = index_other is_placement_of a.target.placed s.pager r other k.target.places; frontier = k.target.frontier; frames = k.target.frames; untouched = k.target.untouched; misses = misses_stay s t x a.target.misses k.target.misses; wide = k.target.wide };
+      settled = k.settled;
+      target = record {
+        places = index_other is_placement_of a.target.placed s.pager r other k.target.places;
+        frontier = k.target.frontier;
+        frames = k.target.frames;
+        untouched = k.target.untouched;
+        released = k.target.released;
+        over = λ p h. k.target.over p (over_pager r s p h);
+        unsettled = k.target.unsettled;
+        misses = misses_stay s t x a.target.misses k.target.misses;
+        wide = k.target.wide;
+      };
       ends = record { all = not_new s.pager r All k.ends.all all; done = k.ends.done };
       vcpus = k.vcpus;
     }
@@ -336,13 +381,14 @@ with_link link a k new = record {
   link = record { down = new.down; up = new.up; down_arrivals = new.down_arrivals; up_arrivals = new.up_arrivals };
   pager = k.pager;
   placed = k.placed;
+  settled = k.settled;
   target = k.target;
   ends = k.ends;
   vcpus = k.vcpus;
 }
 
-pub with_pager : {o : List Name} (pager : PagerPart) (a : Away) → AwayKept o a → PagerKept (away_session a) (released_of a) pager → ((p : ℕ) → pager.placed p ≡ is_some (a.target.placed p)) → AwayKept o (record a { pager = record pager { log = a.pager.log } })
-with_pager pager a k new same = record {
+pub with_pager : {o : List Name} (pager : PagerPart) (a : Away) → AwayKept o a → PagerKept (away_session a) (released_of a) pager → ((p : ℕ) → pager.placed p ≡ is_some (a.target.placed p)) → ((p : ℕ) → pager.settled p ≡ true → a.target.freed p ≡ true) → AwayKept o (record a { pager = record pager { log = a.pager.log } })
+with_pager pager a k new same settled = record {
   named = k.named;
   started = k.started;
   merges = k.merges;
@@ -355,10 +401,82 @@ with_pager pager a k new same = record {
   link = k.link;
   pager = record { geometry = new.geometry; unready = new.unready; ready = new.ready; inbox = new.inbox; outbox = new.outbox; waiting = new.waiting; wants = new.wants };
   placed = same;
+  settled = settled;
   target = k.target;
   ends = k.ends;
   vcpus = k.vcpus;
 }
+
+-- pages that the guest released where they were absent are settled
+settles_keep : {o : List Name} (ps : List ℕ) (a : Away) → AwayKept o a → AllByRecursion (λ p. a.target.freed p ≡ true) ps → AwayKept o (record a { pager = settles ps a.pager })
+settles_keep [] a k all = k
+settles_keep (p ∷ ps) a k all =
+    let next : PagerPart = record a.pager { settled = with_page p a.pager.settled; waiting = without p a.pager.waiting } in
+    settles_keep ps (record a { pager = next })
+    (with_pager next a k
+    (record {
+      geometry = k.pager.geometry;
+      unready = k.pager.unready;
+      ready = k.pager.ready;
+      inbox = k.pager.inbox;
+      outbox = k.pager.outbox;
+      waiting = each_kept (IsWaitedFor (away_session a)) (λ e. not (p == e.page)) a.pager.waiting k.pager.waiting;
+      wants = k.pager.wants;
+    })
+    k.placed (λ q e. now q (p == q) refl e))
+    all.1
+  where
+    now : (q : ℕ) (b : Bool) → (p == q) ≡ b → cond b true (a.pager.settled q) ≡ true → a.target.freed q ≡ true
+    now q true is e = subst (λ j. a.target.freed j ≡ true) (eqb-true p q is) all.0
+    now q false is e = k.settled q e
+
+-- the books when the pager has settled all such pages
+abbrev pub settled_books : Away → Away
+settled_books a = record a { pager = settles a.target.unsettled a.pager; target = with_settled a.target }
+
+pub settled_keeps : {o : List Name} (a : Away) → AwayKept o a → AwayKept o (settled_books a)
+settled_keeps a k =
+    let new = settles_keep a.target.unsettled a k k.target.unsettled in
+    record {
+      named = new.named;
+      started = new.started;
+      merges = new.merges;
+      clean = new.clean;
+      frozen = new.frozen;
+      limits = new.limits;
+      phase = new.phase;
+      resumed_ready = new.resumed_ready;
+      source = new.source;
+      link = new.link;
+      pager = new.pager;
+      placed = new.placed;
+      settled = new.settled;
+      target = record {
+        places = new.target.places;
+        frontier = new.target.frontier;
+        frames = new.target.frames;
+        untouched = new.target.untouched;
+        released = new.target.released;
+        over = new.target.over;
+        unsettled = tt;
+        misses = new.target.misses;
+        wide = new.target.wide;
+      };
+      ends = new.ends;
+      vcpus = new.vcpus;
+    }
+
+-- settling records nothing
+pub settles_log : (ps : List ℕ) (b : PagerPart) → (settles ps b).log ≡ b.log
+settles_log [] b = refl
+settles_log (p ∷ ps) b = settles_log ps (record b { settled = with_page p b.settled; waiting = without p b.waiting })
+
+pub settles_released : (ps : List ℕ) (b : PagerPart) → (settles ps b).released ≡ b.released
+settles_released [] b = refl
+settles_released (p ∷ ps) b = settles_released ps (record b { settled = with_page p b.settled; waiting = without p b.waiting })
+
+pub settled_arrives : (o : List Name) (a b : Away) → Arrives o (settled_books a) b → Arrives o a b
+settled_arrives o a b k = subst (λ log. AwayKept (o ++ new_names (record (away_session a) { pager = log }) (away_session b)) b) (settles_log a.target.unsettled a.pager) k
 
 -- the pivots
 pub with_ring : {o : List Name} (ring : Ring) (a : Away) → AwayKept o a → AwayKept o (record a { source = record a.source { ring = ring } })
@@ -375,6 +493,7 @@ with_ring ring a k = record {
   link = k.link;
   pager = k.pager;
   placed = k.placed;
+  settled = k.settled;
   target = k.target;
   ends = k.ends;
   vcpus = k.vcpus;

@@ -1,10 +1,12 @@
 -- A session that has grown: what its records rest on stays.
 use Rattle.audit_model.proofs.Consistent.{there}
 use Rattle.audit_model.proofs.Grown.{grown_merges}
+use Rattle.audit_model.specs.Flat.{before, changed, freed, freed_after, home_after}
 use Rattle.audit_model.specs.Mergings.{IsMerging}
 use Rattle.audit_model.specs.Names.{if_there, receipt, same_log}
 use Rattle.audit_model.specs.Shape.{delivers, delivery, down_sending, got_down, guest_named, is_or_repeats, is_send_of, is_state, link_named, pager_named, pager_start, passes, source_named}
 use Rattle.audit_model.specs.Walks.{IsGrown}
+use Rattle.audit_model.specs.declared.home.Home.TheVariants.{AtSource}
 use Rattle.migration_types.specs.Receipts.{Name, guest_receipt, link_receipt, pager_receipt, source_receipt}
 use Rattle.migration_types.specs.Sessions.{Recorded, log_length}
 use Rattle.migration_types.specs.declared.records.GuestRec.{GuestRec}
@@ -158,6 +160,14 @@ link_merges r s order there m = grown_merges s (link_more r s) (Link, length s.l
 
 pub pager_merges : (r : PagerRec) (s : Recorded) (order : List Name) → IsThere s (pager_receipt r) → IsMerging s order → IsMerging (pager_more r s) (order ++ (Pager, length s.pager) ∷ [])
 pager_merges r s order there m = grown_merges s (pager_more r s) (Pager, length s.pager) order (pager_grown r s there) m
+
+-- where the guest's log is the same, the same pages were released at the target
+pub freed_before : (s t : Recorded) → s.guest ≡ t.guest → (n p : ℕ) → freed s n p ≡ freed t n p
+freed_before s t same zero p = refl
+freed_before s t same (suc n) p = λ i. changed (freed_after (before home_after AtSource (same i) n) p) (slice_get (same i) n) (freed_before s t same n p i)
+
+pub freed_same : (s t : Recorded) → s.guest ≡ t.guest → (p : ℕ) → freed s (length s.guest) p ≡ freed t (length t.guest) p
+freed_same s t same p = freed_before s t same (length s.guest) p ∙ ap (λ log. freed t (length log) p) same
 
 -- a record that names nothing, and one that names a record that is there
 pub names_none : (s : Recorded) → IsThere s None

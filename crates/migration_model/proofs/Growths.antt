@@ -14,24 +14,25 @@ use Rattle.migration_events.specs.declared.events.Fate.{Fate}
 use Rattle.migration_events.specs.declared.events.Fate.TheVariants.{Back, Deliver, Lose, Repeat}
 use Rattle.migration_events.specs.declared.ops.Op.{Op}
 use Rattle.migration_events.specs.declared.ops.Op.TheVariants.{Read as ReadCell, Release as ReleasePage, Write as WriteCell}
+use Rattle.migration_model.proofs.Facts.{settles_log}
 use Rattle.migration_model.proofs.Lists.{length_suc}
-use Rattle.migration_model.specs.Events.{accessed, all_at_move, away_event, away_ops, away_step, books_event, halted, home_event, home_ops, home_step, offered, paged, popped, pushed, sent_up, served}
+use Rattle.migration_model.specs.Events.{all_at_move, away_event, away_ops, away_step, books_event, halted, home_event, home_ops, home_step, offered, paged, popped, pushed, sent_up, served}
 use Rattle.migration_model.specs.Machine.{After, Away, Before, Books, Home, Vcpu, away_session, home_session, session_of}
 use Rattle.migration_types.specs.PageSets.{with_page, without_page}
 use Rattle.migration_types.specs.Sessions.{Recorded}
 use Rattle.migration_types.specs.declared.records.GuestRec.TheVariants.{Halt, Miss, See}
-use Rattle.migration_types.specs.declared.records.PagerRec.TheVariants.{Fault}
+use Rattle.migration_types.specs.declared.records.PagerRec.TheVariants.{Fault, Skip}
 use Rattle.migration_types.specs.declared.records.SourceRec.TheVariants.{Again, Done}
 use Rattle.page_stream.specs.declared.Packet.{Packet}
 use Rattle.page_stream.specs.declared.Packet.TheVariants.{All as AllPacket, Page as PagePacket, State as StatePacket, Want as WantPacket}
-use Rattle.residency.specs.Placements.{is_covered}
-use Rattle.std.proofs.Common.{Bool, List, None, Option, Some, [], ap, arith, cond, false, length, refl, subst, suc, sym, true, ℕ, ◌+◌, ◌++◌, ◌∙◌, ◌∷◌, ◌≡◌, ◌≤◌}
+use Rattle.residency.specs.Placements.{is_covered, is_resident}
+use Rattle.std.proofs.Common.{Bool, List, None, Option, Some, [], ap, arith, cond, false, length, subst, suc, true, ℕ, ◌+◌, ◌++◌, ◌||◌, ◌∷◌, ◌≡◌, ◌≤◌}
 use Rattle.std.specs.List.{range_with_len}
 use Rattle.std.specs.Prelude.{nat_lt, slice_get}
-use Rattle.target_book.specs.TargetPart.{Accessed, TargetPart, accesses, does, looks, misses_page, resumes, target_access, with_misses}
+use Rattle.target_book.specs.TargetPart.{Accessed, TargetPart, accesses, does, done_over, frees, lacks, looks, misses_page, resumes, settled as with_settled, target_access, with_misses}
 use Rattle.target_book.specs.declared.Access.TheVariants.{Missed, Waiting}
 use Rattle.target_book.specs.declared.Missing.{Missing}
-use Rattle.target_side.specs.PagerPart.{Paged, PagerPart, Sent, deliver, delivers_at, delivers_by, delivers_next, fault_absent, fault_at, fault_join, fault_new, faults, first_absent, flushes, is_released, next_fault, pager_flush, pager_pop, pager_tick, pops_by, pops_first, pops_later, ticks, ticks_at, zeroes}
+use Rattle.target_side.specs.PagerPart.{Paged, PagerPart, Sent, deliver, delivers_by, delivers_next, fault_absent, fault_join, fault_new, faults, first_absent, flushes, is_released, next_fault, pager_flush, pager_pop, pager_tick, places, pops_by, settles, ticks, ticks_at, zeroes}
 use Rattle.target_side.specs.declared.Incoming.{Incoming}
 
 -- at most two longer
@@ -157,7 +158,7 @@ tick_more b = go b.released
 
     go : (released : Option (List ℕ)) → IsLittleMore b.log (ticks released b).book.log
     go None = none_more b.log
-    go (Some released) = at (first_absent (range_with_len 0 b.geometry.pages) released b.placed)
+    go (Some released) = at (first_absent (range_with_len 0 b.geometry.pages) released (λ p. b.placed p || b.settled p))
 
 -- the pager's and the target's logs, after a call on both
 record PagedMore (b : PagerPart) (t : TargetPart) (r : Paged) : Type 0 where
@@ -189,74 +190,91 @@ module _ (miss p v : ℕ) (b : PagerPart) (t : TargetPart) where
       go false false true = record { pager = join_more (b.wants p); target = none_more t.log }
       go false false false = record { pager = two_more b.log _ _; target = none_more t.log }
 
-  fault_more : (placed : Option ℕ) → PagedMore b t (fault_at p v placed (learned miss b) t)
-  fault_more (Some k) = record { pager = one_more b.log _; target = none_more t.log }
-  fault_more None = absent_more
+  fault_more : (resident : Bool) → PagedMore b t (cond resident (record { pager = learned miss b; target = t; woken = [] }) (fault_absent p v (learned miss b) t))
+  fault_more true = record { pager = one_more b.log _; target = none_more t.log }
+  fault_more false = absent_more
 
 faults_more : (misses : List Missing) (b : PagerPart) (t : TargetPart) → PagedMore b t (faults misses b t)
 faults_more [] b t = paged_none b t []
 faults_more (x ∷ rest) b t =
-    let k = fault_more x.number x.page x.vcpu b (with_misses rest t) (t.placed x.page) in
+    let k = fault_more x.number x.page x.vcpu b (with_misses rest t) (is_resident (t.placed x.page) (t.freed x.page)) in
     record { pager = k.pager; target = k.target }
 
-module _ (b : PagerPart) (t : TargetPart) where
-  delivers_more : (inbox : List Incoming) → PagedMore b t (delivers_next inbox b t)
-  delivers_more [] = paged_none b t []
-  delivers_more (x ∷ rest) = go (t.placed x.page)
-    where
-      go : (placed : Option ℕ) → PagedMore b t (delivers_at x placed (record b { inbox = rest }) t)
-      go (Some k) = record { pager = one_more b.log _; target = none_more t.log }
-      go None = record { pager = one_more b.log _; target = none_more t.log }
+-- settling records nothing
+settled_more : (b : PagerPart) (t : TargetPart) (r : Paged) → PagedMore (settles t.unsettled b) (with_settled t) r → PagedMore b t r
+settled_more b t r k = record { pager = subst (λ log. IsLittleMore log r.pager.log) (settles_log t.unsettled b) k.pager; target = k.target }
 
-  deliver_more : PagedMore b t (deliver b t)
-  deliver_more = go b.released
+next_fault_more : (b : PagerPart) (t : TargetPart) → PagedMore b t (next_fault b t)
+next_fault_more b t = settled_more b t (next_fault b t) (faults_more t.misses (settles t.unsettled b) (with_settled t))
+
+module _ (b : PagerPart) (t : TargetPart) where
+  arrives_more : (inbox : List Incoming) → PagedMore b t (delivers_next inbox b t)
+  arrives_more [] = paged_none b t []
+  arrives_more (x ∷ rest) = go (is_resident (t.placed x.page) (t.freed x.page))
+    where
+      go : (resident : Bool) → PagedMore b t (cond resident (record { pager = record b { log = b.log ++ Skip x.got ∷ []; inbox = rest }; target = t; woken = [] }) (places x (record b { inbox = rest }) t))
+      go true = record { pager = one_more b.log _; target = none_more t.log }
+      go false = record { pager = one_more b.log _; target = none_more t.log }
+
+  delivers_more : (released : Option (List ℕ)) → PagedMore b t (delivers_by released b t)
+  delivers_more None = paged_none b t []
+  delivers_more (Some released) = by t.is_resumed
     where
       by : (resumed : Bool) → PagedMore b t (cond resumed (delivers_next b.inbox b t) (record { pager = b; target = resumes t; woken = [] }))
-      by true = delivers_more b.inbox
+      by true = arrives_more b.inbox
       by false = record { pager = none_more b.log; target = one_more t.log _ }
 
-      go : (released : Option (List ℕ)) → PagedMore b t (delivers_by released b t)
-      go None = paged_none b t []
-      go (Some released) = by t.is_resumed
+deliver_more : (b : PagerPart) (t : TargetPart) → PagedMore b t (deliver b t)
+deliver_more b t = settled_more b t (deliver b t) (delivers_more (settles t.unsettled b) (with_settled t) b.released)
 
 -- the guest at the target
-does_more : (v k : ℕ) (op : Op) (b : TargetPart) → IsLittleMore b.log (does v op (looks k b)).log
-does_more v k (ReadCell p c) b = go (is_covered (Some k) b.frontier)
-  where
-    go : (covered : Bool) → IsLittleMore b.log (does v (ReadCell p c) (cond covered b (record b { log = b.log ++ See k ∷ []; frontier = Some k }))).log
-    go true = one_more b.log _
-    go false = two_more b.log _ _
-does_more v k (WriteCell p c x) b = go (is_covered (Some k) b.frontier)
-  where
-    go : (covered : Bool) → IsLittleMore b.log (does v (WriteCell p c x) (cond covered b (record b { log = b.log ++ See k ∷ []; frontier = Some k }))).log
-    go true = one_more b.log _
-    go false = two_more b.log _ _
-does_more v k (ReleasePage p) b = go (is_covered (Some k) b.frontier)
-  where
-    go : (covered : Bool) → IsLittleMore b.log (cond covered b (record b { log = b.log ++ See k ∷ []; frontier = Some k })).log
-    go true = none_more b.log
-    go false = one_more b.log _
+does_more : (v : ℕ) (op : Op) (b : TargetPart) → length (does v op b).log ≡ suc (length b.log)
+does_more v (ReadCell p c) b = length_suc b.log _
+does_more v (WriteCell p c x) b = length_suc b.log _
+does_more v (ReleasePage p) b = length_suc b.log _
 
-access_more : (v : ℕ) (op : Op) (b : TargetPart) → IsLittleMore b.log (target_access v op b).book.log
-access_more v op b = go b.is_resumed
+looks_more : (k : ℕ) (b : TargetPart) → length (looks k b).log ≤ suc (length b.log)
+looks_more k b = go (is_covered (Some k) b.frontier)
   where
-    by : (stands : Bool) → IsLittleMore b.log (cond {A = Accessed} stands (record { book = b; access = Waiting }) (record {
+    go : (covered : Bool) → length (cond covered b (record b { log = b.log ++ See k ∷ []; frontier = Some k })).log ≤ suc (length b.log)
+    go true = omega arith
+    go false = omega (arith, length_suc b.log (See k))
+
+-- over what a change leaves that appends one record at most
+done_more : (change : TargetPart → TargetPart) (v : ℕ) (op : Op) (b : TargetPart) → ((c : TargetPart) → length (change c).log ≤ suc (length c.log)) → IsLittleMore b.log (done_over change v op b).book.log
+done_more change v op b little =
+    let c = record b { standing = without_page v b.standing } in
+    omega (arith, does_more v op (change c), little c)
+
+misses_more : (v p : ℕ) (b : TargetPart) → IsLittleMore b.log (misses_page v p b).book.log
+misses_more v p b = go (b.standing v)
+  where
+    go : (stands : Bool) → IsLittleMore b.log (cond {A = Accessed} stands (record { book = b; access = Waiting }) (record {
       book = record b {
-        log = b.log ++ Miss v (page_in op) ∷ [];
-        misses = b.misses ++ (record { number = length b.log; vcpu = v; page = page_in op }) ∷ [];
+        log = b.log ++ Miss v p ∷ [];
+        misses = b.misses ++ (record { number = length b.log; vcpu = v; page = p }) ∷ [];
         standing = with_page v b.standing;
       };
       access = Missed;
     })).book.log
-    by true = none_more b.log
-    by false = one_more b.log _
+    go true = none_more b.log
+    go false = one_more b.log _
 
-    at : (placed : Option ℕ) → IsLittleMore b.log (accesses v op placed b).book.log
-    at None = by (b.standing v)
-    at (Some k) = does_more v k op (record b { standing = without_page v b.standing })
+lacks_more : (v : ℕ) (op : Op) (b : TargetPart) → IsLittleMore b.log (lacks v op b).book.log
+lacks_more v (ReadCell p c) b = misses_more v p b
+lacks_more v (WriteCell p c x) b = misses_more v p b
+lacks_more v (ReleasePage p) b = done_more (frees p) v (ReleasePage p) b (λ c. omega arith)
 
-    go : (resumed : Bool) → IsLittleMore b.log (cond {A = Accessed} resumed (accesses v op (b.placed (page_in op)) b) (record { book = b; access = Waiting })).book.log
-    go true = at (b.placed (page_in op))
+access_more : (v : ℕ) (op : Op) (b : TargetPart) → IsLittleMore b.log (target_access v op b).book.log
+access_more v op b = go b.is_resumed
+  where
+    at : (placed : Option ℕ) (is_freed : Bool) → IsLittleMore b.log (accesses v op placed is_freed b).book.log
+    at (Some k) is_freed = done_more (looks k) v op b (λ c. looks_more k c)
+    at None true = done_more (λ c. c) v op b (λ c. omega arith)
+    at None false = lacks_more v op b
+
+    go : (resumed : Bool) → IsLittleMore b.log (cond {A = Accessed} resumed (accesses v op (b.placed (page_in op)) (b.freed (page_in op)) b) (record { book = b; access = Waiting })).book.log
+    go true = at (b.placed (page_in op)) (b.freed (page_in op))
     go false = none_more b.log
 
 -- a session of which no log has more than two records more
@@ -336,7 +354,7 @@ away_more Serve a = served_more a.link.up_arrivals a
 away_more SourceTick a = record { guest = none_more a.target.log; source = source_tick_more a.source; link = back_more (source_tick a.source).packet a.link; pager = none_more a.pager.log }
 away_more (LinkTurn direction fate) a = record { guest = none_more a.target.log; source = none_more a.source.log; link = turn_more direction fate a.link; pager = none_more a.pager.log }
 away_more PagerPop a = popped_more a.link.down_arrivals a
-away_more PagerFault a = paged_more (next_fault a.pager a.target) a (faults_more a.target.misses a.pager a.target)
+away_more PagerFault a = paged_more (next_fault a.pager a.target) a (next_fault_more a.pager a.target)
 away_more PagerFlush a = sent_more (pager_flush a.pager) a (flush_more a.pager)
 away_more PagerDeliver a = paged_more (deliver a.pager a.target) a (deliver_more a.pager a.target)
 away_more PagerTick a = sent_more (pager_tick a.pager) a (tick_more a.pager)

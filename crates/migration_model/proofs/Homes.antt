@@ -1,14 +1,16 @@
 -- The guest at home, and the halt.
-use Rattle.audit_model.specs.Flat.{cell_after, flat, halt_place, home, home_after, in_ledger, released_after}
+use Rattle.audit_model.specs.Faults.{IsOver}
+use Rattle.audit_model.specs.Flat.{before, cell_after, changed, flat, halt_place, home, home_after, in_ledger, released_after}
 use Rattle.audit_model.specs.Mergings.{IsMerging}
-use Rattle.audit_model.specs.Shape.{earlier, guest_named, in_phase_by, is_halt, is_resume, source_start}
+use Rattle.audit_model.specs.Shape.{earlier, guest_named, in_phase_by, is_halt, is_resume, may_release, source_start}
 use Rattle.audit_model.specs.declared.home.Home.TheVariants.{AtSource, AtTarget}
 use Rattle.migration_types.specs.Extents.{Extent}
 use Rattle.migration_types.specs.Memory.{Memory, with_cell, with_zeros}
 use Rattle.migration_types.specs.PageSets.{Pages, with_page, without_page}
 use Rattle.migration_types.specs.Receipts.{Name, guest_receipt}
 use Rattle.migration_types.specs.Sessions.{GuestRecFits, Recorded, log_length}
-use Rattle.migration_types.specs.declared.version.Version.TheVariants.{One}
+use Rattle.migration_types.specs.declared.version.Version.{Version}
+use Rattle.migration_types.specs.declared.version.Version.TheVariants.{One, Two}
 use Rattle.migration_types.specs.declared.records.GuestRec.{GuestRec}
 use Rattle.migration_types.specs.declared.records.GuestRec.TheVariants.{Halt, Miss, Read, Release, Resume, See, Write}
 use Rattle.migration_types.specs.declared.records.LogName.{LogName}
@@ -21,7 +23,7 @@ use Rattle.migration_model.proofs.Facts.{AwayKept, VcpusKept}
 use Rattle.migration_model.proofs.Grows.{IsThere, guest_merges, guest_more, names, names_none, source_merges, source_more}
 use Rattle.migration_model.proofs.Guests.{each_get, vcpu_low, vcpus_set}
 use Rattle.migration_model.proofs.Limits.{GuestWithin, IsLimited, IsWide, guest_limits, source_limits, wide_cell, wide_initial, wide_zeros}
-use Rattle.migration_model.proofs.Lists.{AllAt, all_push, before_end, before_push, get_new, nothing, passes_at}
+use Rattle.migration_model.proofs.Lists.{AllAt, all_push, before_end, before_push, get_new, get_push, nothing, passes_at}
 use Rattle.migration_model.proofs.Orders.{order_guest, order_halt, order_none}
 use Rattle.migration_model.proofs.Pushes.{flat_end}
 use Rattle.migration_model.proofs.Shapes.{IsNamed, guest_shapes, source_shapes}
@@ -55,7 +57,7 @@ pub record HomeKept (o : List Name) (h : Home) : Type 0 where
   pub unhalted : earlier is_halt h.guest.log (length h.guest.log) ≡ false
   pub unresumed : earlier is_resume h.guest.log (length h.guest.log) ≡ false
   pub is_home : home (home_session h) (length h.guest.log) ≡ AtSource
-  pub vcpus : VcpusKept h.guest.geometry h.vcpus
+  pub vcpus : VcpusKept h.version h.guest.geometry h.vcpus
 
 -- the books after an event, with the order that it leaves
 abbrev pub Stays : List Name → Home → Home → Type 0
@@ -88,14 +90,19 @@ stays_home Halt e = absurd (cc)
 stays_home (Resume k) e = absurd (cc)
 stays_home (See k) e = refl
 
-op_phase : (r : GuestRec) → is_op r ≡ true → in_phase_by One false false r ≡ true
-op_phase (Read v p c x) e = refl
-op_phase (Write v p c x) e = refl
-op_phase (Release v p) e = refl
-op_phase (Miss v p) e = absurd (cc)
-op_phase Halt e = absurd (cc)
-op_phase (Resume k) e = absurd (cc)
-op_phase (See k) e = absurd (cc)
+-- in both versions a page may be released before the halt
+release_phase : (version : Version) → may_release version false false ≡ true
+release_phase One = refl
+release_phase Two = refl
+
+op_phase : (version : Version) (r : GuestRec) → is_op r ≡ true → in_phase_by version false false r ≡ true
+op_phase version (Read v p c x) e = refl
+op_phase version (Write v p c x) e = refl
+op_phase version (Release v p) e = release_phase version
+op_phase version (Miss v p) e = absurd (cc)
+op_phase version Halt e = absurd (cc)
+op_phase version (Resume k) e = absurd (cc)
+op_phase version (See k) e = absurd (cc)
 
 op_named : (s : Recorded) (r : GuestRec) → is_op r ≡ true → guest_named s r ≡ true
 op_named s (Read v p c x) e = refl
@@ -124,8 +131,8 @@ op_within e Halt is fits = tt
 op_within e (Resume k) is fits = tt
 op_within e (See k) is fits = tt
 
-phase_at : {o : List Name} (h : Home) → HomeKept o h → (r : GuestRec) (b : Bool) → in_phase_by One false false r ≡ b → in_phase_by One (earlier is_halt h.guest.log (length h.guest.log)) (earlier is_resume h.guest.log (length h.guest.log)) r ≡ b
-phase_at h k r b e = ap (λ x. in_phase_by One x (earlier is_resume h.guest.log (length h.guest.log)) r) k.unhalted ∙ ap (λ x. in_phase_by One false x r) k.unresumed ∙ e
+phase_at : {o : List Name} (h : Home) → HomeKept o h → (r : GuestRec) (b : Bool) → in_phase_by h.version false false r ≡ b → in_phase_by h.version (earlier is_halt h.guest.log (length h.guest.log)) (earlier is_resume h.guest.log (length h.guest.log)) r ≡ b
+phase_at h k r b e = ap (λ x. in_phase_by h.version x (earlier is_resume h.guest.log (length h.guest.log)) r) k.unhalted ∙ ap (λ x. in_phase_by h.version false x r) k.unresumed ∙ e
 
 pub home_clean : (h : Home) (memory : Memory) (ledger : Pages) → AllAt (GuestClean (home_session h)) h.guest.log → IsClean (home_session h) memory ledger
 home_clean h memory ledger reads = record { guest = reads; source = λ n y is. nothing n y is; pager = λ n y is. nothing n y is }
@@ -139,7 +146,7 @@ home_pushed {o} r memory ledger h k op clean fits cells pages wide =
     let s = home_session h in
     record {
       ops = all_push (λ n y. is_op y ≡ true) (λ n y. is_op y ≡ true) h.guest.log r k.ops (λ n y is e. e) op;
-      named = guest_shapes r s k.named (phase_at h k r true (op_phase r op)) (op_named s r op);
+      named = guest_shapes r s k.named (phase_at h k r true (op_phase h.version r op)) (op_named s r op);
       merges = guest_merges r s o (op_receipt s r op) k.merges;
       limits = guest_limits r s (op_within h.guest.geometry r op fits) k.limits;
       reads = (guest_cleans r s memory ledger clean (home_clean h memory ledger k.reads)).guest;
@@ -173,21 +180,21 @@ home_op_keeps o v (ReleasePage p) h k low fits =
     let r = Release v p in
     stay_one o (home_session h) r _ (home_pushed r (with_zeros p h.guest.memory) (with_page p h.guest.ledger) h k refl tt (low, fits) (λ q d. refl) (λ q. refl) (wide_zeros p h.guest.memory k.wide))
 
-home_vcpus : {o : List Name} (vcpus : List Vcpu) (h : Home) → HomeKept o h → VcpusKept h.guest.geometry vcpus → HomeKept o (record h { vcpus = vcpus })
+home_vcpus : {o : List Name} (vcpus : List Vcpu) (h : Home) → HomeKept o h → VcpusKept h.version h.guest.geometry vcpus → HomeKept o (record h { vcpus = vcpus })
 home_vcpus vcpus h k new = record { ops = k.ops; named = k.named; merges = k.merges; limits = k.limits; reads = k.reads; memory_is = k.memory_is; wide = k.wide; ledger_is = k.ledger_is; unhalted = k.unhalted; unresumed = k.unresumed; is_home = k.is_home; vcpus = new }
 
-home_ops_keep : (o : List Name) (v : ℕ) (vcpu : Vcpu) (ops : List Op) (h : Home) → HomeKept o h → v < 64 → AllByRecursion (OpFits h.guest.geometry) ops → VcpuFits h.guest.geometry vcpu → Stays o h (home_ops v vcpu ops h)
+home_ops_keep : (o : List Name) (v : ℕ) (vcpu : Vcpu) (ops : List Op) (h : Home) → HomeKept o h → v < 64 → AllByRecursion (OpFits h.guest.geometry) ops → VcpuFits h.version h.guest.geometry vcpu → Stays o h (home_ops v vcpu ops h)
 home_ops_keep o v vcpu [] h k low fits whole = stay_none o h k
 home_ops_keep o v vcpu (op ∷ ops) h k low fits whole =
     let new : Vcpu = record vcpu { before_move = ops } in
     let vcpus : List Vcpu = slice_set h.vcpus v new in
-    home_op_keeps o v op (record h { vcpus = vcpus }) (home_vcpus vcpus h k (vcpus_set h.guest.geometry h.vcpus v new k.vcpus (record { before_move = fits.1; after_move = whole.after_move }))) low fits.0
+    home_op_keeps o v op (record h { vcpus = vcpus }) (home_vcpus vcpus h k (vcpus_set h.version h.guest.geometry h.vcpus v new k.vcpus (record { before_move = fits.1; after_move = whole.after_move }))) low fits.0
 
 pub home_step_keeps : (o : List Name) (v : ℕ) (q : Option Vcpu) (h : Home) → HomeKept o h → slice_get h.vcpus v ≡ q → Stays o h (home_step v q h)
 home_step_keeps o v None h k e = stay_none o h k
 home_step_keeps o v (Some vcpu) h k e =
-    let fits = each_get (VcpuFits h.guest.geometry) h.vcpus v vcpu k.vcpus.each e in
-    home_ops_keep o v vcpu vcpu.before_move h k (vcpu_low h.guest.geometry h.vcpus v vcpu k.vcpus e) fits.before_move fits
+    let fits = each_get (VcpuFits h.version h.guest.geometry) h.vcpus v vcpu k.vcpus.each e in
+    home_ops_keep o v vcpu vcpu.before_move h k (vcpu_low h.version h.guest.geometry h.vcpus v vcpu k.vcpus e) fits.before_move fits
 
 pub home_stays : (o : List Name) (h : Home) → HomeKept o h → Stays o h h
 home_stays o h k = stay_none o h k
@@ -207,6 +214,27 @@ two_records : (a b : SourceRec) (n : ℕ) (r : SourceRec) → slice_get (a ∷ b
 two_records a b zero r e = inl (refl, (let f = e in cc))
 two_records a b (suc zero) r e = inr (refl, (let f = e in cc))
 two_records a b (suc (suc n)) r e = absurd (cc)
+
+-- at home the guest is at the source before each record
+always_home : (log : List GuestRec) → AllAt (λ n r. is_op r ≡ true) log → (n : ℕ) → before home_after AtSource log n ≡ AtSource
+always_home log all zero = refl
+always_home log all (suc n) = go (always_home log all n) (slice_get log n) refl
+  where
+    go : before home_after AtSource log n ≡ AtSource → (r : Option GuestRec) → slice_get log n ≡ r → changed home_after r (before home_after AtSource log n) ≡ AtSource
+    go rec None is = rec
+    go rec (Some r) is = ap (λ x. home_after r x) rec ∙ stays_home r (all n r is)
+
+-- and until the halt it released nothing at the target
+none_over : {o : List Name} (h : Home) → HomeKept o h → (p : ℕ) → IsOver (away_session (halted h)) p → {A : Type 0} → A
+none_over h k p over {A} = go (get_push h.guest.log Halt over.release (Release over.vcpu p) over.stands)
+  where
+    go : (slice_get h.guest.log over.release ≡ Some (Release over.vcpu p)) ⊎ ((over.release ≡ length h.guest.log) × (Halt ≡ Release over.vcpu p)) → A
+    go (inl is) =
+        let lt : over.release < length h.guest.log = slice_get_within h.guest.log over.release (Release over.vcpu p) is in
+        let at : home (away_session (halted h)) over.release ≡ AtSource = before_push home_after AtSource h.guest.log (Halt ∷ []) over.release (omega arith) ∙ always_home h.guest.log k.ops over.release in
+        let late = over.is_late in
+        absurd (cc)
+    go (inr new) = let is = new.1 in absurd (cc)
 
 -- the orders that the halt leaves
 abbrev after_halt : List Name → Home → List Name
@@ -238,11 +266,15 @@ halted_kept o h k = record {
   link = record { down = ((refl, inl refl), tt); up = tt; down_arrivals = tt; up_arrivals = tt };
   pager = record { geometry = refl; unready = λ e. refl; ready = λ rel e. absurd (cc); inbox = tt; outbox = tt; waiting = tt; wants = λ p n e. absurd (cc) };
   placed = λ p. refl;
+  settled = λ p e. absurd (cc);
   target = record {
     places = record { found = λ p n e. absurd (cc); none = λ p e. refl };
     frontier = λ n e. absurd (cc);
-    frames = λ p n c e lt. absurd (cc);
+    frames = λ p c e lt. absurd (cc);
     untouched = λ p c e. flat_end Halt s0 p c ∙ sym (k.memory_is p c);
+    released = λ p e. absurd (cc);
+    over = λ p e. none_over h k p e;
+    unsettled = tt;
     misses = tt;
     wide = λ p c. omega arith;
   };
@@ -279,6 +311,7 @@ halted_keeps o h k = subst (λ x. AwayKept x (halted h)) (sym (order_halt o (hom
 -- the start
 abbrev pub first_home : Scripted → Home
 first_home script = record {
+  version = script.version;
   init = script.init;
   pivots = script.pivots;
   window = script.window;

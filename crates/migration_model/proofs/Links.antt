@@ -151,5 +151,5 @@ flushed_keeps o (packet ∷ rest) a k e =
     let facts : AllByRecursion P (packet ∷ rest) = subst (λ ys. AllByRecursion P ys) e k.pager.outbox in
     close_none o (away_session a) _
     (up_keeps packet (record a { pager = record a.pager { outbox = rest } })
-    (with_pager (record a.pager { outbox = rest }) a k (record { geometry = k.pager.geometry; unready = k.pager.unready; ready = k.pager.ready; inbox = k.pager.inbox; outbox = facts.1; waiting = k.pager.waiting; wants = k.pager.wants }) k.placed)
+    (with_pager (record a.pager { outbox = rest }) a k (record { geometry = k.pager.geometry; unready = k.pager.unready; ready = k.pager.ready; inbox = k.pager.inbox; outbox = facts.1; waiting = k.pager.waiting; wants = k.pager.wants }) k.placed k.settled)
     facts.0)

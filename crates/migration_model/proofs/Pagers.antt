@@ -21,8 +21,8 @@ use Rattle.migration_types.specs.declared.records.PagerRec.TheVariants.{All, Fau
 use Rattle.migration_types.specs.declared.records.SourceRec.TheVariants.{Again, Send, State}
 use Rattle.page_stream.specs.declared.Packet.{Packet}
 use Rattle.page_stream.specs.declared.Packet.TheVariants.{All as AllPacket, Page as PagePacket, State as StatePacket, Want as WantPacket}
-use Rattle.migration_model.proofs.Cleans.{pager_cleans}
-use Rattle.migration_model.proofs.Facts.{Arrives, AwayKept, DownArrived, HasCome, HasMissed, IsReady, IsStateNumber, IsWaitedFor, UpFact, close_guest, close_none, close_pager, close_pager_two, down_fact_stays, has_come_stays, link_stays, misses_stay, not_new, pager_pushed, released_of, up_fact_stays, up_keeps, with_link, with_pager}
+use Rattle.migration_model.proofs.Cleans.{over_pager, pager_cleans}
+use Rattle.migration_model.proofs.Facts.{Arrives, AwayKept, DownArrived, HasCome, HasMissed, IsReady, IsStateNumber, IsWaitedFor, UpFact, close_guest, close_none, close_pager, close_pager_two, down_fact_stays, has_come_stays, is_there, link_stays, misses_stay, not_new, pager_pushed, released_of, settled_arrives, settled_books, settled_keeps, settles_released, up_fact_stays, up_keeps, with_link, with_pager}
 use Rattle.migration_model.proofs.Grows.{Extends, names, names_none, pager_extends, pager_merges, pager_more}
 use Rattle.migration_model.proofs.Limits.{content_fits, pager_limits, wide_content, wide_zeros}
 use Rattle.migration_model.proofs.Lists.{all_push, and_both, each_kept, each_mapped, each_push, each_weaker, get_new, get_old, index_other, length_suc, passes_at}
@@ -30,12 +30,13 @@ use Rattle.migration_model.proofs.Pushes.{put_pushed, resume_pushed}
 use Rattle.migration_model.proofs.Shapes.{pager_shapes}
 use Rattle.migration_model.specs.Events.{paged, popped, sent_up}
 use Rattle.migration_model.specs.Machine.{Away, away_session}
+use Rattle.residency.specs.Placements.{is_resident}
 use Rattle.std.proofs.Common.{Bool, List, None, Option, Some, [], ap, arith, cond, false, inl, inr, length, not, refl, subst, suc, sym, true, zero, ℕ, ◌++◌, ◌<◌, ◌||◌, ◌∙◌, ◌∷◌, ◌≡◌, ◌≤◌, ◌⊎◌}
 use Rattle.std.proofs.lemmas.Bool.{cases_lt, eq-eqb, eqb-true, lt-ltb}
 use Rattle.std.proofs.lemmas.Option.{slice_get_within}
 use Rattle.std.specs.List.{AllByRecursion, filter, range_with_len}
 use Rattle.std.specs.Prelude.{is_some, slice_get, slice_index, ◌+◌, ◌==◌}
-use Rattle.target_side.specs.PagerPart.{delivers_at, delivers_by, delivers_next, fault_absent, fault_at, fault_join, fault_new, faults, first_absent, is_listed, is_released, oldest, places, pops_by, pops_first, pops_later, ticks, ticks_at, wants_page, zeroes}
+use Rattle.target_side.specs.PagerPart.{PagerPart, deliver, delivers_at, delivers_by, delivers_next, fault_absent, fault_at, fault_join, fault_new, faults, first_absent, is_listed, is_released, next_fault, oldest, places, pops_by, pops_first, pops_later, ticks, ticks_at, wants_page, zeroes}
 use Rattle.target_book.specs.TargetPart.{resumes}
 use Rattle.target_side.specs.declared.Incoming.{Incoming}
 use Rattle.target_book.specs.declared.Missing.{Missing}
@@ -92,7 +93,7 @@ want_keeps p a k ready lt =
     let new = pager_pushed (Want p) a k ready refl (names_none s) refl (λ q. refl) tt lt (λ e. absurd (cc)) in
     with_pager (wants_page p a.pager) (record a { pager = record a.pager { log = a.pager.log ++ Want p ∷ [] } }) new
     (record { geometry = new.pager.geometry; unready = new.pager.unready; ready = new.pager.ready; inbox = new.pager.inbox; outbox = new.pager.outbox; waiting = new.pager.waiting; wants = λ q n e. at q n (p == q) refl e (new.pager.wants q n) })
-    k.placed
+    k.placed k.settled
   where
     at : (q n : ℕ) (b : Bool) → (p == q) ≡ b → cond b (Some (length a.pager.log)) (a.pager.wants q) ≡ Some n → (a.pager.wants q ≡ Some n → slice_get (a.pager.log ++ Want p ∷ []) n ≡ Some (Want q)) → slice_get (a.pager.log ++ Want p ∷ []) n ≡ Some (Want q)
     at q n true is e old =
@@ -107,7 +108,15 @@ asked_again_keeps o p a k ready lt =
     close_pager o (away_session a) (Want p) _
     (up_keeps (WantPacket (length a.pager.log) p) (record a { pager = wants_page p a.pager }) (want_keeps p a k ready lt) (get_new a.pager.log (Want p)))
 
-all_keeps : (o : List Name) (rel : List ℕ) (a : Away) → AwayKept o a → IsReady (away_session a) → rel ≡ released_of a → first_absent (range_with_len 0 a.pager.geometry.pages) rel a.pager.placed ≡ None → Arrives o a (sent_up (ticks_at None a.pager) a)
+-- the pages that are placed or settled
+abbrev come : PagerPart → Pages
+come pager p = pager.placed p || pager.settled p
+
+or_kept : (x y z w : Bool) → x ≡ z → (y ≡ true → w ≡ true) → (x || y) ≡ true → (z || w) ≡ true
+or_kept true y z w same kept e = ap (λ b. b || w) (sym same)
+or_kept false y z w same kept e = ap (λ b. b || w) (sym same) ∙ kept e
+
+all_keeps : (o : List Name) (rel : List ℕ) (a : Away) → AwayKept o a → IsReady (away_session a) → rel ≡ released_of a → first_absent (range_with_len 0 a.pager.geometry.pages) rel (come a.pager) ≡ None → Arrives o a (sent_up (ticks_at None a.pager) a)
 all_keeps o rel a k ready same none =
     let s = away_session a in
     close_pager o s All _
@@ -115,12 +124,12 @@ all_keeps o rel a k ready same none =
     (pager_pushed All a k ready refl (names_none s) refl (λ q. refl) tt tt (λ e p lt owed. complete p lt owed))
     (get_new s.pager All))
   where
-    complete : (p : ℕ) → p < a.source.geometry.pages → a.source.ledger p ≡ false → is_some (a.target.placed p) ≡ true
+    complete : (p : ℕ) → p < a.source.geometry.pages → a.source.ledger p ≡ false → is_there a.target p ≡ true
     complete p lt owed =
         let pages = a.source.geometry.pages in
-        let there = none_absent a.pager.geometry.pages 0 rel a.pager.placed none p (omega arith) (omega (arith, lt, ap (λ (e : Extent). e.pages) k.pager.geometry)) in
+        let there = none_absent a.pager.geometry.pages 0 rel (come a.pager) none p (omega arith) (omega (arith, lt, ap (λ (e : Extent). e.pages) k.pager.geometry)) in
         let out : is_listed p rel ≡ false = ap (λ r. is_listed p r) same ∙ unlisted a.source.ledger (range_with_len 0 pages) p owed in
-        sym (k.placed p) ∙ or_false (is_listed p rel) (a.pager.placed p) out there
+        or_kept (a.pager.placed p) (a.pager.settled p) (is_some (a.target.placed p)) (a.target.freed p) (k.placed p) (k.settled p) (or_false (is_listed p rel) (come a.pager p) out there)
 
 oldest_there : (xs : List Waiting) (s : Recorded) (p : ℕ) → AllByRecursion (IsWaitedFor s) xs → p < s.geometry.pages → oldest xs p < s.geometry.pages
 oldest_there [] s p all lt = lt
@@ -128,12 +137,12 @@ oldest_there (x ∷ xs) s p all lt = all.0
 
 pub pager_ticked_keeps : (o : List Name) (rel : Option (List ℕ)) (a : Away) → AwayKept o a → a.pager.released ≡ rel → Arrives o a (sent_up (ticks rel a.pager) a)
 pager_ticked_keeps o None a k e = close_none o (away_session a) a k
-pager_ticked_keeps o (Some rel) a k e = go (first_absent (range_with_len 0 a.pager.geometry.pages) rel a.pager.placed) refl
+pager_ticked_keeps o (Some rel) a k e = go (first_absent (range_with_len 0 a.pager.geometry.pages) rel (come a.pager)) refl
   where
-    go : (q : Option ℕ) → first_absent (range_with_len 0 a.pager.geometry.pages) rel a.pager.placed ≡ q → Arrives o a (sent_up (ticks_at q a.pager) a)
+    go : (q : Option ℕ) → first_absent (range_with_len 0 a.pager.geometry.pages) rel (come a.pager) ≡ q → Arrives o a (sent_up (ticks_at q a.pager) a)
     go None is = all_keeps o rel a k (k.pager.ready rel e).1 (k.pager.ready rel e).0 is
     go (Some p) is =
-        let lt : p < a.source.geometry.pages = omega (arith, absent_there a.pager.geometry.pages 0 rel a.pager.placed p is, ap (λ (e : Extent). e.pages) k.pager.geometry) in
+        let lt : p < a.source.geometry.pages = omega (arith, absent_there a.pager.geometry.pages 0 rel (come a.pager) p is, ap (λ (e : Extent). e.pages) k.pager.geometry) in
         asked_again_keeps o (oldest a.pager.waiting p) a k (k.pager.ready rel e).1 (oldest_there a.pager.waiting (away_session a) p k.pager.waiting lt)
 
 -- PagerPop
@@ -174,7 +183,7 @@ popped_later_keeps o i (PagePacket n p content) a k ready fact =
       waiting = new.pager.waiting;
       wants = new.pager.wants;
     })
-    k.placed)
+    k.placed k.settled)
 popped_later_keeps o i (WantPacket n p) a k ready fact = close_none o (away_session a) a k
 popped_later_keeps o i (AllPacket n) a k ready fact = close_none o (away_session a) a k
 
@@ -207,11 +216,15 @@ first_keeps o i n rel a k unready fact = record {
     wants = λ p m e. x2.pager m _ (x1.pager m _ (k.pager.wants p m e));
   };
   placed = k.placed;
+  settled = k.settled;
   target = record {
     places = index_other is_placement_of a.target.placed s1.pager Ready (λ q. refl) (index_other is_placement_of a.target.placed s0.pager (Got i) (λ q. refl) k.target.places);
     frontier = k.target.frontier;
     frames = k.target.frames;
     untouched = k.target.untouched;
+    released = k.target.released;
+    over = λ p h. k.target.over p (over_pager (Got i) s0 p (over_pager Ready s1 p h));
+    unsettled = k.target.unsettled;
     misses = misses_stay s1 s2 x2 a.target.misses (misses_stay s0 s1 x1 a.target.misses k.target.misses);
     wide = k.target.wide;
   };
@@ -299,8 +312,13 @@ delivers_page s x h = ap (λ o. passes (λ n. passes (is_or_repeats s (is_send_o
     at (inl e) = ap (λ n. passes (is_or_repeats s (is_send_of x.page)) (slice_get s.source n)) e ∙ passes_at (is_or_repeats s (is_send_of x.page)) s.source h.is_page.send _ h.is_page.sent itself
     at (inr e) = passes_at (is_or_repeats s (is_send_of x.page)) s.source h.number _ e (passes_at (is_send_of x.page) s.source h.is_page.send _ h.is_page.sent (eq-eqb x.page x.page refl))
 
-placed_keeps : (o : List Name) (x : Incoming) (a : Away) → AwayKept o a → IsReady (away_session a) → HasCome (away_session a) x → a.target.placed x.page ≡ None → Arrives o a (paged (places x a.pager a.target) a)
-placed_keeps o x a k ready h none =
+-- a page that is not there was not placed
+unplaced : (placed : Option ℕ) (freed : Bool) → is_resident placed freed ≡ false → placed ≡ None
+unplaced None freed e = refl
+unplaced (Some n) freed e = absurd (cc)
+
+placed_keeps : (o : List Name) (x : Incoming) (a : Away) → AwayKept o a → IsReady (away_session a) → HasCome (away_session a) x → is_there a.target x.page ≡ false → Arrives o a (paged (places x a.pager a.target) a)
+placed_keeps o x a k ready h absent =
     let s = away_session a in
     let p = x.page in
     let sent = k.clean.source h.is_page.send (Send p x.contents) h.is_page.sent in
@@ -308,8 +326,8 @@ placed_keeps o x a k ready h none =
     let content : IsContent s.geometry.cells x.contents = subst (λ c. IsContent s.geometry.cells c) (sym sent.1) (content_fits s.geometry.cells a.source.memory p k.source.wide) in
     close_pager o s (Place p x.got x.contents) _
     (put_pushed (Place p x.got x.contents) p (with_content p x.contents a.target.memory) (without p a.pager.waiting) a k ready
-    (and_both _ _ lt (delivers_page s x h)) (names_none s) refl none (λ q. refl)
-    (k.target.places.none p none, sent.1) (k.limits.source h.is_page.send (Send p x.contents) h.is_page.sent) (λ e. cc)
+    (and_both _ _ lt (delivers_page s x h)) (names_none s) refl absent (λ q. refl)
+    (k.target.places.none p (unplaced (a.target.placed p) (a.target.freed p) absent), sent.1) (k.limits.source h.is_page.send (Send p x.contents) h.is_page.sent) (λ e. cc)
     (λ c lt. here c lt (p == p) (eq-eqb p p refl) sent.1)
     (λ q c e. ap (λ b. cond b (slice_index x.contents c) (a.target.memory q c)) e)
     (wide_content p x.contents a.target.memory content.each k.target.wide)
@@ -319,36 +337,42 @@ placed_keeps o x a k ready h none =
     here c lt true e is = ap (λ l. slice_index l c) is ∙ content_at a.source.memory a.source.geometry.cells x.page c lt
     here c lt false e is = absurd (cc)
 
-delivered_at_keeps : (o : List Name) (x : Incoming) (q : Option ℕ) (a : Away) → AwayKept o a → IsReady (away_session a) → HasCome (away_session a) x → a.target.placed x.page ≡ q → Arrives o a (paged (delivers_at x q a.pager a.target) a)
-delivered_at_keeps o x (Some n) a k ready h e = close_pager o (away_session a) (Skip x.got) _ (skip_keeps x.got h.down a k ready h.got)
-delivered_at_keeps o x None a k ready h e = placed_keeps o x a k ready h e
+delivered_at_keeps : (o : List Name) (x : Incoming) (a : Away) → AwayKept o a → IsReady (away_session a) → HasCome (away_session a) x → Arrives o a (paged (delivers_at x a.pager a.target) a)
+delivered_at_keeps o x a k ready h = go (is_there a.target x.page) refl
+  where
+    go : (b : Bool) → is_there a.target x.page ≡ b → Arrives o a (paged (cond b (record { pager = record a.pager { log = a.pager.log ++ Skip x.got ∷ [] }; target = a.target; woken = [] }) (places x a.pager a.target)) a)
+    go true e = close_pager o (away_session a) (Skip x.got) _ (skip_keeps x.got h.down a k ready h.got)
+    go false e = placed_keeps o x a k ready h e
 
 delivered_next_keeps : (o : List Name) (xs : List Incoming) (a : Away) → AwayKept o a → IsReady (away_session a) → a.pager.inbox ≡ xs → Arrives o a (paged (delivers_next xs a.pager a.target) a)
 delivered_next_keeps o [] a k ready e = close_none o (away_session a) a k
 delivered_next_keeps o (x ∷ rest) a k ready e =
     let P = HasCome (away_session a) in
     let facts : AllByRecursion P (x ∷ rest) = subst (λ ys. AllByRecursion P ys) e k.pager.inbox in
-    delivered_at_keeps o x (a.target.placed x.page) (record a { pager = record a.pager { inbox = rest } })
-    (with_pager (record a.pager { inbox = rest }) a k (record { geometry = k.pager.geometry; unready = k.pager.unready; ready = k.pager.ready; inbox = facts.1; outbox = k.pager.outbox; waiting = k.pager.waiting; wants = k.pager.wants }) k.placed)
-    ready facts.0 refl
+    delivered_at_keeps o x (record a { pager = record a.pager { inbox = rest } })
+    (with_pager (record a.pager { inbox = rest }) a k (record { geometry = k.pager.geometry; unready = k.pager.unready; ready = k.pager.ready; inbox = facts.1; outbox = k.pager.outbox; waiting = k.pager.waiting; wants = k.pager.wants }) k.placed k.settled)
+    ready facts.0
 
-pub delivered_keeps : (o : List Name) (q : Option (List ℕ)) (a : Away) → AwayKept o a → a.pager.released ≡ q → Arrives o a (paged (delivers_by q a.pager a.target) a)
-delivered_keeps o None a k e = close_none o (away_session a) a k
-delivered_keeps o (Some rel) a k e = go a.target.is_resumed refl
+delivered_by_keeps : (o : List Name) (q : Option (List ℕ)) (a : Away) → AwayKept o a → a.pager.released ≡ q → Arrives o a (paged (delivers_by q a.pager a.target) a)
+delivered_by_keeps o None a k e = close_none o (away_session a) a k
+delivered_by_keeps o (Some rel) a k e = go a.target.is_resumed refl
   where
     go : (b : Bool) → a.target.is_resumed ≡ b → Arrives o a (paged (cond b (delivers_next a.pager.inbox a.pager a.target) (record { pager = a.pager; target = resumes a.target; woken = [] })) a)
     go true is = delivered_next_keeps o a.pager.inbox a k (k.pager.ready rel e).1 refl
     go false is = close_guest o (away_session a) (Resume 1) _ (resume_pushed a k is (k.pager.ready rel e).1)
 
+pub delivered_keeps : (o : List Name) (a : Away) → AwayKept o a → Arrives o a (paged (deliver a.pager a.target) a)
+delivered_keeps o a k = settled_arrives o a _ (delivered_by_keeps o a.pager.released (settled_books a) (settled_keeps a k) (settles_released a.target.unsettled a.pager))
+
 -- PagerFault
-zeroed_keeps : {o : List Name} (p : ℕ) (rel : List ℕ) (a : Away) → AwayKept o a → IsReady (away_session a) → p < a.source.geometry.pages → a.target.placed p ≡ None → rel ≡ released_of a → is_listed p rel ≡ true →
+zeroed_keeps : {o : List Name} (p : ℕ) (rel : List ℕ) (a : Away) → AwayKept o a → IsReady (away_session a) → p < a.source.geometry.pages → is_there a.target p ≡ false → rel ≡ released_of a → is_listed p rel ≡ true →
     AwayKept (o ++ (Pager, length a.pager.log) ∷ []) (paged (zeroes p a.pager a.target) a)
-zeroed_keeps p rel a k ready low none same listed =
+zeroed_keeps p rel a k ready low absent same listed =
     let s = away_session a in
     let out : a.source.ledger p ≡ true = listed_released a.source.ledger (range_with_len 0 s.geometry.pages) p (ap (λ r. is_listed p r) (sym same) ∙ listed) in
     let released : in_ledger s (at_halt s) p ≡ true = sym (k.frozen.ledger_is p) ∙ out in
-    put_pushed (Zero p) p (with_zeros p a.target.memory) a.pager.waiting a k ready refl (names_none s) refl none (λ q. refl)
-    (k.target.places.none p none, out) low (λ e. cc)
+    put_pushed (Zero p) p (with_zeros p a.target.memory) a.pager.waiting a k ready refl (names_none s) refl absent (λ q. refl)
+    (k.target.places.none p (unplaced (a.target.placed p) (a.target.freed p) absent), out) low (λ e. cc)
     (λ c lt. here c (p == p) (eq-eqb p p refl) (k.frozen.memory_is p c ∙ released_zero s (at_halt s) p c released))
     (λ q c e. ap (λ b. cond b 0 (a.target.memory q c)) e)
     (wide_zeros p a.target.memory k.target.wide) k.pager.waiting
@@ -372,7 +396,7 @@ join_keeps p v w a k ready e =
     let new = pager_pushed (Join w) a k ready (and_both _ _ (lt-ltb w (length s.pager) (slice_get_within s.pager w (Want p) is)) (passes_at is_want s.pager w (Want p) is refl)) (names_none s) refl (λ q. refl) tt tt (λ e. absurd (cc)) in
     with_pager (fault_join p v (Some w) a.pager) (record a { pager = record a.pager { log = a.pager.log ++ Join w ∷ [] } }) new
     (record { geometry = new.pager.geometry; unready = new.pager.unready; ready = new.pager.ready; inbox = new.pager.inbox; outbox = new.pager.outbox; waiting = joined_there p v s a.pager.waiting k.pager.waiting; wants = new.pager.wants })
-    k.placed
+    k.placed k.settled
 
 new_keeps : {o : List Name} (p v : ℕ) (a : Away) → AwayKept o a → IsReady (away_session a) → p < a.source.geometry.pages →
     AwayKept (o ++ (Pager, length a.pager.log) ∷ []) (record a { pager = fault_new p v a.pager })
@@ -390,7 +414,7 @@ new_keeps p v a k ready lt =
       waiting = each_push (IsWaitedFor t) a.pager.waiting (entry p v) new.pager.waiting lt;
       wants = new.pager.wants;
     })
-    k.placed
+    k.placed k.settled
 
 -- the books after `fault m`
 abbrev faulted : ℕ → Away → Away
@@ -401,12 +425,12 @@ module _ (o : List Name) (m : ℕ) (a : Away) (k : AwayKept (o ++ (Pager, length
   fault_join_keeps p v None e = close_pager o (away_session a) (Fault m) _ k
   fault_join_keeps p v (Some w) e = close_pager_two o (away_session a) (Fault m) (Join w) _ (join_keeps p v w (faulted m a) k ready e)
 
-  fault_absent_keeps : (p v : ℕ) → p < a.source.geometry.pages → a.target.placed p ≡ None → Arrives o a (paged (fault_absent p v (faulted m a).pager a.target) a)
-  fault_absent_keeps p v lt none = go (is_waiting v a.pager.waiting) (is_released a.pager.released p) refl (is_asked p a.pager.waiting)
+  fault_absent_keeps : (p v : ℕ) → p < a.source.geometry.pages → is_there a.target p ≡ false → Arrives o a (paged (fault_absent p v (faulted m a).pager a.target) a)
+  fault_absent_keeps p v lt absent = go (is_waiting v a.pager.waiting) (is_released a.pager.released p) refl (is_asked p a.pager.waiting)
     where
       zero_at : (q : Option (List ℕ)) → a.pager.released ≡ q → is_released q p ≡ true → Arrives o a (paged (zeroes p (faulted m a).pager a.target) a)
       zero_at None e is = absurd (cc)
-      zero_at (Some rel) e is = close_pager_two o (away_session a) (Fault m) (Zero p) _ (zeroed_keeps p rel (faulted m a) k ready lt none (k.pager.ready rel e).0 is)
+      zero_at (Some rel) e is = close_pager_two o (away_session a) (Fault m) (Zero p) _ (zeroed_keeps p rel (faulted m a) k ready lt absent (k.pager.ready rel e).0 is)
 
       go : (x y : Bool) → is_released a.pager.released p ≡ y → (z : Bool) → Arrives o a (paged (cond x (record { pager = (faulted m a).pager; target = a.target; woken = [] }) (cond y (zeroes p (faulted m a).pager a.target) (cond z (record { pager = fault_join p v (a.pager.wants p) (faulted m a).pager; target = a.target; woken = [] }) (record { pager = fault_new p v (faulted m a).pager; target = a.target; woken = [] })))) a)
       go true y e z = close_pager o (away_session a) (Fault m) _ k
@@ -414,9 +438,12 @@ module _ (o : List Name) (m : ℕ) (a : Away) (k : AwayKept (o ++ (Pager, length
       go false false e true = fault_join_keeps p v (a.pager.wants p) refl
       go false false e false = close_pager_two o (away_session a) (Fault m) (Want p) _ (new_keeps p v (faulted m a) k ready lt)
 
-  fault_at_keeps : (p v : ℕ) (q : Option ℕ) → p < a.source.geometry.pages → a.target.placed p ≡ q → Arrives o a (paged (fault_at p v q (faulted m a).pager a.target) a)
-  fault_at_keeps p v (Some n) lt e = close_pager o (away_session a) (Fault m) _ k
-  fault_at_keeps p v None lt e = fault_absent_keeps p v lt e
+  fault_at_keeps : (p v : ℕ) → p < a.source.geometry.pages → Arrives o a (paged (fault_at p v (faulted m a).pager a.target) a)
+  fault_at_keeps p v lt = go (is_there a.target p) refl
+    where
+      go : (b : Bool) → is_there a.target p ≡ b → Arrives o a (paged (cond b (record { pager = (faulted m a).pager; target = a.target; woken = [] }) (fault_absent p v (faulted m a).pager a.target)) a)
+      go true e = close_pager o (away_session a) (Fault m) _ k
+      go false e = fault_absent_keeps p v lt e
 
 with_misses : {o : List Name} (misses : List Missing) (a : Away) → AwayKept o a → AllByRecursion (HasMissed (away_session a)) misses → AwayKept o (record a { target = record a.target { misses = misses } })
 with_misses misses a k new = record {
@@ -432,14 +459,25 @@ with_misses misses a k new = record {
   link = k.link;
   pager = k.pager;
   placed = k.placed;
-  target = record { places = k.target.places; frontier = k.target.frontier; frames = k.target.frames; untouched = k.target.untouched; misses = new; wide = k.target.wide };
+  settled = k.settled;
+  target = record {
+    places = k.target.places;
+    frontier = k.target.frontier;
+    frames = k.target.frames;
+    untouched = k.target.untouched;
+    released = k.target.released;
+    over = k.target.over;
+    unsettled = k.target.unsettled;
+    misses = new;
+    wide = k.target.wide;
+  };
   ends = k.ends;
   vcpus = k.vcpus;
 }
 
-pub faulted_keeps : (o : List Name) (xs : List Missing) (a : Away) → AwayKept o a → a.target.misses ≡ xs → Arrives o a (paged (faults xs a.pager a.target) a)
-faulted_keeps o [] a k e = close_none o (away_session a) a k
-faulted_keeps o (x ∷ rest) a k e =
+taken_keeps : (o : List Name) (xs : List Missing) (a : Away) → AwayKept o a → a.target.misses ≡ xs → Arrives o a (paged (faults xs a.pager a.target) a)
+taken_keeps o [] a k e = close_none o (away_session a) a k
+taken_keeps o (x ∷ rest) a k e =
     let s = away_session a in
     let facts : AllByRecursion (HasMissed s) (x ∷ rest) = subst (λ ys. AllByRecursion (HasMissed s) ys) e k.target.misses in
     let miss = facts.0.0 in
@@ -447,4 +485,7 @@ faulted_keeps o (x ∷ rest) a k e =
     let r = Miss x.vcpu x.page in
     let b = record a { target = record a.target { misses = rest } } in
     let new = pager_pushed (Fault x.number) b (with_misses rest a k facts.1) ready (passes_at is_miss s.guest x.number r miss refl) (names s (Guest, x.number) (slice_get_within s.guest x.number r miss)) refl (λ q. refl) tt tt (λ e. absurd (cc)) in
-    fault_at_keeps o x.number b new (get_old s.pager (Fault x.number ∷ []) 1 Ready ready) x.page x.vcpu (a.target.placed x.page) (k.limits.guest x.number r miss).1 refl
+    fault_at_keeps o x.number b new (get_old s.pager (Fault x.number ∷ []) 1 Ready ready) x.page x.vcpu (k.limits.guest x.number r miss).1
+
+pub faulted_keeps : (o : List Name) (a : Away) → AwayKept o a → Arrives o a (paged (next_fault a.pager a.target) a)
+faulted_keeps o a k = settled_arrives o a _ (taken_keeps o a.target.misses (settled_books a) (settled_keeps a k) refl)

@@ -1,29 +1,25 @@
 -- Every run is faultless.
-use Rattle.audit_model.proofs.Clean.{clean_safe}
-use Rattle.audit_model.proofs.FirstVersion.{first_version_plain}
-use Rattle.audit_model.proofs.Late.{stands_somewhere}
-use Rattle.audit_model.specs.Faults.{GuestFault, HasNoPageFault, if_fault}
-use Rattle.audit_model.specs.Flat.{changed}
+use Rattle.audit_model.proofs.Clean.{clash, clean_safe}
+use Rattle.audit_model.proofs.History.{earlier_true}
+use Rattle.audit_model.proofs.Orders.{follows_cursors}
+use Rattle.audit_model.proofs.Walked.{merging_is_walk}
+use Rattle.audit_model.specs.Faults.{GuestFault, HasNoPageFault, IsOver, if_fault}
 use Rattle.audit_model.specs.Mergings.{IsMerging}
-use Rattle.audit_model.specs.Shape.{is_placement_of}
-use Rattle.audit_model.specs.World.{World, guest_step_at, pager_step, run_from, start as first_world, step as world_step, world_after}
-use Rattle.audit_model.specs.declared.home.Home.{Home as Seat}
-use Rattle.audit_model.specs.declared.home.Home.TheVariants.{AtSource, AtTarget, Nowhere}
+use Rattle.audit_model.specs.Shape.{IsRightShape, earlier, is_placement_of}
+use Rattle.audit_model.specs.World.{world_after}
+use Rattle.audit_model.specs.Worlds.{resident_before}
 use Rattle.migration_types.specs.Receipts.{Name}
 use Rattle.migration_types.specs.Sessions.{Recorded}
 use Rattle.migration_types.specs.declared.records.GuestRec.{GuestRec}
-use Rattle.migration_types.specs.declared.records.GuestRec.TheVariants.{Halt, Miss, Read, Release, Resume, See, Write}
 use Rattle.migration_types.specs.declared.records.LogName.TheVariants.{Guest, Link, Pager, Source as FromSource}
 use Rattle.migration_types.specs.declared.records.PagerRec.{PagerRec}
-use Rattle.migration_types.specs.declared.records.PagerRec.TheVariants.{All, Fault, Got, Join, Place, Ready, Skip, Want, Zero}
 use Rattle.migration_model.proofs.Cleans.{guest_not, no_page_fault}
-use Rattle.migration_model.proofs.Facts.{Arrives, AwayKept, IsComplete, close_none}
-use Rattle.migration_model.proofs.Grows.{names}
+use Rattle.migration_model.proofs.Facts.{Arrives, AwayKept, IsComplete, close_none, is_there}
 use Rattle.migration_model.proofs.Guests.{away_step_keeps}
 use Rattle.migration_model.proofs.Homes.{HomeKept, halted_keeps, home_clean, home_stays, home_step_keeps, start_keeps}
 use Rattle.migration_model.proofs.Limits.{HasRoom, is_session}
 use Rattle.migration_model.proofs.Links.{flushed_keeps, turned_keeps}
-use Rattle.migration_model.proofs.Lists.{and_left, and_right, nothing}
+use Rattle.migration_model.proofs.Lists.{and_left, and_right, append_nil, nothing}
 use Rattle.migration_model.proofs.Pagers.{delivered_keeps, faulted_keeps, pager_ticked_keeps, popped_keeps}
 use Rattle.migration_model.proofs.Shapes.{right_shape}
 use Rattle.migration_model.proofs.Sources.{pushed_keeps, served_keeps, ticked_keeps}
@@ -32,102 +28,43 @@ use Rattle.migration_model.specs.Machine.{After, Away, Before, Books, Home, IsSc
 use Rattle.migration_model.specs.Promise.{HasEachOwed, IsFaultlessRecording, IsFaultlessSession}
 use Rattle.migration_events.specs.declared.events.Event.{Event}
 use Rattle.migration_events.specs.declared.events.Event.TheVariants.{GuestStep, Halt as HaltGuest, LinkTurn, PagerDeliver, PagerFault, PagerFlush, PagerPop, PagerTick, Push, Serve, SourceTick}
-use Rattle.std.proofs.Common.{Bool, List, None, Option, Some, [], ap, arith, cond, false, length, refl, subst, true, ℕ, ◌&&◌, ◌++◌, ◌∙◌, ◌∷◌, ◌≡◌}
-use Rattle.std.proofs.lemmas.Bool.{leb-true}
+use Rattle.residency.specs.Placements.{is_resident}
+use Rattle.std.proofs.Common.{Bool, List, None, Option, Some, [], arith, cond, false, length, refl, subst, sym, true, ℕ, ◌&&◌, ◌++◌, ◌∙◌, ◌∷◌, ◌≡◌}
+use Rattle.std.proofs.lemmas.Bool.{leb-true, or_left, or_right}
 use Rattle.std.proofs.lemmas.Option.{slice_get_within}
-use Rattle.std.specs.Prelude.{is_some, nat_le, slice_get, ◌==◌}
+use Rattle.std.specs.Prelude.{nat_le, slice_get}
 
-more : (b x : Bool) → x ≡ true → cond b true x ≡ true
-more true x e = refl
-more false x e = e
+-- at the end of a merging each page is resident that was placed, or released at the target
+resident_at_end : (s : Recorded) (order : List Name) → IsRightShape s → IsMerging s order → (p : ℕ) → resident_before s (length s.guest) (length s.pager) p ≡ true → (world_after s order).resident p ≡ true
+resident_at_end s order shape merging p e =
+    let at = follows_cursors s shape order merging order [] (sym (append_nil order)) in
+    let ends = (merging_is_walk s order merging).1 in
+    at.world.resident_is p ∙ (λ i. resident_before s (ends Guest i) (ends Pager i) p) ∙ e
 
--- a page that is resident stays so
-guest_leaves : (h : Seat) (r : GuestRec) (w : World) (p : ℕ) → w.resident p ≡ true → (guest_step_at h r w).resident p ≡ true
-guest_leaves AtSource (Read v q c x) w p e = e
-guest_leaves Nowhere (Read v q c x) w p e = e
-guest_leaves AtTarget (Read v q c x) w p e = e
-guest_leaves AtSource (Write v q c x) w p e = e
-guest_leaves Nowhere (Write v q c x) w p e = e
-guest_leaves AtTarget (Write v q c x) w p e = e
-guest_leaves AtSource (Release v q) w p e = e
-guest_leaves Nowhere (Release v q) w p e = e
-guest_leaves AtTarget (Release v q) w p e = more (q == p) (w.resident p) e
-guest_leaves h (Miss v q) w p e = e
-guest_leaves h Halt w p e = e
-guest_leaves h (Resume k) w p e = e
-guest_leaves h (See k) w p e = e
-
-pager_leaves : (r : PagerRec) (w : World) (p : ℕ) → w.resident p ≡ true → (pager_step r w).resident p ≡ true
-pager_leaves (Place q g c) w p e = more (q == p) (w.resident p) e
-pager_leaves (Zero q) w p e = more (q == p) (w.resident p) e
-pager_leaves (Got k) w p e = e
-pager_leaves Ready w p e = e
-pager_leaves (Fault k) w p e = e
-pager_leaves (Join k) w p e = e
-pager_leaves (Want q) w p e = e
-pager_leaves (Skip k) w p e = e
-pager_leaves All w p e = e
-
-pager_places : (r : PagerRec) (w : World) (p : ℕ) → is_placement_of p r ≡ true → (pager_step r w).resident p ≡ true
-pager_places (Place q g c) w p e = ap (λ b. cond b true (w.resident p)) e
-pager_places (Zero q) w p e = ap (λ b. cond b true (w.resident p)) e
-pager_places (Got k) w p e = absurd (cc)
-pager_places Ready w p e = absurd (cc)
-pager_places (Fault k) w p e = absurd (cc)
-pager_places (Join k) w p e = absurd (cc)
-pager_places (Want q) w p e = absurd (cc)
-pager_places (Skip k) w p e = absurd (cc)
-pager_places All w p e = absurd (cc)
-
-step_leaves : (s : Recorded) (name : Name) (w : World) (p : ℕ) → w.resident p ≡ true → (world_step s name w).resident p ≡ true
-step_leaves s (Guest, n) w p e = go (slice_get s.guest n)
+each_owed : (o : List Name) (a : Away) → AwayKept o a → IsRightShape (away_session a) → IsComplete a.source.geometry.pages a.source.ledger (is_there a.target) → HasEachOwed (away_session a) o
+each_owed o a k shape complete p lt owed = resident_at_end (away_session a) o shape k.merges p (go (a.target.placed p) refl (complete p lt (k.frozen.ledger_is p ∙ owed)))
   where
-    go : (o : Option GuestRec) → (changed (λ r w. guest_step_at w.home r w) o w).resident p ≡ true
-    go None = e
-    go (Some r) = guest_leaves w.home r w p e
-step_leaves s (FromSource, n) w p e = e
-step_leaves s (Link, n) w p e = e
-step_leaves s (Pager, n) w p e = go (slice_get s.pager n)
-  where
-    go : (o : Option PagerRec) → (changed pager_step o w).resident p ≡ true
-    go None = e
-    go (Some r) = pager_leaves r w p e
+    go : (q : Option ℕ) → a.target.placed p ≡ q → is_resident q (a.target.freed p) ≡ true → resident_before (away_session a) (length a.target.log) (length a.pager.log) p ≡ true
+    go None is e = or_right _ _ (k.target.released p e).1
+    go (Some n) is e = let w = k.target.places.found p n is in or_left _ _ (earlier_true (is_placement_of p) a.pager.log n (length a.pager.log) w.0 w.1 w.2 (slice_get_within a.pager.log n w.0 w.1))
 
-run_leaves : (s : Recorded) (names : List Name) (w : World) (p : ℕ) → w.resident p ≡ true → (run_from s w names).resident p ≡ true
-run_leaves s [] w p e = e
-run_leaves s (name ∷ names) w p e = run_leaves s names (world_step s name w) p (step_leaves s name w p e)
-
-run_append : (s : Recorded) (xs ys : List Name) (w : World) → run_from s w (xs ++ ys) ≡ run_from s (run_from s w xs) ys
-run_append s [] ys w = refl
-run_append s (x ∷ xs) ys w = run_append s xs ys (world_step s x w)
-
-placed_is_resident : (s : Recorded) (order : List Name) → IsMerging s order → (p k : ℕ) (r : PagerRec) → slice_get s.pager k ≡ Some r → is_placement_of p r ≡ true → (world_after s order).resident p ≡ true
-placed_is_resident s order merging p k r is at =
-    let w = stands_somewhere s order merging (Pager, k) (slice_get_within s.pager k r is) in
-    let past = run_from s (first_world s) w.0 in
-    let whole : world_after s order ≡ run_from s past ((Pager, k) ∷ w.1.0) = ap (λ names. run_from s (first_world s) names) w.1.1 ∙ run_append s w.0 ((Pager, k) ∷ w.1.0) (first_world s) in
-    let here : (world_step s (Pager, k) past).resident p ≡ true = ap (λ o. (changed pager_step o past).resident p) is ∙ pager_places r past p at in
-    ap (λ world. world.resident p) whole ∙ run_leaves s w.1.0 (world_step s (Pager, k) past) p here
-
-each_owed : (o : List Name) (a : Away) → AwayKept o a → IsComplete a.source.geometry.pages a.source.ledger a.target.placed → HasEachOwed (away_session a) o
-each_owed o a k complete p lt owed = go (a.target.placed p) refl (complete p lt (k.frozen.ledger_is p ∙ owed))
-  where
-    go : (q : Option ℕ) → a.target.placed p ≡ q → is_some q ≡ true → (world_after (away_session a) o).resident p ≡ true
-    go None is e = absurd (cc)
-    go (Some n) is e = let w = k.target.places.found p n is in placed_is_resident (away_session a) o k.merges p n w.0 w.1 w.2
+-- a page whose first touch at the target is a release that no look covers is never placed
+none_over : (o : List Name) (a : Away) → AwayKept o a → (p n : ℕ) (r : PagerRec) → slice_get a.pager.log n ≡ Some r → is_placement_of p r ≡ true → IsOver (away_session a) p → ⊥
+none_over o a k p n r is places over =
+    let none = (k.target.released p (k.target.over p over)).0 in
+    clash (earlier (is_placement_of p) a.pager.log (length a.pager.log)) (earlier_true (is_placement_of p) a.pager.log n (length a.pager.log) r is places (slice_get_within a.pager.log n r is)) (k.target.places.none p none)
 
 away_faultless : (o : List Name) (a : Away) → AwayKept o a → HasRoom (away_session a) → IsFaultlessSession (away_session a) o
 away_faultless o a k room =
     let s = away_session a in
     let session = is_session s room k.named k.limits a.source.memory a.source.ledger k.source.wide k.clean in
     let shape = right_shape s k.named k.started in
-    let plain = first_version_plain s refl shape in
-    let clean = no_page_fault s a.source.memory a.source.ledger k.frozen plain.none_over k.clean in
+    let clean = no_page_fault s a.source.memory a.source.ledger k.frozen (none_over o a k) k.clean in
     record {
       faultless = record { is_session = session; shape = shape; clean = clean };
       merging = k.merges;
       safe = clean_safe s clean session shape;
-      done = λ n e. each_owed o a k (k.ends.done n e);
+      done = λ n e. each_owed o a k shape (k.ends.done n e);
     }
 
 -- no page fault at home
@@ -166,9 +103,9 @@ away_keeps o Serve a k = served_keeps o a.link.up_arrivals a k refl
 away_keeps o SourceTick a k = ticked_keeps o a k
 away_keeps o (LinkTurn direction fate) a k = turned_keeps o direction fate a k
 away_keeps o PagerPop a k = popped_keeps o a.link.down_arrivals a k refl
-away_keeps o PagerFault a k = faulted_keeps o a.target.misses a k refl
+away_keeps o PagerFault a k = faulted_keeps o a k
 away_keeps o PagerFlush a k = flushed_keeps o a.pager.outbox a k refl
-away_keeps o PagerDeliver a k = delivered_keeps o a.pager.released a k refl
+away_keeps o PagerDeliver a k = delivered_keeps o a k
 away_keeps o PagerTick a k = pager_ticked_keeps o a.pager.released a k refl
 
 -- the books after an event, with the order that it leaves

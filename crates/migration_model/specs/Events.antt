@@ -20,6 +20,7 @@ use Rattle.migration_model.specs.Machine.{Vcpu, Scripted, Home, Away, Books, Bef
 abbrev pub start : Scripted → Machine
 start script = record {
   books = Before (record {
+    version = script.version;
     init = script.init;
     pivots = script.pivots;
     window = script.window;
@@ -67,6 +68,7 @@ abbrev pub halted : Home → Away
 halted h =
     let source = halted_source h.guest.geometry h.guest.memory h.guest.ledger h.pivots (length h.guest.log) in
     record {
+      version = h.version;
       init = h.init;
       window = h.window;
       vcpus = h.vcpus;

@@ -8,13 +8,13 @@ use Rattle.migration_types.specs.Extents.{Extent, IsExtent}
 use Rattle.migration_types.specs.Pages.{AreInitPages}
 use Rattle.migration_types.specs.Receipts.{Name}
 use Rattle.migration_types.specs.Sessions.{Recorded}
-use Rattle.migration_types.specs.declared.version.Version.TheVariants.{One}
+use Rattle.migration_types.specs.declared.version.Version.{Version}
 use Rattle.audit_model.specs.Mergings.{run_names}
 use Rattle.active_push.specs.SourcePart.{SourcePart}
 use Rattle.link_book.specs.LinkPart.{LinkPart}
 use Rattle.guest_book.specs.GuestPart.{GuestPart}
 use Rattle.migration_events.specs.declared.ops.Op.{Op}
-use Rattle.migration_events.specs.Ops.{OpFits}
+use Rattle.migration_events.specs.Ops.{OpFits, LateOpFits}
 use Rattle.target_book.specs.TargetPart.{TargetPart}
 use Rattle.target_side.specs.PagerPart.{PagerPart}
 
@@ -23,28 +23,30 @@ pub record Vcpu : Type 0 where
   pub before_move : List Op
   pub after_move : List Op
 
--- the machine, the pages that do not begin as zeros, how many pivots are kept at most, how many packets may be under
+-- the version, the machine, the pages that do not begin as zeros, how many pivots are kept at most, how many packets may be under
 -- way when a page is pushed, and the virtual processors
 pub record Scripted : Type 0 where
+  pub version : Version
   pub geometry : Extent
   pub init : List InitPage
   pub pivots : ℕ
   pub window : ℕ
   pub vcpus : List Vcpu
 
-pub record VcpuFits (e : Extent) (vcpu : Vcpu) : Type 0 where
+pub record VcpuFits (version : Version) (e : Extent) (vcpu : Vcpu) : Type 0 where
   pub before_move : AllByRecursion (OpFits e) vcpu.before_move
-  pub after_move : AllByRecursion (OpFits e) vcpu.after_move
+  pub after_move : AllByRecursion (LateOpFits version e) vcpu.after_move
 
 -- what a script says is within all limits that the law needs
 pub record IsScript (script : Scripted) : Type 0 where
   pub geometry : IsExtent script.geometry
   pub init : AreInitPages script.geometry script.init
   pub few_vcpus : length script.vcpus ≤ 64
-  pub vcpus : AllByRecursion (VcpuFits script.geometry) script.vcpus
+  pub vcpus : AllByRecursion (VcpuFits script.version script.geometry) script.vcpus
 
 -- before the halt there is the guest's book alone
 pub record Home : Type 0 where
+  pub version : Version
   pub init : List InitPage
   pub pivots : ℕ
   pub window : ℕ
@@ -53,6 +55,7 @@ pub record Home : Type 0 where
 
 -- from the halt on
 pub record Away : Type 0 where
+  pub version : Version
   pub init : List InitPage
   pub window : ℕ
   pub vcpus : List Vcpu
@@ -65,13 +68,13 @@ pub data Books : Type 0 where
   Before : Home → Books
   After : Away → Books
 
--- what the books have recorded, in the first version
+-- what the books have recorded, in the version of the script
 abbrev pub home_session : Home → Recorded
-home_session h = record { version = One; geometry = h.guest.geometry; init = h.init; guest = h.guest.log; source = []; link = []; pager = [] }
+home_session h = record { version = h.version; geometry = h.guest.geometry; init = h.init; guest = h.guest.log; source = []; link = []; pager = [] }
 
 abbrev pub away_session : Away → Recorded
 away_session a = record {
-  version = One;
+  version = a.version;
   geometry = a.source.geometry;
   init = a.init;
   guest = a.target.log;

@@ -4,7 +4,7 @@ use Rattle.migration_types.specs.Memory.{initial}
 use Rattle.migration_types.specs.PageSets.{no_page}
 use Rattle.migration_types.specs.Receipts.{Name}
 use Rattle.migration_types.specs.Sessions.{Recorded}
-use Rattle.migration_types.specs.declared.version.Version.TheVariants.{One}
+use Rattle.migration_types.specs.declared.version.Version.TheVariants.{One, Two}
 use Rattle.migration_types.specs.declared.records.GuestRec.{GuestRec}
 use Rattle.migration_types.specs.declared.records.GuestRec.TheVariants.{Halt, Miss, Read, Release, Resume, See}
 use Rattle.migration_types.specs.declared.records.LinkRec.TheVariants.{Down, Up}
@@ -37,6 +37,7 @@ Records script events session order = recording (run events (start script)) ≡ 
 -- Two virtual processors miss the same page; the page is lost on its way and sent again.
 abbrev pub script_of_two : Scripted
 script_of_two = record {
+  version = One;
   geometry = record { pages = 2; cells = 1 };
   init = record { page = 1; cells = 7 ∷ [] } ∷ [];
   pivots = 1;
@@ -70,6 +71,7 @@ order_of_two =
 -- A page comes before the state, a state comes twice, and a released page is missed.
 abbrev pub script_of_one : Scripted
 script_of_one = record {
+  version = One;
   geometry = record { pages = 2; cells = 1 };
   init = [];
   pivots = 1;
@@ -100,6 +102,38 @@ order_of_one =
     ∷ (Pager, 1) ∷ (Guest, 2) ∷ (Link, 2) ∷ (Pager, 2) ∷ (Pager, 3) ∷ (Link, 3) ∷ (Pager, 4) ∷ (Pager, 5) ∷ (Pager, 6) ∷ (Guest, 3)
     ∷ (Pager, 7) ∷ (Pager, 8) ∷ (Guest, 4) ∷ (Guest, 5) ∷ (Link, 4) ∷ (FromSource, 4) ∷ (FromSource, 5) ∷ (Pager, 9) ∷ (Link, 5)
     ∷ (FromSource, 6) ∷ (FromSource, 7) ∷ []
+
+-- A page is released at the target before it comes.
+abbrev pub script_of_release : Scripted
+script_of_release = record {
+  version = Two;
+  geometry = record { pages = 1; cells = 1 };
+  init = record { page = 0; cells = 6 ∷ [] } ∷ [];
+  pivots = 1;
+  window = 4;
+  vcpus = record { before_move = []; after_move = ReleasePage 0 ∷ ReadCell 0 0 ∷ [] } ∷ [];
+}
+
+abbrev pub events_of_release : List Event
+events_of_release =
+    HaltGuest ∷ Push ∷ LinkTurn Downward Deliver ∷ PagerPop ∷ PagerDeliver ∷ GuestStep 0 ∷ LinkTurn Downward Deliver ∷ PagerPop ∷ PagerDeliver
+    ∷ GuestStep 0 ∷ []
+
+abbrev pub session_of_release : Recorded
+session_of_release = record {
+  version = Two;
+  geometry = record { pages = 1; cells = 1 };
+  init = record { page = 0; cells = 6 ∷ [] } ∷ [];
+  guest = Halt ∷ Resume 1 ∷ Release 0 0 ∷ Read 0 0 0 0 ∷ [];
+  source = Halted 0 ∷ State ∷ Send 0 (6 ∷ []) ∷ [];
+  link = Down 1 ∷ Down 2 ∷ [];
+  pager = Got 0 ∷ Ready ∷ Got 1 ∷ Skip 2 ∷ [];
+}
+
+abbrev pub order_of_release : List Name
+order_of_release =
+    (Guest, 0) ∷ (FromSource, 0) ∷ (FromSource, 1) ∷ (FromSource, 2) ∷ (Link, 0) ∷ (Pager, 0) ∷ (Pager, 1) ∷ (Guest, 1) ∷ (Guest, 2)
+    ∷ (Link, 1) ∷ (Pager, 2) ∷ (Pager, 3) ∷ (Guest, 3) ∷ []
 
 -- the virtual processors that the next delivery of the pager wakes
 abbrev pub woken_in : Books → List ℕ
@@ -144,6 +178,7 @@ source_records = Halted 0 ∷ State ∷ Send 0 (0 ∷ []) ∷ Ask 3 ∷ Send 1 (
 abbrev pub core_with : List GuestRec → Machine
 core_with log = record {
   books = Before (record {
+    version = One;
     init = [];
     pivots = 1;
     window = 1;
