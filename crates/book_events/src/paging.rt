@@ -1,8 +1,9 @@
 //! The pager's events, on the link's and the pager's books, or on the pager's and the target's.
 
-ghost use Rattle.std.specs.Prelude.{◌≡◌, [], None, Some, slice_get, IfOk, OnOk, OnErr, IsErrOf};
+ghost use Rattle.std.specs.Prelude.{◌≡◌, [], None, Some, slice_get, IsTrue, IfOk, OnOk, OnErr, IsErrOf};
 ghost use Rattle.link_book.specs.declared.Arrival.{Arrival};
 ghost use Rattle.target_book.specs.Kept.{geometry_of, part_of as target_of};
+ghost use Rattle.target_side.specs.PagerPart.{delivers_by};
 ghost use Rattle.target_side.specs.PagerLists.{part_of, IsPacketOf};
 ghost use Rattle.migration_events.specs.declared.events.Event.{Event};
 ghost use Rattle.book_events.specs.Parts.{receiving, placing, IsMade, IsFull, Tells};
@@ -47,8 +48,8 @@ pub fn pager_flush(link: &mut LinkBook, pager: &mut PagerBook) -> Result<Came, E
     Ok(Came::Made)
 }
 
-/// PagerTick: once the state has come, the pager asks once more for a page that is not placed, or says that all are.
-/// `EventFault::LogFull` only where its log has no room for the record. On an error nothing changes.
+/// PagerTick: once the state has come, the pager asks once more for a page that is neither placed nor settled, or says
+/// that all are. `EventFault::LogFull` only where its log has no room for the record. On an error nothing changes.
 pub fn pager_tick(link: &mut LinkBook, pager: &mut PagerBook) -> Result<Came, EventFault>
     ensures ok { OnOk result (IsMade Event.PagerTick (receiving link.old.part (part_of pager.old)) (receiving link.new.part (part_of pager.new))) }
     ensures told { IfOk result (λ came. Tells came (receiving link.old.part (part_of pager.old)) (receiving link.new.part (part_of pager.new))) }
@@ -64,9 +65,10 @@ pub fn pager_tick(link: &mut LinkBook, pager: &mut PagerBook) -> Result<Came, Ev
     Ok(Came::Made)
 }
 
-/// PagerFault: the pager learns of the oldest miss that it has not taken, if there is one. The books are of one machine,
-/// and a miss comes only once the state has. `EventFault::LogFull` only where the pager's log has no room for the
-/// records. On an error nothing changes.
+/// PagerFault: the pager settles the pages that the guest released at the target before they came, and learns of the
+/// oldest miss that it has not taken, if there is one; where there is neither, there is nothing to do. The books are of
+/// one machine, and a miss comes only once the state has. `EventFault::LogFull` only where the pager's log has no room
+/// for the records. On an error nothing changes.
 pub fn pager_fault(pager: &mut PagerBook, target: &mut TargetBook) -> Result<Came, EventFault>
     requires machine { geometry_of target.old ≡ pager.old.geometry }
     requires ready { pager.old.released ≡ None → (target_of target.old).misses ≡ [] }
@@ -76,16 +78,17 @@ pub fn pager_fault(pager: &mut PagerBook, target: &mut TargetBook) -> Result<Cam
     ensures full { IsErrOf result EventFault.LogFull → IsFull Event.PagerFault (placing (part_of pager.old) (target_of target.old)) }
     ensures err { OnErr result ((part_of pager.new ≡ part_of pager.old) × (target_of target.new ≡ target_of target.old)) }
 {
-    if target.next_miss().is_none() {
+    if target.unsettled().is_empty() && target.next_miss().is_none() {
         return Ok(Came::Nothing);
     }
     pager.next_fault(target)?;
     Ok(Came::Made)
 }
 
-/// PagerDeliver: once the state has come, the pager lets the guest resume, and from then on places the oldest page that
-/// has come, if there is one. The books are of one machine. `EventFault::LogFull` only where a log has no room for the
-/// record. On an error nothing changes.
+/// PagerDeliver: the pager settles the pages that the guest released at the target before they came. Once the state has
+/// come it lets the guest resume, and from then on takes the oldest page that has come, if there is one, which it places,
+/// or drops where it is resident already. Where there is nothing of this, there is nothing to do. The books are of one
+/// machine. `EventFault::LogFull` only where a log has no room for the record. On an error nothing changes.
 pub fn pager_deliver(pager: &mut PagerBook, target: &mut TargetBook) -> Result<Came, EventFault>
     requires machine { geometry_of target.old ≡ pager.old.geometry }
     ensures ok { OnOk result (IsMade Event.PagerDeliver (placing (part_of pager.old) (target_of target.old)) (placing (part_of pager.new) (target_of target.new))) }
@@ -94,9 +97,16 @@ pub fn pager_deliver(pager: &mut PagerBook, target: &mut TargetBook) -> Result<C
     ensures full { IsErrOf result EventFault.LogFull → IsFull Event.PagerDeliver (placing (part_of pager.old) (target_of target.old)) }
     ensures err { OnErr result ((part_of pager.new ≡ part_of pager.old) × (target_of target.new ≡ target_of target.old)) }
 {
-    if !pager.is_ready() || (target.is_resumed() && pager.next_page().is_none()) {
+    if target.unsettled().is_empty() && brings_nothing(pager, target) {
         return Ok(Came::Nothing);
     }
     pager.deliver(target)?;
     Ok(Came::Made)
+}
+
+/// Whether the pager has nothing to bring to the target: neither the state nor a page.
+fn brings_nothing(pager: &PagerBook, target: &TargetBook) -> bool
+    ensures { IsTrue result → delivers_by pager.now.released (part_of pager.now) (target_of target.now) ≡ record { pager = part_of pager.now; target = target_of target.now; woken = [] } }
+{
+    !pager.is_ready() || (target.is_resumed() && pager.next_page().is_none())
 }

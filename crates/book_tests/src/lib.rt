@@ -13,6 +13,8 @@ mod packets;
 #[cfg(test)]
 mod pagers;
 #[cfg(test)]
+mod settling;
+#[cfg(test)]
 mod sources;
 #[cfg(test)]
 mod targets;

@@ -1,4 +1,5 @@
-//! Two virtual processors that miss one page, on a machine of two pages of one cell, and what a full log refuses.
+//! Two virtual processors that miss one page, on a machine of two pages of one cell, one that releases a page for
+//! which another waits, and what a full log refuses.
 
 use migration_events::Op;
 use migration_types::{Contents, Geometry, MOST_RECORDS, PageNo, PagerRec, Shared};
@@ -9,7 +10,7 @@ use target_book::{Access, TargetBook, TargetFault};
 use target_side::PagerBook;
 
 /// The state comes, with no released page, and the guest resumes.
-fn begins(alloc: Global, pager: &mut PagerBook, target: &mut TargetBook) -> bool {
+pub(crate) fn begins(alloc: Global, pager: &mut PagerBook, target: &mut TargetBook) -> bool {
     let Ok(released) = Shared::from_vec(Vec::new(alloc)) else {
         return false;
     };
@@ -64,18 +65,18 @@ fn page_comes(pager: &mut PagerBook) -> Result<(), TargetFault> {
     pager.pop(3, &packet)
 }
 
-/// It is the packet that wants page 1, by this record.
-fn wants_first(packet: &Option<Packet>, record: u32) -> bool {
+/// It is the packet that wants this page, by this record.
+fn is_want(packet: &Option<Packet>, record: u32, wanted: u16) -> bool {
     match packet {
-        Some(Packet::Want { number, page }) => *number == record && page.number() == 1,
+        Some(Packet::Want { number, page }) => *number == record && page.number() == wanted,
         _ => false,
     }
 }
 
-/// A tick wants page 1, by this record.
-fn ticks(pager: &mut PagerBook, record: u32) -> bool {
+/// A tick wants this page, by this record.
+fn ticks(pager: &mut PagerBook, record: u32, wanted: u16) -> bool {
     match pager.tick() {
-        Ok(packet) => wants_first(&packet, record),
+        Ok(packet) => is_want(&packet, record, wanted),
         Err(_) => false,
     }
 }
@@ -130,10 +131,55 @@ fn two_wait_for_one_page(rt: HostRuntime) -> Result<(), Fail> {
     let mut target = halted.expect(&rt, "memory for the target");
     assert!(rt; begins(rt.alloc(), &mut pager, &mut target));
     assert!(rt; both_miss(&mut pager, &mut target));
-    assert!(rt; wants_first(&pager.flush(), 3));
-    assert!(rt; ticks(&mut pager, 6));
+    assert!(rt; is_want(&pager.flush(), 3, 1));
+    assert!(rt; ticks(&mut pager, 6, 1));
     assert!(rt; both_wake(&mut pager, &mut target));
     assert!(rt; is_run(pager.pager_log()));
+    Ok(())
+}
+
+/// The other virtual processor releases page 1.
+fn releases(target: &mut TargetBook) -> bool {
+    if target.geometry().pages() != 2 {
+        return false;
+    }
+    let page = PageNo::new(1);
+    target.access(1, Op::Release { page }) == Ok(Access::Done(0))
+}
+
+/// Page 1 comes once it was released: it wakes nobody.
+fn comes_too_late(pager: &mut PagerBook, target: &mut TargetBook) -> bool {
+    page_comes(pager).is_ok() && delivers(pager, target, &[]) && target.unsettled().is_empty()
+}
+
+/// What is recorded of a page that was released before it came.
+fn is_dropped(log: &[PagerRec]) -> bool {
+    match log {
+        [
+            PagerRec::Got { down: 0 },
+            PagerRec::Ready,
+            PagerRec::Fault { miss: 2 },
+            PagerRec::Want { page },
+            PagerRec::Got { down: 3 },
+            PagerRec::Skip { got: 4 },
+            ..
+        ] => page.number() == 1,
+        _ => false,
+    }
+}
+
+#[test]
+fn nobody_waits_for_a_released_page(rt: HostRuntime) -> Result<(), Fail> {
+    let geometry = Geometry::new(2, 1)?;
+    let mut pager = PagerBook::new(rt.alloc(), geometry)?;
+    let halted = TargetBook::halted(rt.alloc(), geometry, Vec::new(rt.alloc())).ok();
+    let mut target = halted.expect(&rt, "memory for the target");
+    assert!(rt; begins(rt.alloc(), &mut pager, &mut target));
+    assert!(rt; misses(&mut target, 0) && learns(&mut pager, &mut target).is_ok());
+    assert!(rt; releases(&mut target));
+    assert!(rt; comes_too_late(&mut pager, &mut target));
+    assert!(rt; is_dropped(pager.pager_log()));
+    assert!(rt; ticks(&mut pager, 6, 0));
     Ok(())
 }
 

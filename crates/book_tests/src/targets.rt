@@ -1,4 +1,4 @@
-//! A guest that misses a page and goes on once it is placed, a page of zeros, and logs without room.
+//! A guest that misses a page and goes on once it is placed, a page of zeros, releases, and logs without room.
 
 use migration_events::Op;
 use migration_types::{Geometry, GuestRec, PageNo};
@@ -39,6 +39,15 @@ fn write(book: &mut TargetBook, page: u16, cell: u16, value: u64) -> Option<Acce
     book.access(0, Op::Write { page, cell, value }).ok()
 }
 
+/// Releases a page of a machine that has it.
+fn release(book: &mut TargetBook, vcpu: u8, page: u16) -> Option<Access> {
+    if u32::from(page) >= book.geometry().pages() {
+        return None;
+    }
+    let page = PageNo::new(page);
+    book.access(vcpu, Op::Release { page }).ok()
+}
+
 /// Whether a machine has the page, and the pager's record of this number placed it.
 fn is_placed_at(book: &TargetBook, page: u16, number: u32) -> bool {
     u32::from(page) < book.geometry().pages() && book.placed_at(PageNo::new(page)) == Some(number)
@@ -51,10 +60,7 @@ fn place(book: &mut TargetBook, page: u16, number: u32, cells: &[u64]) -> bool {
         return false;
     }
     let page = PageNo::new(page);
-    match book.placed_at(page) {
-        None => book.place(page, number, cells).is_ok(),
-        Some(_) => false,
-    }
+    !book.resident(page) && book.place(page, number, cells).is_ok()
 }
 
 /// Places an absent page as zeros.
@@ -63,10 +69,7 @@ fn zero(book: &mut TargetBook, page: u16, number: u32) -> bool {
         return false;
     }
     let page = PageNo::new(page);
-    match book.placed_at(page) {
-        None => book.zero(page, number).is_ok(),
-        Some(_) => false,
-    }
+    !book.resident(page) && book.zero(page, number).is_ok()
 }
 
 /// The guest resumes, where it has not.
@@ -143,6 +146,48 @@ fn misses_looks_and_goes_on(rt: HostRuntime) -> Result<(), Fail> {
     let (log, frames) = book.into_parts();
     assert!(rt; log.len() == 9 && looks_at(&log, 3, 5) && looks_at(&log, 7, 8));
     assert!(rt; cell(&frames, 1, 0) == Some(9) && cell(&frames, 1, 1) == Some(7));
+    Ok(())
+}
+
+/// An absent page that is released is there as zeros at once, and is to be settled.
+fn frees(book: &mut TargetBook) -> bool {
+    let freed = release(book, 1, 1);
+    let listed = book.unsettled() == [PageNo::new(1)].as_slice();
+    let again = release(book, 0, 1);
+    let zeros = read(book, 0, 1, 1);
+    let once = book.unsettled().len() == 1;
+    book.settle();
+    freed == Some(Access::Done(0))
+        && listed
+        && again == Some(Access::Done(0))
+        && zeros == Some(Access::Done(0))
+        && once
+        && book.unsettled().is_empty()
+        && book.next_miss().is_none()
+        && !place(book, 1, 9, &[6, 7])
+}
+
+/// A page that was placed is released after a look.
+fn looks_first(book: &mut TargetBook) -> bool {
+    let placed = place(book, 0, 5, &[6, 7]);
+    let released = release(book, 0, 0);
+    let zeros = read(book, 0, 0, 1);
+    placed
+        && released == Some(Access::Done(0))
+        && zeros == Some(Access::Done(0))
+        && book.unsettled().is_empty()
+        && is_placed_at(book, 0, 5)
+}
+
+#[test]
+fn releases_at_the_target(rt: HostRuntime) -> Result<(), Fail> {
+    let geometry = Geometry::new(2, 2)?;
+    let mut book = halted(rt.alloc(), geometry, 0).expect(&rt, "a book");
+    assert!(rt; resume(&mut book) == Some(Ok(())));
+    assert!(rt; frees(&mut book));
+    assert!(rt; looks_first(&mut book));
+    let (log, _) = book.into_parts();
+    assert!(rt; log.len() == 8 && looks_at(&log, 5, 5));
     Ok(())
 }
 

@@ -5,15 +5,13 @@ use Rattle.std.proofs.lemmas.List.{length-map}
 use Rattle.std.specs.Prelude.{slice_get, map}
 use Rattle.std.specs.List.{AllByRecursion}
 use Rattle.migration_types.specs.Extents.{Extent}
+use Rattle.migration_types.specs.declared.version.Version.{Version}
 use Rattle.migration_types.specs.Pages.{InitPageFits}
 use Rattle.migration_types.specs.declared.pages.InitPage.{InitPage}
 use Rattle.page_store.specs.Frames.{IsPageOf}
 use Rattle.migration_events.specs.declared.ops.Op.{Op}
-use Rattle.migration_events.specs.declared.ops.Op.TheVariants.{Read, Write, Release}
-use Rattle.migration_events.specs.Ops.{OpFits}
 use Rattle.guest_script.specs.declared.vcpus.Vcpu.{Vcpu as Scheduled}
-use Rattle.guest_script.specs.Scenarios.{LateOpFits, Scenario, IsScenario, VcpuFits as ScheduledFits}
-use Rattle.target_book.specs.History.{IsAccess}
+use Rattle.guest_script.specs.Scenarios.{Scenario, IsScenario, VcpuFits as ScheduledFits}
 use Rattle.target_book.specs.TargetPart.{TargetPart, Accessed, target_access}
 use Rattle.target_book.specs.declared.Access.{Access}
 use Rattle.target_book.specs.declared.Access.TheVariants.{Done, Missed, Waiting}
@@ -47,34 +45,24 @@ pub late_goes : (v : ℕ) (vcpu : Vcpu) (next : Next) (a : Away) (r : Accessed) 
 late_goes v vcpu next a r at is done = ap (λ (q : Accessed). went_on v next.left q a) done ∙ sym (rw at (late_by_goes v vcpu vcpu.after_move next a is))
 
 -- a script in its limits is one of the events, and all that it has to do is left
-late_access : (e : Extent) (op : Op) → LateOpFits e op → IsAccess e op
-late_access e (Read page cell) is = is
-late_access e (Write page cell value) is = is
-late_access e (Release page) is = is
-
-access_fits : (e : Extent) (op : Op) → LateOpFits e op → OpFits e op
-access_fits e (Read page cell) is = is
-access_fits e (Write page cell value) is = is
-access_fits e (Release page) is = absurd is
-
 pub each_map : {A : Type 0} (P Q : A → Type 0) → ((x : A) → P x → Q x) → (xs : List A) → AllByRecursion P xs → AllByRecursion Q xs
 each_map P Q go [] all = all
 each_map P Q go (x ∷ xs) all = (go x all.0, each_map P Q go xs all.1)
 
-pub all_left_fits : (e : Extent) (vcpus : List Scheduled) → AllByRecursion (ScheduledFits e) vcpus → AllByRecursion (LeftFits e) (map vcpu_of vcpus)
-all_left_fits e [] all = all
-all_left_fits e (vcpu ∷ vcpus) all = (record { before_move = all.0.before_move; after_move = each_map (LateOpFits e) (IsAccess e) (late_access e) vcpu.after_move all.0.after_move }, all_left_fits e vcpus all.1)
+pub all_left_fits : (version : Version) (e : Extent) (vcpus : List Scheduled) → AllByRecursion (ScheduledFits version e) vcpus → AllByRecursion (LeftFits version e) (map vcpu_of vcpus)
+all_left_fits version e [] all = all
+all_left_fits version e (vcpu ∷ vcpus) all = (record { before_move = all.0.before_move; after_move = all.0.after_move }, all_left_fits version e vcpus all.1)
 
-all_scripted_fit : (e : Extent) (vcpus : List Scheduled) → AllByRecursion (ScheduledFits e) vcpus → AllByRecursion (VcpuFits e) (map vcpu_of vcpus)
-all_scripted_fit e [] all = all
-all_scripted_fit e (vcpu ∷ vcpus) all = (record { before_move = all.0.before_move; after_move = each_map (LateOpFits e) (OpFits e) (access_fits e) vcpu.after_move all.0.after_move }, all_scripted_fit e vcpus all.1)
+all_scripted_fit : (version : Version) (e : Extent) (vcpus : List Scheduled) → AllByRecursion (ScheduledFits version e) vcpus → AllByRecursion (VcpuFits version e) (map vcpu_of vcpus)
+all_scripted_fit version e [] all = all
+all_scripted_fit version e (vcpu ∷ vcpus) all = (record { before_move = all.0.before_move; after_move = all.0.after_move }, all_scripted_fit version e vcpus all.1)
 
 pub script_is : (s : Scenario) → IsScenario s → IsScript (scripted_of s)
 script_is s is = record {
   geometry = is.geometry;
   init = is.init;
   few_vcpus = rw (length-map s.vcpus vcpu_of) is.few_vcpus;
-  vcpus = all_scripted_fit s.geometry s.vcpus is.vcpus;
+  vcpus = all_scripted_fit s.version s.geometry s.vcpus is.vcpus;
 }
 
 pub init_is : (e : Extent) (init : List InitPage) → AllByRecursion (InitPageFits e) init → AllByRecursion (IsPageOf e) init

@@ -1,14 +1,14 @@
 -- A migration before its halt and after it: what its sides hold, and what they stand for in the events.
 use Rattle.std.specs.Prelude.{◌≡◌, List, map}
 use Rattle.std.specs.List.{AllByRecursion}
+use Rattle.migration_types.specs.declared.version.Version.{Version}
 use Rattle.migration_types.specs.Extents.{Extent}
-use Rattle.migration_events.specs.Ops.{OpFits}
+use Rattle.migration_events.specs.Ops.{OpFits, LateOpFits}
 use Rattle.guest_script.specs.Scenarios.{Scenario}
 use Rattle.guest_script.specs.declared.vcpus.Vcpu.{Vcpu as Scheduled}
 use Rattle.active_push.specs.Books.{SourceKept, part_of as source_of}
 use Rattle.link_book.specs.Links.{Linked}
 use Rattle.guest_book.specs.Books.{GuestKept, part_of as guest_of}
-use Rattle.target_book.specs.History.{IsAccess}
 use Rattle.target_book.specs.Kept.{Kept, part_of as target_of, geometry_of}
 use Rattle.target_side.specs.PagerLists.{PagerLists, part_of as pager_of}
 use Rattle.migration_model.specs.Machine.{Vcpu, Scripted, Home, Away}
@@ -18,7 +18,7 @@ abbrev pub vcpu_of : Scheduled → Vcpu
 vcpu_of vcpu = record { before_move = vcpu.before_move; after_move = vcpu.after_move }
 
 abbrev pub scripted_of : Scenario → Scripted
-scripted_of s = record { geometry = s.geometry; init = s.init; pivots = s.pivots; window = s.window; vcpus = map vcpu_of s.vcpus }
+scripted_of s = record { version = s.version; geometry = s.geometry; init = s.init; pivots = s.pivots; window = s.window; vcpus = map vcpu_of s.vcpus }
 
 -- before the halt: the script, what each virtual processor has left to do, and the guest's book
 pub record HomeLists : Type 0 where
@@ -38,6 +38,7 @@ pub record AwayLists : Type 0 where
 -- what they stand for
 abbrev pub home_of : HomeLists → Home
 home_of h = record {
+  version = h.script.version;
   init = h.script.init;
   pivots = h.script.pivots;
   window = h.script.window;
@@ -47,6 +48,7 @@ home_of h = record {
 
 abbrev pub away_of : AwayLists → Away
 away_of a = record {
+  version = a.script.version;
   init = a.script.init;
   window = a.script.window;
   vcpus = a.vcpus;
@@ -56,18 +58,19 @@ away_of a = record {
   target = target_of a.target;
 }
 
--- the machine has what a virtual processor has left to do, and it releases nothing after its move
-pub record LeftFits (e : Extent) (vcpu : Vcpu) : Type 0 where
+-- the machine has what a virtual processor has left to do, and what it releases after its move, scripts of this version
+-- may
+pub record LeftFits (version : Version) (e : Extent) (vcpu : Vcpu) : Type 0 where
   pub before_move : AllByRecursion (OpFits e) vcpu.before_move
-  pub after_move : AllByRecursion (IsAccess e) vcpu.after_move
+  pub after_move : AllByRecursion (LateOpFits version e) vcpu.after_move
 
 -- all is of the script's machine
 pub record IsHome (h : HomeLists) : Type 0 where
   pub guest : h.guest.frames.geometry ≡ h.script.geometry
-  pub vcpus : AllByRecursion (LeftFits h.script.geometry) h.vcpus
+  pub vcpus : AllByRecursion (LeftFits h.script.version h.script.geometry) h.vcpus
 
 pub record IsAway (a : AwayLists) : Type 0 where
   pub source : a.source.frames.geometry ≡ a.script.geometry
   pub pager : a.pager.geometry ≡ a.script.geometry
   pub target : geometry_of a.target ≡ a.script.geometry
-  pub vcpus : AllByRecursion (LeftFits a.script.geometry) a.vcpus
+  pub vcpus : AllByRecursion (LeftFits a.script.version a.script.geometry) a.vcpus

@@ -15,7 +15,7 @@ use active_push::SourceBook;
 use guest_script::Script;
 use link_book::LinkBook;
 use migration_events::{Direction, Event, Fate};
-use migration_types::{GuestRec, LinkRec, Logs, PagerRec, Seq, Session, SourceRec, Version};
+use migration_types::{GuestRec, LinkRec, Logs, PagerRec, Seq, Session, SourceRec};
 use std::alloc::{AllocError, Global};
 use std::marker::Model;
 use target_side::{Access, PagerBook, TargetBook};
@@ -48,7 +48,8 @@ impl<'a> Model for Away<'a> {
 }
 
 impl<'a> Away<'a> {
-    /// A virtual processor's next operation after its move: once the guest has resumed it is done, or misses its page.
+    /// A virtual processor's next operation after its move: once the guest has resumed it is done, or a read or a write
+    /// misses its page.
     pub fn guest_step(&mut self, vcpu: u8) -> Result<(), CoreFault>
         ensures ok { OnOk result (away_of self.new ≡ away_event (Event.GuestStep vcpu) (away_of self.old)) }
         ensures script { self.new.script ≡ self.old.script }
@@ -124,7 +125,8 @@ impl<'a> Away<'a> {
         Ok(())
     }
 
-    /// The pager learns of the oldest miss that it has not taken. There is none before the state has come.
+    /// The pager settles the pages that the guest released before they came, and learns of the oldest miss that it has not
+    /// taken. There is none before the state has come.
     pub fn fault(&mut self) -> Result<(), CoreFault>
         requires { (away_of self.old).pager.released ≡ None → (away_of self.old).target.misses ≡ [] }
         ensures ok { OnOk result (away_of self.new ≡ away_event Event.PagerFault (away_of self.old)) }
@@ -147,7 +149,8 @@ impl<'a> Away<'a> {
         Ok(())
     }
 
-    /// The pager lets the guest resume, or places the oldest page that has come.
+    /// The pager settles the pages that the guest released before they came, and lets the guest resume, or places or drops
+    /// the oldest page that has come.
     pub fn deliver(&mut self) -> Result<(), CoreFault>
         ensures ok { OnOk result (away_of self.new ≡ away_event Event.PagerDeliver (away_of self.old)) }
         ensures script { self.new.script ≡ self.old.script }
@@ -158,7 +161,7 @@ impl<'a> Away<'a> {
         Ok(())
     }
 
-    /// The pager asks once more for a page that is not placed, or says that all are.
+    /// The pager asks once more for a page that is neither placed nor settled, or says that all are.
     pub fn pager_tick(&mut self) -> Result<(), CoreFault>
         ensures ok { OnOk result (away_of self.new ≡ away_event Event.PagerTick (away_of self.old)) }
         ensures script { self.new.script ≡ self.old.script }
@@ -213,7 +216,7 @@ impl<'a> Away<'a> {
             link: Seq::from_vec(link),
             pager,
         };
-        Ok(Session::new(Version::One, self.source.geometry(), init, logs))
+        Ok(Session::new(self.script.version(), self.source.geometry(), init, logs))
     }
 
     /// What was recorded, where it is within the limits of a session; nothing of it is copied but the initial pages. An
@@ -224,6 +227,7 @@ impl<'a> Away<'a> {
     {
         let init = self.script.copied_init(self.alloc)?;
         let Away {
+            script,
             source,
             link,
             pager,
@@ -238,7 +242,7 @@ impl<'a> Away<'a> {
             link: Seq::from_vec(link.into_log()),
             pager: Seq::from_vec(pager.into_log()),
         };
-        Ok(Session::new(Version::One, geometry, init, logs))
+        Ok(Session::new(script.version(), geometry, init, logs))
     }
 
     /// Tells callers what it keeps: all is of the script's machine, and each log is within its limit.

@@ -141,6 +141,7 @@ impl<'a> Home<'a> {
         let guest = Vec::from_slice(self.alloc, self.guest.guest_log())?;
         Ok(guest_session(
             self.alloc,
+            self.script.version(),
             self.guest.geometry(),
             init,
             Seq::from_vec(guest),
@@ -154,10 +155,15 @@ impl<'a> Home<'a> {
         ensures { IfOk result (λ s. s ≡ home_session (home_of self.entry)) }
     {
         let init = self.script.copied_init(self.alloc)?;
-        let Home { alloc, guest, .. } = self;
+        let Home {
+            alloc,
+            script,
+            guest,
+            ..
+        } = self;
         let geometry = guest.geometry();
         let log = Seq::from_vec(guest.into_log());
-        Ok(guest_session(alloc, geometry, init, log))
+        Ok(guest_session(alloc, script.version(), geometry, init, log))
     }
 
     /// Tells callers what it keeps: all is of the script's machine, and the log is within its limit.
@@ -172,12 +178,13 @@ impl<'a> Home<'a> {
 /// What was recorded where nobody but the guest recorded anything.
 fn guest_session(
     alloc: Global,
+    version: Version,
     geometry: Geometry,
     init: Seq<InitPage>,
     guest: Seq<GuestRec>,
 ) -> Session
-    requires { IsSession (guest_session geometry init guest) }
-    ensures { result ≡ guest_session geometry init guest }
+    requires { IsSession (record (guest_session geometry init guest) { version = version }) }
+    ensures { result ≡ record (guest_session geometry init guest) { version = version } }
 {
     let logs = Logs {
         guest,
@@ -185,5 +192,5 @@ fn guest_session(
         link: Seq::from_vec(Vec::new(alloc)),
         pager: Seq::from_vec(Vec::new(alloc)),
     };
-    Session::new(Version::One, geometry, init, logs)
+    Session::new(version, geometry, init, logs)
 }

@@ -16,5 +16,5 @@ invariant_of-result c =
       guest = ap (λ (b : GuestPart). b.geometry) c.in_ok-guest.ensures ∙ c.geometry.ensures;
       vcpus =
           let all = c.in_ok-vcpus.ensures ∙ ap (λ (vcpus : List Scheduled). map vcpu_of vcpus) c.vcpus.ensures in
-          subst (AllByRecursion (LeftFits c.args.script.now.geometry)) (sym all) (all_left_fits _ _ c.keeps_limits.ensures.vcpus);
+          subst (AllByRecursion (LeftFits c.args.script.now.version c.args.script.now.geometry)) (sym all) (all_left_fits _ _ _ c.keeps_limits.ensures.vcpus);
     }
