@@ -1,11 +1,10 @@
 -- The limits of a session, from its logs'.
 use Rattle.migration_types.specs.declared.session.Logs.{Logs}
 use Rattle.migration_types.specs.Sessions.{recorded, IsSession}
-use Rattle.migration_types.specs.declared.version.Version.TheVariants.{One}
 use Rattle.guest_script.specs.Scenarios.{Scenario, IsScenario}
 use Rattle.host_checks.specs.inner.Limits.{AreShort, AreOfMachine}
 
-pub is_session : (s : Scenario) (logs : Logs) → IsScenario s → AreShort logs → AreOfMachine s.geometry logs → IsSession (recorded One s.geometry s.init logs)
+pub is_session : (s : Scenario) (logs : Logs) → IsScenario s → AreShort logs → AreOfMachine s.geometry logs → IsSession (recorded s.version s.geometry s.init logs)
 is_session s logs script short fits = record {
   geometry = script.geometry;
   init = script.init;

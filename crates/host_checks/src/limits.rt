@@ -3,7 +3,6 @@
 ghost use Rattle.std.specs.Prelude.{◌≡◌, ◌<◌, ◌≤◌, IfOk, IfErr, IsTrue};
 ghost use Rattle.std.specs.List.{AllByRecursion};
 ghost use Rattle.text_lines.specs.Contents.{IsContent};
-ghost use Rattle.migration_types.specs.declared.version.Version.TheVariants.{One};
 ghost use Rattle.migration_types.specs.Sessions.{GuestRecFits, SourceRecFits, LinkRecFits, PagerRecFits, recorded, IsNumber};
 ghost use Rattle.host_checks.specs.Outcomes.{IsRefused};
 ghost use Rattle.host_checks.specs.inner.Limits.{AreShort, AreOfMachine};
@@ -12,7 +11,7 @@ use crate::outcome::RunFault;
 use guest_script::Script;
 use migration_types::{
     Contents, Geometry, GuestRec, LAST_RECORD, LAST_VCPU, LinkRec, Logs, MOST_RECORDS, PageNo,
-    PagerRec, Session, SourceRec, Version,
+    PagerRec, Session, SourceRec,
 };
 use std::alloc::Global;
 
@@ -171,11 +170,11 @@ fn are_of_machine(geometry: Geometry, logs: &Logs) -> bool
         && pager_log_fits(geometry, logs.pager.as_slice())
 }
 
-/// The session of a script's machine with these logs. Refused: a record is beyond a session's limits, or there is no
-/// memory.
+/// The session of a script's version and machine with these logs. Refused: a record is beyond a session's limits, or
+/// there is no memory.
 pub(crate) fn session_of(alloc: Global, script: &Script, logs: Logs) -> Result<Session, RunFault>
-    ensures session { IfOk result (λ s. s ≡ recorded One script.now.geometry script.now.init logs) }
-    ensures refused { IfErr result (IsRefused (recorded One script.now.geometry script.now.init logs)) }
+    ensures session { IfOk result (λ s. s ≡ recorded script.now.version script.now.geometry script.now.init logs) }
+    ensures refused { IfErr result (IsRefused (recorded script.now.version script.now.geometry script.now.init logs)) }
 {
     script.keeps_limits();
     let geometry = script.geometry();
@@ -185,5 +184,5 @@ pub(crate) fn session_of(alloc: Global, script: &Script, logs: Logs) -> Result<S
     let Ok(init) = script.copied_init(alloc) else {
         return Err(RunFault::Memory);
     };
-    Ok(Session::new(Version::One, geometry, init, logs))
+    Ok(Session::new(script.version(), geometry, init, logs))
 }

@@ -3,7 +3,6 @@
 ghost use Rattle.std.specs.Prelude.{◌≡◌, ℕ, Some, slice_get, IfOk, IfErr, IsTrue};
 ghost use Rattle.migration_types.specs.declared.records.SourceRec.TheVariants.{Done};
 ghost use Rattle.migration_types.specs.Sessions.{recorded};
-ghost use Rattle.migration_types.specs.declared.version.Version.TheVariants.{One};
 ghost use Rattle.audit_model.specs.Mergings.{spelled};
 ghost use Rattle.audit_model.specs.World.{IsSafe};
 ghost use Rattle.audit_model.specs.Shape.{IsRightShape};
@@ -81,8 +80,8 @@ fn agrees(
 
 /// Checks what a run of a script left: the logs, the frames at the target, and a transcript for each virtual processor.
 ///
-/// `Ok` comes only where all of this was checked: the session is of the script's machine and initial pages, and has
-/// these logs; the certificate is right, so that the checker answers `Yes` and each merging of the logs is safe; each
+/// `Ok` comes only where all of this was checked: the session is of the script's version, machine and initial pages, and
+/// has these logs; the certificate is right, so that the checker answers `Yes` and each merging of the logs is safe; each
 /// transcript has the script's operations of its virtual processor in order, each once, and is that virtual processor's
 /// part of the guest's log; the source was told that every owed page is placed; each owed page is resident at the end of
 /// the certificate's merging; and each page of the frames is what one machine that never moved has.
@@ -102,7 +101,7 @@ pub fn settle<R: Threads + Sync>(
     store: Store,
     transcripts: Seq<Transcript>,
 ) -> Result<Migrated, RunFault>
-    ensures session { IfOk result (λ m. m.session ≡ recorded One script.now.geometry script.now.init logs) }
+    ensures session { IfOk result (λ m. m.session ≡ recorded script.now.version script.now.geometry script.now.init logs) }
     ensures checked { IfOk result (λ m. IsVerdict m.session m.cert Yes) }
     ensures safe { IfOk result (λ m. IsSafe m.session) }
     ensures operations { IfOk result (λ m. AreOfScript script.now.vcpus m.transcripts) }
@@ -110,7 +109,7 @@ pub fn settle<R: Threads + Sync>(
     ensures done { IfOk result (λ m. IsDone m.session) }
     ensures owed { IfOk result (λ m. HasEachOwed m.session (spelled m.cert.runs)) }
     ensures store { IfOk result (λ m. IsFlatStore m.session m.store) }
-    ensures refused { IfErr result (IsRefused (recorded One script.now.geometry script.now.init logs)) }
+    ensures refused { IfErr result (IsRefused (recorded script.now.version script.now.geometry script.now.init logs)) }
 {
     let session = session_of(alloc, script, logs)?;
     let cert = clean(rt, alloc, &session)?;

@@ -6,9 +6,13 @@ ghost use Rattle.std.specs.Prelude.{◌≡◌, ◌<◌, map, IsTrue};
 #[cfg(test)]
 mod cores;
 #[cfg(test)]
+mod draws;
+#[cfg(test)]
 mod gates;
 #[cfg(test)]
 mod relays;
+#[cfg(test)]
+mod releases;
 #[cfg(test)]
 mod runs;
 

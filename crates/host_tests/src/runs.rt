@@ -1,13 +1,13 @@
 //! Runs of scripts.
 
 use crate::are_answers;
-use crate::gates::{Flagged, Flags};
+use crate::gates::{Board, Readers};
 use guest_script::{Script, read_script};
 use host_threads::{Gate, Migrated, Open, RunFault, migrate, migrate_tcp};
 use migration_types::PageNo;
 use std::alloc::{AllocError, Global};
 use std::net::{Net, TcpListener, TcpStream};
-use std::sync::{Mutex, Wait};
+use std::sync::Wait;
 use std::thread::Threads;
 
 /// Two virtual processors that read page 0 at the target, and one of them page 3 too.
@@ -116,23 +116,25 @@ pub(crate) fn has_answers(migrated: &Migrated, first: &[u64], second: &[u64]) ->
     is_first && is_second
 }
 
-/// The value of a cell of the frames that a run left.
-fn has_value(migrated: &Migrated, page: u16, cell: u16, value: u64) -> bool {
+/// The frames that a run left have this value in the first cell of a page.
+pub(crate) fn has_value(migrated: &Migrated, page: u16, value: u64) -> bool {
     let geometry = migrated.store.geometry();
-    u32::from(page) < geometry.pages()
-        && u32::from(cell) < geometry.cells()
-        && migrated.store.read(PageNo::new(page), cell) == value
+    geometry.keeps_limits();
+    u32::from(page) < geometry.pages() && migrated.store.read(PageNo::new(page), 0) == value
 }
 
 /// What carries a run's packets.
 #[derive(Clone, Copy)]
-enum Carrier {
+pub(crate) enum Carrier {
     Memory,
     Loopback,
 }
 
 /// A run of a script over this link.
-fn run<R: Threads + Wait + Sync + Net<Listener = TcpListener, Stream = TcpStream>, G: Gate>(
+pub(crate) fn run<
+    R: Threads + Wait + Sync + Net<Listener = TcpListener, Stream = TcpStream>,
+    G: Gate,
+>(
     rt: &R,
     alloc: Global,
     script: &Script,
@@ -154,19 +156,15 @@ fn runs_at_once<R: Threads + Wait + Sync + Net<Listener = TcpListener, Stream = 
     let Ok(script) = read_script(alloc, TWO_READERS.as_bytes()) else {
         return false;
     };
-    let gate = Flagged {
-        rt,
-        flags: Mutex::new(Flags {
-            set: [false; 4],
-            gave_up: false,
-        }),
+    let gate = Readers {
+        board: Board::new(rt),
     };
     let is_right = match run(rt, alloc, &script, &gate, carrier) {
         Ok(migrated) => has_answers(&migrated, &[5, 8], &[5]),
         Err(_) => false,
     };
-    let Flagged { flags, .. } = gate;
-    is_right && !flags.into_inner().gave_up
+    let Readers { board } = gate;
+    is_right && !board.into_flags().gave_up
 }
 
 #[test]
@@ -193,7 +191,7 @@ fn comes_out<R: Threads + Wait + Sync + Net<Listener = TcpListener, Stream = Tcp
     };
     match run(rt, alloc, &script, &Open, carrier) {
         Ok(migrated) => {
-            has_answers(&migrated, answers[0], answers[1]) && has_value(&migrated, 1, 0, value)
+            has_answers(&migrated, answers[0], answers[1]) && has_value(&migrated, 1, value)
         }
         Err(_) => false,
     }

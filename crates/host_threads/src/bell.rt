@@ -101,7 +101,7 @@ impl Bell {
         self.moved.notify_all();
     }
 
-    /// There was an event that a virtual processor may wait for too.
+    /// There was an event that a virtual processor may wait for too: a page may be resident that was not.
     pub(crate) fn ring_all<R: Wait>(&self, rt: &R) {
         let mut moves = self.moves.lock(rt);
         moves.events = moves.events.wrapping_add(1);
@@ -158,7 +158,7 @@ impl Bell {
             .wait_while(rt, moves, |m| m.events == events && m.fault.is_none());
     }
 
-    /// Waits for a delivery since then, or a stop.
+    /// Waits for an event since then after which a page may be resident, or a stop.
     pub(crate) fn wait_delivered<R: Wait>(&self, rt: &R, seen: &Seen) {
         let deliveries = seen.deliveries;
         let moves = self.moves.lock(rt);

@@ -6,7 +6,7 @@ use target_side::TargetBook;
 /// What the threads of a run tell of, at some moments of it. Each call may wait, and the thread waits with it. Only
 /// `held` is called with a lock held, the target's.
 pub trait Gate: Sync {
-    /// The pager's thread is about to place a page, or to drop it where it was placed already.
+    /// The pager's thread is about to place a page, or to drop it where it is resident already.
     fn placing(&self, page: PageNo);
 
     /// The source's thread has offered a page to the link.

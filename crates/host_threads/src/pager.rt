@@ -51,7 +51,8 @@ fn pop_next(link: &mut LinkBook, pager: &mut PagerBook) -> Turn
     told(pager_pop(link, pager))
 }
 
-/// An event on the pager's and the target's books: PagerFault or PagerDeliver.
+/// An event on the pager's and the target's books: PagerFault or PagerDeliver. Both first settle the pages that the guest
+/// released at the target before they came.
 fn attend(pager: &mut PagerBook, target: &mut TargetBook, event: Event) -> Turn
     ensures { IsTurn result event (placing (part_of pager.old) (target_of target.old)) (placing (part_of pager.new) (target_of target.new)) }
 {
@@ -118,7 +119,8 @@ fn place<R: Wait, G: Gate>(rt: &R, shared: &Shared, gate: &G, is_resumed: &mut b
     attend_once(rt, shared, Event::PagerDeliver)
 }
 
-/// What there is to do on the pager's and the target's books: a miss to learn of, or else a page to place.
+/// What there is to do on the pager's and the target's books: pages to settle that the guest released and a miss to learn
+/// of, or else a page to place.
 fn serve<R: Wait, G: Gate>(rt: &R, shared: &Shared, gate: &G, is_resumed: &mut bool) -> Turn {
     match attend_once(rt, shared, Event::PagerFault) {
         Turn::Idle => place(rt, shared, gate, is_resumed),
@@ -134,7 +136,7 @@ fn take_or_offer<R: Wait>(rt: &R, shared: &Shared) -> Turn {
     }
 }
 
-/// The pager: what comes from the link and what the guest misses, until the run is over.
+/// The pager: what comes from the link and what the guest misses or releases, until the run is over.
 pub(crate) fn run_pager<R: Wait, G: Gate>(rt: &R, shared: &Shared, gate: &G, vcpus: usize) {
     let mut is_resumed = false;
     for _ in rt.forever() {

@@ -115,6 +115,7 @@ fn checked<R: Threads + Sync>(
     shared: Shared,
     transcripts: Vec<Transcript>,
 ) -> Result<Migrated, RunFault>
+    ensures version { IfOk result (λ m. m.session.version ≡ script.now.version) }
     ensures geometry { IfOk result (λ m. m.session.geometry ≡ script.now.geometry) }
     ensures init { IfOk result (λ m. m.session.init ≡ script.now.init) }
     ensures checked { IfOk result (λ m. IsVerdict m.session m.cert Yes) }
@@ -158,6 +159,7 @@ fn run<R: Threads + Wait + Sync, G: Gate, L: Relay + Drop>(
     gate: &G,
     way: Way<L>,
 ) -> Result<Migrated, RunFault>
+    ensures version { IfOk result (λ m. m.session.version ≡ script.now.version) }
     ensures geometry { IfOk result (λ m. m.session.geometry ≡ script.now.geometry) }
     ensures init { IfOk result (λ m. m.session.init ≡ script.now.init) }
     ensures checked { IfOk result (λ m. IsVerdict m.session m.cert Yes) }
@@ -182,11 +184,11 @@ fn run<R: Threads + Wait + Sync, G: Gate, L: Relay + Drop>(
 /// pager, over books under four locks, which are taken in the order source, link, pager, target; and then checks what it
 /// left. The link is in memory.
 ///
-/// `Ok` comes only where all checks were made and passed: the session is of the script's machine and initial pages; the
-/// checker answers `Yes` to it with the certificate, so that every merging of its logs is safe; each transcript has the
-/// script's operations of its virtual processor in order, each once, and is that virtual processor's part of the guest's
-/// log; the source was told that every owed page is placed; each owed page is resident at the end of the certificate's
-/// merging; and each page of the frames is what one machine that never moved has.
+/// `Ok` comes only where all checks were made and passed: the session is of the script's version, machine and initial
+/// pages; the checker answers `Yes` to it with the certificate, so that every merging of its logs is safe; each
+/// transcript has the script's operations of its virtual processor in order, each once, and is that virtual processor's
+/// part of the guest's log; the source was told that every owed page is placed; each owed page is resident at the end of
+/// the certificate's merging; and each page of the frames is what one machine that never moved has.
 ///
 /// # Errors
 ///
@@ -201,6 +203,7 @@ pub fn migrate<R: Threads + Wait + Sync, G: Gate>(
     script: &Script,
     gate: &G,
 ) -> Result<Migrated, RunFault>
+    ensures version { IfOk result (λ m. m.session.version ≡ script.now.version) }
     ensures geometry { IfOk result (λ m. m.session.geometry ≡ script.now.geometry) }
     ensures init { IfOk result (λ m. m.session.init ≡ script.now.init) }
     ensures checked { IfOk result (λ m. IsVerdict m.session m.cert Yes) }
@@ -232,6 +235,7 @@ pub fn migrate_over<R: Threads + Wait + Sync, G: Gate, L: Relay + Drop>(
     gate: &G,
     relay: L,
 ) -> Result<Migrated, RunFault>
+    ensures version { IfOk result (λ m. m.session.version ≡ script.now.version) }
     ensures geometry { IfOk result (λ m. m.session.geometry ≡ script.now.geometry) }
     ensures init { IfOk result (λ m. m.session.init ≡ script.now.init) }
     ensures checked { IfOk result (λ m. IsVerdict m.session m.cert Yes) }
@@ -253,6 +257,7 @@ pub fn migrate_tcp<
     R: Threads + Wait + Sync + Net<Listener = TcpListener, Stream = TcpStream>,
     G: Gate,
 >(rt: &R, alloc: Global, script: &Script, gate: &G) -> Result<Migrated, RunFault>
+    ensures version { IfOk result (λ m. m.session.version ≡ script.now.version) }
     ensures geometry { IfOk result (λ m. m.session.geometry ≡ script.now.geometry) }
     ensures init { IfOk result (λ m. m.session.init ≡ script.now.init) }
     ensures checked { IfOk result (λ m. IsVerdict m.session m.cert Yes) }

@@ -1,6 +1,6 @@
 //! The books, each under its lock, and what a thread tells of its turn with them.
 
-ghost use Rattle.std.specs.Prelude.{IfOk, OnOk, OnErr};
+ghost use Rattle.std.specs.Prelude.{◌≢◌, IfOk, OnOk, OnErr};
 ghost use Rattle.migration_events.specs.declared.events.Event.{Event};
 ghost use Rattle.migration_model.specs.Machine.{Away};
 ghost use Rattle.book_events.specs.Parts.{IsMade, IsSame, Tells};
@@ -94,7 +94,9 @@ pub(crate) fn told_to_all(came: Result<Came, EventFault>) -> Turn
 }
 
 /// The fault of a run in which an event was refused.
-pub(crate) fn of_event(fault: EventFault) -> Fault {
+pub(crate) fn of_event(fault: EventFault) -> Fault
+    ensures { result ≢ Fault.Astray }
+{
     match fault {
         EventFault::LogFull => Fault::LogFull,
         EventFault::Memory => Fault::Memory,
@@ -107,6 +109,8 @@ pub(crate) fn of_link(fault: LinkFault) -> Fault {
 }
 
 /// The same where the guest's or the target's book refused an operation.
-pub(crate) fn of_target(fault: TargetFault) -> Fault {
+pub(crate) fn of_target(fault: TargetFault) -> Fault
+    ensures { result ≢ Fault.Astray }
+{
     of_event(EventFault::from(fault))
 }

@@ -1,10 +1,9 @@
 //! The thread of a virtual processor.
 
-ghost use Rattle.std.specs.Prelude.{◌≡◌, ◌<◌, true};
+ghost use Rattle.std.specs.Prelude.{◌≢◌, ◌<◌, MatchBool};
 ghost use Rattle.migration_events.specs.Ops.{OpFits};
 ghost use Rattle.guest_book.specs.Books.{part_of as guest_of};
-ghost use Rattle.target_book.specs.Kept.{part_of as target_of};
-ghost use Rattle.target_book.specs.History.{IsAccess};
+ghost use Rattle.target_book.specs.Kept.{geometry_of, part_of as target_of};
 ghost use Rattle.host_threads.specs.Operations.{IsGuestStep, IsTargetStep};
 
 use crate::bell::Fault;
@@ -21,14 +20,14 @@ use target_side::{Access, GuestBook, TargetBook};
 
 /// Whether the machine has the page.
 fn has_page(geometry: Geometry, page: PageNo) -> bool
-    ensures { result ≡ true → page < geometry.pages }
+    ensures { MatchBool result (page < geometry.pages) (page < geometry.pages → ⊥) }
 {
     u32::from(page.number()) < geometry.pages()
 }
 
 /// Whether the machine has the page and the cell of an operation.
 fn fits(geometry: Geometry, op: &Op) -> bool
-    ensures { result ≡ true → OpFits geometry op.now }
+    ensures { MatchBool result (OpFits geometry op.now) (OpFits geometry op.now → ⊥) }
 {
     let op = *op;
     match op {
@@ -39,16 +38,6 @@ fn fits(geometry: Geometry, op: &Op) -> bool
             value: _,
         } => has_page(geometry, page) && u32::from(cell) < geometry.cells(),
         Op::Release { page } => has_page(geometry, page),
-    }
-}
-
-/// Whether it is a read or a write of a page and a cell that the machine has.
-fn is_access(geometry: Geometry, op: &Op) -> bool
-    ensures { result ≡ true → IsAccess geometry op.now }
-{
-    match op {
-        Op::Read { .. } | Op::Write { .. } => fits(geometry, op),
-        Op::Release { .. } => false,
     }
 }
 
@@ -64,9 +53,10 @@ enum Step {
     Stops(Fault),
 }
 
-/// An operation on the guest's book.
+/// An operation on the guest's book. `Astray` only where it is none of the machine's.
 fn step_guest(book: &mut GuestBook, vcpu: u8, op: &Op) -> Step
-    ensures { IsGuestStep result vcpu op.now (guest_of book.old) (guest_of book.new) }
+    ensures step { IsGuestStep result vcpu op.now (guest_of book.old) (guest_of book.new) }
+    ensures taken { OpFits book.old.frames.geometry op.now → result ≢ Step.Stops Fault.Astray }
 {
     if !fits(book.geometry(), op) {
         return Step::Stops(Fault::Astray);
@@ -77,11 +67,12 @@ fn step_guest(book: &mut GuestBook, vcpu: u8, op: &Op) -> Step
     }
 }
 
-/// An operation on the target's book.
+/// An operation on the target's book. `Astray` only where it is none of the machine's.
 fn step_target(book: &mut TargetBook, vcpu: u8, op: &Op) -> Step
-    ensures { IsTargetStep result vcpu op.now (target_of book.old) (target_of book.new) }
+    ensures step { IsTargetStep result vcpu op.now (target_of book.old) (target_of book.new) }
+    ensures taken { OpFits (geometry_of book.old) op.now → result ≢ Step.Stops Fault.Astray }
 {
-    if !is_access(book.geometry(), op) {
+    if !fits(book.geometry(), op) {
         return Step::Stops(Fault::Astray);
     }
     match book.access(vcpu, *op) {
@@ -117,6 +108,14 @@ fn step_at_target<R: Wait, G: Gate>(rt: &R, shared: &Shared, gate: &G, vcpu: u8,
     }
 }
 
+/// Tells the others of an operation that was answered at the target. A release may be of the page that another virtual
+/// processor waits for, and the pager has it to settle.
+fn tell_answered<R: Wait>(rt: &R, shared: &Shared, op: &Op) {
+    if let Op::Release { .. } = op {
+        shared.bell.ring_all(rt);
+    }
+}
+
 /// Does an operation at the target, however often it has to look. None: the run stops.
 fn answer_at_target<R: Wait, G: Gate>(
     rt: &R,
@@ -132,6 +131,7 @@ fn answer_at_target<R: Wait, G: Gate>(
         }
         match step_at_target(rt, shared, gate, vcpu, op) {
             Step::Answered(answer) => {
+                tell_answered(rt, shared, op);
                 gate.answered(vcpu, op.page());
                 return Some(answer);
             }
