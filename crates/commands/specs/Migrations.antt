@@ -19,11 +19,12 @@ use Rattle.host_checks.specs.Outcomes.{AreOfLog, AreOfScript, IsDone}
 use Rattle.host_checks.specs.declared.transcript.Answered.{Answered}
 use Rattle.commands.specs.Answers.{IsAnswer, numbered}
 
--- A session that was recorded of a script's migration, and its certificate: the machine and its initial pages are the
--- script's; the certificate is right, and every merging of the session is safe; each virtual processor did its operations,
+-- A session that was recorded of a script's migration, and its certificate: the version, the machine and its initial pages
+-- are the script's; the certificate is right, and every merging of the session is safe; each virtual processor did its operations,
 -- with the answers that the guest's log has; the source was told that every owed page is placed, and each is resident at
 -- the end of the certificate's merging.
 pub record IsMigrationOf (script : Scenario) (session : Recorded) (cert : Certified) : Type 0 where
+  pub version : session.version ≡ script.version
   pub geometry : session.geometry ≡ script.geometry
   pub init : session.init ≡ script.init
   pub checked : IsVerdict session cert Yes
