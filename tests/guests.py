@@ -1,10 +1,14 @@
 """The guest of a migration: operations at random, and what a guest's log shows of a script."""
 from session_text import SessionText
 
+# The operations before the move, and after it by a script's version, each as often as it may come.
+BEFORE = "rwwz"
+AFTER = {1: "rrw", 2: "rrrrwwz"}
 
-def random_op(rng, pages, cells, is_late):
-    page, cell = rng.randrange(pages), rng.randrange(cells)
-    kind = rng.choice("rrw" if is_late else "rwwz")
+
+def random_op(rng, pages, cells, kinds):
+    """An operation of one of these kinds."""
+    page, cell, kind = rng.randrange(pages), rng.randrange(cells), rng.choice(kinds)
     if kind == "z":
         return f"z {page}"
     return f"r {page} {cell}" if kind == "r" else f"w {page} {cell} {rng.choice((0, 1, 7, 2**64 - 1, rng.getrandbits(64)))}"

@@ -9,7 +9,7 @@ are well formed.
 """
 import sys
 
-from session_text import LOGS
+from session_text import LANE, LOGS
 
 MOST_RECORDS = 1_048_576
 
@@ -18,13 +18,15 @@ class Script:
     def __init__(self, text):
         lines = text.splitlines()
         self.pages, self.cells, initial = (int(line.split(" ")[1]) for line in lines[1:4])
-        self.opening = ["postcopy-session 1"] + lines[1:4 + initial]
+        self.version = int(lines[0].split(" ")[1])
+        self.opening = [f"postcopy-session {self.version}"] + lines[1:4 + initial]
         self.memory = {page: [0] * self.cells for page in range(self.pages)}
         for line in lines[4:4 + initial]:
             _, page, contents = line.split(" ")
             self.memory[int(page)] = cells_of(contents)
         self.pivots, self.window = (int(line.split(" ")[1]) for line in lines[4 + initial:6 + initial])
-        at = 9 + initial
+        # (a script of the second version has a line with the number of lanes here)
+        at = 8 + initial + self.version
         self.vcpus = []
         for _ in range(int(lines[at - 1].split(" ")[1])):
             before, after = (int(word) for word in lines[at].split(" ")[1:])
@@ -64,6 +66,9 @@ class Migration:
         self.lines = {"down": [], "up": []}
         self.arrivals = {"down": [], "up": []}
         self.released_told = None
+        # The pages that the guest released at the target while they were absent; of these, those that the pager has not
+        # settled, and those that it has.
+        self.freed, self.unsettled, self.settled = set(), [], set()
         self.waiting = []
         self.inbox, self.outbox = [], []
 
@@ -97,6 +102,10 @@ class Migration:
 
     def placement_of(self, page):
         return self.last("pager", lambda record: record[0] in ("place", "zero") and int(record[1]) == page)
+
+    def is_resident(self, page):
+        """Whether a page is there at the target: placed, or released there."""
+        return page in self.freed or self.placement_of(page) is not None
 
     def want_of(self, page):
         return self.last("pager", lambda record: record[0] == "want" and int(record[1]) == page)
@@ -146,11 +155,14 @@ class Migration:
         elif self.has("guest", "resume") and after:
             page = int(after[0][1])
             placement = self.placement_of(page)
-            if placement is None:
+            if not self.is_resident(page) and after[0][0] == "z":
+                self.freed.add(page)
+                self.unsettled.append(page)
+            if not self.is_resident(page):
                 if not self.has_missed(vcpu):
                     self.record("guest", "miss", vcpu, page)
                 return
-            if self.frontier() < placement:
+            if placement is not None and self.frontier() < placement:
                 self.record("guest", "see", placement)
             self.do(vcpu, after.pop(0))
 
@@ -242,7 +254,14 @@ class Migration:
         else:
             self.inbox.append((got, packet[2]))
 
+    def settle(self):
+        """Nobody waits any more for the pages that the guest released at the target."""
+        self.waiting = [entry for entry in self.waiting if entry[0] not in self.unsettled]
+        self.settled.update(self.unsettled)
+        self.unsettled = []
+
     def pager_fault(self):
+        self.settle()
         miss = self.miss_not_taken()
         if miss is None:
             return
@@ -250,7 +269,7 @@ class Migration:
         vcpu, page = int(vcpu), int(page)
         self.record("pager", "fault", miss)
         waiters = next((waiters for pending, waiters in self.waiting if pending == page), None)
-        if self.placement_of(page) is not None or any(vcpu in others for _, others in self.waiting):
+        if self.is_resident(page) or any(vcpu in others for _, others in self.waiting):
             return
         if page in self.released_told:
             self.record("pager", "zero", page)
@@ -272,10 +291,11 @@ class Migration:
         if not self.has("guest", "resume"):
             self.record("guest", "resume", 1)
             return
+        self.settle()
         if not self.inbox:
             return
         got, page = self.inbox.pop(0)
-        if self.placement_of(page) is not None:
+        if self.is_resident(page):
             self.record("pager", "skip", got)
             return
         self.memory[page] = list(self.source_memory[page])
@@ -285,7 +305,8 @@ class Migration:
     def pager_tick(self):
         if not self.has("pager", "ready"):
             return
-        absent = [page for page in range(self.script.pages) if page not in self.released_told and self.placement_of(page) is None]
+        there = self.settled.union(self.released_told)
+        absent = [page for page in range(self.script.pages) if page not in there and self.placement_of(page) is None]
         if absent:
             page = self.waiting[0][0] if self.waiting else absent[0]
             self.lines["up"].append(("want", self.record("pager", "want", page), page))
@@ -297,6 +318,7 @@ class Migration:
     def session(self):
         lines = list(self.script.opening)
         for log in LOGS:
+            lines += [LANE] * (log == "pager" and self.script.version == 2)
             lines.append(f"{log} {len(self.logs[log])}")
             lines += [" ".join(record) for record in self.logs[log]]
         return "\n".join(lines + ["end", ""])

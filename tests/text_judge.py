@@ -108,19 +108,21 @@ def certificate(line):
 
 
 def script(line):
-    keyed(line(), "postcopy-script", 1, 1)
+    version = keyed(line(), "postcopy-script", 1, 2)
     pages, cells = machine(line)
     keyed(line(), "pivots", 1, 16)
     keyed(line(), "window", 1, 65536)
     for direction in ("down", "up"):
         demand(re.fullmatch(f"{direction} (-|[dlrb]{{1,4096}})", line()))
-    late = {"r": "pc", "w": "pcx"}
+    demand(version == 1 or line() == "lanes 1")
+    early = {"r": "pc", "w": "pcx", "z": "p"}
+    late = {kind: early[kind] for kind in ("rw", "rwz")[version - 1]}
     for _ in range(keyed(line(), "vcpus", 1, 64)):
         words = line().split(" ")
         demand(len(words) == 3 and words[0] == "vcpu")
         before, after = (number(word, 0, 65536) for word in words[1:])
         for _ in range(before):
-            fielded(line(), {**late, "z": "p"}, pages, cells)
+            fielded(line(), early, pages, cells)
         for _ in range(after):
             fielded(line(), late, pages, cells)
 
