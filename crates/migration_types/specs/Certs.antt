@@ -5,10 +5,12 @@ use Rattle.migration_types.specs.declared.cert.Run.{Run}
 use Rattle.migration_types.specs.declared.cert.First.{First}
 use Rattle.migration_types.specs.declared.cert.Entry.{Entry}
 use Rattle.migration_types.specs.declared.cert.Entry.TheVariants.{Nothing, Fresh, Source, Balloon}
+use Rattle.migration_types.specs.declared.records.LogName.{LogName}
+use Rattle.migration_types.specs.declared.records.LogName.TheVariants.{Lane}
 use Rattle.migration_types.specs.declared.version.Version.{Version}
 use Rattle.migration_types.specs.declared.version.Version.TheVariants.{One, Two}
 use Rattle.migration_types.specs.Limits.{most_pages, most_records, most_runs}
-use Rattle.migration_types.specs.Sessions.{IsNumber}
+use Rattle.migration_types.specs.Sessions.{IsNumber, HasLane}
 
 -- what a certificate says, and in which version: an entry for each page, and the runs of a merging
 pub record Certified : Type 0 where
@@ -28,8 +30,14 @@ EntryFits Two (Fresh first) = IsNumber first
 EntryFits version (Source send place first) = IsNumber send × IsNumber place × FirstFits first
 EntryFits version (Balloon place first) = IsNumber place × FirstFits first
 
+-- the logs of which a version has runs
+abbrev pub LogFits : Version → LogName → Type 0
+LogFits version Lane = HasLane version
+LogFits version _ = Unit {0}
+
 -- a run takes some records, and no more than a log has
-pub record RunFits (run : Run) : Type 0 where
+pub record RunFits (version : Version) (run : Run) : Type 0 where
+  pub log : LogFits version run.log
   pub some : 1 ≤ run.count
   pub few : run.count ≤ most_records
 
@@ -37,10 +45,10 @@ pub record RunFits (run : Run) : Type 0 where
 abbrev pub Alternate : List Run → Type 0
 Alternate runs = (k : ℕ) (d : Run) → k + 1 < length runs → (slice_index_or runs k d).log ≢ (slice_index_or runs (k + 1) d).log
 
--- runs within all limits
-pub record AreRuns (runs : List Run) : Type 0 where
-  pub few : length runs ≤ most_runs
-  pub each : AllByRecursion RunFits runs
+-- runs within all limits of a version
+pub record AreRuns (version : Version) (runs : List Run) : Type 0 where
+  pub few : length runs ≤ most_runs version
+  pub each : AllByRecursion (RunFits version) runs
   pub alternate : Alternate runs
 
 -- what a certificate says is within all limits
@@ -48,4 +56,4 @@ pub record IsCert (c : Certified) : Type 0 where
   pub some_pages : 1 ≤ length c.entries
   pub few_pages : length c.entries ≤ most_pages
   pub entries : AllByRecursion (EntryFits c.version) c.entries
-  pub runs : AreRuns c.runs
+  pub runs : AreRuns c.version c.runs

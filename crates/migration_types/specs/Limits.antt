@@ -1,5 +1,7 @@
 -- The limits of what is recorded.
 use Rattle.std.specs.Prelude.{ℕ}
+use Rattle.migration_types.specs.declared.version.Version.{Version}
+use Rattle.migration_types.specs.declared.version.Version.TheVariants.{One, Two}
 
 -- a machine has 1 to so many pages
 abbrev pub most_pages : ℕ
@@ -21,6 +23,7 @@ vcpus = 64
 abbrev pub most_records : ℕ
 most_records = 1048576
 
--- a certificate has at most so many runs
-abbrev pub most_runs : ℕ
-most_runs = 4194304
+-- a certificate has at most so many runs: of four logs in the first version, and of five in the second
+abbrev pub most_runs : Version → ℕ
+most_runs One = 4194304
+most_runs Two = 5242880

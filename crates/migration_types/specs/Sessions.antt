@@ -6,22 +6,24 @@ use Rattle.migration_types.specs.declared.pages.InitPage.{InitPage}
 use Rattle.migration_types.specs.declared.version.Version.{Version}
 use Rattle.migration_types.specs.declared.version.Version.TheVariants.{One, Two}
 use Rattle.migration_types.specs.declared.records.LogName.{LogName}
-use Rattle.migration_types.specs.declared.records.LogName.TheVariants.{Guest, Source, Link, Pager}
+use Rattle.migration_types.specs.declared.records.LogName.TheVariants.{Guest, Source, Link, Lane, Pager}
 use Rattle.migration_types.specs.declared.records.GuestRec.{GuestRec}
 use Rattle.migration_types.specs.declared.records.GuestRec.TheVariants.{Read, Write, Release, Miss, Halt, Resume, See}
 use Rattle.migration_types.specs.declared.records.SourceRec.{SourceRec}
 use Rattle.migration_types.specs.declared.records.SourceRec.TheVariants.{Halted, State, Send, Again, Ask, Done}
 use Rattle.migration_types.specs.declared.records.LinkRec.{LinkRec}
 use Rattle.migration_types.specs.declared.records.LinkRec.TheVariants.{Down, Up}
+use Rattle.migration_types.specs.declared.records.LaneRec.{LaneRec}
+use Rattle.migration_types.specs.declared.records.LaneRec.TheVariants.{Down as LaneDown}
 use Rattle.migration_types.specs.declared.records.PagerRec.{PagerRec}
-use Rattle.migration_types.specs.declared.records.PagerRec.TheVariants.{Got, Ready, Fault, Join, Want, Place, Zero, Skip, All}
+use Rattle.migration_types.specs.declared.records.PagerRec.TheVariants.{Got, Pull, Ready, Fault, Join, Want, Place, Zero, Skip, All}
 use Rattle.migration_types.specs.declared.session.Logs.{Logs}
 use Rattle.migration_types.specs.Limits.{vcpus, most_records}
 use Rattle.migration_types.specs.Extents.{Extent, IsExtent}
 use Rattle.migration_types.specs.Pages.{AreInitPages}
 use Rattle.migration_types.specs.Receipts.{Name}
 
--- what was recorded, and in which version: the machine, the pages that do not begin as zeros, and the logs of the four parties
+-- what was recorded, and in which version: the machine, the pages that do not begin as zeros, and the parties' logs
 pub record Recorded : Type 0 where
   pub version : Version
   pub geometry : Extent
@@ -29,15 +31,21 @@ pub record Recorded : Type 0 where
   pub guest : List GuestRec
   pub source : List SourceRec
   pub link : List LinkRec
+  pub lane : List LaneRec
   pub pager : List PagerRec
 
 -- what was recorded, by its parts
 abbrev pub recorded : Version → Extent → List InitPage → Logs → Recorded
-recorded version geometry init logs = record { version = version; geometry = geometry; init = init; guest = logs.guest; source = logs.source; link = logs.link; pager = logs.pager }
+recorded version geometry init logs = record { version = version; geometry = geometry; init = init; guest = logs.guest; source = logs.source; link = logs.link; lane = logs.lane; pager = logs.pager }
 
 -- a record's number is its place in its log
 abbrev pub IsNumber : ℕ → Type 0
 IsNumber n = n < most_records
+
+-- the second version alone has a lane
+abbrev pub HasLane : Version → Type 0
+HasLane One = ⊥
+HasLane Two = Unit {0}
 
 -- a record's numbers are those of a machine of this extent
 abbrev pub GuestRecFits : Extent → GuestRec → Type 0
@@ -61,46 +69,54 @@ abbrev pub LinkRecFits : LinkRec → Type 0
 LinkRecFits (Down sending) = IsNumber sending
 LinkRecFits (Up asking) = IsNumber asking
 
-abbrev pub PagerRecFits : Extent → PagerRec → Type 0
-PagerRecFits e (Got down) = IsNumber down
-PagerRecFits e Ready = Unit {0}
-PagerRecFits e (Fault miss) = IsNumber miss
-PagerRecFits e (Join want) = IsNumber want
-PagerRecFits e (Want page) = page < e.pages
-PagerRecFits e (Place page got contents) = (page < e.pages) × IsNumber got × IsContent e.cells contents
-PagerRecFits e (Zero page) = page < e.pages
-PagerRecFits e (Skip got) = IsNumber got
-PagerRecFits e All = Unit {0}
+abbrev pub LaneRecFits : Version → LaneRec → Type 0
+LaneRecFits version (LaneDown sending) = HasLane version × IsNumber sending
 
--- what was recorded is within all limits
+abbrev pub PagerRecFits : Version → Extent → PagerRec → Type 0
+PagerRecFits version e (Got down) = IsNumber down
+PagerRecFits version e (Pull down) = HasLane version × IsNumber down
+PagerRecFits version e Ready = Unit {0}
+PagerRecFits version e (Fault miss) = IsNumber miss
+PagerRecFits version e (Join want) = IsNumber want
+PagerRecFits version e (Want page) = page < e.pages
+PagerRecFits version e (Place page got contents) = (page < e.pages) × IsNumber got × IsContent e.cells contents
+PagerRecFits version e (Zero page) = page < e.pages
+PagerRecFits version e (Skip got) = IsNumber got
+PagerRecFits version e All = Unit {0}
+
+-- what was recorded is within all limits; so in the first version there is no record of the lane
 pub record IsSession (s : Recorded) : Type 0 where
   pub geometry : IsExtent s.geometry
   pub init : AreInitPages s.geometry s.init
   pub few_guest : length s.guest ≤ most_records
   pub few_source : length s.source ≤ most_records
   pub few_link : length s.link ≤ most_records
+  pub few_lane : length s.lane ≤ most_records
   pub few_pager : length s.pager ≤ most_records
   pub guest : AllByRecursion (GuestRecFits s.geometry) s.guest
   pub source : AllByRecursion (SourceRecFits s.geometry) s.source
   pub link : AllByRecursion LinkRecFits s.link
-  pub pager : AllByRecursion (PagerRecFits s.geometry) s.pager
+  pub lane : AllByRecursion (LaneRecFits s.version) s.lane
+  pub pager : AllByRecursion (PagerRecFits s.version s.geometry) s.pager
 
 -- how many records a log has
 abbrev pub log_length : Recorded → LogName → ℕ
 log_length s Guest = length s.guest
 log_length s Source = length s.source
 log_length s Link = length s.link
+log_length s Lane = length s.lane
 log_length s Pager = length s.pager
 
--- how many lines of the lane the text of a session has, between the link's records and the pager's
-abbrev pub lane_lines : Version → ℕ
-lane_lines One = 0
-lane_lines Two = 1
+-- how many lines the text of a session has for a lane of so many records, between the link's records and the pager's
+abbrev pub lane_lines : Version → ℕ → ℕ
+lane_lines One count = 0
+lane_lines Two count = 1 + count
 
 -- The line at which the text of a session has a record. Five lines and those of the initial pages stand before the
--- guest's records, and one line before each other log's; in the second version the lane's stands before the pager's too.
+-- guest's records, and one line before each other log's; the first version has none of the lane.
 abbrev pub line_of : Recorded → Name → ℕ
 line_of s (Guest, n) = 6 + length s.init + n
 line_of s (Source, n) = 7 + length s.init + length s.guest + n
 line_of s (Link, n) = 8 + length s.init + length s.guest + length s.source + n
-line_of s (Pager, n) = 9 + length s.init + length s.guest + length s.source + length s.link + lane_lines s.version + n
+line_of s (Lane, n) = 9 + length s.init + length s.guest + length s.source + length s.link + n
+line_of s (Pager, n) = 9 + length s.init + length s.guest + length s.source + length s.link + lane_lines s.version (length s.lane) + n

@@ -2,14 +2,25 @@
 
 ghost use Rattle.std.specs.Prelude.{◌≡◌};
 ghost use Rattle.migration_types.specs.Certs.{IsCert};
+ghost use Rattle.migration_types.specs.Limits.{most_runs};
 
 use crate::records::LogName;
 use crate::seq::Seq;
 use crate::version::Version;
 use std::marker::Model;
 
-/// A certificate has at most so many runs.
-pub const MOST_RUNS: u32 = 4_194_304;
+/// A certificate has at most so many runs, whatever its version.
+pub const MOST_RUNS: u32 = 5_242_880;
+
+/// So many runs a certificate of a version may have.
+pub fn most_runs(version: Version) -> u32
+    ensures { result ≡ most_runs version }
+{
+    match version {
+        Version::One => 4_194_304,
+        Version::Two => MOST_RUNS,
+    }
+}
 
 /// The next so many records of a log.
 #[derive(Clone, Copy, Debug, PartialEq, Eq)]

@@ -5,22 +5,23 @@ ghost use Rattle.migration_types.specs.Sessions.{recorded, IsSession};
 
 use crate::geometry::Geometry;
 use crate::pages::InitPage;
-use crate::records::{GuestRec, LinkRec, PagerRec, SourceRec};
+use crate::records::{GuestRec, LaneRec, LinkRec, PagerRec, SourceRec};
 use crate::seq::Seq;
 use crate::version::Version;
 use std::marker::Model;
 
-/// The logs of the four parties.
+/// The logs of the parties. That of the lane is empty in the first version.
 #[derive(Drop)]
 pub struct Logs {
     pub guest: Seq<GuestRec>,
     pub source: Seq<SourceRec>,
     pub link: Seq<LinkRec>,
+    pub lane: Seq<LaneRec>,
     pub pager: Seq<PagerRec>,
 }
 
-/// A recorded session of one of the versions, within all limits: a machine, the pages that do not begin as zeros, and the logs of the guest,
-/// the source, the link and the pager.
+/// A recorded session of one of the versions, within all limits: a machine, the pages that do not begin as zeros, and the
+/// logs of the guest, the source, the link, the lane and the pager.
 #[derive(Drop)]
 pub struct Session {
     version: Version,
@@ -93,6 +94,13 @@ impl Session {
         ensures { result.now ≡ self.now.link }
     {
         self.logs.link.as_slice()
+    }
+
+    /// The lane's log.
+    pub fn lane(&self) -> &[LaneRec]
+        ensures { result.now ≡ self.now.lane }
+    {
+        self.logs.lane.as_slice()
     }
 
     /// The pager's log.

@@ -1,9 +1,23 @@
 //! Versions of what is recorded and scripted.
 
+ghost use Rattle.std.specs.Prelude.{◌≡◌, ◌<◌, ◌^◌};
+ghost use Rattle.migration_types.specs.Sessions.{lane_lines};
+
 /// Which of the two versions of the texts something is of, told by its first line. In the second version a guest may
 /// release pages at the target, and a certificate may say of a page that such a release came before it.
 #[derive(Clone, Copy, Debug, PartialEq, Eq)]
 pub enum Version {
     One,
     Two,
+}
+
+/// How many lines the text of a session of a version has for a lane of so many records.
+pub fn lane_lines(version: Version, count: u32) -> u32
+    requires { count < 2 ^ 31 }
+    ensures { result ≡ lane_lines version count }
+{
+    match version {
+        Version::One => 0,
+        Version::Two => 1 + count,
+    }
 }
