@@ -7,21 +7,22 @@ use Rattle.std.proofs.Math.Seq.{take-append_seam}
 use Rattle.migration_types.specs.declared.records.GuestRec.{GuestRec}
 use Rattle.migration_types.specs.declared.records.SourceRec.{SourceRec}
 use Rattle.migration_types.specs.declared.records.LinkRec.{LinkRec}
+use Rattle.migration_types.specs.declared.records.LaneRec.{LaneRec}
 use Rattle.migration_types.specs.declared.records.PagerRec.{PagerRec}
 use Rattle.migration_types.specs.declared.pages.InitPage.{InitPage}
 use Rattle.migration_types.specs.declared.version.Version.TheVariants.{One, Two}
 use Rattle.migration_types.specs.Extents.{Extent}
 use Rattle.migration_types.specs.Pages.{InitPageFits}
-use Rattle.migration_types.specs.Sessions.{GuestRecFits, SourceRecFits, LinkRecFits, PagerRecFits}
+use Rattle.migration_types.specs.Sessions.{GuestRecFits, SourceRecFits, LinkRecFits, LaneRecFits, PagerRecFits}
 use Rattle.session_log.specs.declared.parts.Stage.{Stage}
 use Rattle.session_log.specs.declared.parts.Stage.TheVariants.{Header, Pages, Cells, InitCount, Init, Guest, Source, Link, Lane, Pager, Done}
-use Rattle.session_log.specs.Records.{guest_line, source_line, link_line, pager_line}
+use Rattle.session_log.specs.Records.{guest_line, source_line, link_line, lane_line, pager_line}
 use Rattle.session_log.specs.inner.InitPages.{Rise, next_from}
-use Rattle.session_log.specs.Grammar.{header, pages_key, cells_key, init_key, guest_key, source_key, link_key, pager_key, page_line, lane, with_lane, closing}
-use Rattle.session_log.specs.inner.Held.{Draft, Part, part_onto, geometry_onto, init_onto, guest_onto, source_onto, link_onto, lane_onto, held_onto, InitFits, LogFits, GuestFits, SourceFits, LinkFits, Live}
+use Rattle.session_log.specs.Grammar.{header, pages_key, cells_key, init_key, guest_key, source_key, link_key, lane_key, pager_key, page_line, closing}
+use Rattle.session_log.specs.inner.Held.{Draft, Part, part_onto, geometry_onto, init_onto, guest_onto, source_onto, link_onto, lane_part_onto, lane_onto, held_onto, InitFits, LogFits, GuestFits, SourceFits, LinkFits, LaneFits, Live}
 use Rattle.session_log.specs.inner.Steps.{count_at, StepsBack}
-use Rattle.session_log.proofs.ByVersion.{lane_long}
-use Rattle.session_log.proofs.Laws.{live_at, guest_part, source_part, link_part, pager_part}
+use Rattle.session_log.proofs.ByVersion.{no_records_at, lane_is, lane_long}
+use Rattle.session_log.proofs.Laws.{live_at, guest_part, source_part, link_part, lane_part, pager_part}
 use Rattle.session_log.proofs.Sections.{onto_push, with_items}
 use Rattle.session_log.proofs.Goes.{live_few}
 
@@ -123,18 +124,26 @@ pub link_none_back : (d : Draft) (new : Part LinkRec) → (d.link.items ≡ []) 
 link_none_back d new e live = ((live.0.before, (still_none d.link new e, live.1)), link_key ++ decimal d.link.count, ap (source_onto d) (onto_empty link_key link_line d.link e.0))
 
 pub pager_back : (d : Draft) (new : Part PagerRec) (y : PagerRec) → d.pager ≡ with_items new (y ∷ []) → Live Pager d → StepsBack Pager d (record d { pager = new }) Pager
-pager_back d new y e live = (log_back (LinkFits d) d.link (PagerRecFits d.geometry) d.pager new y live e, pager_line y, ap (lane_onto d) (onto_back pager_key pager_line d.pager new y e))
+pager_back d new y e live = (log_back (LaneFits d) d.lane (PagerRecFits d.version d.geometry) d.pager new y live e, pager_line y, ap (lane_onto d) (onto_back pager_key pager_line d.pager new y e))
 
-pub lane_back : (d : Draft) → Live Lane d → StepsBack Lane d d Link
-lane_back d live = ((live.0, live.3), lane, ap (λ (version : _). link_onto d (with_lane version [])) live.2)
+pub lane_back : (d : Draft) (new : Part LaneRec) (y : LaneRec) → d.lane ≡ with_items new (y ∷ []) → Live Lane d → StepsBack Lane d (record d { lane = new }) Lane
+lane_back d new y e live =
+    let lines = lane_line y ∷ [] in
+    let held = lane_is d.version d.lane [] live.1 ∙ (onto_back lane_key lane_line d.lane new y e ∙ sym (lane_is d.version new lines live.1)) in
+    ((log_back (LinkFits d) d.link (LaneRecFits d.version) d.lane new y live.0 e, live.1, live.2), lane_line y, ap (link_onto d) held)
 
-pub pager_none_back : (d : Draft) (new : Part PagerRec) → d.version ≡ One → (d.pager.items ≡ []) × (new ≡ d.pager) → Live Pager d → StepsBack Pager d (record d { pager = new }) Link
-pager_none_back d new first e live =
+pub lane_none_back : (d : Draft) (new : Part LaneRec) → (d.lane.items ≡ []) × (new ≡ d.lane) → Live Lane d → StepsBack Lane d (record d { lane = new }) Link
+lane_none_back d new e live =
+    ((live.0.before, (still_none d.lane new e, live.2)), lane_key ++ decimal d.lane.count, ap (link_onto d) (lane_is d.version d.lane [] live.1 ∙ onto_empty lane_key lane_line d.lane e.0))
+
+-- in the first version it is the link's stage that the pager's follows
+pub first_none_back : (d : Draft) (new : Part PagerRec) → d.version ≡ One → (d.pager.items ≡ []) × (new ≡ d.pager) → Live Pager d → StepsBack Pager d (record d { pager = new }) Link
+first_none_back d new first e live =
     let line = pager_key ++ decimal d.pager.count in
-    ((live.before, still_none d.pager new e), line, ap (lane_onto d) (onto_empty pager_key pager_line d.pager e.0) ∙ ap (λ (version : _). link_onto d (with_lane version (line ∷ []))) first)
+    ((live.before.before, (no_records_at d.version d.lane.items first live.before.each, still_none d.pager new e)), line, ap (lane_onto d) (onto_empty pager_key pager_line d.pager e.0) ∙ ap (λ (version : _). link_onto d (lane_part_onto version d.lane (line ∷ []))) first)
 
-pub lane_none_back : (d : Draft) (new : Part PagerRec) → d.version ≡ Two → (d.pager.items ≡ []) × (new ≡ d.pager) → Live Pager d → StepsBack Pager d (record d { pager = new }) Lane
-lane_none_back d new second e live = ((live.before, live.whole, second, still_none d.pager new e), pager_key ++ decimal d.pager.count, ap (lane_onto d) (onto_empty pager_key pager_line d.pager e.0))
+pub pager_none_back : (d : Draft) (new : Part PagerRec) → d.version ≡ Two → (d.pager.items ≡ []) × (new ≡ d.pager) → Live Pager d → StepsBack Pager d (record d { pager = new }) Lane
+pager_none_back d new second e live = ((live.before, second, still_none d.pager new e), pager_key ++ decimal d.pager.count, ap (lane_onto d) (onto_empty pager_key pager_line d.pager e.0))
 
 -- ---- how many lines came
 
@@ -153,19 +162,19 @@ counted Link d =
     let l = link_part d [] in
     omega (arith, part_long init_key page_line d.init (guest_part d (source_part d l)), part_long guest_key guest_line d.guest (source_part d l), part_long source_key source_line d.source l, part_long link_key link_line d.link [])
 counted Lane d =
-    let p = with_lane d.version [] in
+    let p = lane_part d [] in
     let l = link_part d p in
-    omega (arith, lane_long d.version [], part_long init_key page_line d.init (guest_part d (source_part d l)), part_long guest_key guest_line d.guest (source_part d l), part_long source_key source_line d.source l, part_long link_key link_line d.link p)
+    omega (arith, lane_long d.version d.lane [], part_long init_key page_line d.init (guest_part d (source_part d l)), part_long guest_key guest_line d.guest (source_part d l), part_long source_key source_line d.source l, part_long link_key link_line d.link p)
 counted Pager d =
     let p = pager_part d [] in
-    let q = with_lane d.version p in
+    let q = lane_part d p in
     let l = link_part d q in
-    omega (arith, lane_long d.version p, part_long init_key page_line d.init (guest_part d (source_part d l)), part_long guest_key guest_line d.guest (source_part d l), part_long source_key source_line d.source l, part_long link_key link_line d.link q, part_long pager_key pager_line d.pager [])
+    omega (arith, lane_long d.version d.lane p, part_long init_key page_line d.init (guest_part d (source_part d l)), part_long guest_key guest_line d.guest (source_part d l), part_long source_key source_line d.source l, part_long link_key link_line d.link q, part_long pager_key pager_line d.pager [])
 counted Done d =
     let p = pager_part d (closing ∷ []) in
-    let q = with_lane d.version p in
+    let q = lane_part d p in
     let l = link_part d q in
-    omega (arith, lane_long d.version p, part_long init_key page_line d.init (guest_part d (source_part d l)), part_long guest_key guest_line d.guest (source_part d l), part_long source_key source_line d.source l, part_long link_key link_line d.link q, part_long pager_key pager_line d.pager (closing ∷ []))
+    omega (arith, lane_long d.version d.lane p, part_long init_key page_line d.init (guest_part d (source_part d l)), part_long guest_key guest_line d.guest (source_part d l), part_long source_key source_line d.source l, part_long link_key link_line d.link q, part_long pager_key pager_line d.pager (closing ∷ []))
 
 pub count_is : (stage : Stage) (d : Draft) (held : List (List ℕ)) → held_onto stage d [] ≡ held → count_at stage d ≡ length held
 count_is stage d held e = sym (counted stage d) ∙ ap length e

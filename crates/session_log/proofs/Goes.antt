@@ -8,34 +8,37 @@ use Rattle.text_lines.proofs.Cut.{Begins-front}
 use Rattle.migration_types.specs.declared.records.GuestRec.TheVariants.{Halt}
 use Rattle.migration_types.specs.declared.records.SourceRec.TheVariants.{State}
 use Rattle.migration_types.specs.declared.records.LinkRec.TheVariants.{Down}
+use Rattle.migration_types.specs.declared.records.LaneRec.TheVariants.{Down as LaneDown}
 use Rattle.migration_types.specs.declared.records.PagerRec.TheVariants.{All}
 use Rattle.migration_types.specs.declared.pages.InitPage.{InitPage}
 use Rattle.migration_types.specs.declared.version.Version.{Version}
+use Rattle.migration_types.specs.declared.version.Version.TheVariants.{Two}
 use Rattle.migration_types.specs.Extents.{Extent, IsExtent}
 use Rattle.migration_types.specs.Pages.{InitPageFits}
-use Rattle.migration_types.specs.Sessions.{Recorded, IsSession, GuestRecFits, SourceRecFits, LinkRecFits, PagerRecFits}
+use Rattle.migration_types.specs.Sessions.{Recorded, IsSession, GuestRecFits, SourceRecFits, LinkRecFits, LaneRecFits, PagerRecFits}
 use Rattle.session_log.specs.declared.parts.Stage.{Stage}
 use Rattle.session_log.specs.declared.parts.Stage.TheVariants.{Header, Pages, Cells, InitCount, Init, Guest, Source, Link, Lane, Pager, Done}
-use Rattle.session_log.specs.Records.{guest_line, source_line, link_line, pager_line}
+use Rattle.session_log.specs.Records.{guest_line, source_line, link_line, lane_line, pager_line}
 use Rattle.session_log.specs.inner.InitPages.{Rise, rise_long, rise_increases}
-use Rattle.session_log.specs.Grammar.{header, pages_key, cells_key, init_key, guest_key, source_key, link_key, pager_key, page_line, with_lane, closing, session_lines, SpellsSession}
-use Rattle.session_log.specs.inner.Held.{Draft, Part, part_onto, geometry_onto, init_onto, guest_onto, source_onto, link_onto, lane_onto, pager_onto, held_onto, IsWhole, InitFits, LogFits, GuestFits, SourceFits, LinkFits, PagerFits, Live}
+use Rattle.session_log.specs.Grammar.{header, pages_key, cells_key, init_key, guest_key, source_key, link_key, lane_key, pager_key, page_line, closing, session_lines, SpellsSession}
+use Rattle.session_log.specs.inner.Held.{Draft, Part, part_onto, geometry_onto, init_onto, guest_onto, source_onto, link_onto, lane_onto, pager_onto, held_onto, IsWhole, InitFits, LogFits, GuestFits, SourceFits, LinkFits, LaneFits, PagerFits, Live}
 use Rattle.session_log.proofs.Lists.{all_append, all_replicate}
 use Rattle.session_log.proofs.Sections.{with_items, onto_more, onto_whole, fresh, fresh_fits, missing, filled_whole, filled_fits}
-use Rattle.session_log.proofs.ByVersion.{lane_long, lane_short}
-use Rattle.session_log.proofs.Laws.{held_append, StartFits, guest_part, source_part, link_part, pager_part, pager_lines, lane_lines, link_lines, source_lines, guest_lines, init_agrees, guest_agrees, source_agrees, link_agrees, behind_lane, pager_agrees}
+use Rattle.session_log.proofs.ByVersion.{one_version, lane_is, lane_whole, lane_long, lane_short, lane_some}
+use Rattle.session_log.proofs.Laws.{held_append, StartFits, guest_part, source_part, link_part, lane_part, pager_part, pager_lines, lane_lines, link_lines, source_lines, guest_lines, init_agrees, guest_agrees, source_agrees, link_agrees, lane_agrees, pager_agrees}
 
 -- ---- a whole draft is a session
 
 abbrev pub session_of : Draft → Recorded
-session_of d = record { version = d.version; geometry = d.geometry; init = d.init.items; guest = d.guest.items; source = d.source.items; link = d.link.items; pager = d.pager.items }
+session_of d = record { version = d.version; geometry = d.geometry; init = d.init.items; guest = d.guest.items; source = d.source.items; link = d.link.items; lane = d.lane.items; pager = d.pager.items }
 
 few_items : {X Y : Type 0} (Before : Type 0) (list : Part X) (Fits : Y → Type 0) (log : Part Y) → LogFits Before list Fits log → length log.items ≤ 1048576
 few_items Before list Fits log f = let few = f.few in let within = f.within in omega arith
 
 pub whole_fits : (d : Draft) → PagerFits d → IsSession (session_of d)
 whole_fits d f =
-    let link = f.before in
+    let lane = f.before in
+    let link = lane.before in
     let source = link.before in
     let guest = source.before in
     let init = guest.before in
@@ -45,10 +48,12 @@ whole_fits d f =
       few_guest = few_items (StartFits d) d.init (GuestRecFits d.geometry) d.guest guest;
       few_source = few_items (GuestFits d) d.guest (SourceRecFits d.geometry) d.source source;
       few_link = few_items (SourceFits d) d.source LinkRecFits d.link link;
-      few_pager = few_items (LinkFits d) d.link (PagerRecFits d.geometry) d.pager f;
+      few_lane = few_items (LinkFits d) d.link (LaneRecFits d.version) d.lane lane;
+      few_pager = few_items (LaneFits d) d.lane (PagerRecFits d.version d.geometry) d.pager f;
       guest = guest.each;
       source = source.each;
       link = link.each;
+      lane = lane.each;
       pager = f.each;
     }
 
@@ -57,11 +62,12 @@ whole_lines d f whole =
     let v = session_of d in
     let end_lines = closing ∷ [] in
     let pager = onto_whole pager_key pager_line d.pager end_lines end_lines whole refl in
-    let held = with_lane d.version (pager_part d end_lines) in
-    let link = onto_whole link_key link_line d.link (with_lane d.version (pager_part d end_lines)) (lane_lines v) f.whole (ap (with_lane d.version) pager) in
-    let source = onto_whole source_key source_line d.source (link_part d held) (link_lines v) f.before.whole link in
-    let guest = onto_whole guest_key guest_line d.guest (source_part d (link_part d held)) (source_lines v) f.before.before.whole source in
-    let init = onto_whole init_key page_line d.init (guest_part d (source_part d (link_part d held))) (guest_lines v) f.before.before.before.whole guest in
+    let lane = lane_whole d.version d.lane (pager_part d end_lines) (pager_lines v) f.whole pager in
+    let held = lane_part d (pager_part d end_lines) in
+    let link = onto_whole link_key link_line d.link held (lane_lines v) f.before.whole lane in
+    let source = onto_whole source_key source_line d.source (link_part d held) (link_lines v) f.before.before.whole link in
+    let guest = onto_whole guest_key guest_line d.guest (source_part d (link_part d held)) (source_lines v) f.before.before.before.whole source in
+    let init = onto_whole init_key page_line d.init (guest_part d (source_part d (link_part d held))) (guest_lines v) f.before.before.before.before.whole guest in
     ap (geometry_onto d) init
 
 pub done_spells : (d : Draft) → PagerFits d → IsWhole d.pager → SpellsSession (session_of d) (held_onto Done d [])
@@ -80,21 +86,29 @@ pager_begins d f =
     let more = missing d.pager All in
     let e : Draft = record d { pager = with_items d.pager more } in
     step Pager Done d e (map pager_line more ++ closing ∷ []) (ap (lane_onto d) (onto_more pager_key pager_line d.pager more (closing ∷ [])))
-    (done_begins e (filled_fits (LinkFits d) d.link (PagerRecFits d.geometry) d.pager All f tt) (filled_whole d.pager All f.within))
+    (done_begins e (filled_fits (LaneFits d) d.lane (PagerRecFits d.version d.geometry) d.pager All f tt) (filled_whole d.pager All f.within))
 
-lane_begins : (d : Draft) → LinkFits d → IsWhole d.link → Begins SpellsSession (held_onto Lane d [])
-lane_begins d f whole =
-    let e : Draft = record d { pager = fresh 0 } in
-    step Lane Pager d e ((pager_key ++ decimal 0) ∷ []) refl (pager_begins e (fresh_fits (LinkFits e) d.link (PagerRecFits d.geometry) 0 f whole (omega arith)))
+lane_begins : (d : Draft) → LaneFits d → d.version ≡ Two → Begins SpellsSession (held_onto Lane d [])
+lane_begins d f second =
+    let more = missing d.lane (LaneDown 0) in
+    let log = with_items d.lane more in
+    let rest = (pager_key ++ decimal 0) ∷ [] in
+    let e : Draft = record d { lane = log; pager = fresh 0 } in
+    let lines = map lane_line more ++ rest in
+    let has : LaneRecFits d.version (LaneDown 0) = subst (λ (v : Version). LaneRecFits v (LaneDown 0)) (sym second) (tt, omega arith) in
+    step Lane Pager d e lines (ap (link_onto d) (lane_is d.version d.lane lines second ∙ (onto_more lane_key lane_line d.lane more rest ∙ sym (lane_is d.version log rest second))))
+    (pager_begins e (fresh_fits (LaneFits e) log (PagerRecFits d.version d.geometry) 0 (filled_fits (LinkFits d) d.link (LaneRecFits d.version) d.lane (LaneDown 0) f has) (filled_whole d.lane (LaneDown 0) f.within) (omega arith)))
 
 link_begins : (d : Draft) → LinkFits d → Begins SpellsSession (held_onto Link d [])
 link_begins d f =
     let more = missing d.link (Down 0) in
     let log = with_items d.link more in
-    let rest = with_lane d.version ((pager_key ++ decimal 0) ∷ []) in
-    let e : Draft = record d { link = log; pager = fresh 0 } in
+    let e : Draft = record d { link = log; lane = fresh 0; pager = fresh 0 } in
+    let rest = lane_part e ((pager_key ++ decimal 0) ∷ []) in
+    let link = filled_fits (SourceFits d) d.source LinkRecFits d.link (Down 0) f (omega arith) in
+    let lane = fresh_fits (LinkFits e) log (LaneRecFits d.version) 0 link (filled_whole d.link (Down 0) f.within) (omega arith) in
     step Link Pager d e (map link_line more ++ rest) (ap (source_onto d) (onto_more link_key link_line d.link more rest))
-    (pager_begins e (fresh_fits (LinkFits e) log (PagerRecFits d.geometry) 0 (filled_fits (SourceFits d) d.source LinkRecFits d.link (Down 0) f (omega arith)) (filled_whole d.link (Down 0) f.within) (omega arith)))
+    (pager_begins e (fresh_fits (LaneFits e) (fresh 0) (PagerRecFits d.version d.geometry) 0 lane refl (omega arith)))
 
 source_begins : (d : Draft) → SourceFits d → Begins SpellsSession (held_onto Source d [])
 source_begins d f =
@@ -183,7 +197,7 @@ init_begins d f =
     (guest_begins e (fresh_fits (StartFits e) list (GuestRecFits d.geometry) 0 filled.2 filled.3 (omega arith)))
 
 abbrev empty_draft : Version → Extent → Draft
-empty_draft version e = record { version = version; geometry = e; next_page = 0; init = fresh 0; guest = fresh 0; source = fresh 0; link = fresh 0; pager = fresh 0 }
+empty_draft version e = record { version = version; geometry = e; next_page = 0; init = fresh 0; guest = fresh 0; source = fresh 0; link = fresh 0; lane = fresh 0; pager = fresh 0 }
 
 count_begins : (d : Draft) → IsExtent d.geometry → Begins SpellsSession (held_onto InitCount d [])
 count_begins d geo =
@@ -241,8 +255,11 @@ not_whole_at Source d live other v fits e =
 not_whole_at Link d live other v fits e =
     let a = link_agrees d [] v live.0 fits e in
     let within = live.0.within in
-    no_rest link_line v.link d.link.items (lane_lines v) a.items (omega (arith, a.count)) (omega (arith, lane_long v.version (pager_lines v)))
-not_whole_at Lane d live other v fits e = let rest = behind_lane d [] v live.0 live.1 fits e in absurd cc
+    no_rest link_line v.link d.link.items (lane_lines v) a.items (omega (arith, a.count)) (lane_some v.version v.lane (pager_lines v) (omega arith))
+not_whole_at Lane d live other v fits e =
+    let a = lane_agrees d [] v live.0 (λ first. absurd (one_version d.version first live.1)) fits e in
+    let within = live.0.within in
+    no_rest lane_line v.lane d.lane.items (pager_lines v) a.items (omega (arith, a.count)) (omega arith)
 not_whole_at Pager d live other v fits e =
     let a = pager_agrees d [] v live fits e in
     let within = live.within in
@@ -286,13 +303,16 @@ link_few d more f =
     let part = part_few link_key link_line d.link more in
     omega arith
 
-lane_few : (d : Draft) (more : List (List ℕ)) → LinkFits d → length (lane_onto d more) ≤ 3211272 + length more
-lane_few d more f = let before = link_few d (with_lane d.version more) f in omega (arith, lane_long d.version more, lane_short d.version)
+lane_few : (d : Draft) (more : List (List ℕ)) → LaneFits d → length (lane_onto d more) ≤ 4259848 + length more
+lane_few d more f =
+    let before = link_few d (lane_part d more) f.before in
+    let few = few_items (LinkFits d) d.link (LaneRecFits d.version) d.lane f in
+    omega (arith, lane_long d.version d.lane more, lane_short d.version (length d.lane.items))
 
-pager_few : (d : Draft) (more : List (List ℕ)) → PagerFits d → length (pager_onto d more) ≤ 4259849 + length more
+pager_few : (d : Draft) (more : List (List ℕ)) → PagerFits d → length (pager_onto d more) ≤ 5308425 + length more
 pager_few d more f =
     let before = lane_few d (pager_part d more) f.before in
-    let few = few_items (LinkFits d) d.link (PagerRecFits d.geometry) d.pager f in
+    let few = few_items (LaneFits d) d.lane (PagerRecFits d.version d.geometry) d.pager f in
     let part = part_few pager_key pager_line d.pager more in
     omega arith
 

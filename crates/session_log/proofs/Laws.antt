@@ -13,22 +13,23 @@ use Rattle.text_lines.proofs.WordLaws.{decimal_word, same_cut}
 use Rattle.migration_types.specs.declared.records.GuestRec.{GuestRec}
 use Rattle.migration_types.specs.declared.records.SourceRec.{SourceRec}
 use Rattle.migration_types.specs.declared.records.LinkRec.{LinkRec}
+use Rattle.migration_types.specs.declared.records.LaneRec.{LaneRec}
 use Rattle.migration_types.specs.declared.records.PagerRec.{PagerRec}
 use Rattle.migration_types.specs.declared.pages.InitPage.{InitPage}
 use Rattle.migration_types.specs.declared.version.Version.{Version}
 use Rattle.migration_types.specs.declared.version.Version.TheVariants.{One, Two}
 use Rattle.migration_types.specs.Extents.{Extent, IsExtent}
 use Rattle.migration_types.specs.Pages.{InitPageFits}
-use Rattle.migration_types.specs.Sessions.{Recorded, IsSession, GuestRecFits, SourceRecFits, LinkRecFits, PagerRecFits}
+use Rattle.migration_types.specs.Sessions.{Recorded, IsSession, GuestRecFits, SourceRecFits, LinkRecFits, LaneRecFits, PagerRecFits}
 use Rattle.session_log.specs.declared.parts.Stage.{Stage}
 use Rattle.session_log.specs.declared.parts.Stage.TheVariants.{Header, Pages, Cells, InitCount, Init, Guest, Source, Link, Lane, Pager, Done}
-use Rattle.session_log.specs.Records.{guest_line, source_line, link_line, pager_line}
+use Rattle.session_log.specs.Records.{guest_line, source_line, link_line, lane_line, pager_line}
 use Rattle.session_log.specs.inner.InitPages.{IsInitContent, Rise, next_from, next_push, rise_long, rise_of, few_init}
-use Rattle.session_log.specs.Grammar.{header, pages_key, cells_key, init_key, guest_key, source_key, link_key, pager_key, page_key, page_line, lane, with_lane, closing, counted, session_lines, SpellsSession}
-use Rattle.session_log.specs.inner.Held.{Draft, Part, part_onto, geometry_onto, init_onto, guest_onto, source_onto, link_onto, lane_onto, pager_onto, held_onto, IsWhole, InitFits, GuestFits, SourceFits, LinkFits, PagerFits, Live}
+use Rattle.session_log.specs.Grammar.{header, pages_key, cells_key, init_key, guest_key, source_key, link_key, lane_key, pager_key, page_key, page_line, with_lane, closing, counted, session_lines, SpellsSession}
+use Rattle.session_log.specs.inner.Held.{Draft, Part, part_onto, geometry_onto, init_onto, guest_onto, source_onto, link_onto, lane_part_onto, lane_onto, pager_onto, held_onto, IsWhole, InitFits, GuestFits, SourceFits, LinkFits, LaneFits, PagerFits, Live}
 use Rattle.session_log.proofs.Lists.{all_at, all_append}
 use Rattle.session_log.proofs.Sections.{part_append, with_items, agrees, item_at, count_at}
-use Rattle.session_log.proofs.ByVersion.{header_tells, no_header, lane_append, lane_first, behind_lane_same}
+use Rattle.session_log.proofs.ByVersion.{header_tells, no_header, one_version, lane_append, lane_agree, first_behind, second_behind}
 
 -- ---- more lines behind those held
 
@@ -40,6 +41,9 @@ source_part d more = part_onto source_key source_line d.source more
 
 abbrev pub link_part : Draft → List (List ℕ) → List (List ℕ)
 link_part d more = part_onto link_key link_line d.link more
+
+abbrev pub lane_part : Draft → List (List ℕ) → List (List ℕ)
+lane_part d more = lane_part_onto d.version d.lane more
 
 abbrev pub pager_part : Draft → List (List ℕ) → List (List ℕ)
 pager_part d more = part_onto pager_key pager_line d.pager more
@@ -56,11 +60,11 @@ source_append d a b = guest_append d (source_part d a) b ∙ ap (guest_onto d) (
 link_append : (d : Draft) (a b : List (List ℕ)) → link_onto d a ++ b ≡ link_onto d (a ++ b)
 link_append d a b = source_append d (link_part d a) b ∙ ap (source_onto d) (part_append link_key link_line d.link a b)
 
-behind_append : (d : Draft) (a b : List (List ℕ)) → lane_onto d a ++ b ≡ lane_onto d (a ++ b)
-behind_append d a b = link_append d (with_lane d.version a) b ∙ ap (link_onto d) (lane_append d.version a b)
+in_lane_append : (d : Draft) (a b : List (List ℕ)) → lane_onto d a ++ b ≡ lane_onto d (a ++ b)
+in_lane_append d a b = link_append d (lane_part d a) b ∙ ap (link_onto d) (lane_append d.version d.lane a b)
 
 pager_append : (d : Draft) (a b : List (List ℕ)) → pager_onto d a ++ b ≡ pager_onto d (a ++ b)
-pager_append d a b = behind_append d (pager_part d a) b ∙ ap (lane_onto d) (part_append pager_key pager_line d.pager a b)
+pager_append d a b = in_lane_append d (pager_part d a) b ∙ ap (lane_onto d) (part_append pager_key pager_line d.pager a b)
 
 pub held_append : (stage : Stage) (d : Draft) (a b : List (List ℕ)) → held_onto stage d a ++ b ≡ held_onto stage d (a ++ b)
 held_append Header d a b = refl
@@ -71,7 +75,7 @@ held_append Init d a b = init_append d a b
 held_append Guest d a b = guest_append d a b
 held_append Source d a b = source_append d a b
 held_append Link d a b = link_append d a b
-held_append Lane d a b = behind_append d a b
+held_append Lane d a b = in_lane_append d a b
 held_append Pager d a b = pager_append d a b
 held_append Done d a b = pager_append d (closing ∷ a) b
 
@@ -119,7 +123,7 @@ abbrev pub pager_lines : Recorded → List (List ℕ)
 pager_lines v = counted pager_key pager_line v.pager (closing ∷ [])
 
 abbrev pub lane_lines : Recorded → List (List ℕ)
-lane_lines v = with_lane v.version (pager_lines v)
+lane_lines v = with_lane v.version v.lane (pager_lines v)
 
 abbrev pub link_lines : Recorded → List (List ℕ)
 link_lines v = counted link_key link_line v.link (lane_lines v)
@@ -182,10 +186,13 @@ behind_link d more v f whole fits e = counted_end link_line d.link.count v.link 
 version_agrees : (d : Draft) (more : List (List ℕ)) (v : Recorded) → LinkFits d → IsSession v → link_onto d more ≡ session_lines v → v.version ≡ d.version
 version_agrees d more v f fits e = sym (init_agrees d (guest_part d (source_part d (link_part d more))) v f.before.before.before fits e).version
 
-pub behind_lane : (d : Draft) (more : List (List ℕ)) (v : Recorded) → LinkFits d → IsWhole d.link → IsSession v → lane_onto d more ≡ session_lines v → pager_lines v ≡ more
-behind_lane d more v f whole fits e =
-    let rest = with_lane d.version more in
-    behind_lane_same v.version d.version (pager_lines v) more (version_agrees d rest v f fits e) (behind_link d rest v f whole fits e)
+pub lane_agrees : (d : Draft) (more : List (List ℕ)) (v : Recorded) → LaneFits d → (d.version ≡ One → IsWhole d.lane) → IsSession v → lane_onto d more ≡ session_lines v → CountedAgree lane_line d.lane.count v.lane d.lane.items (pager_lines v) more
+lane_agrees d more v f first fits e =
+    let rest = lane_part d more in
+    lane_agree v.version d.version d.lane v.lane (pager_lines v) more (version_agrees d rest v f.before fits e) first f.few fits.few_lane f.each fits.lane (behind_link d rest v f.before f.whole fits e)
+
+pub behind_lane : (d : Draft) (more : List (List ℕ)) (v : Recorded) → LaneFits d → IsWhole d.lane → IsSession v → lane_onto d more ≡ session_lines v → pager_lines v ≡ more
+behind_lane d more v f whole fits e = counted_end lane_line d.lane.count v.lane d.lane.items (pager_lines v) more (lane_agrees d more v f (λ _. whole) fits e) whole
 
 pub pager_agrees : (d : Draft) (more : List (List ℕ)) (v : Recorded) → PagerFits d → IsSession v → pager_onto d more ≡ session_lines v → CountedAgree pager_line d.pager.count v.pager d.pager.items (closing ∷ []) more
 pager_agrees d more v f fits e = agrees pager_key pager_line d.pager v.pager (closing ∷ []) more f.few fits.few_pager (behind_lane d (pager_part d more) v f.before f.whole fits e)
@@ -348,17 +355,19 @@ pub pager_count_refused : (d : Draft) (line : List ℕ) → LinkFits d → IsWho
 pager_count_refused d line f whole first none b =
     let g = goes_from Link d line b in
     let more = line ∷ g.more in
-    let rest = behind_lane_same g.v.version One (pager_lines g.v) more (version_agrees d more g.v f g.fits g.whole ∙ first) (behind_link d more g.v f whole g.fits g.whole) in
+    let rest = sym (first_behind g.v.version g.v.lane (pager_lines g.v) (version_agrees d more g.v f g.fits g.whole ∙ first)) ∙ behind_link d more g.v f whole g.fits g.whole in
     let n = count_at pager_key pager_line g.v.pager (closing ∷ []) g.more line rest g.fits.few_pager in
     none n.0 n.1 n.2
 
-pub lane_refused : (d : Draft) (line : List ℕ) → LinkFits d → IsWhole d.link → d.version ≡ Two → line ≢ lane → Begins SpellsSession (held_onto Link d (line ∷ [])) → ⊥
-lane_refused d line f whole second other b =
+pub lane_count_refused : (d : Draft) (line : List ℕ) → LinkFits d → IsWhole d.link → d.version ≡ Two → ((n : ℕ) → n ≤ 1048576 → line ≢ lane_key ++ decimal n) → Begins SpellsSession (held_onto Link d (line ∷ [])) → ⊥
+lane_count_refused d line f whole second none b =
     let g = goes_from Link d line b in
     let more = line ∷ g.more in
-    other (lane_first g.v.version (pager_lines g.v) g.more line (version_agrees d more g.v f g.fits g.whole ∙ second) (behind_link d more g.v f whole g.fits g.whole))
+    let rest = sym (second_behind g.v.version g.v.lane (pager_lines g.v) (version_agrees d more g.v f g.fits g.whole ∙ second)) ∙ behind_link d more g.v f whole g.fits g.whole in
+    let n = count_at lane_key lane_line g.v.lane (pager_lines g.v) g.more line rest g.fits.few_lane in
+    none n.0 n.1 n.2
 
-pub behind_lane_refused : (d : Draft) (line : List ℕ) → LinkFits d → IsWhole d.link → ((n : ℕ) → n ≤ 1048576 → line ≢ pager_key ++ decimal n) → Begins SpellsSession (held_onto Lane d (line ∷ [])) → ⊥
+pub behind_lane_refused : (d : Draft) (line : List ℕ) → LaneFits d → IsWhole d.lane → ((n : ℕ) → n ≤ 1048576 → line ≢ pager_key ++ decimal n) → Begins SpellsSession (held_onto Lane d (line ∷ [])) → ⊥
 behind_lane_refused d line f whole none b =
     let g = goes_from Lane d line b in
     let n = count_at pager_key pager_line g.v.pager (closing ∷ []) g.more line (behind_lane d (line ∷ g.more) g.v f whole g.fits g.whole) g.fits.few_pager in
@@ -399,10 +408,19 @@ link_refused d line f less none b =
     let r = item_at link_line LinkRecFits d.link g.v.link (lane_lines g.v) g.more line (link_agrees d (line ∷ g.more) g.v f g.fits g.whole) less g.fits.link in
     none r.0 r.1 r.2
 
-pub pager_refused : (d : Draft) (line : List ℕ) → PagerFits d → length d.pager.items < d.pager.count → ((r : PagerRec) → PagerRecFits d.geometry r → line ≢ pager_line r) → Begins SpellsSession (held_onto Pager d (line ∷ [])) → ⊥
+pub lane_refused : (d : Draft) (line : List ℕ) → LaneFits d → d.version ≡ Two → length d.lane.items < d.lane.count → ((r : LaneRec) → LaneRecFits Two r → line ≢ lane_line r) → Begins SpellsSession (held_onto Lane d (line ∷ [])) → ⊥
+lane_refused d line f second less none b =
+    let g = goes_from Lane d line b in
+    let more = line ∷ g.more in
+    let same = version_agrees d (lane_part d more) g.v f.before g.fits g.whole ∙ second in
+    let r = item_at lane_line (LaneRecFits Two) d.lane g.v.lane (pager_lines g.v) g.more line (lane_agrees d more g.v f (λ first. absurd (one_version d.version first second)) g.fits g.whole) less (subst (λ (w : Version). AllByRecursion (LaneRecFits w) g.v.lane) same g.fits.lane) in
+    none r.0 r.1 r.2
+
+pub pager_refused : (d : Draft) (line : List ℕ) → PagerFits d → length d.pager.items < d.pager.count → ((r : PagerRec) → PagerRecFits d.version d.geometry r → line ≢ pager_line r) → Begins SpellsSession (held_onto Pager d (line ∷ [])) → ⊥
 pager_refused d line f less none b =
     let g = goes_from Pager d line b in
     let more = line ∷ g.more in
-    let same = (init_agrees d (guest_part d (source_part d (link_part d (with_lane d.version (pager_part d more))))) g.v f.before.before.before.before g.fits g.whole).geometry in
-    let r = item_at pager_line (PagerRecFits d.geometry) d.pager g.v.pager (closing ∷ []) g.more line (pager_agrees d more g.v f g.fits g.whole) less (subst (λ (e : Extent). AllByRecursion (PagerRecFits e) g.v.pager) (sym same) g.fits.pager) in
+    let same = init_agrees d (guest_part d (source_part d (link_part d (lane_part d (pager_part d more))))) g.v f.before.before.before.before.before g.fits g.whole in
+    let each = subst (λ (e : Extent). AllByRecursion (PagerRecFits d.version e) g.v.pager) (sym same.geometry) (subst (λ (w : Version). AllByRecursion (PagerRecFits w g.v.geometry) g.v.pager) (sym same.version) g.fits.pager) in
+    let r = item_at pager_line (PagerRecFits d.version d.geometry) d.pager g.v.pager (closing ∷ []) g.more line (pager_agrees d more g.v f g.fits g.whole) less each in
     none r.0 r.1 r.2

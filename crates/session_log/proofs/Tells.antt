@@ -13,11 +13,14 @@ use Rattle.migration_types.specs.declared.records.SourceRec.{SourceRec}
 use Rattle.migration_types.specs.declared.records.SourceRec.TheVariants.{Halted, State, Send, Again, Ask, Done}
 use Rattle.migration_types.specs.declared.records.LinkRec.{LinkRec}
 use Rattle.migration_types.specs.declared.records.LinkRec.TheVariants.{Down, Up}
+use Rattle.migration_types.specs.declared.records.LaneRec.{LaneRec}
+use Rattle.migration_types.specs.declared.records.LaneRec.TheVariants.{Down as LaneDown}
 use Rattle.migration_types.specs.declared.records.PagerRec.{PagerRec}
-use Rattle.migration_types.specs.declared.records.PagerRec.TheVariants.{Got, Ready, Fault, Join, Want, Place, Zero, Skip, All}
+use Rattle.migration_types.specs.declared.records.PagerRec.TheVariants.{Got, Pull, Ready, Fault, Join, Want, Place, Zero, Skip, All}
+use Rattle.migration_types.specs.declared.version.Version.{Version}
 use Rattle.migration_types.specs.Extents.{Extent, IsExtent}
-use Rattle.migration_types.specs.Sessions.{IsNumber, GuestRecFits, SourceRecFits, LinkRecFits, PagerRecFits}
-use Rattle.session_log.specs.Records.{access_text, vcpu_page_text, page_text, placed_text, guest_line, source_line, link_line, pager_line}
+use Rattle.migration_types.specs.Sessions.{IsNumber, GuestRecFits, SourceRecFits, LinkRecFits, LaneRecFits, PagerRecFits}
+use Rattle.session_log.specs.Records.{access_text, vcpu_page_text, page_text, placed_text, guest_line, source_line, link_line, lane_line, pager_line}
 
 -- ---- fields
 
@@ -113,16 +116,20 @@ link_tells (Down n) (Down m) a b same = ap Down (numbered_tells (codes "down ") 
 link_tells (Up n) (Up m) a b same = ap Up (numbered_tells (codes "up ") n m a b same)
 link_tells r s a b same = let first : letters (link_line r) ≡ letters (link_line s) = ap letters same in absurd (omega (arith, first))
 
-pub pager_tells : (e : Extent) → IsExtent e → (r s : PagerRec) → PagerRecFits e r → PagerRecFits e s → pager_line r ≡ pager_line s → r ≡ s
-pager_tells e h (Got n) (Got m) a b same = ap Got (numbered_tells (codes "got ") n m a b same)
-pager_tells e h Ready Ready a b same = refl
-pager_tells e h (Fault n) (Fault m) a b same = ap Fault (numbered_tells (codes "fault ") n m a b same)
-pager_tells e h (Join n) (Join m) a b same = ap Join (numbered_tells (codes "join ") n m a b same)
-pager_tells e h (Want p) (Want q) a b same = ap Want (paged_tells e h (codes "want ") p q a b same)
-pager_tells e h (Place p n xs) (Place q m ys) a b same =
+pub lane_tells : (version : Version) (r s : LaneRec) → LaneRecFits version r → LaneRecFits version s → lane_line r ≡ lane_line s → r ≡ s
+lane_tells version (LaneDown n) (LaneDown m) a b same = ap LaneDown (numbered_tells (codes "down ") n m a.1 b.1 same)
+
+pub pager_tells : (version : Version) (e : Extent) → IsExtent e → (r s : PagerRec) → PagerRecFits version e r → PagerRecFits version e s → pager_line r ≡ pager_line s → r ≡ s
+pager_tells version e h (Got n) (Got m) a b same = ap Got (numbered_tells (codes "got ") n m a b same)
+pager_tells version e h (Pull n) (Pull m) a b same = ap Pull (numbered_tells (codes "pull ") n m a.1 b.1 same)
+pager_tells version e h Ready Ready a b same = refl
+pager_tells version e h (Fault n) (Fault m) a b same = ap Fault (numbered_tells (codes "fault ") n m a b same)
+pager_tells version e h (Join n) (Join m) a b same = ap Join (numbered_tells (codes "join ") n m a b same)
+pager_tells version e h (Want p) (Want q) a b same = ap Want (paged_tells e h (codes "want ") p q a b same)
+pager_tells version e h (Place p n xs) (Place q m ys) a b same =
     let t = placed_tells e h p n q m xs ys a b (append_cancel_left (codes "place ") (placed_text p n xs) (placed_text q m ys) same) in
     rw (t.0, t.1, t.2) refl
-pager_tells e h (Zero p) (Zero q) a b same = ap Zero (paged_tells e h (codes "zero ") p q a b same)
-pager_tells e h (Skip n) (Skip m) a b same = ap Skip (numbered_tells (codes "skip ") n m a b same)
-pager_tells e h All All a b same = refl
-pager_tells e h r s a b same = let first : letters (pager_line r) ≡ letters (pager_line s) = ap letters same in absurd (omega (arith, first))
+pager_tells version e h (Zero p) (Zero q) a b same = ap Zero (paged_tells e h (codes "zero ") p q a b same)
+pager_tells version e h (Skip n) (Skip m) a b same = ap Skip (numbered_tells (codes "skip ") n m a b same)
+pager_tells version e h All All a b same = refl
+pager_tells version e h r s a b same = let first : letters (pager_line r) ≡ letters (pager_line s) = ap letters same in absurd (omega (arith, first))

@@ -10,7 +10,9 @@
 --     see NUMBER                                                zero PAGE
 --                                      the link's log           skip NUMBER
 --                                      down NUMBER              all
---                                      up NUMBER
+--                                      up NUMBER                pull NUMBER, in the second version alone
+--                                      the lane's log
+--                                      down NUMBER
 use Rattle.std.specs.Prelude.{ℕ, List, ◌∷◌, ◌++◌, codes}
 use Rattle.std.specs.Fmt.{decimal}
 use Rattle.text_lines.specs.Contents.{contents_text}
@@ -20,8 +22,10 @@ use Rattle.migration_types.specs.declared.records.SourceRec.{SourceRec}
 use Rattle.migration_types.specs.declared.records.SourceRec.TheVariants.{Halted, State, Send, Again, Ask, Done}
 use Rattle.migration_types.specs.declared.records.LinkRec.{LinkRec}
 use Rattle.migration_types.specs.declared.records.LinkRec.TheVariants.{Down, Up}
+use Rattle.migration_types.specs.declared.records.LaneRec.{LaneRec}
+use Rattle.migration_types.specs.declared.records.LaneRec.TheVariants.{Down as LaneDown}
 use Rattle.migration_types.specs.declared.records.PagerRec.{PagerRec}
-use Rattle.migration_types.specs.declared.records.PagerRec.TheVariants.{Got, Ready, Fault, Join, Want, Place, Zero, Skip, All}
+use Rattle.migration_types.specs.declared.records.PagerRec.TheVariants.{Got, Pull, Ready, Fault, Join, Want, Place, Zero, Skip, All}
 
 abbrev pub access_text : ℕ → ℕ → ℕ → ℕ → List ℕ
 access_text vcpu page cell value = decimal vcpu ++ 32 ∷ (decimal page ++ 32 ∷ (decimal cell ++ 32 ∷ decimal value))
@@ -57,8 +61,12 @@ abbrev pub link_line : LinkRec → List ℕ
 link_line (Down sending) = codes "down " ++ decimal sending
 link_line (Up asking) = codes "up " ++ decimal asking
 
+abbrev pub lane_line : LaneRec → List ℕ
+lane_line (LaneDown sending) = codes "down " ++ decimal sending
+
 abbrev pub pager_line : PagerRec → List ℕ
 pager_line (Got down) = codes "got " ++ decimal down
+pager_line (Pull down) = codes "pull " ++ decimal down
 pager_line Ready = codes "ready"
 pager_line (Fault miss) = codes "fault " ++ decimal miss
 pager_line (Join want) = codes "join " ++ decimal want

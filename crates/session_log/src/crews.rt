@@ -1,11 +1,12 @@
 //! Who takes the pages and the records of a session many at once.
 
 use crate::guest::GuestLines;
+use crate::lane::LaneLines;
 use crate::link::LinkLines;
 use crate::pager::PagerLines;
 use crate::pages::InitLines;
 use crate::source::SourceLines;
-use migration_types::{GuestRec, InitPage, LinkRec, PagerRec, SourceRec};
+use migration_types::{GuestRec, InitPage, LaneRec, LinkRec, PagerRec, SourceRec};
 use std::thread::Threads;
 use text_lines::{Alone, ItemCrew, Team, take_parts};
 
@@ -14,6 +15,7 @@ pub(crate) trait SessionCrew: ItemCrew<InitLines>
     + ItemCrew<GuestLines>
     + ItemCrew<SourceLines>
     + ItemCrew<LinkLines>
+    + ItemCrew<LaneLines>
     + ItemCrew<PagerLines> {}
 
 impl SessionCrew for Alone {}
@@ -61,6 +63,18 @@ impl<'a, H: Threads + Sync> ItemCrew<LinkLines> for Team<'a, H> {
         &self,
         form: &LinkLines,
         items: &mut Vec<LinkRec>,
+        most: u32,
+        bytes: &'b [u8],
+    ) -> (&'b [u8], u32) {
+        take_parts(self.rt, form, self.parts, items, most, bytes)
+    }
+}
+
+impl<'a, H: Threads + Sync> ItemCrew<LaneLines> for Team<'a, H> {
+    fn take<'b>(
+        &self,
+        form: &LaneLines,
+        items: &mut Vec<LaneRec>,
         most: u32,
         bytes: &'b [u8],
     ) -> (&'b [u8], u32) {

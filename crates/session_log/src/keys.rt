@@ -1,6 +1,6 @@
 //! The words and whole lines of a session's text, for its reader and its writer.
 
-// The headers, what begins the number of a list's items, the lane's line, and the last line.
+// The headers, what begins the number of a list's items, and the last line.
 
 pub(crate) const FIRST_HEADER: &[u8] = b"postcopy-session 1";
 
@@ -21,7 +21,7 @@ pub(crate) const SOURCE_KEY: &[u8] = b"source ";
 
 pub(crate) const LINK_KEY: &[u8] = b"link ";
 
-pub(crate) const LANE: &[u8] = b"lane 0";
+pub(crate) const LANE_KEY: &[u8] = b"lane ";
 
 pub(crate) const PAGER_KEY: &[u8] = b"pager ";
 
@@ -62,7 +62,7 @@ pub(crate) const ASK_KEY: &[u8] = b"ask ";
 
 pub(crate) const DONE: &[u8] = b"done";
 
-// The link's records.
+// The link's records, and the lane's.
 
 pub(crate) const DOWN_KEY: &[u8] = b"down ";
 
@@ -71,6 +71,8 @@ pub(crate) const UP_KEY: &[u8] = b"up ";
 // The pager's records.
 
 pub(crate) const GOT_KEY: &[u8] = b"got ";
+
+pub(crate) const PULL_KEY: &[u8] = b"pull ";
 
 pub(crate) const READY: &[u8] = b"ready";
 

@@ -84,7 +84,7 @@ static CERTS: [Spelled; 4] = [
             Entry::Nothing,
             Entry::Fresh { first: 1_048_575 },
         ],
-        runs: 1,
+        runs: 2,
     },
 ];
 
@@ -115,7 +115,7 @@ fn entries_are_read(rt: HostRuntime) {
 }
 
 /// The runs that `RUNS` spells.
-static SPELLED_RUNS: [Run; 4] = [
+static SPELLED_RUNS: [Run; 5] = [
     Run {
         log: LogName::Guest,
         count: 3,
@@ -127,6 +127,10 @@ static SPELLED_RUNS: [Run; 4] = [
     Run {
         log: LogName::Link,
         count: 1_048_576,
+    },
+    Run {
+        log: LogName::Lane,
+        count: 2,
     },
     Run {
         log: LogName::Pager,

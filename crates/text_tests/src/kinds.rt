@@ -2,7 +2,7 @@
 //! range, or an end that is too early or too late.
 
 use crate::formats::{Format, fault_in, none_is_wrong};
-use crate::texts::{FRESH, KINDS, LATE, RUNS, SENT};
+use crate::texts::{FRESH, KINDS, LATE, PULLED, PUSHED, RUNS, SENT};
 use FaultKind::{Ended, Form, Range};
 use std::alloc::Global;
 use text_lines::FaultKind;
@@ -11,7 +11,7 @@ use text_lines::FaultKind;
 struct Change(u32, FaultKind, &'static str, &'static str);
 
 /// Changes of `KINDS`.
-static SESSION_CHANGES: [Change; 44] = [
+static SESSION_CHANGES: [Change; 45] = [
     Change(1, Form, "session 1", "session 3"),
     Change(1, Form, "session 1", "session 0"),
     Change(25, Form, "session 1", "session 2"),
@@ -65,6 +65,7 @@ static SESSION_CHANGES: [Change; 44] = [
     Change(25, Form, "link 2", "link 3"),
     Change(24, Form, "link 2", "link 1"),
     Change(25, Range, "pager 9", "pager 1048577"),
+    Change(26, Form, "got 1048575", "pull 1048575"),
     Change(35, Form, "pager 9", "pager 10"),
     Change(34, Form, "pager 9", "pager 8"),
     Change(35, Form, "end\n", "END\n"),
@@ -74,13 +75,14 @@ static SESSION_CHANGES: [Change; 44] = [
 ];
 
 /// Changes of `LATE`.
-static LATE_CHANGES: [Change; 17] = [
+static LATE_CHANGES: [Change; 18] = [
     Change(1, Form, "session 2", "session 3"),
     Change(1, Form, "session 2", "session 02"),
     Change(1, Form, "session 2", "session 2 "),
     Change(18, Form, "session 2", "session 1"),
     Change(18, Form, "lane 0\n", ""),
-    Change(18, Form, "lane 0", "lane 1"),
+    Change(19, Form, "lane 0", "lane 1"),
+    Change(18, Range, "lane 0", "lane 1048577"),
     Change(18, Form, "lane 0", "lane 00"),
     Change(18, Form, "lane 0", "lane"),
     Change(18, Form, "lane 0", "lane 0 "),
@@ -94,8 +96,39 @@ static LATE_CHANGES: [Change; 17] = [
     Change(25, Ended, "end\n", "end\n\n"),
 ];
 
+/// Changes of `PUSHED`.
+static PUSHED_CHANGES: [Change; 18] = [
+    Change(17, Form, "session 2", "session 1"),
+    Change(17, Form, "lane 1\ndown 2\n", ""),
+    Change(17, Form, "lane 1", "link 1"),
+    Change(17, Form, "lane 1", "lane 01"),
+    Change(17, Range, "lane 1", "lane 1048577"),
+    Change(18, Form, "lane 1", "lane 0"),
+    Change(19, Form, "lane 1", "lane 2"),
+    Change(19, Form, "lane 1", "lane 1048576"),
+    Change(18, Form, "down 2", "down 1048576"),
+    Change(18, Form, "down 2", "down 02"),
+    Change(18, Form, "down 2", "up 2"),
+    Change(18, Form, "down 2", "pull 2"),
+    Change(19, Range, "pager 4", "pager 1048577"),
+    Change(22, Form, "pull 0", "pull 1048576"),
+    Change(22, Form, "pull 0", "pull 00"),
+    Change(22, Form, "pull 0", "down 0"),
+    Change(24, Form, "pager 4", "pager 5"),
+    Change(25, Ended, "end\n", "end\n\n"),
+];
+
+/// Changes of `PULLED`.
+static PULLED_CHANGES: [Change; 5] = [
+    Change(8, Form, "session 2", "session 1"),
+    Change(10, Form, "down 1048575", "down 1048576"),
+    Change(11, Form, "lane 2", "lane 3"),
+    Change(13, Form, "pull 1048575", "pull 1048576"),
+    Change(13, Form, "pull 1048575", "pull"),
+];
+
 /// Changes of `SENT`.
-static CERT_CHANGES: [Change; 49] = [
+static CERT_CHANGES: [Change; 50] = [
     Change(1, Form, "certificate 1", "certificate 3"),
     Change(2, Form, "pages 2", "page 2"),
     Change(2, Form, "pages 2", "pages 02"),
@@ -139,6 +172,7 @@ static CERT_CHANGES: [Change; 49] = [
     Change(6, Form, "guest 2", "guest  2"),
     Change(6, Form, "guest 2", "guest 2 "),
     Change(7, Form, "source 2", "guest 2"),
+    Change(8, Form, "run link 1", "run lane 1"),
     Change(17, Form, "end\n", "END\n"),
     Change(17, Form, "end\n", "end\r\n"),
     Change(17, Ended, "end\n", ""),
@@ -148,7 +182,7 @@ static CERT_CHANGES: [Change; 49] = [
 ];
 
 /// Changes of `FRESH`.
-static FRESH_CHANGES: [Change; 11] = [
+static FRESH_CHANGES: [Change; 16] = [
     Change(1, Form, "certificate 2", "certificate 3"),
     Change(6, Form, "certificate 2", "certificate 1"),
     Change(5, Form, "page 2 none", "page 2 fresh"),
@@ -160,23 +194,31 @@ static FRESH_CHANGES: [Change; 11] = [
     Change(6, Form, "fresh 1048575", "fresh 2 "),
     Change(6, Form, "fresh 1048575", "fresh 2 1"),
     Change(6, Form, "fresh 1048575", "fresh -"),
+    Change(7, Range, "runs 2", "runs 5242881"),
+    Change(10, Form, "runs 2", "runs 5242880"),
+    Change(9, Form, "lane 1048576", "lane 1048577"),
+    Change(9, Form, "lane 1048576", "lane 0"),
+    Change(9, Form, "lane 1048576", "guest 1"),
 ];
 
 /// Changes of `RUNS`.
-static RUN_CHANGES: [Change; 13] = [
+static RUN_CHANGES: [Change; 16] = [
     Change(1, Form, "runs 1", "runs 2"),
     Change(1, Form, "postcopy-runs 1\n", ""),
-    Change(2, Form, "runs 4", "runs 04"),
-    Change(2, Range, "runs 4", "runs 4194305"),
-    Change(6, Form, "runs 4", "runs 3"),
-    Change(7, Form, "runs 4", "runs 5"),
+    Change(2, Form, "runs 5", "runs 05"),
+    Change(2, Range, "runs 5", "runs 5242881"),
+    Change(7, Form, "runs 5", "runs 4"),
+    Change(8, Form, "runs 5", "runs 6"),
+    Change(8, Form, "runs 5", "runs 5242880"),
     Change(3, Form, "guest 3", "guest 03"),
     Change(3, Form, "guest 3", "guest 0"),
     Change(3, Form, "guest 3", "guest 1048577"),
     Change(4, Form, "source 1", "guest 1"),
-    Change(6, Form, "pager 1", "link 1"),
-    Change(7, Ended, "end\n", "end"),
-    Change(8, Ended, "end\n", "end\nend\n"),
+    Change(6, Form, "lane 2", "lane 1048577"),
+    Change(6, Form, "lane 2", "link 2"),
+    Change(7, Form, "pager 1", "lane 1"),
+    Change(8, Ended, "end\n", "end"),
+    Change(9, Ended, "end\n", "end\nend\n"),
 ];
 
 /// Whether a text with a change is refused as the change tells.
@@ -218,6 +260,15 @@ fn changed_sessions_are_refused(rt: HostRuntime) {
 fn changed_sessions_of_the_second_version_are_refused(rt: HostRuntime) {
     let wrong = wrong_change(rt.alloc(), Format::Session, LATE, LATE_CHANGES.as_slice());
     none_is_wrong(&rt, wrong);
+}
+
+#[test]
+fn changed_lanes_are_refused(rt: HostRuntime) {
+    let alloc = rt.alloc();
+    let pushed = wrong_change(alloc, Format::Session, PUSHED, PUSHED_CHANGES.as_slice());
+    none_is_wrong(&rt, pushed);
+    let pulled = wrong_change(alloc, Format::Session, PULLED, PULLED_CHANGES.as_slice());
+    none_is_wrong(&rt, pulled);
 }
 
 #[test]

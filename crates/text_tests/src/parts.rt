@@ -11,11 +11,17 @@ use text_lines::{FaultKind, TextFault, end_line, push_keyed, push_line, push_num
 /// How many initial pages a long text has, and how many records of the guest: some 90,000 bytes of each.
 const COUNT: u32 = 4_000;
 
+/// How many records of the lane it has, and how many receipts for them: some 80,000 bytes of each.
+const LANE_COUNT: u32 = 6_000;
+
 /// The line of the first initial page.
 const FIRST_PAGE: u32 = 5;
 
 /// The line of the guest's first record.
 const FIRST_RECORD: u32 = FIRST_PAGE + COUNT + 1;
+
+/// The line of the lane's first record.
+const FIRST_DOWN: u32 = FIRST_RECORD + COUNT + 3;
 
 /// Adds the line of an initial page of one cell.
 fn push_page(out: &mut Vec<u8>, page: u32) -> Result<(), AllocError> {
@@ -46,10 +52,37 @@ const NONE: Other = Other {
     page: 0,
 };
 
-/// A session's text, with another initial page, or in which the guest's record of this index is of no page.
-fn long_text(alloc: Global, other: Other, other_record: u32) -> Result<Vec<u8>, AllocError> {
+/// Adds the records of the lane, of which that of this index names no record, and receipts for them.
+fn push_lane(out: &mut Vec<u8>, other_down: u32) -> Result<(), AllocError> {
+    push_keyed(out, b"lane ", LANE_COUNT)?;
+    for index in 0..LANE_COUNT {
+        push_keyed(
+            out,
+            b"down ",
+            if index == other_down {
+                1_048_576
+            } else {
+                1_042_000 + index
+            },
+        )?;
+    }
+    push_keyed(out, b"pager ", LANE_COUNT)?;
+    for index in 0..LANE_COUNT {
+        push_keyed(out, b"pull ", 1_042_000 + index)?;
+    }
+    Ok(())
+}
+
+/// A session's text, with another initial page, or in which the guest's record of this index is of no page, or the lane's
+/// of that names no record.
+fn long_text(
+    alloc: Global,
+    other: Other,
+    other_record: u32,
+    other_down: u32,
+) -> Result<Vec<u8>, AllocError> {
     let mut out = Vec::new(alloc);
-    push_line(&mut out, b"postcopy-session 1")?;
+    push_line(&mut out, b"postcopy-session 2")?;
     push_keyed(&mut out, b"pages ", 65_536u32)?;
     push_keyed(&mut out, b"cells ", 1u32)?;
     push_keyed(&mut out, b"init ", COUNT)?;
@@ -76,7 +109,7 @@ fn long_text(alloc: Global, other: Other, other_record: u32) -> Result<Vec<u8>, 
     }
     push_keyed(&mut out, b"source ", 0u32)?;
     push_keyed(&mut out, b"link ", 0u32)?;
-    push_keyed(&mut out, b"pager ", 0u32)?;
+    push_lane(&mut out, other_down)?;
     push_line(&mut out, b"end")?;
     Ok(out)
 }
@@ -101,10 +134,11 @@ fn is_read_apart<R: Threads + Sync>(
     alloc: Global,
     parts: usize,
 ) -> Result<bool, AllocError> {
-    let text = long_text(alloc, NONE, COUNT)?;
+    let text = long_text(alloc, NONE, COUNT, LANE_COUNT)?;
     match read_apart(rt, alloc, parts, &text) {
         Ok(session) => Ok(
             session.guest().len() == COUNT as usize
+                && session.lane().len() == LANE_COUNT as usize
                 && session.init().len() == COUNT as usize
                 && is_session_text(alloc, &session, &text),
         ),
@@ -119,7 +153,7 @@ fn page_fault<R: Threads + Sync>(
     parts: usize,
     other: Other,
 ) -> Result<Option<(u32, FaultKind)>, AllocError> {
-    let text = long_text(alloc, other, COUNT)?;
+    let text = long_text(alloc, other, COUNT, LANE_COUNT)?;
     Ok(fault_of(&read_apart(rt, alloc, parts, &text)))
 }
 
@@ -169,9 +203,20 @@ fn is_record_refused<R: Threads + Sync>(
     alloc: Global,
     parts: usize,
 ) -> Result<bool, AllocError> {
-    let text = long_text(alloc, NONE, 3_456)?;
+    let text = long_text(alloc, NONE, 3_456, LANE_COUNT)?;
     let answer = read_apart(rt, alloc, parts, &text);
     Ok(refusal_line(&answer) == FIRST_RECORD + 3_456)
+}
+
+/// Whether a record of the lane that names no record is refused at its line.
+fn is_down_refused<R: Threads + Sync>(
+    rt: &R,
+    alloc: Global,
+    parts: usize,
+) -> Result<bool, AllocError> {
+    let text = long_text(alloc, NONE, COUNT, 5_678)?;
+    let answer = read_apart(rt, alloc, parts, &text);
+    Ok(refusal_line(&answer) == FIRST_DOWN + 5_678)
 }
 
 #[test]
@@ -180,5 +225,6 @@ fn parts_are_read(rt: HostRuntime) {
         assert!(rt; is_read_apart(&rt, rt.alloc(), parts).unwrap_or(false));
         assert!(rt; are_pages_refused(&rt, rt.alloc(), parts).unwrap_or(false));
         assert!(rt; is_record_refused(&rt, rt.alloc(), parts).unwrap_or(false));
+        assert!(rt; is_down_refused(&rt, rt.alloc(), parts).unwrap_or(false));
     }
 }

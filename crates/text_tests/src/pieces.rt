@@ -1,7 +1,7 @@
 //! Texts that come in pieces, however they are cut.
 
 use crate::formats::{Format, is_cert_text, is_session_text, none_is_wrong};
-use crate::texts::{FIRST, FRESH, KINDS, LATE, RUNS, SECOND, SENT};
+use crate::texts::{FIRST, FRESH, KINDS, LATE, PULLED, PUSHED, RUNS, SECOND, SENT};
 use crate::{fault_of, refusal_line};
 use cert_text::{CertReader, RunsReader};
 use migration_types::Run;
@@ -40,10 +40,10 @@ fn is_cert_of_pieces(alloc: Global, text: &[u8], size: usize) -> bool {
     }
 }
 
-/// How many records the last of four runs takes.
+/// How many records the last of five runs takes.
 fn last_count(runs: &[Run]) -> Option<u32> {
     match runs {
-        [_, _, _, last] => Some(last.count),
+        [_, _, _, _, last] => Some(last.count),
         _ => None,
     }
 }
@@ -66,11 +66,13 @@ fn is_value_of_pieces(alloc: Global, format: Format, text: &[u8], size: usize) -
 }
 
 /// Texts of their formats.
-static TEXTS: [(Format, &str); 7] = [
+static TEXTS: [(Format, &str); 9] = [
     (Format::Session, FIRST),
     (Format::Session, SECOND),
     (Format::Session, KINDS),
     (Format::Session, LATE),
+    (Format::Session, PUSHED),
+    (Format::Session, PULLED),
     (Format::Cert, SENT),
     (Format::Cert, FRESH),
     (Format::Runs, RUNS),

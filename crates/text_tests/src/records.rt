@@ -1,56 +1,71 @@
 //! Single records of each log: what their lines spell, and lines that are refused.
 
 use crate::formats::{Format, fault_in, none_is_wrong};
-use LogName::{Guest, Link, Pager, Source};
-use migration_types::{Contents, LogName, PagerRec, Session, SourceRec};
+use LogName::{Guest, Lane, Link, Pager, Source};
+use migration_types::{Contents, LaneRec, LogName, PagerRec, Session, SourceRec, Version};
 use session_log::read_session;
 use std::alloc::{AllocError, Global};
-use text_lines::FaultKind;
+use text_lines::{FaultKind, push_keyed, push_line};
 
-/// The lines of a session with one record, which is of this log: those before it, and those behind it. The machine has
-/// three pages of two cells.
-fn around(log: LogName) -> (&'static str, &'static str) {
-    match log {
-        Guest => (
-            "postcopy-session 1\npages 3\ncells 2\ninit 0\nguest 1\n",
-            "\nsource 0\nlink 0\npager 0\nend\n",
-        ),
-        Source => (
-            "postcopy-session 1\npages 3\ncells 2\ninit 0\nguest 0\nsource 1\n",
-            "\nlink 0\npager 0\nend\n",
-        ),
-        Link => (
-            "postcopy-session 1\npages 3\ncells 2\ninit 0\nguest 0\nsource 0\nlink 1\n",
-            "\npager 0\nend\n",
-        ),
-        Pager => (
-            "postcopy-session 1\npages 3\ncells 2\ninit 0\nguest 0\nsource 0\nlink 0\npager 1\n",
-            "\nend\n",
-        ),
+/// The logs, and what begins the number of each one's records.
+static COUNTS: [(LogName, &str); 5] = [
+    (Guest, "guest "),
+    (Source, "source "),
+    (Link, "link "),
+    (Lane, "lane "),
+    (Pager, "pager "),
+];
+
+fn header(version: Version) -> &'static str {
+    match version {
+        Version::One => "postcopy-session 1",
+        Version::Two => "postcopy-session 2",
     }
 }
 
-fn push_all(text: &mut Vec<u8>, before: &str, line: &str, after: &str) -> Result<(), AllocError> {
-    text.extend_from_slice(before.as_bytes())?;
-    text.extend_from_slice(line.as_bytes())?;
-    text.extend_from_slice(after.as_bytes())
+/// Adds the lines of a session's logs, of which one has one record.
+fn push_logs(
+    text: &mut Vec<u8>,
+    version: Version,
+    log: LogName,
+    line: &str,
+) -> Result<(), AllocError> {
+    for (name, key) in &COUNTS {
+        if *name == log {
+            push_keyed(text, key.as_bytes(), 1u32)?;
+            push_line(text, line.as_bytes())?;
+        } else if *name != Lane || version == Version::Two {
+            push_keyed(text, key.as_bytes(), 0u32)?;
+        }
+    }
+    Ok(())
 }
 
-/// The text of a session whose one record, of this log, has this line.
-fn text_of_one(alloc: Global, log: LogName, line: &str) -> Result<Vec<u8>, AllocError> {
-    let (before, after) = around(log);
+/// The text of a session of a version whose one record, of this log, has this line. The machine has three pages of two
+/// cells.
+fn text_of_one(
+    alloc: Global,
+    version: Version,
+    log: LogName,
+    line: &str,
+) -> Result<Vec<u8>, AllocError> {
     let mut text = Vec::new(alloc);
-    push_all(&mut text, before, line, after)?;
+    push_line(&mut text, header(version).as_bytes())?;
+    text.extend_from_slice(b"pages 3\ncells 2\ninit 0\n")?;
+    push_logs(&mut text, version, log, line)?;
+    push_line(&mut text, b"end")?;
     Ok(text)
 }
 
 /// The line at which the text of a session of one record has it.
-fn line_of_one(log: LogName) -> u32 {
-    match log {
-        Guest => 6,
-        Source => 7,
-        Link => 8,
-        Pager => 9,
+fn line_of_one(version: Version, log: LogName) -> u32 {
+    match (log, version) {
+        (Guest, _) => 6,
+        (Source, _) => 7,
+        (Link, _) => 8,
+        (Lane, _) => 9,
+        (Pager, Version::One) => 9,
+        (Pager, Version::Two) => 10,
     }
 }
 
@@ -80,9 +95,16 @@ fn told_by_source(record: &SourceRec) -> Told {
     }
 }
 
+fn told_by_lane(record: &LaneRec) -> Told {
+    match record {
+        LaneRec::Down { sending } => Told("down", [u64::from(*sending), 0, 0, 0]),
+    }
+}
+
 fn told_by_pager(record: &PagerRec) -> Told {
     match record {
         PagerRec::Got { down } => Told("got", [u64::from(*down), 0, 0, 0]),
+        PagerRec::Pull { down } => Told("pull", [u64::from(*down), 0, 0, 0]),
         PagerRec::Ready => Told("ready", [0, 0, 0, 0]),
         PagerRec::Fault { miss } => Told("fault", [u64::from(*miss), 0, 0, 0]),
         PagerRec::Join { want } => Told("join", [u64::from(*want), 0, 0, 0]),
@@ -104,16 +126,17 @@ fn told_by_pager(record: &PagerRec) -> Told {
     }
 }
 
-/// What the one record of a log of the source or the pager tells.
+/// What the one record of a log of the source, the lane or the pager tells.
 fn told_in(session: &Session, log: LogName) -> Option<Told> {
-    match (log, session.source(), session.pager()) {
-        (Source, [record], _) => Some(told_by_source(record)),
-        (Pager, _, [record]) => Some(told_by_pager(record)),
+    match (log, session.source(), session.lane(), session.pager()) {
+        (Source, [record], _, _) => Some(told_by_source(record)),
+        (Lane, _, [record], _) => Some(told_by_lane(record)),
+        (Pager, _, _, [record]) => Some(told_by_pager(record)),
         _ => None,
     }
 }
 
-/// What the one record of the source or the pager tells in a session's text.
+/// What the one record of the source, the lane or the pager tells in a session's text.
 fn told_in_text(alloc: Global, log: LogName, text: &[u8]) -> Option<Told> {
     match read_session(alloc, text) {
         Ok(session) => told_in(&session, log),
@@ -127,8 +150,8 @@ fn is_told(told: &Told, line: &str, wanted: &[u64]) -> bool {
 }
 
 /// Whether a line is read as a record that has its first word and these numbers.
-fn is_read(alloc: Global, log: LogName, line: &str, wanted: &[u64]) -> bool {
-    let told = match text_of_one(alloc, log, line) {
+fn is_read(alloc: Global, version: Version, log: LogName, line: &str, wanted: &[u64]) -> bool {
+    let told = match text_of_one(alloc, version, log, line) {
         Ok(text) => told_in_text(alloc, log, text.as_slice()),
         Err(_) => None,
     };
@@ -138,7 +161,7 @@ fn is_read(alloc: Global, log: LogName, line: &str, wanted: &[u64]) -> bool {
     }
 }
 
-/// The lines of records, and the numbers in them. No record's key begins another's.
+/// The lines of records that both versions have, and the numbers in them. No record's key begins another's.
 static RECORDS: [(LogName, &str, [u64; 4]); 15] = [
     (Source, "halted 4", [4, 0, 0, 0]),
     (Source, "state", [0, 0, 0, 0]),
@@ -165,10 +188,22 @@ static RECORDS: [(LogName, &str, [u64; 4]); 15] = [
     (Pager, "all", [0, 0, 0, 0]),
 ];
 
+/// The lines of records that the second version alone has.
+static SECOND_RECORDS: [(LogName, &str, [u64; 4]); 4] = [
+    (Lane, "down 0", [0, 0, 0, 0]),
+    (Lane, "down 1048575", [1_048_575, 0, 0, 0]),
+    (Pager, "pull 4", [4, 0, 0, 0]),
+    (Pager, "pull 1048575", [1_048_575, 0, 0, 0]),
+];
+
 /// A line that is not read as its record.
-fn misread_line(alloc: Global) -> Option<&'static str> {
-    for (log, line, numbers) in &RECORDS {
-        if !is_read(alloc, *log, *line, numbers.as_slice()) {
+fn misread_line(
+    alloc: Global,
+    version: Version,
+    records: &[(LogName, &'static str, [u64; 4])],
+) -> Option<&'static str> {
+    for (log, line, numbers) in records {
+        if !is_read(alloc, version, *log, *line, numbers.as_slice()) {
             return Some(*line);
         }
     }
@@ -177,10 +212,16 @@ fn misread_line(alloc: Global) -> Option<&'static str> {
 
 #[test]
 fn lines_are_read(rt: HostRuntime) {
-    none_is_wrong(&rt, misread_line(rt.alloc()));
+    let alloc = rt.alloc();
+    none_is_wrong(&rt, misread_line(alloc, Version::One, RECORDS.as_slice()));
+    none_is_wrong(&rt, misread_line(alloc, Version::Two, RECORDS.as_slice()));
+    none_is_wrong(
+        &rt,
+        misread_line(alloc, Version::Two, SECOND_RECORDS.as_slice()),
+    );
 }
 
-/// Lines that are no record's in their log.
+/// Lines that are no record's in their log, whatever the version.
 static OTHERS: [(LogName, &str); 57] = [
     (Guest, "r 64 2 1 0"),
     (Guest, "r 63 3 1 0"),
@@ -241,21 +282,43 @@ static OTHERS: [(LogName, &str); 57] = [
     (Pager, "down 1"),
 ];
 
+/// The same in the first version: no receipt from the lane is a record there.
+static FIRST_OTHERS: [(LogName, &str); 2] = [(Pager, "pull 0"), (Pager, "pull 1048575")];
+
+/// The same in the second.
+static SECOND_OTHERS: [(LogName, &str); 11] = [
+    (Lane, "down 1048576"),
+    (Lane, "down"),
+    (Lane, "down 00"),
+    (Lane, "down 0 "),
+    (Lane, "up 0"),
+    (Lane, "pull 0"),
+    (Lane, ""),
+    (Pager, "pull 1048576"),
+    (Pager, "pull"),
+    (Pager, "pull 01"),
+    (Pager, "Pull 0"),
+];
+
 /// Whether the text of a session of one record is refused at the record's line, which has not its form.
-fn has_not_its_form(alloc: Global, log: LogName, line: &str) -> bool {
-    match text_of_one(alloc, log, line) {
+fn has_not_its_form(alloc: Global, version: Version, log: LogName, line: &str) -> bool {
+    match text_of_one(alloc, version, log, line) {
         Ok(text) => {
             let fault = fault_in(alloc, Format::Session, text.as_slice());
-            fault == Some((line_of_one(log), FaultKind::Form))
+            fault == Some((line_of_one(version, log), FaultKind::Form))
         }
         Err(_) => false,
     }
 }
 
 /// A line that is not refused so.
-fn other_line(alloc: Global) -> Option<&'static str> {
-    for (log, line) in &OTHERS {
-        if !has_not_its_form(alloc, *log, *line) {
+fn other_line(
+    alloc: Global,
+    version: Version,
+    others: &[(LogName, &'static str)],
+) -> Option<&'static str> {
+    for (log, line) in others {
+        if !has_not_its_form(alloc, version, *log, *line) {
             return Some(*line);
         }
     }
@@ -264,5 +327,15 @@ fn other_line(alloc: Global) -> Option<&'static str> {
 
 #[test]
 fn other_lines_have_not_their_form(rt: HostRuntime) {
-    none_is_wrong(&rt, other_line(rt.alloc()));
+    let alloc = rt.alloc();
+    none_is_wrong(&rt, other_line(alloc, Version::One, OTHERS.as_slice()));
+    none_is_wrong(&rt, other_line(alloc, Version::Two, OTHERS.as_slice()));
+    none_is_wrong(
+        &rt,
+        other_line(alloc, Version::One, FIRST_OTHERS.as_slice()),
+    );
+    none_is_wrong(
+        &rt,
+        other_line(alloc, Version::Two, SECOND_OTHERS.as_slice()),
+    );
 }

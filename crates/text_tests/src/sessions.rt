@@ -2,7 +2,7 @@
 
 use crate::formats::{Format, fault_in};
 use crate::slow::slow_refusal_line;
-use crate::texts::{FIRST, KINDS, LATE, SECOND};
+use crate::texts::{FIRST, KINDS, LATE, PULLED, PUSHED, SECOND};
 use migration_types::{GuestRec, InitPage, LinkRec, LogName, Session, Version};
 use session_log::{line_of, read_session};
 use std::alloc::Global;
@@ -70,6 +70,7 @@ fn line_of_record(session: &Session, log: LogName, place: u32) -> Option<u32> {
         LogName::Guest => session.guest().len(),
         LogName::Source => session.source().len(),
         LogName::Link => session.link().len(),
+        LogName::Lane => session.lane().len(),
         LogName::Pager => session.pager().len(),
     };
     if (place as usize) < records {
@@ -93,16 +94,36 @@ static LINES: [(LogName, u32, Option<u32>); 9] = [
 ];
 
 /// The same of `LATE`: behind the lane's line stand those of the pager.
-static LATE_LINES: [(LogName, u32, Option<u32>); 9] = [
+static LATE_LINES: [(LogName, u32, Option<u32>); 10] = [
     (LogName::Guest, 0, Some(7)),
     (LogName::Guest, 3, Some(10)),
     (LogName::Source, 0, Some(12)),
     (LogName::Source, 2, Some(14)),
     (LogName::Link, 0, Some(16)),
     (LogName::Link, 1, Some(17)),
+    (LogName::Lane, 0, None),
     (LogName::Pager, 0, Some(20)),
     (LogName::Pager, 3, Some(23)),
     (LogName::Pager, 4, None),
+];
+
+/// The same of `PUSHED`: the lane's records stand between the link's and the pager's.
+static PUSHED_LINES: [(LogName, u32, Option<u32>); 7] = [
+    (LogName::Link, 0, Some(16)),
+    (LogName::Link, 1, None),
+    (LogName::Lane, 0, Some(18)),
+    (LogName::Lane, 1, None),
+    (LogName::Pager, 0, Some(20)),
+    (LogName::Pager, 3, Some(23)),
+    (LogName::Pager, 4, None),
+];
+
+/// The same of `PULLED`.
+static PULLED_LINES: [(LogName, u32, Option<u32>); 4] = [
+    (LogName::Lane, 0, Some(9)),
+    (LogName::Lane, 1, Some(10)),
+    (LogName::Pager, 0, Some(12)),
+    (LogName::Pager, 1, Some(13)),
 ];
 
 /// Whether the records of a session have these lines.
@@ -132,6 +153,8 @@ fn are_lines_told(
 fn records_have_their_lines(rt: HostRuntime) {
     assert!(rt; are_lines_told(rt.alloc(), FIRST, Version::One, LINES.as_slice()));
     assert!(rt; are_lines_told(rt.alloc(), LATE, Version::Two, LATE_LINES.as_slice()));
+    assert!(rt; are_lines_told(rt.alloc(), PUSHED, Version::Two, PUSHED_LINES.as_slice()));
+    assert!(rt; are_lines_told(rt.alloc(), PULLED, Version::Two, PULLED_LINES.as_slice()));
 }
 
 /// Whether a text is judged as by the slow checker.
@@ -186,4 +209,10 @@ fn changed_bytes_are_judged_as_by_the_slow_checker(rt: HostRuntime) {
     let is_second = is_judged_alike_throughout(alloc, SECOND);
     let is_late = is_judged_alike_throughout(alloc, LATE);
     assert!(rt; is_first && is_second && is_late && is_judged_alike_throughout(alloc, KINDS));
+}
+
+#[test]
+fn changed_bytes_of_lanes_are_judged_as_by_the_slow_checker(rt: HostRuntime) {
+    assert!(rt; is_judged_alike_throughout(rt.alloc(), PUSHED));
+    assert!(rt; is_judged_alike_throughout(rt.alloc(), PULLED));
 }

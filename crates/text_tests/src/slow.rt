@@ -14,7 +14,7 @@ enum Field {
 use Field::{Cell, Contents, Number, Page, Value, Vcpu};
 
 /// The kinds of record by their logs and keys, and the fields of each.
-static KINDS: [(&str, &str, &[Field]); 24] = [
+static KINDS: [(&str, &str, &[Field]); 26] = [
     ("guest", "r", &[Vcpu, Page, Cell, Value]),
     ("guest", "w", &[Vcpu, Page, Cell, Value]),
     ("guest", "z", &[Vcpu, Page]),
@@ -30,7 +30,9 @@ static KINDS: [(&str, &str, &[Field]); 24] = [
     ("source", "done", &[]),
     ("link", "down", &[Number]),
     ("link", "up", &[Number]),
+    ("lane", "down", &[Number]),
     ("pager", "got", &[Number]),
+    ("pager", "pull", &[Number]),
     ("pager", "ready", &[]),
     ("pager", "fault", &[Number]),
     ("pager", "join", &[Number]),
@@ -41,8 +43,19 @@ static KINDS: [(&str, &str, &[Field]); 24] = [
     ("pager", "all", &[]),
 ];
 
-/// The fields of a kind of record in a log, by its key.
-fn fields(log: &str, key: &str) -> Option<&'static [Field]> {
+/// What a session's first lines say: whether it has a lane, and the pages and the cells of its machine.
+#[derive(Clone, Copy)]
+struct Told {
+    has_lane: bool,
+    pages: u64,
+    cells: u64,
+}
+
+/// The fields of a kind of record in a log, by its key. A receipt from the lane is none where there is no lane.
+fn fields(log: &str, key: &str, has_lane: bool) -> Option<&'static [Field]> {
+    if key == "pull" && !has_lane {
+        return None;
+    }
     for (of, kind, fields) in &KINDS {
         let (of, kind) = (*of, *kind);
         if of == log && kind == key {
@@ -75,28 +88,28 @@ fn is_contents(word: &str, cells: u64) -> bool {
     word.len() as u64 == cells.saturating_mul(16) && is_made_of(word, b"0123456789abcdef")
 }
 
-fn is_field(word: &str, field: Field, pages: u64, cells: u64) -> bool {
+fn is_field(word: &str, field: Field, told: Told) -> bool {
     match field {
         Vcpu => number(word, 63).is_some(),
-        Page => number(word, pages.saturating_sub(1)).is_some(),
-        Cell => number(word, cells.saturating_sub(1)).is_some(),
+        Page => number(word, told.pages.saturating_sub(1)).is_some(),
+        Cell => number(word, told.cells.saturating_sub(1)).is_some(),
         Value => number(word, u64::MAX).is_some(),
         Number => number(word, 1_048_575).is_some(),
-        Contents => is_contents(word, cells),
+        Contents => is_contents(word, told.cells),
     }
 }
 
-fn is_record(line: &str, log: &str, pages: u64, cells: u64) -> bool {
+fn is_record(line: &str, log: &str, told: Told) -> bool {
     let mut words = line.split(' ');
     let Some(kind) = words.next() else {
         return false;
     };
-    let Some(wanted) = fields(log, kind) else {
+    let Some(wanted) = fields(log, kind, told.has_lane) else {
         return false;
     };
     for field in wanted {
         match words.next() {
-            Some(word) if is_field(word, *field, pages, cells) => {}
+            Some(word) if is_field(word, *field, told) => {}
             _ => return false,
         }
     }
@@ -175,17 +188,17 @@ fn initial_pages(lines: &mut Lines, pages: u64, cells: u64) -> Option<()> {
 }
 
 /// Whether the next lines are those of a log.
-fn records(lines: &mut Lines, log: &str, pages: u64, cells: u64) -> Option<()> {
+fn records(lines: &mut Lines, log: &str, told: Told) -> Option<()> {
     let count = lines.keyed(log, 1_048_576)?;
     for _ in 0..count {
-        if !is_record(lines.next()?, log, pages, cells) {
+        if !is_record(lines.next()?, log, told) {
             return None;
         }
     }
     Some(())
 }
 
-static LOGS: [&str; 4] = ["guest", "source", "link", "pager"];
+static LOGS: [&str; 5] = ["guest", "source", "link", "lane", "pager"];
 
 /// Whether the first line is that of the second version, where it is one.
 fn is_second(header: &str) -> Option<bool> {
@@ -203,11 +216,15 @@ fn is_session(lines: &mut Lines) -> Option<()> {
     let has_lane = is_second(lines.next()?)?;
     let (pages, cells) = geometry(lines)?;
     initial_pages(lines, pages, cells)?;
+    let told = Told {
+        has_lane,
+        pages,
+        cells,
+    };
     for log in &LOGS {
-        if has_lane && *log == "pager" && lines.next()? != "lane 0" {
-            return None;
+        if has_lane || *log != "lane" {
+            records(lines, *log, told)?;
         }
-        records(lines, *log, pages, cells)?;
     }
     if lines.next()? == "end" {
         Some(())

@@ -20,6 +20,14 @@ pub const KINDS: &str =
 pub const LATE: &str =
     "postcopy-session 2\npages 1\ncells 1\ninit 1\npage 0 0000000000000006\nguest 4\nhalt\nresume 1\nz 0 0\nr 0 0 0 0\nsource 3\nhalted 0\nstate\nsend 0 0000000000000006\nlink 2\ndown 1\ndown 2\nlane 0\npager 4\ngot 0\nready\ngot 1\nskip 2\nend\n";
 
+/// A session of the second version, with a page over the lane.
+pub const PUSHED: &str =
+    "postcopy-session 2\npages 1\ncells 1\ninit 1\npage 0 0000000000000006\nguest 4\nhalt\nresume 1\nsee 3\nr 0 0 0 6\nsource 3\nhalted 0\nstate\nsend 0 0000000000000006\nlink 1\ndown 1\nlane 1\ndown 2\npager 4\ngot 0\nready\npull 0\nplace 0 2 0000000000000006\nend\n";
+
+/// Records of the lane and receipts for them, at the limits of their fields.
+pub const PULLED: &str =
+    "postcopy-session 2\npages 1\ncells 1\ninit 0\nguest 0\nsource 0\nlink 0\nlane 2\ndown 0\ndown 1048575\npager 2\npull 0\npull 1048575\nend\n";
+
 /// A certificate of pages that were sent.
 pub const SENT: &str =
     "postcopy-certificate 1\npages 2\npage 0 source 3 5 5 4\npage 1 source 4 7 7 6\nruns 11\nrun guest 2\nrun source 2\nrun link 1\nrun pager 2\nrun guest 2\nrun pager 2\nrun link 1\nrun source 3\nrun link 2\nrun pager 4\nrun guest 5\nend\n";
@@ -32,20 +40,22 @@ pub const RELEASED: &str =
 pub const UNUSED: &str =
     "postcopy-certificate 1\npages 3\npage 0 source 0 1048575 - -\npage 1 balloon 1048575 - -\npage 2 source 1048575 0 1048575 0\nruns 1\nrun link 1048576\nend\n";
 
-/// A certificate of the second version, with a fresh page at the limit of its number.
+/// A certificate of the second version, with a fresh page and a run of the lane at the limits of their numbers.
 pub const FRESH: &str =
-    "postcopy-certificate 2\npages 4\npage 0 source 3 5 5 4\npage 1 balloon 7 - -\npage 2 none\npage 3 fresh 1048575\nruns 1\nrun guest 3\nend\n";
+    "postcopy-certificate 2\npages 4\npage 0 source 3 5 5 4\npage 1 balloon 7 - -\npage 2 none\npage 3 fresh 1048575\nruns 2\nrun guest 3\nrun lane 1048576\nend\n";
 
 /// Runs of each log.
 pub const RUNS: &str =
-    "postcopy-runs 1\nruns 4\nrun guest 3\nrun source 1\nrun link 1048576\nrun pager 1\nend\n";
+    "postcopy-runs 1\nruns 5\nrun guest 3\nrun source 1\nrun link 1048576\nrun lane 2\nrun pager 1\nend\n";
 
 /// Texts of their formats.
-static TEXTS: [(Format, &str); 10] = [
+static TEXTS: [(Format, &str); 12] = [
     (Format::Session, FIRST),
     (Format::Session, SECOND),
     (Format::Session, KINDS),
     (Format::Session, LATE),
+    (Format::Session, PUSHED),
+    (Format::Session, PULLED),
     (Format::Cert, SENT),
     (Format::Cert, RELEASED),
     (Format::Cert, UNUSED),

@@ -1,8 +1,8 @@
 //! Values of sessions: geometries at their limits, and each part of a session and of a certificate once.
 
 use migration_types::{
-    Cert, Contents, Entry, First, Geometry, GeometryFault, GuestRec, LinkRec, LogName, Logs,
-    PageNo, PagerRec, Record, Run, Seq, Session, SourceRec, Version,
+    Cert, Contents, Entry, First, Geometry, GeometryFault, GuestRec, LaneRec, LinkRec, LogName,
+    Logs, PageNo, PagerRec, Record, Run, Seq, Session, SourceRec, Version, lane_lines,
 };
 use std::alloc::{AllocError, Global};
 
@@ -130,6 +130,11 @@ fn link_names() -> bool {
         && names(&LinkRec::Up { asking: 6 }, LogName::Pager, 6)
 }
 
+fn lane_names() -> bool {
+    names(&LaneRec::Down { sending: 7 }, LogName::Source, 7)
+        && names(&PagerRec::Pull { down: 8 }, LogName::Lane, 8)
+}
+
 fn pager_names(got: &PagerRec, fault: &PagerRec, skip: &PagerRec) -> bool {
     names(got, LogName::Link, 0) && names(fault, LogName::Guest, 3) && skip.named().is_none()
 }
@@ -146,7 +151,7 @@ fn names_receipts(rt: HostRuntime) {
         &PagerRec::Fault { miss: 3 },
         &PagerRec::Skip { got: 3 },
     );
-    assert!(rt; guest_names() && source && link_names() && pager);
+    assert!(rt; guest_names() && source && link_names() && lane_names() && pager);
 }
 
 /// A session in which nothing was recorded.
@@ -160,6 +165,7 @@ fn empty_session(alloc: Global, version: Version, geometry: Geometry) -> Session
             guest: Seq::from_vec(Vec::new(alloc)),
             source: Seq::from_vec(Vec::new(alloc)),
             link: Seq::from_vec(Vec::new(alloc)),
+            lane: Seq::from_vec(Vec::new(alloc)),
             pager: Seq::from_vec(Vec::new(alloc)),
         },
     )
@@ -171,6 +177,7 @@ fn is_empty(session: &Session) -> bool {
         && session.guest().is_empty()
         && session.source().is_empty()
         && session.link().is_empty()
+        && session.lane().is_empty()
         && session.pager().is_empty()
 }
 
@@ -190,6 +197,12 @@ fn keeps_session(alloc: Global, version: Version) -> bool {
 fn keeps_a_session(rt: HostRuntime) {
     assert!(rt; keeps_session(rt.alloc(), Version::One));
     assert!(rt; keeps_session(rt.alloc(), Version::Two));
+}
+
+#[test]
+fn counts_the_lines_of_a_lane(rt: HostRuntime) {
+    assert!(rt; lane_lines(Version::One, 5) == 0);
+    assert!(rt; lane_lines(Version::Two, 0) == 1 && lane_lines(Version::Two, 5) == 6);
 }
 
 const ENTRY: Entry = Entry::Source {

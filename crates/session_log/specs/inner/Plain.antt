@@ -7,15 +7,16 @@ use Rattle.text_lines.specs.Text.{IsLine}
 use Rattle.text_lines.specs.Contents.{contents_text}
 use Rattle.text_lines.proofs.Plain.{plain_append, plain_section, plain_codes}
 use Rattle.migration_types.specs.declared.pages.InitPage.{InitPage}
+use Rattle.migration_types.specs.declared.records.LaneRec.{LaneRec}
 use Rattle.migration_types.specs.declared.version.Version.{Version}
 use Rattle.migration_types.specs.declared.version.Version.TheVariants.{One, Two}
 use Rattle.migration_types.specs.Extents.{Extent}
 use Rattle.migration_types.specs.Pages.{InitPageFits}
-use Rattle.migration_types.specs.Sessions.{Recorded, GuestRecFits, SourceRecFits, LinkRecFits, PagerRecFits}
-use Rattle.session_log.specs.Records.{guest_line, source_line, link_line, pager_line}
-use Rattle.session_log.specs.inner.RecordPlain.{plain_contents, plain_number, plain_keyed, plain_guest_rec, plain_source_rec, plain_link_rec, plain_pager_rec}
+use Rattle.migration_types.specs.Sessions.{Recorded, GuestRecFits, SourceRecFits, LinkRecFits, LaneRecFits, PagerRecFits}
+use Rattle.session_log.specs.Records.{guest_line, source_line, link_line, lane_line, pager_line}
+use Rattle.session_log.specs.inner.RecordPlain.{plain_contents, plain_number, plain_keyed, plain_guest_rec, plain_source_rec, plain_link_rec, plain_lane_rec, plain_pager_rec}
 use Rattle.session_log.specs.inner.InitPages.{few_init}
-use Rattle.session_log.specs.Grammar.{header, pages_key, cells_key, init_key, guest_key, source_key, link_key, pager_key, page_key, page_line, lane, with_lane, closing, counted, SpellsSession}
+use Rattle.session_log.specs.Grammar.{header, pages_key, cells_key, init_key, guest_key, source_key, link_key, lane_key, pager_key, page_key, page_line, with_lane, closing, counted, SpellsSession}
 
 pub plain_page : (e : Extent) → e.pages ≤ 65536 → (p : InitPage) → InitPageFits e p → IsLine (page_line p)
 plain_page e few p h =
@@ -29,9 +30,9 @@ plain_header : (version : Version) → IsLine (header version)
 plain_header One = plain_codes (header One) refl
 plain_header Two = plain_codes (header Two) refl
 
-plain_lane : (version : Version) (more : List (List ℕ)) → AllByRecursion IsLine more → AllByRecursion IsLine (with_lane version more)
-plain_lane One more rest = rest
-plain_lane Two more rest = (plain_codes lane refl, rest)
+plain_lane : (version : Version) (records : List LaneRec) (more : List (List ℕ)) → length records ≤ 1048576 → AllByRecursion (LaneRecFits version) records → AllByRecursion IsLine more → AllByRecursion IsLine (with_lane version records more)
+plain_lane One records more few each rest = rest
+plain_lane Two records more few each rest = plain_counted lane_key lane_line (LaneRecFits Two) records more (plain_codes lane_key refl) few (plain_lane_rec Two) each rest
 
 pub plain_session : (v : Recorded) (lines : List (List ℕ)) → SpellsSession v lines → AllByRecursion IsLine lines
 plain_session v lines s =
@@ -41,13 +42,13 @@ plain_session v lines s =
     let few = few_init v s.0 in
     let end_lines = closing ∷ [] in
     let pager_lines = counted pager_key pager_line v.pager end_lines in
-    let lane_lines = with_lane v.version pager_lines in
+    let lane_lines = with_lane v.version v.lane pager_lines in
     let link_lines = counted link_key link_line v.link lane_lines in
     let source_lines = counted source_key source_line v.source link_lines in
     let guest_lines = counted guest_key guest_line v.guest source_lines in
     let end : AllByRecursion IsLine end_lines = (plain_codes closing refl, tt) in
-    let pager = plain_counted pager_key pager_line (PagerRecFits e) v.pager end_lines (plain_codes pager_key refl) s.0.few_pager (plain_pager_rec e few_pages few_cells) s.0.pager end in
-    let lane = plain_lane v.version pager_lines pager in
+    let pager = plain_counted pager_key pager_line (PagerRecFits v.version e) v.pager end_lines (plain_codes pager_key refl) s.0.few_pager (plain_pager_rec v.version e few_pages few_cells) s.0.pager end in
+    let lane = plain_lane v.version v.lane pager_lines s.0.few_lane s.0.lane pager in
     let link = plain_counted link_key link_line LinkRecFits v.link lane_lines (plain_codes link_key refl) s.0.few_link plain_link_rec s.0.link lane in
     let source = plain_counted source_key source_line (SourceRecFits e) v.source link_lines (plain_codes source_key refl) s.0.few_source (plain_source_rec e few_pages few_cells) s.0.source link in
     let guest = plain_counted guest_key guest_line (GuestRecFits e) v.guest source_lines (plain_codes guest_key refl) s.0.few_guest (plain_guest_rec e few_pages few_cells) s.0.guest source in

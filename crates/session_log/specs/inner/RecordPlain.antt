@@ -13,11 +13,14 @@ use Rattle.migration_types.specs.declared.records.SourceRec.{SourceRec}
 use Rattle.migration_types.specs.declared.records.SourceRec.TheVariants.{Halted, State, Send, Again, Ask, Done}
 use Rattle.migration_types.specs.declared.records.LinkRec.{LinkRec}
 use Rattle.migration_types.specs.declared.records.LinkRec.TheVariants.{Down, Up}
+use Rattle.migration_types.specs.declared.records.LaneRec.{LaneRec}
+use Rattle.migration_types.specs.declared.records.LaneRec.TheVariants.{Down as LaneDown}
 use Rattle.migration_types.specs.declared.records.PagerRec.{PagerRec}
-use Rattle.migration_types.specs.declared.records.PagerRec.TheVariants.{Got, Ready, Fault, Join, Want, Place, Zero, Skip, All}
+use Rattle.migration_types.specs.declared.records.PagerRec.TheVariants.{Got, Pull, Ready, Fault, Join, Want, Place, Zero, Skip, All}
+use Rattle.migration_types.specs.declared.version.Version.{Version}
 use Rattle.migration_types.specs.Extents.{Extent}
-use Rattle.migration_types.specs.Sessions.{IsNumber, GuestRecFits, SourceRecFits, LinkRecFits, PagerRecFits}
-use Rattle.session_log.specs.Records.{access_text, vcpu_page_text, page_text, placed_text, guest_line, source_line, link_line, pager_line}
+use Rattle.migration_types.specs.Sessions.{IsNumber, GuestRecFits, SourceRecFits, LinkRecFits, LaneRecFits, PagerRecFits}
+use Rattle.session_log.specs.Records.{access_text, vcpu_page_text, page_text, placed_text, guest_line, source_line, link_line, lane_line, pager_line}
 
 -- ---- fields
 
@@ -76,13 +79,17 @@ pub plain_link_rec : (r : LinkRec) → LinkRecFits r → IsLine (link_line r)
 plain_link_rec (Down n) h = plain_numbered (codes "down ") n (plain_codes (codes "down ") refl) h
 plain_link_rec (Up n) h = plain_numbered (codes "up ") n (plain_codes (codes "up ") refl) h
 
-pub plain_pager_rec : (e : Extent) → e.pages ≤ 65536 → e.cells ≤ 512 → (r : PagerRec) → PagerRecFits e r → IsLine (pager_line r)
-plain_pager_rec e lp lc (Got n) h = plain_numbered (codes "got ") n (plain_codes (codes "got ") refl) h
-plain_pager_rec e lp lc Ready h = plain_codes (codes "ready") refl
-plain_pager_rec e lp lc (Fault n) h = plain_numbered (codes "fault ") n (plain_codes (codes "fault ") refl) h
-plain_pager_rec e lp lc (Join n) h = plain_numbered (codes "join ") n (plain_codes (codes "join ") refl) h
-plain_pager_rec e lp lc (Want p) h = plain_keyed (codes "want ") p (plain_codes (codes "want ") refl) (omega (arith, h))
-plain_pager_rec e lp lc (Place p n xs) h = plain_append (codes "place ") (placed_text p n xs) (plain_codes (codes "place ") refl) (plain_number p (decimal n ++ 32 ∷ contents_text xs) (omega (arith, h.0)) (plain_number n (contents_text xs) (omega (arith, h.1)) (plain_contents xs)))
-plain_pager_rec e lp lc (Zero p) h = plain_keyed (codes "zero ") p (plain_codes (codes "zero ") refl) (omega (arith, h))
-plain_pager_rec e lp lc (Skip n) h = plain_numbered (codes "skip ") n (plain_codes (codes "skip ") refl) h
-plain_pager_rec e lp lc All h = plain_codes (codes "all") refl
+pub plain_lane_rec : (version : Version) (r : LaneRec) → LaneRecFits version r → IsLine (lane_line r)
+plain_lane_rec version (LaneDown n) h = plain_numbered (codes "down ") n (plain_codes (codes "down ") refl) h.1
+
+pub plain_pager_rec : (version : Version) (e : Extent) → e.pages ≤ 65536 → e.cells ≤ 512 → (r : PagerRec) → PagerRecFits version e r → IsLine (pager_line r)
+plain_pager_rec version e lp lc (Got n) h = plain_numbered (codes "got ") n (plain_codes (codes "got ") refl) h
+plain_pager_rec version e lp lc (Pull n) h = plain_numbered (codes "pull ") n (plain_codes (codes "pull ") refl) h.1
+plain_pager_rec version e lp lc Ready h = plain_codes (codes "ready") refl
+plain_pager_rec version e lp lc (Fault n) h = plain_numbered (codes "fault ") n (plain_codes (codes "fault ") refl) h
+plain_pager_rec version e lp lc (Join n) h = plain_numbered (codes "join ") n (plain_codes (codes "join ") refl) h
+plain_pager_rec version e lp lc (Want p) h = plain_keyed (codes "want ") p (plain_codes (codes "want ") refl) (omega (arith, h))
+plain_pager_rec version e lp lc (Place p n xs) h = plain_append (codes "place ") (placed_text p n xs) (plain_codes (codes "place ") refl) (plain_number p (decimal n ++ 32 ∷ contents_text xs) (omega (arith, h.0)) (plain_number n (contents_text xs) (omega (arith, h.1)) (plain_contents xs)))
+plain_pager_rec version e lp lc (Zero p) h = plain_keyed (codes "zero ") p (plain_codes (codes "zero ") refl) (omega (arith, h))
+plain_pager_rec version e lp lc (Skip n) h = plain_numbered (codes "skip ") n (plain_codes (codes "skip ") refl) h
+plain_pager_rec version e lp lc All h = plain_codes (codes "all") refl

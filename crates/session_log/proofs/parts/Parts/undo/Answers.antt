@@ -1,6 +1,6 @@
 use Rattle.session_log.specs.inner.Steps.{draft_of}
 use Rattle.session_log.specs.declared.parts.Stage.TheVariants.{Header, Pages, Cells, InitCount, Init, Guest, Source, Link, Lane, Pager, Done}
-use Rattle.session_log.proofs.Back.{back, with_init, pages_back, cells_back, init_count_back, done_back, init_back, init_none_back, guest_back, guest_none_back, source_back, source_none_back, link_back, link_none_back, lane_back, pager_back, pager_none_back, lane_none_back}
+use Rattle.session_log.proofs.Back.{back, with_init, pages_back, cells_back, init_count_back, done_back, init_back, init_none_back, guest_back, guest_none_back, source_back, source_none_back, link_back, link_none_back, lane_back, lane_none_back, pager_back, first_none_back, pager_none_back}
 use Rattle.session_log.proofs.parts.Parts.undo.Goals as goal
 
 pub returns-in-Pages : goal.returns-in-Pages
@@ -67,24 +67,34 @@ returns-else-not-drop_last-4 c =
     let lost = c.if-not-drop_last-4.ensures in
     back c.args.stage Link d (record d { link = p }) Link c.in-Link.is c.requires.live (link_back d p lost.0 lost.1)
 
-pub returns-in-Lane : goal.returns-in-Lane
-returns-in-Lane c = let d = draft_of c.args.self.now in back c.args.stage Lane d d Link c.in-Lane.is c.requires.live (lane_back d)
+pub returns-then-not-drop_last-5 : goal.returns-then-not-drop_last-5
+returns-then-not-drop_last-5 c =
+    let d = draft_of c.args.self.now in
+    let p = c.drop_last-in-Lane.new.self in
+    back c.args.stage Lane d (record d { lane = p }) Link c.in-Lane.is c.requires.live (lane_none_back d p c.if-not-drop_last-5.ensures)
+
+pub returns-else-not-drop_last-5 : goal.returns-else-not-drop_last-5
+returns-else-not-drop_last-5 c =
+    let d = draft_of c.args.self.now in
+    let p = c.drop_last-in-Lane.new.self in
+    let lost = c.if-not-drop_last-5.ensures in
+    back c.args.stage Lane d (record d { lane = p }) Lane c.in-Lane.is c.requires.live (lane_back d p lost.0 lost.1)
 
 pub returns-in-One : goal.returns-in-One
 returns-in-One c =
     let d = draft_of c.args.self.now in
     let p = c.drop_last-in-Pager.new.self in
-    back c.args.stage Pager d (record d { pager = p }) Link c.in-Pager.is c.requires.live (pager_none_back d p c.in-One.is c.if-not-drop_last-5.ensures)
+    back c.args.stage Pager d (record d { pager = p }) Link c.in-Pager.is c.requires.live (first_none_back d p c.in-One.is c.if-not-drop_last-6.ensures)
 
 pub returns-in-Two : goal.returns-in-Two
 returns-in-Two c =
     let d = draft_of c.args.self.now in
     let p = c.drop_last-in-Pager.new.self in
-    back c.args.stage Pager d (record d { pager = p }) Lane c.in-Pager.is c.requires.live (lane_none_back d p c.in-Two.is c.if-not-drop_last-5.ensures)
+    back c.args.stage Pager d (record d { pager = p }) Lane c.in-Pager.is c.requires.live (pager_none_back d p c.in-Two.is c.if-not-drop_last-6.ensures)
 
-pub returns-else-not-drop_last-5 : goal.returns-else-not-drop_last-5
-returns-else-not-drop_last-5 c =
+pub returns-else-not-drop_last-6 : goal.returns-else-not-drop_last-6
+returns-else-not-drop_last-6 c =
     let d = draft_of c.args.self.now in
     let p = c.drop_last-in-Pager.new.self in
-    let lost = c.if-not-drop_last-5.ensures in
+    let lost = c.if-not-drop_last-6.ensures in
     back c.args.stage Pager d (record d { pager = p }) Pager c.in-Pager.is c.requires.live (pager_back d p lost.0 lost.1)
