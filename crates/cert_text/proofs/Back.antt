@@ -34,14 +34,14 @@ alternate_front xs x h k d lt = λ e.
 abbrev pub with_run : Part Run → Run → Part Run
 with_run part run = record { count = part.count; items = part.items ++ run ∷ [] }
 
-pub run_fits_back : (old new : Part Run) (run : Run) → old ≡ with_run new run → RunsFit old → RunsFit new
-run_fits_back old new run e f =
-    let g : RunsFit (with_run new run) = subst RunsFit e f in
+pub run_fits_back : (version : Version) (old new : Part Run) (run : Run) → old ≡ with_run new run → RunsFit version old → RunsFit version new
+run_fits_back version old new run e f =
+    let g : RunsFit version (with_run new run) = subst (RunsFit version) e f in
     let count = g.count in
     record {
       few = g.few;
       count = omega (arith, length-append new.items (run ∷ []));
-      each = all_front RunFits new.items run g.each;
+      each = all_front (RunFits version) new.items run g.each;
       alternate = alternate_front new.items run g.alternate;
     }
 

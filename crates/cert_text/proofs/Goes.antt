@@ -16,7 +16,7 @@ use Rattle.cert_text.specs.Grammar.{header, pages_key, entry_line, entry_lines, 
 use Rattle.cert_text.specs.inner.Held.{Draft, entries_onto, held_by, EntriesFit, Live}
 use Rattle.cert_text.proofs.EntryLaws.{entries_length}
 use Rattle.cert_text.proofs.RunGoes.{one_list_of_runs}
-use Rattle.cert_text.proofs.Laws.{entries_onto_append, runs_at, entries_agree, entry_held, entry_push}
+use Rattle.cert_text.proofs.Laws.{entries_onto_append, runs_of_version, runs_at, entries_agree, entry_held, entry_push}
 
 abbrev cert_of : Draft → List Run → Certified
 cert_of d runs = record { version = d.version; entries = d.entries; runs = runs }
@@ -24,7 +24,7 @@ cert_of d runs = record { version = d.version; entries = d.entries; runs = runs 
 -- ---- each state goes on
 
 -- all the entries came
-full_begins : (d : Draft) → EntriesFit d → d.pages ≡ length d.entries → Begins SpellsRunLines d.runs → Begins SpellsCert (entries_onto d.version d.pages d.entries d.runs)
+full_begins : (d : Draft) → EntriesFit d → d.pages ≡ length d.entries → Begins (SpellsRunLines d.version) d.runs → Begins SpellsCert (entries_onto d.version d.pages d.entries d.runs)
 full_begins d f full b =
     let some = f.some_pages in
     let few = f.few_pages in (
@@ -37,7 +37,7 @@ full_begins d f full b =
     )
 
 -- with so many entries to come
-entries_begin : (m : ℕ) (d : Draft) → EntriesFit d → d.pages ≡ length d.entries + m → Begins SpellsRunLines d.runs → Begins SpellsCert (entries_onto d.version d.pages d.entries d.runs)
+entries_begin : (m : ℕ) (d : Draft) → EntriesFit d → d.pages ≡ length d.entries + m → Begins (SpellsRunLines d.version) d.runs → Begins SpellsCert (entries_onto d.version d.pages d.entries d.runs)
 entries_begin zero d f e b = full_begins d f (omega arith) b
 entries_begin (suc m) d f e b =
     let none : d.runs ≡ [] = f.runs (omega arith) in
@@ -48,15 +48,15 @@ entries_begin (suc m) d f e b =
     Begins-front SpellsCert (entries_onto d.version d.pages d.entries d.runs) (entry_line (length d.entries) Nothing ∷ []) (subst (Begins SpellsCert) same goes)
 
 -- a text of one page begins with the header
-header_begins : (version : Version) → Begins SpellsRunLines [] → Begins SpellsCert (header version ∷ [])
+header_begins : (version : Version) → Begins (SpellsRunLines version) [] → Begins SpellsCert (header version ∷ [])
 header_begins version b =
     let first : Draft = record { version = version; pages = 1; entries = []; runs = [] } in
     let fits : EntriesFit first = record { some_pages = omega arith; few_pages = omega arith; count = omega arith; each = tt; runs = λ _. refl } in
     Begins-front SpellsCert (header version ∷ []) ((pages_key ++ decimal 1) ∷ []) (entries_begin 1 first fits (omega arith) b)
 
-pub live_begins : (stage : Stage) (d : Draft) → Live stage d → Begins SpellsRunLines d.runs → Begins SpellsCert (held_by stage d)
-live_begins Header d live b = Begins-front SpellsCert [] (header d.version ∷ []) (header_begins d.version (subst (Begins SpellsRunLines) live.runs b))
-live_begins Pages d live b = header_begins d.version (subst (Begins SpellsRunLines) live.runs b)
+pub live_begins : (stage : Stage) (d : Draft) → Live stage d → Begins (SpellsRunLines d.version) d.runs → Begins SpellsCert (held_by stage d)
+live_begins Header d live b = Begins-front SpellsCert [] (header d.version ∷ []) (header_begins d.version (subst (Begins (SpellsRunLines d.version)) live.runs b))
+live_begins Pages d live b = header_begins d.version (subst (Begins (SpellsRunLines d.version)) live.runs b)
 live_begins Entries d live b = let count = live.count in entries_begin (d.pages - length d.entries) d live (omega arith) b
 
 -- ---- what is not whole is no text
@@ -69,20 +69,23 @@ few_entries d c f less fits e =
     let l : length (entry_lines 0 c.entries ++ runs_lines c.runs) ≡ length (entry_lines 0 d.entries ++ d.runs) = ap (λ (t : List (List ℕ)). length t) a.rest in
     absurd (omega (arith, l, ap (λ (t : List (List ℕ)). length t) none, length-append (entry_lines 0 c.entries) (runs_lines c.runs), length-append (entry_lines 0 d.entries) d.runs, entries_length 0 c.entries, entries_length 0 d.entries, a.count))
 
-no_runs : (d : Draft) (c : Certified) → EntriesFit d → ((runs : List Run) → SpellsRunLines runs d.runs → ⊥) → IsCert c → entries_onto d.version d.pages d.entries d.runs ≡ cert_lines c → ⊥
+no_runs : (d : Draft) (c : Certified) → EntriesFit d → ((runs : List Run) → SpellsRunLines d.version runs d.runs → ⊥) → IsCert c → entries_onto d.version d.pages d.entries d.runs ≡ cert_lines c → ⊥
 no_runs d c f stops fits e =
     let count = f.count in
     elim (cases_lt (length d.entries) d.pages) [
       | inl lt ↦ few_entries d c f lt fits e
-      | inr le ↦ let r = runs_at d.version d.pages d.entries d.runs c f.few_pages (omega arith) f.each fits e in stops c.runs (fits.runs, r.1)
+      | inr le ↦
+          let a = entries_agree d.version d.pages d.entries d.runs c f.few_pages fits e in
+          let r = runs_at d.version d.pages d.entries d.runs c f.few_pages (omega arith) f.each fits e in
+          stops c.runs (runs_of_version d.version c a.told fits, r.1)
     ]
 
-not_whole_at : (stage : Stage) (d : Draft) (c : Certified) → Live stage d → ((runs : List Run) → SpellsRunLines runs d.runs → ⊥) → IsCert c → held_by stage d ≡ cert_lines c → ⊥
+not_whole_at : (stage : Stage) (d : Draft) (c : Certified) → Live stage d → ((runs : List Run) → SpellsRunLines d.version runs d.runs → ⊥) → IsCert c → held_by stage d ≡ cert_lines c → ⊥
 not_whole_at Header d c live stops fits e = absurd cc
 not_whole_at Pages d c live stops fits e = absurd cc
 not_whole_at Entries d c live stops fits e = no_runs d c live stops fits e
 
-pub not_whole : (stage : Stage) (d : Draft) (held : List (List ℕ)) → held_by stage d ≡ held → Live stage d → ((runs : List Run) → SpellsRunLines runs d.runs → ⊥) → (c : Certified) → SpellsCert c held → ⊥
+pub not_whole : (stage : Stage) (d : Draft) (held : List (List ℕ)) → held_by stage d ≡ held → Live stage d → ((runs : List Run) → SpellsRunLines d.version runs d.runs → ⊥) → (c : Certified) → SpellsCert c held → ⊥
 not_whole stage d held e live stops c s = not_whole_at stage d c live stops s.0 (e ∙ s.1)
 
 -- ---- the lines are few
@@ -108,7 +111,7 @@ one_text v w a more s t =
     let whole : entries_onto v.version (length v.entries) v.entries (runs_lines v.runs ++ more) ≡ cert_lines w = sym (entries_onto_append v.version (length v.entries) v.entries (runs_lines v.runs) more) ∙ (ap (λ (x : List (List ℕ)). x ++ more) (sym s.1) ∙ t.1) in
     let r = runs_at v.version (length v.entries) v.entries (runs_lines v.runs ++ more) w s.0.few_pages refl s.0.entries t.0 whole in
     let agree = entries_agree v.version (length v.entries) v.entries (runs_lines v.runs ++ more) w s.0.few_pages t.0 whole in
-    let one = one_list_of_runs v.runs w.runs more s.0.runs t.0.runs r.1 in
+    let one = one_list_of_runs v.version v.runs w.runs more s.0.runs (runs_of_version v.version w agree.told t.0) r.1 in
     (same_cert v w agree.told (sym r.0) one.0, one.1)
 
 pub one_list : (c : Certified) (a b : List (List ℕ)) → SpellsCert c a → SpellsCert c b → a ≡ b

@@ -11,7 +11,7 @@ use Rattle.text_lines.specs.declared.FaultKind.TheVariants.{Memory}
 use Rattle.migration_types.specs.declared.cert.Entry.{Entry}
 use Rattle.migration_types.specs.declared.version.Version.{Version}
 use Rattle.migration_types.specs.declared.version.Version.TheVariants.{One, Two}
-use Rattle.migration_types.specs.Certs.{Certified, EntryFits, IsCert}
+use Rattle.migration_types.specs.Certs.{Certified, EntryFits, AreRuns, IsCert}
 use Rattle.cert_text.specs.declared.cert_lines.Stage.{Stage}
 use Rattle.cert_text.specs.declared.cert_lines.Stage.TheVariants.{Header, Pages, Entries}
 use Rattle.cert_text.specs.Runs.{runs_lines, SpellsRunLines}
@@ -72,6 +72,9 @@ entries_agree version pages entries more c le fits e =
 of_version : (version : Version) (c : Certified) → version ≡ c.version → IsCert c → AllByRecursion (EntryFits version) c.entries
 of_version version c is fits = subst (λ (v : Version). AllByRecursion (EntryFits v) c.entries) (sym is) fits.entries
 
+pub runs_of_version : (version : Version) (c : Certified) → version ≡ c.version → IsCert c → AreRuns version c.runs
+runs_of_version version c is fits = subst (λ (v : Version). AreRuns v c.runs) (sym is) fits.runs
+
 -- behind all the entries stand the runs
 pub runs_at : (version : Version) (pages : ℕ) (entries : List Entry) (more : List (List ℕ)) (c : Certified) → pages ≤ 65536 → length entries ≡ pages → AllByRecursion (EntryFits version) entries → IsCert c → entries_onto version pages entries more ≡ cert_lines c → (c.entries ≡ entries) × (more ≡ runs_lines c.runs)
 runs_at version pages entries more c le full each fits e =
@@ -90,19 +93,21 @@ entry_at d line f less g =
     (n.0, n.1, n.2 ∙ ap (λ (i : ℕ). entry_line i n.0) k)
 
 -- what stands behind all the entries begins the lines of runs
-behind_entries : (d : Draft) (lines : List (List ℕ)) → EntriesFit d → length d.entries ≡ d.pages → Begins SpellsCert (entries_onto d.version d.pages d.entries lines) → Begins SpellsRunLines lines
+behind_entries : (d : Draft) (lines : List (List ℕ)) → EntriesFit d → length d.entries ≡ d.pages → Begins SpellsCert (entries_onto d.version d.pages d.entries lines) → Begins (SpellsRunLines d.version) lines
 behind_entries d lines f full b =
-    let r = runs_at d.version d.pages d.entries (lines ++ b.1) b.0 f.few_pages full f.each b.2.0 (sym (entries_onto_append d.version d.pages d.entries lines b.1) ∙ b.2.1) in
-    (b.0.runs, b.1, (b.2.0.runs, r.1))
+    let whole = sym (entries_onto_append d.version d.pages d.entries lines b.1) ∙ b.2.1 in
+    let a = entries_agree d.version d.pages d.entries (lines ++ b.1) b.0 f.few_pages b.2.0 whole in
+    let r = runs_at d.version d.pages d.entries (lines ++ b.1) b.0 f.few_pages full f.each b.2.0 whole in
+    (b.0.runs, b.1, (runs_of_version d.version b.0 a.told b.2.0, r.1))
 
 -- so a line that no runs' lines go on with is refused
-no_run_line : (stage : Stage) (d : Draft) (held : List (List ℕ)) (line : List ℕ) → held_by stage d ≡ held → stage ≡ Entries → Live stage d → length d.entries ≡ d.pages → (Begins SpellsRunLines (d.runs ++ line ∷ []) → ⊥) → Begins SpellsCert (held ++ line ∷ []) → ⊥
+no_run_line : (stage : Stage) (d : Draft) (held : List (List ℕ)) (line : List ℕ) → held_by stage d ≡ held → stage ≡ Entries → Live stage d → length d.entries ≡ d.pages → (Begins (SpellsRunLines d.version) (d.runs ++ line ∷ []) → ⊥) → Begins SpellsCert (held ++ line ∷ []) → ⊥
 no_run_line stage d held line e is live full stops b =
     let here : held_by Entries d ≡ held = subst (λ (s : Stage). held_by s d ≡ held) is e in
     let joined : held ++ line ∷ [] ≡ entries_onto d.version d.pages d.entries (d.runs ++ line ∷ []) = ap (λ (t : List (List ℕ)). t ++ line ∷ []) (sym here) ∙ entries_onto_append d.version d.pages d.entries d.runs (line ∷ []) in
     stops (behind_entries d (d.runs ++ line ∷ []) (live_at stage Entries d is live) full (subst (Begins SpellsCert) joined b))
 
-pub run_line_refused : (stage : Stage) (d : Draft) (held : List (List ℕ)) (line : List ℕ) (r : Result (Unit {0}) FaultKind) → held_by stage d ≡ held → stage ≡ Entries → Live stage d → length d.entries ≡ d.pages → IfErr r (λ kind. kind ≢ Memory → Begins SpellsRunLines (d.runs ++ line ∷ []) → ⊥) → IfErr r (λ kind. kind ≢ Memory → Begins SpellsCert (held ++ line ∷ []) → ⊥)
+pub run_line_refused : (stage : Stage) (d : Draft) (held : List (List ℕ)) (line : List ℕ) (r : Result (Unit {0}) FaultKind) → held_by stage d ≡ held → stage ≡ Entries → Live stage d → length d.entries ≡ d.pages → IfErr r (λ kind. kind ≢ Memory → Begins (SpellsRunLines d.version) (d.runs ++ line ∷ []) → ⊥) → IfErr r (λ kind. kind ≢ Memory → Begins SpellsCert (held ++ line ∷ []) → ⊥)
 run_line_refused stage d held line (Ok done) e is live full h = tt
 run_line_refused stage d held line (Err kind) e is live full h = λ other. no_run_line stage d held line e is live full (h other)
 
@@ -136,17 +141,17 @@ entry_taken Entries d held line entry is e live less spelled =
     ∙ ap (λ (t : List (List ℕ)). t ++ line ∷ []) e)))
 
 -- an entry came
-pub entry_line_taken : (stage : Stage) (d : Draft) (held : List (List ℕ)) (line : List ℕ) (new : List Entry) (r : Result (Unit {0}) FaultKind) → stage ≡ Entries → held_by stage d ≡ held → Live stage d → length d.entries < d.pages → OnOk r (TakesEntry d.version d.entries new line) → OnOk r (held_by stage (record d { entries = new }) ≡ held ++ line ∷ [])
-entry_line_taken stage d held line new (Ok done) is e live less t =
+pub entry_line_taken : (stage : Stage) (d : Draft) (version : Version) (held : List (List ℕ)) (line : List ℕ) (new : List Entry) (r : Result (Unit {0}) FaultKind) → version ≡ d.version → stage ≡ Entries → held_by stage d ≡ held → Live stage d → length d.entries < d.pages → OnOk r (TakesEntry version d.entries new line) → OnOk r (held_by stage (record d { entries = new }) ≡ held ++ line ∷ [])
+entry_line_taken stage d version held line new (Ok done) same is e live less t =
     ap (λ (entries : List Entry). held_by stage (record d { entries = entries })) t.grown ∙ entry_taken stage d held line t.entry is e live less t.spelled
-entry_line_taken stage d held line new (Err kind) is e live less t = tt
+entry_line_taken stage d version held line new (Err kind) same is e live less t = tt
 
 -- a line that is not the next page's entry is refused
-pub entry_line_refused : (stage : Stage) (d : Draft) (held : List (List ℕ)) (line : List ℕ) (r : Result (Unit {0}) FaultKind) → held_by stage d ≡ held → stage ≡ Entries → Live stage d → length d.entries < d.pages → IfErr r (λ kind. kind ≢ Memory → (entry : Entry) → EntryFits d.version entry → line ≢ entry_line (length d.entries) entry) → IfErr r (λ kind. kind ≢ Memory → Begins SpellsCert (held ++ line ∷ []) → ⊥)
-entry_line_refused stage d held line (Ok done) e is live less h = tt
-entry_line_refused stage d held line (Err kind) e is live less h = λ other b.
+pub entry_line_refused : (stage : Stage) (d : Draft) (version : Version) (held : List (List ℕ)) (line : List ℕ) (r : Result (Unit {0}) FaultKind) → version ≡ d.version → stage ≡ Entries → held_by stage d ≡ held → Live stage d → length d.entries < d.pages → IfErr r (λ kind. kind ≢ Memory → (entry : Entry) → EntryFits version entry → line ≢ entry_line (length d.entries) entry) → IfErr r (λ kind. kind ≢ Memory → Begins SpellsCert (held ++ line ∷ []) → ⊥)
+entry_line_refused stage d version held line (Ok done) same is e live less h = tt
+entry_line_refused stage d version held line (Err kind) same is e live less h = λ other b.
     let n = entry_at d line (live_at stage Entries d is live) less (goes_from stage Entries d held line e is b) in
-    h other n.0 n.1 n.2
+    h other n.0 (subst (λ (v : Version). EntryFits v n.0) (sym same) n.1) n.2
 
 -- many entries more
 entries_held : (d : Draft) (taken : List Entry) → entries_onto d.version d.pages (d.entries ++ taken) [] ≡ entries_onto d.version d.pages d.entries [] ++ entry_lines (length d.entries) taken

@@ -11,11 +11,14 @@ use Rattle.text_lines.specs.Counted.{Part, TakesItem, TakesItems}
 use Rattle.text_lines.specs.declared.FaultKind.{FaultKind}
 use Rattle.text_lines.specs.declared.FaultKind.TheVariants.{Memory}
 use Rattle.migration_types.specs.declared.cert.Run.{Run}
+use Rattle.migration_types.specs.declared.version.Version.{Version}
+use Rattle.migration_types.specs.Limits.{most_runs}
 use Rattle.migration_types.specs.Certs.{RunFits, Alternate, AreRuns}
 use Rattle.cert_text.specs.declared.run_lines.RunStage.{RunStage}
 use Rattle.cert_text.specs.declared.run_lines.RunStage.TheVariants.{Count, Runs, Done}
 use Rattle.cert_text.specs.Runs.{runs_key, closing, run_line, runs_lines, SpellsRunLines}
 use Rattle.cert_text.specs.inner.Held.{MayFollow, Follows, runs_onto, runs_held, RunsFit, RunsLive}
+use Rattle.cert_text.specs.inner.Plain.{few_runs}
 use Rattle.cert_text.proofs.RunLaws.{runs_agree, runs_end, runs_same, NextRun, next_run, all_push, all_append, alternate_push, alternate_all, another}
 
 runs_onto_append : (d : Part Run) (a b : List (List ℕ)) → runs_onto d a ++ b ≡ runs_onto d (a ++ b)
@@ -27,30 +30,30 @@ held_append Runs d b = runs_onto_append d [] b
 held_append Done d b = runs_onto_append d (closing ∷ []) b
 
 -- a fact about a stage that is known
-pub live_at : (stage at : RunStage) (d : Part Run) → stage ≡ at → RunsLive stage d → RunsLive at d
-live_at stage at d is live = subst (λ (s : RunStage). RunsLive s d) is live
+pub live_at : (version : Version) (stage at : RunStage) (d : Part Run) → stage ≡ at → RunsLive version stage d → RunsLive version at d
+live_at version stage at d is live = subst (λ (s : RunStage). RunsLive version s d) is live
 
 -- runs whose lines begin with a line more than is held
-pub record Goes (stage : RunStage) (d : Part Run) (line : List ℕ) : Type 0 where
+pub record Goes (version : Version) (stage : RunStage) (d : Part Run) (line : List ℕ) : Type 0 where
   pub runs : List Run
   pub more : List (List ℕ)
-  pub fits : AreRuns runs
+  pub fits : AreRuns version runs
   pub whole : runs_held stage d (line ∷ more) ≡ runs_lines runs
 
-pub goes_from : (stage at : RunStage) (d : Part Run) (held : List (List ℕ)) (line : List ℕ) → runs_held stage d [] ≡ held → stage ≡ at → Begins SpellsRunLines (held ++ line ∷ []) → Goes at d line
-goes_from stage at d held line e is b = subst (λ (s : RunStage). Goes s d line) is (record {
+pub goes_from : (version : Version) (stage at : RunStage) (d : Part Run) (held : List (List ℕ)) (line : List ℕ) → runs_held stage d [] ≡ held → stage ≡ at → Begins (SpellsRunLines version) (held ++ line ∷ []) → Goes version at d line
+goes_from version stage at d held line e is b = subst (λ (s : RunStage). Goes version s d line) is (record {
   runs = b.0;
   more = b.1;
   fits = b.2.0;
   whole = sym (held_append stage d (line ∷ b.1)) ∙ (ap (λ (t : List (List ℕ)). t ++ (line ∷ b.1)) e ∙ (sym (append_assoc held (line ∷ []) b.1) ∙ b.2.1));
 })
 
-pub run_at : (d : Part Run) (line : List ℕ) → RunsFit d → length d.items < d.count → Goes Runs d line → NextRun d.items line
-run_at d line f less g = next_run d.count g.runs d.items line g.more f.few g.fits f.each less g.whole
+pub run_at : (version : Version) (d : Part Run) (line : List ℕ) → RunsFit version d → length d.items < d.count → Goes version Runs d line → NextRun version d.items line
+run_at version d line f less g = next_run version d.count g.runs d.items line g.more f.few g.fits f.each less g.whole
 
 -- behind all the runs stands the closing line
-pub tail_at : (d : Part Run) (more : List (List ℕ)) (runs : List Run) → RunsFit d → length d.items ≡ d.count → AreRuns runs → runs_onto d more ≡ runs_lines runs → closing ∷ [] ≡ more
-tail_at d more runs f full fits e = runs_end d.count runs d.items more f.few fits full e
+pub tail_at : (version : Version) (d : Part Run) (more : List (List ℕ)) (runs : List Run) → RunsFit version d → length d.items ≡ d.count → AreRuns version runs → runs_onto d more ≡ runs_lines runs → closing ∷ [] ≡ more
+tail_at version d more runs f full fits e = runs_end version d.count runs d.items more f.few fits full e
 
 -- ---- one run more
 
@@ -59,119 +62,116 @@ run_held d run =
     runs_onto_append d [] (run_line run ∷ [])
     ∙ ap (λ (t : List (List ℕ)). (runs_key ++ decimal d.count) ∷ t) (sym (section_push run_line d.items run []))
 
-pub run_push : (d : Part Run) (run : Run) → RunsFit d → length d.items < d.count → RunFits run → MayFollow d.items run.log → RunsFit (record d { items = d.items ++ run ∷ [] })
-run_push d run f less fits follows = record {
+pub run_push : (version : Version) (d : Part Run) (run : Run) → RunsFit version d → length d.items < d.count → RunFits version run → MayFollow d.items run.log → RunsFit version (record d { items = d.items ++ run ∷ [] })
+run_push version d run f less fits follows = record {
   few = f.few;
   count = omega (arith, length-append d.items (run ∷ []));
-  each = all_push RunFits d.items run f.each fits;
+  each = all_push (RunFits version) d.items run f.each fits;
   alternate = alternate_push d.items run f.alternate follows;
 }
 
 -- ---- what a list of runs took
 
 -- a run came, or the list stayed as it was
-pub line_fits : (d e : Part Run) (line : List ℕ) (r : Result (Unit {0}) FaultKind) → RunsFit d → length d.items < d.count → OnOk r (TakesItem run_line RunFits Follows d e line) → OnErr r (e ≡ d) → RunsFit e
-line_fits d e line (Ok done) f less t same = subst RunsFit (sym t.grown) (run_push d t.item f less t.fits t.follows)
-line_fits d e line (Err kind) f less t same = subst RunsFit (sym same) f
+pub line_fits : (version : Version) (d e : Part Run) (line : List ℕ) (r : Result (Unit {0}) FaultKind) → RunsFit version d → length d.items < d.count → OnOk r (TakesItem run_line (RunFits version) Follows d e line) → OnErr r (e ≡ d) → RunsFit version e
+line_fits version d e line (Ok done) f less t same = subst (RunsFit version) (sym t.grown) (run_push version d t.item f less t.fits t.follows)
+line_fits version d e line (Err kind) f less t same = subst (RunsFit version) (sym same) f
 
 -- a line that no run behind these has is no line of a text
-pub line_refused : (stage : RunStage) (d : Part Run) (line : List ℕ) (lines : List (List ℕ)) (r : Result (Unit {0}) FaultKind) → runs_held stage d [] ≡ lines → stage ≡ Runs → RunsLive stage d → length d.items < d.count → IfErr r (λ kind. kind ≢ Memory → (run : Run) → RunFits run → Follows d.items run → line ≢ run_line run) → IfErr r (λ kind. kind ≢ Memory → Begins SpellsRunLines (lines ++ line ∷ []) → ⊥)
-line_refused stage d line lines (Ok done) e is live less h = tt
-line_refused stage d line lines (Err kind) e is live less h = λ other b.
-    let n = run_at d line (live_at stage Runs d is live) less (goes_from stage Runs d lines line e is b) in
+pub line_refused : (version : Version) (stage : RunStage) (d : Part Run) (line : List ℕ) (lines : List (List ℕ)) (r : Result (Unit {0}) FaultKind) → runs_held stage d [] ≡ lines → stage ≡ Runs → RunsLive version stage d → length d.items < d.count → IfErr r (λ kind. kind ≢ Memory → (run : Run) → RunFits version run → Follows d.items run → line ≢ run_line run) → IfErr r (λ kind. kind ≢ Memory → Begins (SpellsRunLines version) (lines ++ line ∷ []) → ⊥)
+line_refused version stage d line lines (Ok done) e is live less h = tt
+line_refused version stage d line lines (Err kind) e is live less h = λ other b.
+    let n = run_at version d line (live_at version stage Runs d is live) less (goes_from version stage Runs d lines line e is b) in
     h other n.run n.fits n.follows n.spelled
 
 -- many runs came
-pub lines_fit : (d e : Part Run) (bytes rest : List ℕ) (n : ℕ) → RunsFit d → e.count ≡ d.count → length e.items ≤ e.count → TakesItems run_line RunFits Follows d.items e.items bytes rest n → RunsFit e
-lines_fit d e bytes rest n f same within t =
-    let few = f.few in
+pub lines_fit : (version : Version) (d e : Part Run) (bytes rest : List ℕ) (n : ℕ) → RunsFit version d → e.count ≡ d.count → length e.items ≤ e.count → TakesItems run_line (RunFits version) Follows d.items e.items bytes rest n → RunsFit version e
+lines_fit version d e bytes rest n f same within t =
     record {
-      few = omega arith;
+      few = subst (λ (n : ℕ). n ≤ most_runs version) (sym same) f.few;
       count = within;
-      each = subst (AllByRecursion RunFits) (sym t.items) (all_append RunFits d.items t.taken f.each t.fits);
+      each = subst (AllByRecursion (RunFits version)) (sym t.items) (all_append (RunFits version) d.items t.taken f.each t.fits);
       alternate = subst Alternate (sym t.items) (alternate_all d.items t.taken f.alternate t.follow);
     }
 
 -- ---- each state goes on to whole lines
 
 -- one state goes on through the next
-step : (stage next : RunStage) (d e : Part Run) (more : List (List ℕ)) → runs_held stage d [] ++ more ≡ runs_held next e [] → Begins SpellsRunLines (runs_held next e []) → Begins SpellsRunLines (runs_held stage d [])
-step stage next d e more eq b = Begins-front SpellsRunLines (runs_held stage d []) more (subst (Begins SpellsRunLines) (sym eq) b)
+step : (version : Version) (stage next : RunStage) (d e : Part Run) (more : List (List ℕ)) → runs_held stage d [] ++ more ≡ runs_held next e [] → Begins (SpellsRunLines version) (runs_held next e []) → Begins (SpellsRunLines version) (runs_held stage d [])
+step version stage next d e more eq b = Begins-front (SpellsRunLines version) (runs_held stage d []) more (subst (Begins (SpellsRunLines version)) (sym eq) b)
 
-done_spells : (d : Part Run) → RunsFit d → length d.items ≡ d.count → SpellsRunLines d.items (runs_held Done d [])
-done_spells d f full =
-    let few = f.few in (
-      record { few = omega arith; each = f.each; alternate = f.alternate },
-      ap (λ (n : ℕ). (runs_key ++ decimal n) ∷ (map run_line d.items ++ closing ∷ [])) (sym full),
-    )
+done_spells : (version : Version) (d : Part Run) → RunsFit version d → length d.items ≡ d.count → SpellsRunLines version d.items (runs_held Done d [])
+done_spells version d f full = (
+  record { few = subst (λ (n : ℕ). n ≤ most_runs version) (sym full) f.few; each = f.each; alternate = f.alternate },
+  ap (λ (n : ℕ). (runs_key ++ decimal n) ∷ (map run_line d.items ++ closing ∷ [])) (sym full),
+)
 
-done_begins : (d : Part Run) → RunsFit d → length d.items ≡ d.count → Begins SpellsRunLines (runs_held Done d [])
-done_begins d f full =
-    let s = done_spells d f full in
+done_begins : (version : Version) (d : Part Run) → RunsFit version d → length d.items ≡ d.count → Begins (SpellsRunLines version) (runs_held Done d [])
+done_begins version d f full =
+    let s = done_spells version d f full in
     (d.items, [], (s.0, append-nil (runs_held Done d []) ∙ s.1))
 
 -- with so many runs to come
-runs_begin : (m : ℕ) (d : Part Run) → RunsFit d → d.count ≡ length d.items + m → Begins SpellsRunLines (runs_held Runs d [])
-runs_begin zero d f e = step Runs Done d d (closing ∷ []) (held_append Runs d (closing ∷ [])) (done_begins d f (omega arith))
-runs_begin (suc m) d f e =
-    let x = another d.items in
+runs_begin : (version : Version) (m : ℕ) (d : Part Run) → RunsFit version d → d.count ≡ length d.items + m → Begins (SpellsRunLines version) (runs_held Runs d [])
+runs_begin version zero d f e = step version Runs Done d d (closing ∷ []) (held_append Runs d (closing ∷ [])) (done_begins version d f (omega arith))
+runs_begin version (suc m) d f e =
+    let x = another version d.items in
     let next : Part Run = record d { items = d.items ++ x.0 ∷ [] } in
-    step Runs Runs d next (run_line x.0 ∷ []) (run_held d x.0) (runs_begin m next (run_push d x.0 f (omega arith) x.1 x.2) (omega (arith, length-append d.items (x.0 ∷ []))))
+    step version Runs Runs d next (run_line x.0 ∷ []) (run_held d x.0) (runs_begin version m next (run_push version d x.0 f (omega arith) x.1 x.2) (omega (arith, length-append d.items (x.0 ∷ []))))
 
-count_begins : (d : Part Run) → Begins SpellsRunLines (runs_held Count d [])
-count_begins d =
+count_begins : (version : Version) (d : Part Run) → Begins (SpellsRunLines version) (runs_held Count d [])
+count_begins version d =
     let next : Part Run = record { count = 0; items = [] } in
-    step Count Runs d next ((runs_key ++ decimal 0) ∷ []) refl (runs_begin 0 next (record {
+    step version Count Runs d next ((runs_key ++ decimal 0) ∷ []) refl (runs_begin version 0 next (record {
       few = omega arith;
       count = omega arith;
       each = tt;
       alternate = λ k d lt. absurd (omega arith);
     }) (omega arith))
 
-pub live_begins : (stage : RunStage) (d : Part Run) → RunsLive stage d → Begins SpellsRunLines (runs_held stage d [])
-live_begins Count d live = count_begins d
-live_begins Runs d live = let count = live.count in runs_begin (d.count - length d.items) d live (omega arith)
-live_begins Done d live = done_begins d live.0 live.1
+pub live_begins : (version : Version) (stage : RunStage) (d : Part Run) → RunsLive version stage d → Begins (SpellsRunLines version) (runs_held stage d [])
+live_begins version Count d live = count_begins version d
+live_begins version Runs d live = let count = live.count in runs_begin version (d.count - length d.items) d live (omega arith)
+live_begins version Done d live = done_begins version d live.0 live.1
 
 -- ---- what is not whole tells no runs
 
-runs_not_whole : (d : Part Run) → RunsFit d → (runs : List Run) → AreRuns runs → runs_onto d [] ≡ runs_lines runs → ⊥
-runs_not_whole d f runs fits e =
+runs_not_whole : (version : Version) (d : Part Run) → RunsFit version d → (runs : List Run) → AreRuns version runs → runs_onto d [] ≡ runs_lines runs → ⊥
+runs_not_whole version d f runs fits e =
     let count = f.count in
-    let a = runs_agree d.count runs d.items [] f.few fits e in
+    let a = runs_agree version d.count runs d.items [] f.few fits e in
     let l : length (map run_line runs ++ closing ∷ []) ≡ length (map run_line d.items ++ []) = ap (λ (t : List (List ℕ)). length t) a.items in
     absurd (omega (arith, l, length-append (map run_line runs) (closing ∷ []), length-append (map run_line d.items) [], length-map runs run_line, length-map d.items run_line, a.count))
 
-not_whole_at : (stage : RunStage) (d : Part Run) → RunsLive stage d → stage ≢ Done → (runs : List Run) → AreRuns runs → runs_held stage d [] ≡ runs_lines runs → ⊥
-not_whole_at Count d live other runs fits e = absurd cc
-not_whole_at Runs d live other runs fits e = runs_not_whole d live runs fits e
-not_whole_at Done d live other runs fits e = absurd (other refl)
+not_whole_at : (version : Version) (stage : RunStage) (d : Part Run) → RunsLive version stage d → stage ≢ Done → (runs : List Run) → AreRuns version runs → runs_held stage d [] ≡ runs_lines runs → ⊥
+not_whole_at version Count d live other runs fits e = absurd cc
+not_whole_at version Runs d live other runs fits e = runs_not_whole version d live runs fits e
+not_whole_at version Done d live other runs fits e = absurd (other refl)
 
-pub not_whole : (stage : RunStage) (d : Part Run) (held : List (List ℕ)) → runs_held stage d [] ≡ held → RunsLive stage d → stage ≢ Done → (runs : List Run) → SpellsRunLines runs held → ⊥
-not_whole stage d held e live other runs s = not_whole_at stage d live other runs s.0 (e ∙ s.1)
+pub not_whole : (version : Version) (stage : RunStage) (d : Part Run) (held : List (List ℕ)) → runs_held stage d [] ≡ held → RunsLive version stage d → stage ≢ Done → (runs : List Run) → SpellsRunLines version runs held → ⊥
+not_whole version stage d held e live other runs s = not_whole_at version stage d live other runs s.0 (e ∙ s.1)
 
 -- ---- the lines are few
 
-runs_few : (d : Part Run) (more : List (List ℕ)) → RunsFit d → length (runs_onto d more) ≤ 4194305 + length more
-runs_few d more f =
-    let few = f.few in
+runs_few : (version : Version) (d : Part Run) (more : List (List ℕ)) → RunsFit version d → length (runs_onto d more) ≤ 5242881 + length more
+runs_few version d more f =
+    let few = few_runs version d.count f.few in
     let count = f.count in
     omega (arith, length-append (map run_line d.items) more, length-map d.items run_line)
 
-pub live_few : (stage : RunStage) (d : Part Run) → RunsLive stage d → length (runs_held stage d []) < 2 ^ 31
-live_few Count d live = omega arith
-live_few Runs d live = omega (arith, runs_few d [] live)
-live_few Done d live = omega (arith, runs_few d (closing ∷ []) live.0)
+pub live_few : (version : Version) (stage : RunStage) (d : Part Run) → RunsLive version stage d → length (runs_held stage d []) < 2 ^ 31
+live_few version Count d live = omega arith
+live_few version Runs d live = omega (arith, runs_few version d [] live)
+live_few version Done d live = omega (arith, runs_few version d (closing ∷ []) live.0)
 
 -- ---- no runs' lines begin those of others
 
-pub one_list_of_runs : (v w : List Run) (more : List (List ℕ)) → AreRuns v → AreRuns w → runs_lines v ++ more ≡ runs_lines w → (v ≡ w) × (more ≡ [])
-one_list_of_runs v w more p q e =
-    let few = p.few in
+pub one_list_of_runs : (version : Version) (v w : List Run) (more : List (List ℕ)) → AreRuns version v → AreRuns version w → runs_lines v ++ more ≡ runs_lines w → (v ≡ w) × (more ≡ [])
+one_list_of_runs version v w more p q e =
     let d : Part Run = record { count = length v; items = v } in
     let whole : runs_onto d (closing ∷ more) ≡ runs_lines w = sym (held_append Done d more) ∙ e in
-    let g = runs_agree (length v) w v (closing ∷ more) few q whole in
+    let g = runs_agree version (length v) w v (closing ∷ more) p.few q whole in
     let n = section_end run_line w v (closing ∷ []) (closing ∷ more) g.items g.count in
     let ends : closing ∷ [] ≡ closing ∷ more = n.1 in
     let nothing : [] ≡ more = cc in
-    (runs_same v w p.each q.each (sym n.0), sym nothing)
+    (runs_same version v w p.each q.each (sym n.0), sym nothing)

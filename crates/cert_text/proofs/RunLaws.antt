@@ -1,6 +1,6 @@
 -- What the lines of some runs say of each text that begins with them, and one run more.
 use Rattle.std.proofs.Common.{◌≡◌, ◌≢◌, ℕ, ◌+◌, ◌-◌, ◌<◌, ◌≤◌, ◌^◌, List, [], ◌∷◌, ◌++◌, length, map, get_or, refl, sym, ap, subst, ◌∙◌, append_assoc, length-append, arith, inl, inr}
-use Rattle.std.specs.Prelude.{◌⊎◌, Some, slice_get, slice_index}
+use Rattle.std.specs.Prelude.{◌⊎◌, slice_index}
 use Rattle.std.specs.List.{AllByRecursion}
 use Rattle.std.specs.Fmt.{decimal}
 use Rattle.std.proofs.lemmas.List.{append_cancel_left, append-nil}
@@ -12,17 +12,23 @@ use Rattle.text_lines.specs.Counted.{AllFollow}
 use Rattle.text_lines.proofs.Fronts.{numbers_same}
 use Rattle.text_lines.proofs.Sections.{CountedAgree, counted_agree, counted_end, counted_next}
 use Rattle.migration_types.specs.declared.records.LogName.{LogName}
-use Rattle.migration_types.specs.declared.records.LogName.TheVariants.{Guest, Source, Link, Pager}
+use Rattle.migration_types.specs.declared.records.LogName.TheVariants.{Guest, Source, Link, Lane, Pager}
 use Rattle.migration_types.specs.declared.cert.Run.{Run}
-use Rattle.migration_types.specs.Certs.{RunFits, Alternate, AreRuns}
+use Rattle.migration_types.specs.declared.version.Version.{Version}
+use Rattle.migration_types.specs.Limits.{most_runs}
+use Rattle.migration_types.specs.Certs.{LogFits, RunFits, Alternate, AreRuns}
 use Rattle.cert_text.specs.Runs.{runs_key, run_key, closing, log_word, run_text, run_line, runs_lines}
 use Rattle.cert_text.specs.inner.Held.{MayFollow}
+use Rattle.cert_text.specs.inner.Plain.{few_runs}
 
 -- ---- one spelling for each run
 
--- the first byte
+-- the first byte, and the next
 abbrev initial : List ℕ → ℕ
 initial text = get_or text 0 0
+
+abbrev second : List ℕ → ℕ
+second text = get_or text 1 0
 
 unlike : (a b : ℕ) → a < b → a ≡ b → ⊥
 unlike a b lt e = absurd (omega arith)
@@ -31,29 +37,39 @@ word_same : (a b : LogName) (s t : List ℕ) → log_word a ++ 32 ∷ s ≡ log_
 word_same Guest Guest s t e = (refl, cc)
 word_same Guest Source s t e = absurd (unlike 103 115 (omega arith) (ap initial e))
 word_same Guest Link s t e = absurd (unlike 103 108 (omega arith) (ap initial e))
+word_same Guest Lane s t e = absurd (unlike 103 108 (omega arith) (ap initial e))
 word_same Guest Pager s t e = absurd (unlike 103 112 (omega arith) (ap initial e))
 word_same Source Guest s t e = absurd (unlike 103 115 (omega arith) (ap initial (sym e)))
 word_same Source Source s t e = (refl, cc)
 word_same Source Link s t e = absurd (unlike 108 115 (omega arith) (ap initial (sym e)))
+word_same Source Lane s t e = absurd (unlike 108 115 (omega arith) (ap initial (sym e)))
 word_same Source Pager s t e = absurd (unlike 112 115 (omega arith) (ap initial (sym e)))
 word_same Link Guest s t e = absurd (unlike 103 108 (omega arith) (ap initial (sym e)))
 word_same Link Source s t e = absurd (unlike 108 115 (omega arith) (ap initial e))
 word_same Link Link s t e = (refl, cc)
+word_same Link Lane s t e = absurd (unlike 97 105 (omega arith) (ap second (sym e)))
 word_same Link Pager s t e = absurd (unlike 108 112 (omega arith) (ap initial e))
+word_same Lane Guest s t e = absurd (unlike 103 108 (omega arith) (ap initial (sym e)))
+word_same Lane Source s t e = absurd (unlike 108 115 (omega arith) (ap initial e))
+word_same Lane Link s t e = absurd (unlike 97 105 (omega arith) (ap second e))
+word_same Lane Lane s t e = (refl, cc)
+word_same Lane Pager s t e = absurd (unlike 108 112 (omega arith) (ap initial e))
 word_same Pager Guest s t e = absurd (unlike 103 112 (omega arith) (ap initial (sym e)))
 word_same Pager Source s t e = absurd (unlike 112 115 (omega arith) (ap initial e))
 word_same Pager Link s t e = absurd (unlike 108 112 (omega arith) (ap initial (sym e)))
+word_same Pager Lane s t e = absurd (unlike 108 112 (omega arith) (ap initial (sym e)))
 word_same Pager Pager s t e = (refl, cc)
 
--- a text that begins with a log's name begins with its letter
-pub letter_of : (text : List ℕ) (letter : ℕ) (log : LogName) (rest : List ℕ) → Some letter ≡ slice_get text 0 → text ≡ log_word log ++ 32 ∷ rest → letter ≡ slice_index (log_word log) 0
-letter_of text letter log rest is e = named log (ap (λ (t : List ℕ). slice_get t 0) e)
+-- a text that begins with a log's name begins with its first two letters
+pub letters_of : (text : List ℕ) (log : LogName) (rest : List ℕ) → text ≡ log_word log ++ 32 ∷ rest → (initial text ≡ slice_index (log_word log) 0) × (second text ≡ slice_index (log_word log) 1)
+letters_of text log rest e = named log (ap initial e) (ap second e)
   where
-    named : (log : LogName) → slice_get text 0 ≡ slice_get (log_word log ++ 32 ∷ rest) 0 → letter ≡ slice_index (log_word log) 0
-    named Guest h = let same : Some letter ≡ Some 103 = is ∙ h in cc
-    named Source h = let same : Some letter ≡ Some 115 = is ∙ h in cc
-    named Link h = let same : Some letter ≡ Some 108 = is ∙ h in cc
-    named Pager h = let same : Some letter ≡ Some 112 = is ∙ h in cc
+    named : (log : LogName) → initial text ≡ initial (log_word log ++ 32 ∷ rest) → second text ≡ second (log_word log ++ 32 ∷ rest) → (initial text ≡ slice_index (log_word log) 0) × (second text ≡ slice_index (log_word log) 1)
+    named Guest h k = (h, k)
+    named Source h k = (h, k)
+    named Link h k = (h, k)
+    named Lane h k = (h, k)
+    named Pager h k = (h, k)
 
 -- a log's name before a rest, by its key
 pub keyed_by : (log told : LogName) (key rest : List ℕ) → told ≡ log → key ≡ log_word told ++ 32 ∷ [] → log_word log ++ 32 ∷ rest ≡ key ++ rest
@@ -71,22 +87,22 @@ alone text rest n m p q e stops is = numbers_same n m rest [] p q stops tt (sym 
 run_from : (x y : Run) → x.log ≡ y.log → x.count ≡ y.count → x ≡ y
 run_from x y e f = ap (λ (log : LogName). record { log = log; count = x.count }) e ∙ ap (λ (n : ℕ). record { log = y.log; count = n }) f
 
-pub run_same : (x y : Run) → RunFits x → RunFits y → run_line x ≡ run_line y → x ≡ y
-run_same x y p q e =
+pub run_same : (version : Version) (x y : Run) → RunFits version x → RunFits version y → run_line x ≡ run_line y → x ≡ y
+run_same version x y p q e =
     let w = word_same x.log y.log (decimal x.count) (decimal y.count) (append_cancel_left run_key (run_text x) (run_text y) e) in
     let few_x = p.few in
     let few_y = q.few in
     run_from x y w.0 (decimal_injective x.count y.count (omega arith) (omega arith) w.1)
 
-pub runs_same : (xs ys : List Run) → AllByRecursion RunFits xs → AllByRecursion RunFits ys → map run_line xs ≡ map run_line ys → xs ≡ ys
-runs_same [] [] h k e = refl
-runs_same [] (y ∷ ys) h k e = absurd cc
-runs_same (x ∷ xs) [] h k e = absurd cc
-runs_same (x ∷ xs) (y ∷ ys) h k e =
+pub runs_same : (version : Version) (xs ys : List Run) → AllByRecursion (RunFits version) xs → AllByRecursion (RunFits version) ys → map run_line xs ≡ map run_line ys → xs ≡ ys
+runs_same version [] [] h k e = refl
+runs_same version [] (y ∷ ys) h k e = absurd cc
+runs_same version (x ∷ xs) [] h k e = absurd cc
+runs_same version (x ∷ xs) (y ∷ ys) h k e =
     let heads : run_line x ≡ run_line y = cc in
     let tails : map run_line xs ≡ map run_line ys = cc in
-    let one = run_same x y h.0 k.0 heads in
-    let all = runs_same xs ys h.1 k.1 tails in
+    let one = run_same version x y h.0 k.0 heads in
+    let all = runs_same version xs ys h.1 k.1 tails in
     cc
 
 -- ---- a text that begins with these runs
@@ -100,14 +116,15 @@ all_at P [] x back h = h.0
 all_at P (y ∷ front) x back h = all_at P front x back h.1
 
 -- the number of the text's runs, and what follows it
-pub runs_agree : (n : ℕ) (xs ys : List Run) (more : List (List ℕ)) → n ≤ 4194304 → AreRuns xs → (runs_key ++ decimal n) ∷ (map run_line ys ++ more) ≡ runs_lines xs → CountedAgree run_line n xs ys (closing ∷ []) more
-runs_agree n xs ys more le fits e =
-    let few = fits.few in
+pub runs_agree : (version : Version) (n : ℕ) (xs ys : List Run) (more : List (List ℕ)) → n ≤ most_runs version → AreRuns version xs → (runs_key ++ decimal n) ∷ (map run_line ys ++ more) ≡ runs_lines xs → CountedAgree run_line n xs ys (closing ∷ []) more
+runs_agree version n xs ys more le fits e =
+    let few = few_runs version (length xs) fits.few in
+    let small = few_runs version n le in
     counted_agree runs_key run_line n xs ys (closing ∷ []) more (omega arith) (omega arith) e
 
 -- behind all the runs stands the closing line
-pub runs_end : (n : ℕ) (xs ys : List Run) (more : List (List ℕ)) → n ≤ 4194304 → AreRuns xs → length ys ≡ n → (runs_key ++ decimal n) ∷ (map run_line ys ++ more) ≡ runs_lines xs → closing ∷ [] ≡ more
-runs_end n xs ys more le fits full e = counted_end run_line n xs ys (closing ∷ []) more (runs_agree n xs ys more le fits e) full
+pub runs_end : (version : Version) (n : ℕ) (xs ys : List Run) (more : List (List ℕ)) → n ≤ most_runs version → AreRuns version xs → length ys ≡ n → (runs_key ++ decimal n) ∷ (map run_line ys ++ more) ≡ runs_lines xs → closing ∷ [] ≡ more
+runs_end version n xs ys more le fits full e = counted_end run_line n xs ys (closing ∷ []) more (runs_agree version n xs ys more le fits e) full
 
 -- a run of a text may stand after those before it
 follows_at : (ys : List Run) (item : Run) (back : List Run) → Alternate (ys ++ item ∷ back) → MayFollow ys item.log
@@ -119,21 +136,21 @@ follows_at ys item back h = λ d lt e.
     h (length ys - 1) d (omega arith) (ap (λ (r : Run). r.log) here ∙ (e ∙ sym (ap (λ (r : Run). r.log) there)))
 
 -- the next run of the text
-pub record NextRun (ys : List Run) (line : List ℕ) : Type 0 where
+pub record NextRun (version : Version) (ys : List Run) (line : List ℕ) : Type 0 where
   pub run : Run
-  pub fits : RunFits run
+  pub fits : RunFits version run
   pub follows : MayFollow ys run.log
   pub spelled : line ≡ run_line run
 
-pub next_run : (n : ℕ) (xs ys : List Run) (line : List ℕ) (more : List (List ℕ)) → n ≤ 4194304 → AreRuns xs → AllByRecursion RunFits ys → length ys < n → (runs_key ++ decimal n) ∷ (map run_line ys ++ (line ∷ more)) ≡ runs_lines xs → NextRun ys line
-next_run n xs ys line more le fits each less e =
-    let i = counted_next run_line n xs ys (closing ∷ []) more line (runs_agree n xs ys (line ∷ more) le fits e) less in
-    let all = subst (AllByRecursion RunFits) i.whole fits.each in
-    let front = runs_same i.front ys (all_front RunFits i.front (i.item ∷ i.back) all) each i.same in
+pub next_run : (version : Version) (n : ℕ) (xs ys : List Run) (line : List ℕ) (more : List (List ℕ)) → n ≤ most_runs version → AreRuns version xs → AllByRecursion (RunFits version) ys → length ys < n → (runs_key ++ decimal n) ∷ (map run_line ys ++ (line ∷ more)) ≡ runs_lines xs → NextRun version ys line
+next_run version n xs ys line more le fits each less e =
+    let i = counted_next run_line n xs ys (closing ∷ []) more line (runs_agree version n xs ys (line ∷ more) le fits e) less in
+    let all = subst (AllByRecursion (RunFits version)) i.whole fits.each in
+    let front = runs_same version i.front ys (all_front (RunFits version) i.front (i.item ∷ i.back) all) each i.same in
     let alternate = subst (λ (runs : List Run). Alternate (runs ++ i.item ∷ i.back)) front (subst Alternate i.whole fits.alternate) in
     record {
       run = i.item;
-      fits = all_at RunFits i.front i.item i.back all;
+      fits = all_at (RunFits version) i.front i.item i.back all;
       follows = follows_at ys i.item i.back alternate;
       spelled = i.spelled;
     }
@@ -175,6 +192,7 @@ other : LogName → LogName
 other Guest = Source
 other Source = Guest
 other Link = Guest
+other Lane = Guest
 other Pager = Guest
 
 other_differs : (log : LogName) → log ≡ other log → ⊥
@@ -182,13 +200,22 @@ unfolding other
 other_differs Guest e = absurd cc
 other_differs Source e = absurd cc
 other_differs Link e = absurd cc
+other_differs Lane e = absurd cc
 other_differs Pager e = absurd cc
+
+other_fits : (version : Version) (log : LogName) → LogFits version (other log)
+unfolding other
+other_fits version Guest = tt
+other_fits version Source = tt
+other_fits version Link = tt
+other_fits version Lane = tt
+other_fits version Pager = tt
 
 abbrev a_run : LogName → Run
 a_run log = record { log = log; count = 1 }
 
-pub another : (xs : List Run) → (x : Run) × RunFits x × MayFollow xs x.log
-another [] = (a_run Guest, record { some = omega arith; few = omega arith }, λ d lt. absurd (omega arith))
-another (y ∷ ys) =
+pub another : (version : Version) (xs : List Run) → (x : Run) × RunFits version x × MayFollow xs x.log
+another version [] = (a_run Guest, record { log = tt; some = omega arith; few = omega arith }, λ d lt. absurd (omega arith))
+another version (y ∷ ys) =
     let last = get_or (y ∷ ys) (length (y ∷ ys) - 1) y in
-    (a_run (other last.log), record { some = omega arith; few = omega arith }, λ d lt e. other_differs last.log (ap (λ (r : Run). r.log) (get_or_default (y ∷ ys) (length (y ∷ ys) - 1) y d (omega arith)) ∙ e))
+    (a_run (other last.log), record { log = other_fits version last.log; some = omega arith; few = omega arith }, λ d lt e. other_differs last.log (ap (λ (r : Run). r.log) (get_or_default (y ∷ ys) (length (y ∷ ys) - 1) y d (omega arith)) ∙ e))

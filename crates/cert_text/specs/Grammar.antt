@@ -58,7 +58,7 @@ entry_lines page [] = []
 entry_lines page (entry ∷ entries) = entry_line page entry ∷ entry_lines (page + 1) entries
 
 -- A certificate of four pages and one run of three records, line by line. Its first line ends in 1 where it is of the
--- first version, in which no page is fresh:
+-- first version, in which no page is fresh and no run is of the lane:
 --   postcopy-certificate 2
 --   pages 4
 --   page 0 source 3 5 5 4

@@ -3,8 +3,10 @@ use Rattle.std.specs.Prelude.{◌≡◌, ℕ, List, [], ◌∷◌, ◌++◌, cod
 use Rattle.std.specs.Fmt.{decimal}
 use Rattle.text_lines.specs.Counted.{counted}
 use Rattle.migration_types.specs.declared.records.LogName.{LogName}
-use Rattle.migration_types.specs.declared.records.LogName.TheVariants.{Guest, Source, Link, Pager}
+use Rattle.migration_types.specs.declared.records.LogName.TheVariants.{Guest, Source, Link, Lane, Pager}
 use Rattle.migration_types.specs.declared.cert.Run.{Run}
+use Rattle.migration_types.specs.declared.version.Version.{Version}
+use Rattle.migration_types.specs.declared.version.Version.TheVariants.{Two}
 use Rattle.migration_types.specs.Certs.{AreRuns}
 
 abbrev pub runs_text_header : List ℕ
@@ -21,6 +23,7 @@ abbrev pub log_word : LogName → List ℕ
 log_word Guest = codes "guest"
 log_word Source = codes "source"
 log_word Link = codes "link"
+log_word Lane = codes "lane"
 log_word Pager = codes "pager"
 
 abbrev pub run_key : List ℕ
@@ -37,15 +40,16 @@ run_line run = run_key ++ run_text run
 abbrev pub runs_lines : List Run → List (List ℕ)
 runs_lines runs = counted runs_key run_line runs (closing ∷ [])
 
--- these lines tell these runs, which are within all limits
-abbrev pub SpellsRunLines : List Run → List (List ℕ) → Type 0
-SpellsRunLines runs lines = AreRuns runs × (lines ≡ runs_lines runs)
+-- these lines tell these runs, which are within all limits of a version
+abbrev pub SpellsRunLines : Version → List Run → List (List ℕ) → Type 0
+SpellsRunLines version runs lines = AreRuns version runs × (lines ≡ runs_lines runs)
 
--- These lines are the text of these runs, which are within all limits. A text of two runs, line by line:
+-- These lines are the text of these runs, which are within the limits of the second version: runs have one text for
+-- sessions of both. A text of two runs, line by line:
 --   postcopy-runs 1
 --   runs 2
 --   run guest 3
 --   run link 1
 --   end
 abbrev pub SpellsRuns : List Run → List (List ℕ) → Type 0
-SpellsRuns runs lines = AreRuns runs × (lines ≡ runs_text_header ∷ runs_lines runs)
+SpellsRuns runs lines = AreRuns Two runs × (lines ≡ runs_text_header ∷ runs_lines runs)

@@ -34,7 +34,6 @@ pub enum Stage {
 #[derive(Drop)]
 pub struct CertLines {
     stage: Stage,
-    version: Version,
     pages: u32,
     entries: Vec<Entry>,
     runs: RunLines,
@@ -59,10 +58,9 @@ impl CertLines {
     {
         CertLines {
             stage: Stage::Header,
-            version: Version::One,
             pages: 0,
             entries: Vec::new(alloc),
-            runs: RunLines::new(alloc),
+            runs: RunLines::new(alloc, Version::One),
         }
     }
 
@@ -76,7 +74,7 @@ impl CertLines {
                 if self.entries.len() == self.pages as usize {
                     return self.runs.lines(crew, bytes);
                 }
-                take_entries(&mut self.entries, self.version, self.pages, bytes)
+                take_entries(&mut self.entries, self.runs.version(), self.pages, bytes)
             }
             _ => (bytes, 0),
         }
@@ -96,7 +94,7 @@ impl LineReader for CertLines {
                 let Some(version) = version_of(line) else {
                     return Err(FaultKind::Form);
                 };
-                self.version = version;
+                self.runs.set_version(version);
                 self.stage = Stage::Pages;
                 Ok(())
             }
@@ -110,7 +108,7 @@ impl LineReader for CertLines {
                 if self.entries.len() == self.pages as usize {
                     return self.runs.line(line);
                 }
-                take_entry(&mut self.entries, self.version, line)
+                take_entry(&mut self.entries, self.runs.version(), line)
             }
         }
     }
@@ -126,10 +124,13 @@ impl LineReader for CertLines {
 
     fn text(self) -> Option<Cert> {
         match self.stage {
-            Stage::Entries => match self.runs.text() {
-                Some(runs) => Some(Cert::new(self.version, Seq::from_vec(self.entries), runs)),
-                None => None,
-            },
+            Stage::Entries => {
+                let version = self.runs.version();
+                match self.runs.text() {
+                    Some(runs) => Some(Cert::new(version, Seq::from_vec(self.entries), runs)),
+                    None => None,
+                }
+            }
             _ => None,
         }
     }

@@ -59,6 +59,7 @@ pub fn log_key(log: LogName) -> &'static [u8]
         LogName::Guest => b"guest ",
         LogName::Source => b"source ",
         LogName::Link => b"link ",
+        LogName::Lane => b"lane ",
         LogName::Pager => b"pager ",
     }
 }
@@ -75,15 +76,16 @@ pub fn after_end(text: &[u8]) -> Option<&[u8]>
     Some(rest)
 }
 
-/// The log whose name begins with this letter.
+/// The log whose name begins with these letters.
 #[inline(always)]
-fn log_with_initial(letter: u8) -> LogName
-    ensures { (log : Log) → letter ≡ slice_index (log_word log) 0 → result ≡ log }
+fn log_with_letters(first: u8, second: u8) -> LogName
+    ensures { (log : Log) → first ≡ slice_index (log_word log) 0 → second ≡ slice_index (log_word log) 1 → result ≡ log }
 {
-    match letter {
+    match first {
         b'g' => LogName::Guest,
         b's' => LogName::Source,
-        b'l' => LogName::Link,
+        b'l' if second == b'i' => LogName::Link,
+        b'l' => LogName::Lane,
         _ => LogName::Pager,
     }
 }
@@ -94,8 +96,9 @@ pub fn log_then(text: &[u8]) -> Option<(LogName, &[u8])>
     ensures found { IfSome result (λ found. text.now ≡ log_word found.0 ++ 32 ∷ found.1.now) }
     ensures whole { (log : Log) (rest : List ℕ) → text.now ≡ log_word log ++ 32 ∷ rest → IsSomeAnd result (λ found. found.1.now ≡ rest) }
 {
-    let letter = *text.first()?;
-    let log = log_with_initial(letter);
+    let first = *text.first()?;
+    let second = *text.get(1)?;
+    let log = log_with_letters(first, second);
     let rest = after_key(text, log_key(log))?;
     Some((log, rest))
 }

@@ -4,6 +4,7 @@
 ghost use Rattle.std.specs.Prelude.{IfOk};
 ghost use Rattle.text_lines.specs.Answer.{Reads};
 ghost use Rattle.text_lines.specs.Text.{IsSpelling, IsUnambiguous};
+ghost use Rattle.migration_types.specs.declared.version.Version.TheVariants.{Two};
 ghost use Rattle.migration_types.specs.Certs.{AreRuns};
 ghost use Rattle.cert_text.specs.Grammar.{SpellsCert};
 ghost use Rattle.cert_text.specs.Runs.{SpellsRuns};
@@ -31,9 +32,10 @@ pub type CertReader = TextReader<CertLines>;
 /// Reads a text of runs that comes in pieces.
 pub type RunsReader = TextReader<RunsText>;
 
-/// The certificate that the bytes spell: a header, an entry for each of 1 to 65,536 pages in order, at most 4,194,304
+/// The certificate that the bytes spell: a header, an entry for each of 1 to 65,536 pages in order, at most 5,242,880
 /// runs of 1 to 1,048,576 records, of which no two neighbours are of one log, and a closing line. An LF ends each line.
-/// The header tells the version; where it is the first, a fresh page's entry is no entry.
+/// The header tells the version; where it is the first, a fresh page's entry is no entry, a run of the lane is no run, and
+/// there are at most 4,194,304 runs.
 ///
 /// Any other input is refused, at the line with which it stops being the beginning of such a text. Lines count from 1.
 /// Where memory is refused, the fault's line is 0.
@@ -57,7 +59,7 @@ pub fn write_cert(alloc: Global, cert: &Cert) -> Result<Vec<u8>, AllocError>
     Ok(out)
 }
 
-/// The runs that the bytes spell: a header, at most 4,194,304 runs of 1 to 1,048,576 records, of which no two
+/// The runs that the bytes spell: a header, at most 5,242,880 runs of 1 to 1,048,576 records, of which no two
 /// neighbours are of one log, and a closing line. An LF ends each line.
 ///
 /// Any other input is refused, at the line with which it stops being the beginning of such a text. Lines count from 1.
@@ -68,9 +70,10 @@ pub fn read_runs(alloc: Global, bytes: &[u8]) -> Result<Seq<Run>, TextFault>
     read_whole::<RunsText>(alloc, bytes)
 }
 
-/// The text of runs within all limits, which `read_runs` reads back. An error: there is no memory for it.
+/// The text of runs within the limits of the second version, which `read_runs` reads back. An error: there is no memory for
+/// it.
 pub fn write_runs(alloc: Global, runs: &[Run]) -> Result<Vec<u8>, AllocError>
-    requires { AreRuns runs.now }
+    requires { AreRuns Two runs.now }
     ensures { IfOk result (λ out. IsSpelling SpellsRuns runs.now out.items) }
 {
     let mut out = Vec::new(alloc);

@@ -7,7 +7,7 @@ ghost use Rattle.cert_text.specs.Runs.{SpellsRunLines};
 
 use crate::keys::{CLOSING, RUNS_KEY};
 use crate::runs::RunForm;
-use migration_types::{MOST_RUNS, Run, Seq};
+use migration_types::{Run, Seq, Version, most_runs};
 use std::alloc::Global;
 use std::marker::Model;
 use text_lines::{Counted, FaultKind, ItemCrew, is_line};
@@ -23,47 +23,69 @@ pub enum RunStage {
     Done,
 }
 
-/// Reads the lines of runs: what they said so far. Contracts see the lines.
+/// Reads the lines of runs of a version: what they said so far. Contracts see the version and the lines.
 #[derive(Drop)]
 pub struct RunLines {
+    form: RunForm,
     stage: RunStage,
     alloc: Global,
     runs: Counted<Run>,
 }
 
 impl Model for RunLines {
-    ghost use Rattle.std.specs.Prelude.{ℕ, List, []};
+    ghost use Rattle.std.specs.Prelude.{[]};
+    ghost use Rattle.cert_text.specs.inner.Held.{RunsSoFar, runs_held, RunsLive};
 
-    ghost Value = { List (List ℕ) };
+    ghost Value = { RunsSoFar };
 
-    ghost use Rattle.cert_text.specs.inner.Held.{runs_held, RunsLive};
+    ghost view = { λ a. record { version = a.form.version; lines = runs_held a.stage a.runs [] } };
 
-    ghost view = { λ a. runs_held a.stage a.runs [] };
-
-    ghost invariant = { λ a. RunsLive a.stage a.runs };
+    ghost invariant = { λ a. RunsLive a.form.version a.stage a.runs };
 }
 
 impl RunLines {
-    /// No line came yet. Takes no memory.
-    pub fn new(alloc: Global) -> Self
-        ensures { result ≡ [] }
+    /// No line came yet of the runs of a version. Takes no memory.
+    pub fn new(alloc: Global, version: Version) -> Self
+        ensures { result ≡ record { version = version; lines = [] } }
     {
         RunLines {
+            form: RunForm { version },
             stage: RunStage::Count,
             alloc,
             runs: Counted::nothing(alloc),
         }
     }
 
+    /// The version.
+    pub fn version(&self) -> Version
+        ensures { result ≡ self.now.version }
+    {
+        self.form.version
+    }
+
+    /// From now on of another version, where no line came yet.
+    pub fn set_version(&mut self, version: Version)
+        requires { self.old.lines ≡ [] }
+        ensures { self.new ≡ record { version = version; lines = [] } }
+    {
+        self.form.version = version;
+    }
+
     /// Takes the next line, or says why no lines of runs go on with it and stays as it was.
     pub fn line(&mut self, line: &[u8]) -> Result<(), FaultKind>
-        ensures ok { OnOk result (self.new ≡ self.old ++ line.now ∷ []) }
-        ensures refused { IfErr result (λ kind. kind ≢ FaultKind.Memory → Begins SpellsRunLines (self.old ++ line.now ∷ []) → ⊥) }
+        ensures version { self.new.version ≡ self.old.version }
+        ensures ok { OnOk result (self.new.lines ≡ self.old.lines ++ line.now ∷ []) }
+        ensures refused { IfErr result (λ kind. kind ≢ FaultKind.Memory → Begins (SpellsRunLines self.old.version) (self.old.lines ++ line.now ∷ []) → ⊥) }
         ensures err { OnErr result (self.new ≡ self.old) }
     {
         match self.stage {
             RunStage::Count => {
-                let runs = Counted::announced(self.alloc, line, RUNS_KEY, MOST_RUNS)?;
+                let runs = Counted::announced(
+                    self.alloc,
+                    line,
+                    RUNS_KEY,
+                    most_runs(self.form.version),
+                )?;
                 self.runs = runs;
                 self.stage = RunStage::Runs;
                 Ok(())
@@ -76,7 +98,7 @@ impl RunLines {
                     self.stage = RunStage::Done;
                     return Ok(());
                 }
-                self.runs.line(&RunForm, line)
+                self.runs.line(&self.form, line)
             }
             RunStage::Done => Err(FaultKind::Ended),
         }
@@ -85,32 +107,33 @@ impl RunLines {
     /// Takes as many of the first lines as are runs in plain form, and answers what follows them and how many they were.
     pub fn lines<'a, C: ItemCrew<RunForm>>(&mut self, crew: &C, bytes: &'a [u8]) -> (&'a [u8], u32)
         requires { C.IsReady crew.now }
-        ensures { TakesLines self.old self.new bytes.now result.0.now result.1 }
+        ensures version { self.new.version ≡ self.old.version }
+        ensures lines { TakesLines self.old.lines self.new.lines bytes.now result.0.now result.1 }
     {
         match self.stage {
-            RunStage::Runs => self.runs.lines(crew, &RunForm, bytes),
+            RunStage::Runs => self.runs.lines(crew, &self.form, bytes),
             _ => (bytes, 0),
         }
     }
 
     /// Some lines of runs begin with the lines so far. Runs nothing.
     pub fn goes_on(&self)
-        ensures { Begins SpellsRunLines self.now }
+        ensures { Begins (SpellsRunLines self.now.version) self.now.lines }
     {
         let _ = &self.stage;
     }
 
     /// The lines so far are few. Runs nothing.
     pub fn few(&self)
-        ensures { length self.now < 2 ^ 31 }
+        ensures { length self.now.lines < 2 ^ 31 }
     {
         let _ = &self.stage;
     }
 
     /// The runs, where the lines so far are theirs.
     pub fn text(self) -> Option<Seq<Run>>
-        ensures found { IfSome result (λ runs. SpellsRunLines runs self) }
-        ensures none { IfNone result ((runs : List Told) → SpellsRunLines runs self → ⊥) }
+        ensures found { IfSome result (λ runs. SpellsRunLines self.version runs self.lines) }
+        ensures none { IfNone result ((runs : List Told) → SpellsRunLines self.version runs self.lines → ⊥) }
     {
         match self.stage {
             RunStage::Done => Some(Seq::from_vec(self.runs.into_vec())),
@@ -120,7 +143,7 @@ impl RunLines {
 
     /// How many lines came.
     pub fn count(&self) -> u32
-        ensures { result ≡ length self.now }
+        ensures { result ≡ length self.now.lines }
     {
         match self.stage {
             RunStage::Count => 0,
@@ -131,8 +154,9 @@ impl RunLines {
 
     /// Takes the last line back.
     pub fn undo(&mut self)
-        requires { 0 < length self.old }
-        ensures { (line : List ℕ) × (self.old ≡ self.new ++ line ∷ []) }
+        requires { 0 < length self.old.lines }
+        ensures version { self.new.version ≡ self.old.version }
+        ensures lines { (line : List ℕ) × (self.old.lines ≡ self.new.lines ++ line ∷ []) }
     {
         match self.stage {
             RunStage::Count => {}

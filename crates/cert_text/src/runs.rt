@@ -1,14 +1,14 @@
 //! Lines of runs.
 
 ghost use Rattle.std.specs.Prelude.{◌≡◌, ◌≢◌, [], ◌++◌, ◌↔◌, IsTrue, IfSome, IsSomeAnd, OnOk};
-ghost use Rattle.migration_types.specs.Certs.{RunFits};
+ghost use Rattle.migration_types.specs.Certs.{LogFits, RunFits};
 ghost use Rattle.migration_types.specs.declared.cert.Run.{Run as Told};
 ghost use Rattle.text_lines.specs.Text.{ended};
 ghost use Rattle.cert_text.specs.Runs.{run_line, runs_lines};
 ghost use Rattle.cert_text.specs.inner.Held.{MayFollow};
 
 use crate::keys::{CLOSING, RUN_KEY, RUNS_KEY, after_end, log_key, log_then};
-use migration_types::{LogName, MOST_RECORDS, Run};
+use migration_types::{LogName, MOST_RECORDS, Run, Version};
 use std::alloc::AllocError;
 use std::thread::Threads;
 use text_lines::{
@@ -16,13 +16,24 @@ use text_lines::{
     push_line, take_parts,
 };
 
-/// The run at the front, and what follows. Nothing follows where the text is its line alone.
+/// Whether a version has runs of a log.
 #[inline(always)]
-fn run_then(text: &[u8]) -> Option<(Run, &[u8])>
-    ensures found { IfSome result (λ found. RunFits found.0 × (text.now ≡ run_line found.0 ++ found.1.now)) }
-    ensures whole { (run : Told) → RunFits run → text.now ≡ run_line run → IsSomeAnd result (λ found. found.1.now ≡ []) }
+fn has_log(version: Version, log: LogName) -> bool
+    ensures { IsTrue result ↔ LogFits version log }
+{
+    log != LogName::Lane || version == Version::Two
+}
+
+/// The run of a version at the front, and what follows. Nothing follows where the text is its line alone.
+#[inline(always)]
+fn run_then(text: &[u8], version: Version) -> Option<(Run, &[u8])>
+    ensures found { IfSome result (λ found. RunFits version found.0 × (text.now ≡ run_line found.0 ++ found.1.now)) }
+    ensures whole { (run : Told) → RunFits version run → text.now ≡ run_line run → IsSomeAnd result (λ found. found.1.now ≡ []) }
 {
     let (log, text) = log_then(after_key(text, RUN_KEY)?)?;
+    if !has_log(version, log) {
+        return None;
+    }
     let (count, rest) = front_number(text)?;
     if count == 0 || count > u64::from(MOST_RECORDS) {
         return None;
@@ -42,9 +53,11 @@ fn may_follow(runs: &[Run], log: LogName) -> bool
     }
 }
 
-/// The lines of runs, of which no two neighbours are of one log.
+/// The lines of runs that a version may have, of which no two neighbours are of one log.
 #[derive(Clone, Copy)]
-pub struct RunForm;
+pub struct RunForm {
+    pub version: Version,
+}
 
 impl LineForm for RunForm {
     type Item = Run;
@@ -53,7 +66,7 @@ impl LineForm for RunForm {
 
     ghost IsForm = { λ _. Unit {0} };
 
-    ghost Fits = { λ _ run. RunFits run };
+    ghost Fits = { λ form run. RunFits form.version run };
 
     ghost MayFollow = { λ runs run. MayFollow runs run.log };
 
@@ -62,7 +75,7 @@ impl LineForm for RunForm {
     ghost by_last = { runs_by_last };
 
     fn read(&self, before: &[Run], line: &[u8]) -> Result<Run, FaultKind> {
-        let Some((run, rest)) = run_then(line) else {
+        let Some((run, rest)) = run_then(line, self.version) else {
             return Err(FaultKind::Form);
         };
         if !rest.is_empty() || !may_follow(before, run.log) {
@@ -73,7 +86,7 @@ impl LineForm for RunForm {
 
     #[inline(always)]
     fn front<'a>(&self, before: &[Run], text: &'a [u8]) -> Option<(Run, &'a [u8])> {
-        let (run, rest) = run_then(text)?;
+        let (run, rest) = run_then(text, self.version)?;
         if !may_follow(before, run.log) {
             return None;
         }

@@ -7,7 +7,7 @@ ghost use Rattle.cert_text.specs.Runs.{SpellsRuns};
 use crate::keys::RUNS_HEADER;
 use crate::run_lines::RunLines;
 use crate::runs::RunForm;
-use migration_types::{Run, Seq};
+use migration_types::{Run, Seq, Version};
 use std::alloc::Global;
 use std::marker::Model;
 use std::thread::Threads;
@@ -27,7 +27,7 @@ impl Model for RunsText {
 
     ghost use Rattle.cert_text.specs.inner.Held.{headed_by, HeadedLive};
 
-    ghost view = { λ a. headed_by a.headed a.runs };
+    ghost view = { λ a. headed_by a.headed a.runs.lines };
 
     ghost invariant = { λ a. HeadedLive a.headed a.runs };
 }
@@ -39,7 +39,7 @@ impl RunsText {
     {
         RunsText {
             headed: false,
-            runs: RunLines::new(alloc),
+            runs: RunLines::new(alloc, Version::Two),
         }
     }
 

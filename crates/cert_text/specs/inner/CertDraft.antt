@@ -4,7 +4,7 @@ use Rattle.cert_text.specs.declared.cert_lines.CertLines.TheInside.{Inside}
 use Rattle.cert_text.specs.inner.Held.{Draft, held_by, Live}
 
 abbrev pub draft_of : Inside → Draft
-draft_of a = record { version = a.version; pages = a.pages; entries = a.entries.items; runs = a.runs }
+draft_of a = record { version = a.runs.version; pages = a.pages; entries = a.entries.items; runs = a.runs.lines }
 
 abbrev pub held_of : Inside → List (List ℕ)
 held_of a = held_by a.stage (draft_of a)

@@ -9,6 +9,7 @@ use Rattle.migration_types.specs.declared.records.LogName.{LogName}
 use Rattle.migration_types.specs.declared.cert.Run.{Run}
 use Rattle.migration_types.specs.declared.cert.Entry.{Entry}
 use Rattle.migration_types.specs.declared.version.Version.{Version}
+use Rattle.migration_types.specs.declared.version.Version.TheVariants.{Two}
 use Rattle.migration_types.specs.Limits.{most_pages, most_runs}
 use Rattle.migration_types.specs.Certs.{RunFits, EntryFits, Alternate}
 use Rattle.cert_text.specs.declared.run_lines.RunStage.{RunStage}
@@ -45,17 +46,22 @@ runs_held Count d more = more
 runs_held Runs d more = runs_onto d more
 runs_held Done d more = runs_onto d (closing ∷ more)
 
--- the runs so far
-pub record RunsFit (d : Part Run) : Type 0 where
-  pub few : d.count ≤ most_runs
+-- the runs so far, of a version
+pub record RunsFit (version : Version) (d : Part Run) : Type 0 where
+  pub few : d.count ≤ most_runs version
   pub count : length d.items ≤ d.count
-  pub each : AllByRecursion RunFits d.items
+  pub each : AllByRecursion (RunFits version) d.items
   pub alternate : Alternate d.items
 
-abbrev pub RunsLive : RunStage → Part Run → Type 0
-RunsLive Count d = Unit {0}
-RunsLive Runs d = RunsFit d
-RunsLive Done d = RunsFit d × IsWhole d
+abbrev pub RunsLive : Version → RunStage → Part Run → Type 0
+RunsLive version Count d = Unit {0}
+RunsLive version Runs d = RunsFit version d
+RunsLive version Done d = RunsFit version d × IsWhole d
+
+-- the lines of runs so far, and the version of which they are
+pub record RunsSoFar : Type 0 where
+  pub version : Version
+  pub lines : List (List ℕ)
 
 -- ---- a text of runs
 
@@ -64,9 +70,14 @@ abbrev pub headed_by : Bool → List (List ℕ) → List (List ℕ)
 headed_by false runs = []
 headed_by true runs = runs_text_header ∷ runs
 
-abbrev pub HeadedLive : Bool → List (List ℕ) → Type 0
-HeadedLive false runs = runs ≡ []
-HeadedLive true runs = Unit {0}
+-- no run's line came before the header
+abbrev pub IsHeaded : Bool → List (List ℕ) → Type 0
+IsHeaded false runs = runs ≡ []
+IsHeaded true runs = Unit {0}
+
+-- a text of runs has what the second version may have
+abbrev pub HeadedLive : Bool → RunsSoFar → Type 0
+HeadedLive headed runs = (runs.version ≡ Two) × IsHeaded headed runs.lines
 
 -- ---- a certificate
 

@@ -1,18 +1,19 @@
 -- No line of a certificate's text or of a text of runs has an LF.
-use Rattle.std.specs.Prelude.{ℕ, ◌+◌, ◌<◌, ◌^◌, List, [], ◌∷◌, ◌++◌, length, Option, Some, None, refl}
+use Rattle.std.specs.Prelude.{ℕ, ◌+◌, ◌<◌, ◌≤◌, ◌^◌, List, [], ◌∷◌, ◌++◌, length, Option, Some, None, refl}
 use Rattle.std.proofs.Common.{arith, subst, sym}
 use Rattle.std.specs.List.{AllByRecursion}
 use Rattle.std.specs.Fmt.{decimal}
 use Rattle.text_lines.specs.Text.{IsLine}
 use Rattle.text_lines.proofs.Plain.{plain_append, plain_decimal, plain_section, plain_codes}
 use Rattle.migration_types.specs.declared.records.LogName.{LogName}
-use Rattle.migration_types.specs.declared.records.LogName.TheVariants.{Guest, Source, Link, Pager}
+use Rattle.migration_types.specs.declared.records.LogName.TheVariants.{Guest, Source, Link, Lane, Pager}
 use Rattle.migration_types.specs.declared.cert.Run.{Run}
 use Rattle.migration_types.specs.declared.cert.First.{First}
 use Rattle.migration_types.specs.declared.cert.Entry.{Entry}
 use Rattle.migration_types.specs.declared.cert.Entry.TheVariants.{Nothing, Fresh, Source as Sent, Balloon}
 use Rattle.migration_types.specs.declared.version.Version.{Version}
 use Rattle.migration_types.specs.declared.version.Version.TheVariants.{One, Two}
+use Rattle.migration_types.specs.Limits.{most_runs}
 use Rattle.migration_types.specs.Sessions.{IsNumber}
 use Rattle.migration_types.specs.Certs.{Certified, FirstFits, EntryFits, RunFits, AreRuns}
 use Rattle.cert_text.specs.Runs.{runs_text_header, runs_key, run_key, closing, log_word, run_text, run_line, runs_lines, SpellsRuns}
@@ -30,20 +31,26 @@ plain_log : (log : LogName) → IsLine (log_word log)
 plain_log Guest = plain_codes (log_word Guest) refl
 plain_log Source = plain_codes (log_word Source) refl
 plain_log Link = plain_codes (log_word Link) refl
+plain_log Lane = plain_codes (log_word Lane) refl
 plain_log Pager = plain_codes (log_word Pager) refl
 
-plain_run : (run : Run) → RunFits run → IsLine (run_line run)
-plain_run run fits =
+plain_run : (version : Version) (run : Run) → RunFits version run → IsLine (run_line run)
+plain_run version run fits =
     let few = fits.few in
     plain_append run_key (run_text run) (plain_codes run_key refl) (plain_spaced (log_word run.log) (decimal run.count) (plain_log run.log) (plain_decimal run.count (omega arith)))
 
-plain_runs : (runs : List Run) → AreRuns runs → AllByRecursion IsLine (runs_lines runs)
-plain_runs runs fits =
-    let few = fits.few in
-    (plain_keyed runs_key (length runs) (plain_codes runs_key refl) (omega arith), plain_section run_line RunFits runs (closing ∷ []) plain_run fits.each (plain_codes closing refl, tt))
+-- the runs of a certificate are few, whatever its version
+pub few_runs : (version : Version) (n : ℕ) → n ≤ most_runs version → n ≤ 5242880
+few_runs One n le = let few : n ≤ 4194304 = le in omega arith
+few_runs Two n le = le
+
+plain_runs : (version : Version) (runs : List Run) → AreRuns version runs → AllByRecursion IsLine (runs_lines runs)
+plain_runs version runs fits =
+    let few = few_runs version (length runs) fits.few in
+    (plain_keyed runs_key (length runs) (plain_codes runs_key refl) (omega arith), plain_section run_line (RunFits version) runs (closing ∷ []) (plain_run version) fits.each (plain_codes closing refl, tt))
 
 pub plain_runs_text : (runs : List Run) (lines : List (List ℕ)) → SpellsRuns runs lines → AllByRecursion IsLine lines
-plain_runs_text runs lines s = subst (AllByRecursion IsLine) (sym s.1) (plain_codes runs_text_header refl, plain_runs runs s.0)
+plain_runs_text runs lines s = subst (AllByRecursion IsLine) (sym s.1) (plain_codes runs_text_header refl, plain_runs Two runs s.0)
 
 -- ---- entries
 
@@ -82,5 +89,5 @@ plain_header Two = plain_codes (header Two) refl
 pub plain_cert : (c : Certified) (lines : List (List ℕ)) → SpellsCert c lines → AllByRecursion IsLine lines
 plain_cert c lines s =
     let few = s.0.few_pages in
-    let entries = plain_entries c.version 0 c.entries (runs_lines c.runs) (omega arith) s.0.entries (plain_runs c.runs s.0.runs) in
+    let entries = plain_entries c.version 0 c.entries (runs_lines c.runs) (omega arith) s.0.entries (plain_runs c.version c.runs s.0.runs) in
     subst (AllByRecursion IsLine) (sym s.1) (plain_header c.version, (plain_keyed pages_key (length c.entries) (plain_codes pages_key refl) (omega arith), entries))

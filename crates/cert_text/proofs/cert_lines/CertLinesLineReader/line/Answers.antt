@@ -14,11 +14,11 @@ returns-else-len-self-clause-ok c =
     let i = c.self.inside in
     let d = draft_of i in
     let count = (live_at i.stage Entries d c.in-Entries.is c.self.invariant).count in
-    entry_line_taken i.stage d c.args.self.now c.args.line.now c.take_entry.new.entries.items c.take_entry.result c.in-Entries.is c.self.view_is c.self.invariant (omega (arith, i.entries.ok.0)) c.take_entry.ensures.ok
+    entry_line_taken i.stage d c.version.result c.args.self.now c.args.line.now c.take_entry.new.entries.items c.take_entry.result c.version.ensures c.in-Entries.is c.self.view_is c.self.invariant (omega (arith, i.entries.ok.0)) c.take_entry.ensures.ok
 
 pub returns-else-len-self-clause-refused : goal.returns-else-len-self-clause-refused
 returns-else-len-self-clause-refused c =
     let i = c.self.inside in
     let d = draft_of i in
     let count = (live_at i.stage Entries d c.in-Entries.is c.self.invariant).count in
-    entry_line_refused i.stage d c.args.self.now c.args.line.now c.take_entry.result c.self.view_is c.in-Entries.is c.self.invariant (omega (arith, i.entries.ok.0)) c.take_entry.ensures.refused
+    entry_line_refused i.stage d c.version.result c.args.self.now c.args.line.now c.take_entry.result c.version.ensures c.in-Entries.is c.self.view_is c.self.invariant (omega (arith, i.entries.ok.0)) c.take_entry.ensures.refused

@@ -6,5 +6,6 @@ use Rattle.cert_text.proofs.run_lines.RunLines.lines.Goals as goal
 pub invariant_of-self : goal.invariant_of-self
 invariant_of-self g c =
     let i = c.self.inside in
-    let fits = lines_fit i.runs c.lines.new.self c.args.bytes.now c.lines.result.0.now c.lines.result.1 (live_at i.stage Runs i.runs c.in-Runs.is c.self.invariant) c.lines.ensures.count c.lines.ensures.within c.lines.ensures.taken in
-    live_at Runs i.stage c.lines.new.self (sym c.in-Runs.is) fits
+    let version = i.form.version in
+    let fits = lines_fit version i.runs c.lines.new.self c.args.bytes.now c.lines.result.0.now c.lines.result.1 (live_at version i.stage Runs i.runs c.in-Runs.is c.self.invariant) c.lines.ensures.count c.lines.ensures.within c.lines.ensures.taken in
+    live_at version Runs i.stage c.lines.new.self (sym c.in-Runs.is) fits
