@@ -2,13 +2,13 @@
 use Rattle.std.proofs.Common.{◌≡◌, ◌≢◌, ℕ, zero, suc, ◌<◌, ◌≤◌, ◌⊎◌, inl, inr, Bool, true, false, ◌||◌, List, [], ◌∷◌, Option, Some, None, refl, sym, ap, ◌∙◌, subst, arith, eqb-true, eq-eqb}
 use Rattle.std.specs.Prelude.{slice_get}
 use Rattle.std.proofs.lemmas.Bool.{cases_eq, cases_order}
-use Rattle.migration_types.specs.declared.records.LogName.TheVariants.{Guest, Source, Link, Pager}
+use Rattle.migration_types.specs.declared.records.LogName.TheVariants.{Guest, Source, Link, Lane, Pager}
 use Rattle.migration_types.specs.declared.records.GuestRec.{GuestRec}
 use Rattle.migration_types.specs.declared.records.GuestRec.TheVariants.{Read, Write, Release, Miss, Halt, Resume, See}
 use Rattle.migration_types.specs.declared.records.SourceRec.{SourceRec}
 use Rattle.migration_types.specs.declared.records.SourceRec.TheVariants.{Send}
 use Rattle.migration_types.specs.declared.records.PagerRec.{PagerRec}
-use Rattle.migration_types.specs.declared.records.PagerRec.TheVariants.{Got, Ready, Fault, Join, Want, Place, Zero, Skip, All}
+use Rattle.migration_types.specs.declared.records.PagerRec.TheVariants.{Got, Pull, Ready, Fault, Join, Want, Place, Zero, Skip, All}
 use Rattle.migration_types.specs.Sessions.{Recorded}
 use Rattle.migration_types.specs.Sessions.{IsSession}
 use Rattle.migration_types.specs.Receipts.{Name}
@@ -93,6 +93,7 @@ pub over_fault : (s : Recorded) (n : ℕ) (r : PagerRec) (page : ℕ) → IsOver
 over_fault s n (Place a got content) page o = let same : page ≡ a = sym (eqb-true a page o.places) in subst (λ k. (earlier (is_placement_of k) s.pager n ≡ false) × IsOver s k) same (o.is_first, o.over)
 over_fault s n (Zero a) page o = let same : page ≡ a = sym (eqb-true a page o.places) in subst (λ k. (earlier (is_placement_of k) s.pager n ≡ false) × IsOver s k) same (o.is_first, o.over)
 over_fault s n (Got k) page o = let e = o.places in absurd (cc)
+over_fault s n (Pull k) page o = let e = o.places in absurd (cc)
 over_fault s n Ready page o = let e = o.places in absurd (cc)
 over_fault s n (Fault k) page o = let e = o.places in absurd (cc)
 over_fault s n (Join k) page o = let e = o.places in absurd (cc)
@@ -104,6 +105,7 @@ pub fault_over : (s : Recorded) (n : ℕ) (r : PagerRec) → PagerFault s Over n
 fault_over s n (Place a got content) f = (a, record { places = eq-eqb a a refl; is_first = f.0; over = f.1 })
 fault_over s n (Zero a) f = (a, record { places = eq-eqb a a refl; is_first = f.0; over = f.1 })
 fault_over s n (Got k) f = absurd f
+fault_over s n (Pull k) f = absurd f
 fault_over s n Ready f = absurd f
 fault_over s n (Fault k) f = absurd f
 fault_over s n (Join k) f = absurd f
@@ -130,6 +132,7 @@ module _ (s : Recorded) (clean : HasNoPageFault s) where
       let same : q ≡ page = eqb-true q page e in
       pager_clean Twice n (Zero q) is (earlier_true (is_placement_of q) s.pager m n t js (subst (λ k. is_placement_of k t ≡ true) (sym same) f) lt)
   not_twice page n m (Got k) t is js e f lt = absurd (cc)
+  not_twice page n m (Pull k) t is js e f lt = absurd (cc)
   not_twice page n m Ready t is js e f lt = absurd (cc)
   not_twice page n m (Fault k) t is js e f lt = absurd (cc)
   not_twice page n m (Join k) t is js e f lt = absurd (cc)
@@ -261,6 +264,7 @@ module _ (s : Recorded) (shape : IsRightShape s) (order : List Name) (merging : 
       go None f d = f
       go (Some r) f d = source_breaks reason n r stands f d
   fault_breaks reason (Link, n) other more f stands d = f
+  fault_breaks reason (Lane, n) other more f stands d = f
   fault_breaks reason (Pager, n) other more f stands d = go (slice_get s.pager n) f d
     where
       go : (o : Option PagerRec) → if_fault (PagerFault s reason n) o → if_record (pager_demand s) o (world_after s past) → ⊥

@@ -1,19 +1,21 @@
 -- A consistent cut: with each receipt that was taken, the record that it names was taken.
 use Rattle.std.proofs.Common.{◌≡◌, ◌≢◌, ℕ, zero, suc, ◌<◌, ◌≤◌, ◌⊎◌, inl, inr, Bool, true, false, cond, List, [], ◌∷◌, length, Option, Some, None, refl, sym, ap, ◌∙◌, subst, arith}
-use Rattle.std.specs.Prelude.{slice_get}
+use Rattle.std.specs.Prelude.{slice_get, is_some}
 use Rattle.std.proofs.lemmas.Bool.{cases_lt}
 use Rattle.migration_types.specs.declared.records.LogName.{LogName}
-use Rattle.migration_types.specs.declared.records.LogName.TheVariants.{Guest, Source, Link, Pager}
+use Rattle.migration_types.specs.declared.records.LogName.TheVariants.{Guest, Source, Link, Lane, Pager}
 use Rattle.migration_types.specs.declared.records.GuestRec.{GuestRec}
 use Rattle.migration_types.specs.declared.records.GuestRec.TheVariants.{Read, Write, Release, Miss, Halt, Resume, See}
 use Rattle.migration_types.specs.declared.records.SourceRec.{SourceRec}
 use Rattle.migration_types.specs.declared.records.SourceRec.TheVariants.{Halted, State, Send, Again, Ask, Done}
 use Rattle.migration_types.specs.declared.records.LinkRec.{LinkRec}
 use Rattle.migration_types.specs.declared.records.LinkRec.TheVariants.{Down, Up}
+use Rattle.migration_types.specs.declared.records.LaneRec.{LaneRec}
+use Rattle.migration_types.specs.declared.records.LaneRec.TheVariants.{Down as LaneDown}
 use Rattle.migration_types.specs.declared.records.PagerRec.{PagerRec}
-use Rattle.migration_types.specs.declared.records.PagerRec.TheVariants.{Got, Ready, Fault, Join, Want, Place, Zero, Skip, All}
+use Rattle.migration_types.specs.declared.records.PagerRec.TheVariants.{Got, Pull, Ready, Fault, Join, Want, Place, Zero, Skip, All}
 use Rattle.migration_types.specs.Sessions.{Recorded}
-use Rattle.migration_types.specs.Receipts.{Name, guest_receipt, source_receipt, link_receipt, pager_receipt}
+use Rattle.migration_types.specs.Receipts.{Name, guest_receipt, source_receipt, link_receipt, lane_receipt, pager_receipt}
 use Rattle.audit_model.specs.Names.{log_length, receipt, same_log, if_there}
 use Rattle.audit_model.specs.Mergings.{Cursors, at_start}
 use Rattle.audit_model.specs.Flat.{AtSource, home}
@@ -91,6 +93,10 @@ passes_down None e = absurd (cc)
 passes_down (Some (Down n)) e = (n, refl)
 passes_down (Some (Up n)) e = absurd (cc)
 
+some_down : (o : Option LaneRec) → is_some o ≡ true → (n : ℕ) × (o ≡ Some (LaneDown n))
+some_down None e = absurd (cc)
+some_down (Some (LaneDown n)) e = (n, refl)
+
 module _ (s : Recorded) (shape : IsRightShape s) (c : Cursors) (cut : IsConsistentCut s c) where
   -- once a record of the source was taken, the guest has left the source
   pub left_by_source : 0 < c Source → home s (c Guest) ≢ AtSource
@@ -117,13 +123,22 @@ module _ (s : Recorded) (shape : IsRightShape s) (c : Cursors) (cut : IsConsiste
       starts : (r : PagerRec) → slice_get s.pager 0 ≡ Some r → pager_start s 0 r ≡ true
       starts r is = sym (ap (λ o. keeps (pager_start s 0) o) is) ∙ shape Start (Pager, 0)
 
+      names : (r : PagerRec) → slice_get s.pager 0 ≡ Some r → pager_named s 0 r ≡ true
+      names r is = sym (ap (λ o. keeps (pager_named s 0) o) is) ∙ shape Named (Pager, 0)
+
+      receives : (r : PagerRec) (sent : Name) → slice_get s.pager 0 ≡ Some r → pager_receipt r ≡ Some sent → sent.1 < c sent.0
+      receives r sent is of = cut.sent_taken (Pager, 0) sent lt (ap (λ o. if_there pager_receipt o) is ∙ of)
+
+      delivered : (sending : ℕ) → sending < c Source → home s (c Guest) ≢ AtSource
+      delivered sending taken = left_by_source (omega (arith, taken))
+
       go : (r : PagerRec) → slice_get s.pager 0 ≡ Some r → home s (c Guest) ≢ AtSource
       go (Got d) is =
-          let named : passes is_down (slice_get s.link d) ≡ true = sym (ap (λ o. keeps (pager_named s 0) o) is) ∙ shape Named (Pager, 0) in
-          let link_taken : d < (c Link) = cut.sent_taken (Pager, 0) (Link, d) lt (ap (λ o. if_there pager_receipt o) is) in
-          let down = passes_down _ named in
-          let source_taken : down.0 < (c Source) = cut.sent_taken (Link, d) (Source, down.0) link_taken (ap (λ o. if_there link_receipt o) down.1) in
-          left_by_source (omega (arith, source_taken))
+          let down = passes_down (slice_get s.link d) (names (Got d) is) in
+          delivered down.0 (cut.sent_taken (Link, d) (Source, down.0) (receives (Got d) (Link, d) is refl) (ap (λ o. if_there link_receipt o) down.1))
+      go (Pull d) is =
+          let down = some_down (slice_get s.lane d) (names (Pull d) is) in
+          delivered down.0 (cut.sent_taken (Lane, d) (Source, down.0) (receives (Pull d) (Lane, d) is refl) (ap (λ o. if_there lane_receipt o) down.1))
       go Ready is = let e = starts Ready is in absurd (cc)
       go (Fault i) is = let e = starts (Fault i) is in absurd (cc)
       go (Join i) is = let e = starts (Join i) is in absurd (cc)

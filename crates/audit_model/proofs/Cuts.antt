@@ -1,39 +1,31 @@
 -- A merging as a walk: each name is the next one of its log, and what it is a receipt for was taken.
-use Rattle.std.proofs.Common.{◌≡◌, ℕ, zero, suc, ◌+◌, ◌<◌, ◌⊎◌, inl, inr, Bool, true, false, cond, List, [], ◌∷◌, ◌++◌, length, refl, sym, ap, ◌∙◌, subst, arith, append_assoc}
-use Rattle.std.specs.Prelude.{Contains}
+use Rattle.std.proofs.Common.{◌≡◌, ℕ, zero, suc, ◌+◌, ◌<◌, ◌⊎◌, inl, inr, Bool, true, false, cond, List, [], ◌∷◌, ◌++◌, length, Some, refl, sym, ap, ◌∙◌, subst, arith, append_assoc, eqb-true, eq-eqb}
+use Rattle.std.specs.Prelude.{Contains, slice_get}
 use Rattle.std.specs.List.{range_with_len}
 use Rattle.std.proofs.lemmas.List.Elements.{Contains-append_cases, Contains-push_cases}
 use Rattle.migration_types.specs.declared.records.LogName.{LogName}
-use Rattle.migration_types.specs.declared.records.LogName.TheVariants.{Guest, Source, Link, Pager}
+use Rattle.migration_types.specs.declared.records.LogName.TheVariants.{Guest, Source, Link, Lane, Pager}
 use Rattle.migration_types.specs.Sessions.{Recorded}
-use Rattle.migration_types.specs.Receipts.{Name}
+use Rattle.migration_types.specs.Receipts.{Name, logs, log_index}
 use Rattle.audit_model.specs.Names.{log_length, same_log}
 use Rattle.audit_model.specs.Mergings.{places_of, StandsAfter, IsMerging, Cursors, at_start}
 use Rattle.audit_model.specs.Walks.{next, cursors_from, MayFollow, Walks}
 
+-- each log stands at its place among the logs
+pub log_there : (l : LogName) → slice_get logs (log_index l) ≡ Some l
+log_there Guest = refl
+log_there Source = refl
+log_there Link = refl
+log_there Lane = refl
+log_there Pager = refl
+
 pub same_log_itself : (l : LogName) → same_log l l ≡ true
-same_log_itself Guest = refl
-same_log_itself Source = refl
-same_log_itself Link = refl
-same_log_itself Pager = refl
+same_log_itself l = eq-eqb (log_index l) (log_index l) refl
 
 pub same_from_test : (l m : LogName) → same_log l m ≡ true → l ≡ m
-same_from_test Guest Guest e = refl
-same_from_test Source Source e = refl
-same_from_test Link Link e = refl
-same_from_test Pager Pager e = refl
-same_from_test Guest Source e = absurd cc
-same_from_test Guest Link e = absurd cc
-same_from_test Guest Pager e = absurd cc
-same_from_test Source Guest e = absurd cc
-same_from_test Source Link e = absurd cc
-same_from_test Source Pager e = absurd cc
-same_from_test Link Guest e = absurd cc
-same_from_test Link Source e = absurd cc
-same_from_test Link Pager e = absurd cc
-same_from_test Pager Guest e = absurd cc
-same_from_test Pager Source e = absurd cc
-same_from_test Pager Link e = absurd cc
+same_from_test l m e =
+    let same : Some l ≡ Some m = sym (log_there l) ∙ ap (λ n. slice_get logs n) (eqb-true (log_index l) (log_index m) e) ∙ log_there m in
+    cc
 
 pub cursor_next : (c : Cursors) (l m : LogName) → next c l m ≡ cond (same_log l m) (suc (c m)) (c m)
 cursor_next c l m = refl

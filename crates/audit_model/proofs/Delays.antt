@@ -2,7 +2,7 @@
 use Rattle.std.proofs.Common.{◌≡◌, ℕ, suc, ◌<◌, ◌≤◌, ◌⊎◌, inl, inr, Bool, true, false, cond, List, [], ◌∷◌, ◌++◌, Option, Some, None, refl, sym, ap, ◌∙◌, subst, arith}
 use Rattle.std.proofs.lemmas.Bool.{cases_lt, ltb-true, ltb-false, le-ltb}
 use Rattle.migration_types.specs.declared.records.LogName.{LogName}
-use Rattle.migration_types.specs.declared.records.LogName.TheVariants.{Guest, Source, Link, Pager}
+use Rattle.migration_types.specs.declared.records.LogName.TheVariants.{Guest, Source, Link, Lane, Pager}
 use Rattle.migration_types.specs.Sessions.{Recorded}
 use Rattle.migration_types.specs.Receipts.{Name}
 use Rattle.audit_model.specs.Names.{log_length, receipt, same_log}
@@ -86,6 +86,7 @@ module _ (s : Recorded) (order : List Name) (merging : IsMerging s order) (place
   first_sound (Guest, n) lt le = absurd (omega arith)
   first_sound (Source, n) lt le = absurd (omega arith)
   first_sound (Link, n) lt le = absurd (omega arith)
+  first_sound (Lane, n) lt le = absurd (omega arith)
   first_sound (Pager, n) lt le = go (cases_lt place n)
     where
       go : (place < n) ⊎ (n ≤ place) → IsDelayed s (Pager, place) (Pager, n)
@@ -131,14 +132,8 @@ module _ (s : Recorded) (order : List Name) (merging : IsMerging s order) (place
       below_end sent stands.0 name at.0 (at.1.sent_before sent named)
     where
       below_end : (sent : Name) (past : List Name) (name : Name) → Walks s at_start past → sent.1 < cursors_from at_start past sent.0 → sent.1 < log_length s sent.0
-      below_end sent past name walks lt = omega (arith, within at_start past (λ l. start_low l) walks sent.0)
+      below_end sent past name walks lt = omega (arith, within at_start past (λ l. omega arith) walks sent.0)
         where
-          start_low : (l : LogName) → at_start l ≤ log_length s l
-          start_low Guest = omega arith
-          start_low Source = omega arith
-          start_low Link = omega arith
-          start_low Pager = omega arith
-
           within : (c : Cursors) (names : List Name) → ((l : LogName) → c l ≤ log_length s l) → Walks s c names → (l : LogName) → cursors_from c names l ≤ log_length s l
           within c [] low walks l = low l
           within c (n ∷ names) low walks l = within (next c n.0) names (λ m. bound m (same_log n.0 m) refl) walks.1 l

@@ -2,7 +2,7 @@
 use Rattle.std.proofs.Common.{◌≡◌, ℕ, zero, suc, inl, List, [], ◌∷◌, Some, refl, subst, arith}
 use Rattle.std.specs.Prelude.{slice_get}
 use Rattle.migration_types.specs.declared.records.LogName.{LogName}
-use Rattle.migration_types.specs.declared.records.LogName.TheVariants.{Guest, Source as FromSource, Link, Pager}
+use Rattle.migration_types.specs.declared.records.LogName.TheVariants.{Guest, Source as FromSource, Link, Lane, Pager}
 use Rattle.migration_types.specs.declared.records.GuestRec.TheVariants.{Read, Write, Miss, Halt, Resume, See}
 use Rattle.migration_types.specs.declared.records.SourceRec.TheVariants.{Halted, State, Send, Ask}
 use Rattle.migration_types.specs.declared.records.LinkRec.TheVariants.{Down, Up}
@@ -31,11 +31,12 @@ session_a = record {
   guest = Write 0 1 0 7 ∷ Halt ∷ Resume 1 ∷ Miss 0 0 ∷ See 5 ∷ Read 0 0 0 5 ∷ See 7 ∷ Write 0 1 0 9 ∷ Read 0 1 0 9 ∷ [];
   source = Halted 1 ∷ State ∷ Ask 1 ∷ Send 0 (5 ∷ []) ∷ Send 1 (7 ∷ []) ∷ [];
   link = Down 1 ∷ Up 3 ∷ Down 3 ∷ Down 4 ∷ [];
+  lane = [];
   pager = Got 0 ∷ Ready ∷ Fault 3 ∷ Want 0 ∷ Got 2 ∷ Place 0 4 (5 ∷ []) ∷ Got 3 ∷ Place 1 6 (7 ∷ []) ∷ [];
 }
 
 shape_a : IsRightShape session_a
-shape_a = shape_by_tests session_a refl refl refl refl refl refl refl refl
+shape_a = shape_by_tests session_a refl refl refl refl refl refl refl refl refl
 
 abbrev runs_a : List Run
 runs_a =
@@ -47,6 +48,7 @@ ends_a : (l : LogName) → cursors_from at_start (spelled runs_a) l ≡ log_leng
 ends_a Guest = refl
 ends_a FromSource = refl
 ends_a Link = refl
+ends_a Lane = refl
 ends_a Pager = refl
 
 merging_a : IsMerging session_a (spelled runs_a)
@@ -129,10 +131,12 @@ limits_a = record {
   few_guest = omega arith;
   few_source = omega arith;
   few_link = omega arith;
+  few_lane = omega arith;
   few_pager = omega arith;
   guest = ((omega arith, omega arith, omega arith, omega arith), (tt, (omega arith, ((omega arith, omega arith), (omega arith, ((omega arith, omega arith, omega arith, omega arith), (omega arith, ((omega arith, omega arith, omega arith, omega arith), ((omega arith, omega arith, omega arith, omega arith), tt)))))))));
   source = (omega arith, (tt, (omega arith, ((omega arith, record { count = refl; each = (omega arith, tt) }), ((omega arith, record { count = refl; each = (omega arith, tt) }), tt)))));
   link = (omega arith, (omega arith, (omega arith, (omega arith, tt))));
+  lane = tt;
   pager = (omega arith, (tt, (omega arith, (omega arith, (omega arith, ((omega arith, omega arith, record { count = refl; each = (omega arith, tt) }), (omega arith, ((omega arith, omega arith, record { count = refl; each = (omega arith, tt) }), tt))))))));
 }
 

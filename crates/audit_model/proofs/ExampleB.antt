@@ -3,7 +3,7 @@ use Rattle.std.proofs.Common.{◌≡◌, ℕ, zero, suc, List, [], ◌∷◌, So
 use Rattle.std.specs.Prelude.{slice_get}
 use Rattle.std.specs.List.Sorted.{IsStrictlyIncreasing}
 use Rattle.migration_types.specs.declared.records.LogName.{LogName}
-use Rattle.migration_types.specs.declared.records.LogName.TheVariants.{Guest, Source as FromSource, Link, Pager}
+use Rattle.migration_types.specs.declared.records.LogName.TheVariants.{Guest, Source as FromSource, Link, Lane, Pager}
 use Rattle.migration_types.specs.declared.records.GuestRec.TheVariants.{Read, Release, Miss, Halt, Resume, See}
 use Rattle.migration_types.specs.declared.records.SourceRec.TheVariants.{Halted, State}
 use Rattle.migration_types.specs.declared.records.LinkRec.TheVariants.{Down}
@@ -32,11 +32,12 @@ session_b = record {
   guest = Release 0 1 ∷ Halt ∷ Resume 1 ∷ Miss 0 1 ∷ See 3 ∷ Read 0 1 0 0 ∷ [];
   source = Halted 1 ∷ State ∷ [];
   link = Down 1 ∷ [];
+  lane = [];
   pager = Got 0 ∷ Ready ∷ Fault 3 ∷ Zero 1 ∷ [];
 }
 
 shape_b : IsRightShape session_b
-shape_b = shape_by_tests session_b refl refl refl refl refl refl refl refl
+shape_b = shape_by_tests session_b refl refl refl refl refl refl refl refl refl
 
 abbrev runs_b : List Run
 runs_b =
@@ -47,6 +48,7 @@ ends_b : (l : LogName) → cursors_from at_start (spelled runs_b) l ≡ log_leng
 ends_b Guest = refl
 ends_b FromSource = refl
 ends_b Link = refl
+ends_b Lane = refl
 ends_b Pager = refl
 
 merging_b : IsMerging session_b (spelled runs_b)
@@ -103,10 +105,12 @@ limits_b = record {
   few_guest = omega arith;
   few_source = omega arith;
   few_link = omega arith;
+  few_lane = omega arith;
   few_pager = omega arith;
   guest = ((omega arith, omega arith), (tt, (omega arith, ((omega arith, omega arith), (omega arith, ((omega arith, omega arith, omega arith, omega arith), tt))))));
   source = (omega arith, (tt, tt));
   link = (omega arith, tt);
+  lane = tt;
   pager = (omega arith, (tt, (omega arith, (omega arith, tt))));
 }
   where

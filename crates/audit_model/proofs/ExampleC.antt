@@ -2,7 +2,7 @@
 use Rattle.std.proofs.Common.{◌≡◌, ℕ, zero, suc, List, [], ◌∷◌, Some, refl, subst, arith}
 use Rattle.std.specs.Prelude.{slice_get}
 use Rattle.migration_types.specs.declared.records.LogName.{LogName}
-use Rattle.migration_types.specs.declared.records.LogName.TheVariants.{Guest, Source as FromSource, Link, Pager}
+use Rattle.migration_types.specs.declared.records.LogName.TheVariants.{Guest, Source as FromSource, Link, Lane, Pager}
 use Rattle.migration_types.specs.declared.records.GuestRec.TheVariants.{Read, Release, Halt, Resume}
 use Rattle.migration_types.specs.declared.records.SourceRec.TheVariants.{Halted, State, Send}
 use Rattle.migration_types.specs.declared.records.LinkRec.TheVariants.{Down}
@@ -30,11 +30,12 @@ session_c = record {
   guest = Halt ∷ Resume 1 ∷ Release 0 0 ∷ Read 0 0 0 0 ∷ [];
   source = Halted 0 ∷ State ∷ Send 0 (6 ∷ []) ∷ [];
   link = Down 1 ∷ Down 2 ∷ [];
+  lane = [];
   pager = Got 0 ∷ Ready ∷ Got 1 ∷ Skip 2 ∷ [];
 }
 
 shape_c : IsRightShape session_c
-shape_c = shape_by_tests session_c refl refl refl refl refl refl refl refl
+shape_c = shape_by_tests session_c refl refl refl refl refl refl refl refl refl
 
 abbrev runs_c : List Run
 runs_c =
@@ -45,6 +46,7 @@ ends_c : (l : LogName) → cursors_from at_start (spelled runs_c) l ≡ log_leng
 ends_c Guest = refl
 ends_c FromSource = refl
 ends_c Link = refl
+ends_c Lane = refl
 ends_c Pager = refl
 
 merging_c : IsMerging session_c (spelled runs_c)
@@ -76,10 +78,12 @@ limits_c = record {
   few_guest = omega arith;
   few_source = omega arith;
   few_link = omega arith;
+  few_lane = omega arith;
   few_pager = omega arith;
   guest = (tt, (omega arith, ((omega arith, omega arith), ((omega arith, omega arith, omega arith, omega arith), tt))));
   source = (omega arith, (tt, ((omega arith, record { count = refl; each = (omega arith, tt) }), tt)));
   link = (omega arith, (omega arith, tt));
+  lane = tt;
   pager = (omega arith, (tt, (omega arith, (omega arith, tt))));
 }
 

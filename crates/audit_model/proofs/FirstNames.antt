@@ -6,7 +6,7 @@ use Rattle.std.proofs.lemmas.Bool.{and_from, and_parts, lt-ltb, ltb-true}
 use Rattle.std.proofs.lemmas.List.{take_more, take_all}
 use Rattle.std.proofs.Math.Seq.{split_at}
 use Rattle.migration_types.specs.declared.records.LogName.{LogName}
-use Rattle.migration_types.specs.declared.records.LogName.TheVariants.{Guest, Source, Link, Pager}
+use Rattle.migration_types.specs.declared.records.LogName.TheVariants.{Guest, Source, Link, Lane, Pager}
 use Rattle.migration_types.specs.Receipts.{Name}
 use Rattle.migration_types.specs.Sessions.{Recorded}
 use Rattle.audit_model.specs.Names.{log_length, receipt, same_log}
@@ -73,17 +73,20 @@ all_taken_Decides s c = (
       let a = and_parts (c Guest == log_length s Guest) _ e in
       let b = and_parts (c Source == log_length s Source) _ a.1 in
       let d = and_parts (c Link == log_length s Link) _ b.1 in
-      each (eqb-true _ _ a.0) (eqb-true _ _ b.0) (eqb-true _ _ d.0) (eqb-true _ _ d.1) l,
+      let e = and_parts (c Lane == log_length s Lane) _ d.1 in
+      each (eqb-true _ _ a.0) (eqb-true _ _ b.0) (eqb-true _ _ d.0) (eqb-true _ _ e.0) (eqb-true _ _ e.1) l,
   λ f. and_from (c Guest == log_length s Guest) _ (eq-eqb _ _ (f Guest))
       (and_from (c Source == log_length s Source) _ (eq-eqb _ _ (f Source))
-      (and_from (c Link == log_length s Link) _ (eq-eqb _ _ (f Link)) (eq-eqb _ _ (f Pager)))),
+      (and_from (c Link == log_length s Link) _ (eq-eqb _ _ (f Link))
+      (and_from (c Lane == log_length s Lane) _ (eq-eqb _ _ (f Lane)) (eq-eqb _ _ (f Pager))))),
 )
   where
-    each : c Guest ≡ log_length s Guest → c Source ≡ log_length s Source → c Link ≡ log_length s Link → c Pager ≡ log_length s Pager → (l : LogName) → c l ≡ log_length s l
-    each g s l p Guest = g
-    each g s l p Source = s
-    each g s l p Link = l
-    each g s l p Pager = p
+    each : c Guest ≡ log_length s Guest → c Source ≡ log_length s Source → c Link ≡ log_length s Link → c Lane ≡ log_length s Lane → c Pager ≡ log_length s Pager → (l : LogName) → c l ≡ log_length s l
+    each g s l n p Guest = g
+    each g s l n p Source = s
+    each g s l n p Link = l
+    each g s l n p Lane = n
+    each g s l n p Pager = p
 
 -- where each name may follow, the list is a merging exactly where each log is taken to its end
 pub whole_Decides : (s : Recorded) (order : List Name) → Walks s at_start order → Decides (all_taken s (cursors_from at_start order)) (IsMerging s order)

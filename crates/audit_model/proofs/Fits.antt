@@ -13,5 +13,5 @@ guest_fits s limits n r is = each_at (GuestRecFits s.geometry) s.guest n r limit
 pub source_fits : (s : Recorded) → IsSession s → (n : ℕ) (r : SourceRec) → slice_get s.source n ≡ Some r → SourceRecFits s.geometry r
 source_fits s limits n r is = each_at (SourceRecFits s.geometry) s.source n r limits.source is
 
-pub pager_fits : (s : Recorded) → IsSession s → (n : ℕ) (r : PagerRec) → slice_get s.pager n ≡ Some r → PagerRecFits s.geometry r
-pager_fits s limits n r is = each_at (PagerRecFits s.geometry) s.pager n r limits.pager is
+pub pager_fits : (s : Recorded) → IsSession s → (n : ℕ) (r : PagerRec) → slice_get s.pager n ≡ Some r → PagerRecFits s.version s.geometry r
+pager_fits s limits n r is = each_at (PagerRecFits s.version s.geometry) s.pager n r limits.pager is

@@ -6,7 +6,7 @@ use Rattle.migration_types.specs.declared.records.GuestRec.{GuestRec}
 use Rattle.migration_types.specs.declared.records.GuestRec.TheVariants.{Read, Write, Release, Miss, Halt, Resume, See}
 use Rattle.migration_types.specs.declared.records.SourceRec.TheVariants.{Send}
 use Rattle.migration_types.specs.declared.records.PagerRec.{PagerRec}
-use Rattle.migration_types.specs.declared.records.PagerRec.TheVariants.{Got, Ready, Fault, Join, Want, Place, Zero, Skip, All}
+use Rattle.migration_types.specs.declared.records.PagerRec.TheVariants.{Got, Pull, Ready, Fault, Join, Want, Place, Zero, Skip, All}
 use Rattle.migration_types.specs.Sessions.{Recorded}
 use Rattle.migration_types.specs.Certs.{Certified}
 use Rattle.migration_types.specs.Receipts.{Name}
@@ -39,6 +39,7 @@ module _ (s : Recorded) (c : Certified) (given : IsCertified s c) where
   placed_page_small n (Place q got content) is page e = let same : q ≡ page = eqb-true q page e in let lt = (pager_fits s given.is_session n (Place q got content) is).0 in subst (λ k. k < s.geometry.pages) same lt
   placed_page_small n (Zero q) is page e = let same : q ≡ page = eqb-true q page e in let lt = pager_fits s given.is_session n (Zero q) is in subst (λ k. k < s.geometry.pages) same lt
   placed_page_small n (Got k) is page e = absurd (cc)
+  placed_page_small n (Pull k) is page e = absurd (cc)
   placed_page_small n Ready is page e = absurd (cc)
   placed_page_small n (Fault k) is page e = absurd (cc)
   placed_page_small n (Join k) is page e = absurd (cc)
@@ -75,6 +76,7 @@ module _ (s : Recorded) (c : Certified) (given : IsCertified s c) where
       let d = pager_demand_at order m n (Zero q) w at in
       let same : q ≡ page = eqb-true q page e in subst (λ k. w.touched k ≡ false) same d.is_untouched
   certified_placed_untouched order m n page (Got k) w at e = absurd (cc)
+  certified_placed_untouched order m n page (Pull k) w at e = absurd (cc)
   certified_placed_untouched order m n page Ready w at e = absurd (cc)
   certified_placed_untouched order m n page (Fault k) w at e = absurd (cc)
   certified_placed_untouched order m n page (Join k) w at e = absurd (cc)
@@ -100,6 +102,7 @@ module _ (s : Recorded) (c : Certified) (given : IsCertified s c) where
           absurd (cc)
       zeroed page n (Zero q) released is e = ap (λ k. Zero k) (eqb-true q page e)
       zeroed page n (Got k) released is e = absurd (cc)
+      zeroed page n (Pull k) released is e = absurd (cc)
       zeroed page n Ready released is e = absurd (cc)
       zeroed page n (Fault k) released is e = absurd (cc)
       zeroed page n (Join k) released is e = absurd (cc)

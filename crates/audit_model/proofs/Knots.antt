@@ -1,14 +1,15 @@
 -- Where the found order leaves records there is no merging.
-use Rattle.std.proofs.Common.{◌≡◌, ℕ, ◌<◌, Bool, true, false, ◌&&◌, cond, List, Option, Some, None, refl, ap, ◌∙◌, subst}
+use Rattle.std.proofs.Common.{◌≡◌, ℕ, zero, suc, ◌<◌, Bool, true, false, ◌&&◌, cond, List, [], ◌∷◌, Option, Some, None, refl, ap, ◌∙◌, subst}
+use Rattle.std.specs.Prelude.{slice_get}
+use Rattle.std.specs.List.{find}
 use Rattle.std.proofs.lemmas.Bool.{lt-ltb}
-use Rattle.migration_types.specs.declared.records.LogName.{LogName}
-use Rattle.migration_types.specs.declared.records.LogName.TheVariants.{Guest, Source, Link, Pager}
-use Rattle.migration_types.specs.Receipts.{Name}
+use Rattle.migration_types.specs.Receipts.{Name, logs, log_index}
 use Rattle.migration_types.specs.Sessions.{Recorded}
 use Rattle.audit_model.specs.Names.{log_length, receipt}
 use Rattle.audit_model.specs.Mergings.{IsMerging, Cursors, at_start}
 use Rattle.audit_model.specs.Walks.{cursors_from, MayFollow, IsStuck}
 use Rattle.audit_model.specs.FoundOrder.{is_received, is_ready, first_ready, IsKnot}
+use Rattle.audit_model.proofs.Cuts.{log_there}
 use Rattle.audit_model.proofs.Stuck.{stuck_no_merging}
 
 both : (a b : Bool) → a ≡ true → b ≡ true → (a && b) ≡ true
@@ -23,25 +24,22 @@ may_is_ready s c name may = both _ _ (lt-ltb (c name.0) (log_length s name.0) (s
     received None is = refl
     received (Some sent) is = lt-ltb sent.1 (c sent.0) (may.sent_before sent (ap (λ n. receipt s (name.0, n)) may.is_next ∙ is))
 
-first_of_none : (a b c d : Bool) (w x y z : LogName) → cond a (Some w) (cond b (Some x) (cond c (Some y) (cond d (Some z) None))) ≡ None → (a ≡ false) × (b ≡ false) × (c ≡ false) × (d ≡ false)
-first_of_none true b c d w x y z e = absurd (cc)
-first_of_none false true c d w x y z e = absurd (cc)
-first_of_none false false true d w x y z e = absurd (cc)
-first_of_none false false false true w x y z e = absurd (cc)
-first_of_none false false false false w x y z e = (refl, refl, refl, refl)
+-- where a test finds nothing it holds of nothing
+none_found : {A : Type 0} (test : A → Bool) (xs : List A) (n : ℕ) (x : A) → find test xs ≡ None → slice_get xs n ≡ Some x → test x ≡ false
+none_found test [] n x none is = absurd (cc)
+none_found {A} test (y ∷ xs) n x none is = go (λ e k at. none_found test xs k x e at) (test y) refl none n is
+  where
+    go : (find test xs ≡ None → (k : ℕ) → slice_get xs k ≡ Some x → test x ≡ false) → (b : Bool) → test y ≡ b → cond b (Some y) (find test xs) ≡ None → (n : ℕ) → slice_get (y ∷ xs) n ≡ Some x → test x ≡ false
+    go rec true e none n is = absurd (cc)
+    go rec false e none zero is = let same : y ≡ x = cc in subst (λ (z : A). test z ≡ false) same e
+    go rec false e none (suc n) is = rec none n is
 
 -- where no log is ready, no next record may follow
 pub none_is_stuck : (s : Recorded) (c : Cursors) → first_ready s c ≡ None → IsStuck s c
-none_is_stuck s c none name may = let e = may_is_ready s c name may in let f = unready name.0 in absurd (cc)
-  where
-    all : (is_ready s c Guest ≡ false) × (is_ready s c Source ≡ false) × (is_ready s c Link ≡ false) × (is_ready s c Pager ≡ false)
-    all = first_of_none (is_ready s c Guest) (is_ready s c Source) (is_ready s c Link) (is_ready s c Pager) Guest Source Link Pager none
-
-    unready : (l : LogName) → is_ready s c l ≡ false
-    unready Guest = all.0
-    unready Source = all.1
-    unready Link = all.2
-    unready Pager = all.3
+none_is_stuck s c none name may =
+    let e = may_is_ready s c name may in
+    let f = none_found (is_ready s c) logs (log_index name.0) name.0 none (log_there name.0) in
+    cc
 
 pub knot_no_merging : (s : Recorded) (line : ℕ) → IsKnot s line → (order : List Name) → IsMerging s order → ⊥
 knot_no_merging s line knot order merging =

@@ -4,15 +4,15 @@ use Rattle.std.specs.Prelude.{Contains, slice_get, nat_lt}
 use Rattle.std.specs.List.{filter}
 use Rattle.std.proofs.lemmas.Bool.{cases_lt, ltb-true, lt-ltb}
 use Rattle.std.proofs.lemmas.List.Elements.{Contains-append_left}
-use Rattle.std.proofs.lemmas.Option.{slice_get_past}
-use Rattle.migration_types.specs.declared.records.LogName.TheVariants.{Guest, Source, Link, Pager}
+use Rattle.std.proofs.lemmas.Option.{slice_get_past, slice_get_within}
+use Rattle.migration_types.specs.declared.records.LogName.TheVariants.{Guest, Source, Link, Lane, Pager}
 use Rattle.migration_types.specs.declared.records.GuestRec.{GuestRec}
 use Rattle.migration_types.specs.declared.records.GuestRec.TheVariants.{Read, Write, Release, Miss, Halt, Resume, See}
 use Rattle.migration_types.specs.declared.records.PagerRec.{PagerRec}
-use Rattle.migration_types.specs.declared.records.PagerRec.TheVariants.{Got, Ready, Fault, Join, Want, Place, Zero, Skip, All}
+use Rattle.migration_types.specs.declared.records.PagerRec.TheVariants.{Got, Pull, Ready, Fault, Join, Want, Place, Zero, Skip, All}
 use Rattle.migration_types.specs.Sessions.{Recorded}
-use Rattle.migration_types.specs.Receipts.{Name, guest_receipt}
-use Rattle.audit_model.specs.Names.{log_length, receipt, if_there}
+use Rattle.migration_types.specs.Receipts.{Name, guest_receipt, source_receipt, link_receipt, lane_receipt, pager_receipt}
+use Rattle.audit_model.specs.Names.{log_length, receipt, receipt_in, if_there}
 use Rattle.audit_model.specs.Mergings.{StandsAfter, IsMerging, Cursors, at_start}
 use Rattle.audit_model.specs.Flat.{AtTarget, home}
 use Rattle.audit_model.specs.World.{world_after, Demand}
@@ -44,27 +44,19 @@ pub stands_somewhere : (s : Recorded) (order : List Name) → IsMerging s order 
 stands_somewhere s order merging name lt = stands_if_contained order name (contains_place order name.0 name.1 0 (log_length s name.0) (merging.each_once_in_order name.0) (omega arith) (omega arith))
 
 -- a record that names another is there
+receipt_in_there : {X : Type 0} (receipt_of : X → Option Name) (log : List X) (n : ℕ) (sent : Name) → receipt_in receipt_of log n ≡ Some sent → n < length log
+receipt_in_there {X} receipt_of log n sent is = go (slice_get log n) refl is
+  where
+    go : (o : Option X) → slice_get log n ≡ o → if_there receipt_of o ≡ Some sent → n < length log
+    go None at is = absurd (cc)
+    go (Some x) at is = slice_get_within log n x at
+
 pub receipt_there : (s : Recorded) (name sent : Name) → receipt s name ≡ Some sent → name.1 < log_length s name.0
-receipt_there s (Guest, n) sent is = go (cases_lt n (length s.guest))
-  where
-    go : (n < length s.guest) ⊎ (length s.guest ≤ n) → n < length s.guest
-    go (inl lt) = lt
-    go (inr le) = let e = slice_get_past s.guest n le in absurd (cc)
-receipt_there s (Source, n) sent is = go (cases_lt n (length s.source))
-  where
-    go : (n < length s.source) ⊎ (length s.source ≤ n) → n < length s.source
-    go (inl lt) = lt
-    go (inr le) = let e = slice_get_past s.source n le in absurd (cc)
-receipt_there s (Link, n) sent is = go (cases_lt n (length s.link))
-  where
-    go : (n < length s.link) ⊎ (length s.link ≤ n) → n < length s.link
-    go (inl lt) = lt
-    go (inr le) = let e = slice_get_past s.link n le in absurd (cc)
-receipt_there s (Pager, n) sent is = go (cases_lt n (length s.pager))
-  where
-    go : (n < length s.pager) ⊎ (length s.pager ≤ n) → n < length s.pager
-    go (inl lt) = lt
-    go (inr le) = let e = slice_get_past s.pager n le in absurd (cc)
+receipt_there s (Guest, n) sent is = receipt_in_there guest_receipt s.guest n sent is
+receipt_there s (Source, n) sent is = receipt_in_there source_receipt s.source n sent is
+receipt_there s (Link, n) sent is = receipt_in_there link_receipt s.link n sent is
+receipt_there s (Lane, n) sent is = receipt_in_there lane_receipt s.lane n sent is
+receipt_there s (Pager, n) sent is = receipt_in_there pager_receipt s.pager n sent is
 
 kept_by_test : (p : Name → Bool) (xs : List Name) (x : Name) → Contains (filter p xs) x → p x ≡ true
 kept_by_test p [] x h = contains_nil x h
@@ -100,6 +92,7 @@ module _ (s : Recorded) (shape : IsRightShape s) (order : List Name) (merging : 
       is_ready_there None e = absurd (cc)
       is_ready_there (Some Ready) e = refl
       is_ready_there (Some (Got i)) e = absurd (cc)
+      is_ready_there (Some (Pull i)) e = absurd (cc)
       is_ready_there (Some (Fault i)) e = absurd (cc)
       is_ready_there (Some (Join i)) e = absurd (cc)
       is_ready_there (Some (Want p)) e = absurd (cc)
@@ -119,6 +112,7 @@ module _ (s : Recorded) (shape : IsRightShape s) (order : List Name) (merging : 
       far (suc (suc m)) (Place p i content) e f = omega arith
       far (suc (suc m)) (Zero p) e f = omega arith
       far m (Got i) e f = absurd (cc)
+      far m (Pull i) e f = absurd (cc)
       far m Ready e f = absurd (cc)
       far m (Fault i) e f = absurd (cc)
       far m (Join i) e f = absurd (cc)

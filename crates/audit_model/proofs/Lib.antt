@@ -23,6 +23,7 @@ pub mod WrittenOut
 pub mod ExampleA
 pub mod ExampleB
 pub mod ExampleC
+pub mod ExampleD
 pub mod Certifying
 pub mod PageFaultTests
 pub mod FirstVersion

@@ -2,7 +2,7 @@
 use Rattle.std.proofs.Common.{◌≡◌, ◌≢◌, ℕ, zero, suc, ◌<◌, true, List, [], ◌∷◌, ◌++◌, length, map, Some, refl, sym, ap, ◌∙◌, subst, arith}
 use Rattle.std.specs.Prelude.{slice_get}
 use Rattle.std.specs.List.{range_with_len}
-use Rattle.migration_types.specs.declared.records.LogName.TheVariants.{Guest, Source, Link, Pager}
+use Rattle.migration_types.specs.declared.records.LogName.TheVariants.{Guest, Source, Link, Lane, Pager}
 use Rattle.migration_types.specs.declared.records.GuestRec.{GuestRec}
 use Rattle.migration_types.specs.declared.records.PagerRec.{PagerRec}
 use Rattle.migration_types.specs.Sessions.{Recorded}
@@ -100,6 +100,7 @@ module _ (s : Recorded) (shape : IsRightShape s) where
       }
   step_kept c w (Source, n) i may = record { cut = next_is_cut s c (Source, n) i.cut may; world = i.world }
   step_kept c w (Link, n) i may = record { cut = next_is_cut s c (Link, n) i.cut may; world = i.world }
+  step_kept c w (Lane, n) i may = record { cut = next_is_cut s c (Lane, n) i.cut may; world = i.world }
   step_kept c w (Pager, n) i may =
       let r = there s.pager (c Pager) (length s.pager) (omega (arith, may.is_next, may.is_there)) (omega arith) in
       record {

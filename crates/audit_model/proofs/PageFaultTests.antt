@@ -6,7 +6,7 @@ use Rattle.std.proofs.lemmas.Bool.{and_from, and_parts, or_cases, or_left, or_ri
 use Rattle.std.proofs.lemmas.Bool.Decides.{Decides-eqb, Decides-not}
 use Rattle.std.proofs.lemmas.Option.{slice_get_within}
 use Rattle.std.proofs.lemmas.Slice.Eq.{bytes_eq-Decides}
-use Rattle.migration_types.specs.declared.records.LogName.TheVariants.{Guest, Source, Link, Pager}
+use Rattle.migration_types.specs.declared.records.LogName.TheVariants.{Guest, Source, Link, Lane, Pager}
 use Rattle.migration_types.specs.declared.records.GuestRec.{GuestRec}
 use Rattle.migration_types.specs.declared.records.GuestRec.TheVariants.{Read, Write, Release, Miss, Halt, Resume, See}
 use Rattle.migration_types.specs.declared.records.SourceRec.{SourceRec}
@@ -127,15 +127,16 @@ over_Decides s n p = (
   λ f. and_from (not (earlier (is_placement_of p) s.pager n)) _ ((not_true _).1 f.0) (release_there s p f.1 (length s.guest) (slice_get_within s.guest f.1.release _ f.1.stands)),
 )
 
-of_link : (s : Recorded) (n : ℕ) (reason : PageReason) → Decides (fault_test s reason (Link, n)) ⊥
-of_link s n WrongRead = never (λ f. f)
-of_link s n Early = never (λ f. f)
-of_link s n Given = never (λ f. f)
-of_link s n Stale = never (λ f. f)
-of_link s n Twice = never (λ f. f)
-of_link s n Altered = never (λ f. f)
-of_link s n Unfit = never (λ f. f)
-of_link s n Over = never (λ f. f)
+-- no record of the link or of the lane has a fault
+of_links : (s : Recorded) (n : ℕ) (reason : PageReason) → Decides (fault_test s reason (Link, n)) ⊥ × Decides (fault_test s reason (Lane, n)) ⊥
+of_links s n WrongRead = (never (λ f. f), never (λ f. f))
+of_links s n Early = (never (λ f. f), never (λ f. f))
+of_links s n Given = (never (λ f. f), never (λ f. f))
+of_links s n Stale = (never (λ f. f), never (λ f. f))
+of_links s n Twice = (never (λ f. f), never (λ f. f))
+of_links s n Altered = (never (λ f. f), never (λ f. f))
+of_links s n Unfit = (never (λ f. f), never (λ f. f))
+of_links s n Over = (never (λ f. f), never (λ f. f))
 
 pub fault_Decides : (s : Recorded) (reason : PageReason) (name : Name) → Decides (fault_test s reason name) (IsPageFault s reason name)
 fault_Decides s WrongRead (Guest, n) = go (slice_get s.guest n)
@@ -191,7 +192,8 @@ fault_Decides s Over (Pager, n) = go (slice_get s.pager n)
     go (Some r) = never (λ f. f)
 fault_Decides s reason (Guest, n) = never (λ f. none (slice_get s.guest n) (λ r g. g) f)
 fault_Decides s reason (Source, n) = never (λ f. none (slice_get s.source n) (λ r g. g) f)
-fault_Decides s reason (Link, n) = of_link s n reason
+fault_Decides s reason (Link, n) = (of_links s n reason).0
+fault_Decides s reason (Lane, n) = (of_links s n reason).1
 fault_Decides s reason (Pager, n) = never (λ f. none (slice_get s.pager n) (λ r g. g) f)
 
 -- what a test tells

@@ -2,13 +2,13 @@
 use Rattle.std.proofs.Common.{◌≡◌, ◌≢◌, ℕ, zero, suc, ◌<◌, ◌≤◌, Bool, true, false, ◌||◌, ◌⊎◌, inl, inr, length, Option, Some, None, refl, sym, ap, ◌∙◌, subst, arith, eqb-true}
 use Rattle.std.specs.Prelude.{slice_get}
 use Rattle.std.proofs.lemmas.Bool.{cases_lt, or_cases, or_right}
-use Rattle.migration_types.specs.declared.records.LogName.TheVariants.{Guest, Source, Link, Pager}
+use Rattle.migration_types.specs.declared.records.LogName.TheVariants.{Guest, Source, Link, Lane, Pager}
 use Rattle.migration_types.specs.declared.records.GuestRec.{GuestRec}
 use Rattle.migration_types.specs.declared.records.GuestRec.TheVariants.{Read, Write, Release, Miss, Halt, Resume, See}
 use Rattle.migration_types.specs.declared.records.SourceRec.{SourceRec}
 use Rattle.migration_types.specs.declared.records.SourceRec.TheVariants.{Halted, State, Send, Again, Ask, Done}
 use Rattle.migration_types.specs.declared.records.PagerRec.{PagerRec}
-use Rattle.migration_types.specs.declared.records.PagerRec.TheVariants.{Got, Ready, Fault, Join, Want, Place, Zero, Skip, All}
+use Rattle.migration_types.specs.declared.records.PagerRec.TheVariants.{Got, Pull, Ready, Fault, Join, Want, Place, Zero, Skip, All}
 use Rattle.migration_types.specs.Sessions.{Recorded}
 use Rattle.migration_types.specs.Sessions.{IsSession}
 use Rattle.migration_types.specs.Receipts.{Name}
@@ -151,6 +151,7 @@ module _ (s : Recorded) (shape : IsRightShape s) (fits : IsSession s) (kept : (p
         is_released = ledger_at_halt s shape c w i.at left q ∙ (kept q small).zeroed_released (c Pager) is;
       }
   pager_demand_holds c w i left (Got k) is = tt
+  pager_demand_holds c w i left (Pull k) is = tt
   pager_demand_holds c w i left Ready is = tt
   pager_demand_holds c w i left (Fault k) is = tt
   pager_demand_holds c w i left (Join k) is = tt
@@ -170,6 +171,7 @@ module _ (s : Recorded) (shape : IsRightShape s) (fits : IsSession s) (kept : (p
       go None is = tt
       go (Some r) is = source_demand_holds c w i (source_left s shape c (Source, n) i.at.cut may refl) n r is
   demand_holds c w (Link, n) i may = tt
+  demand_holds c w (Lane, n) i may = tt
   demand_holds c w (Pager, n) i may = subst (λ k. Demand s (Pager, k) w) (sym may.is_next) (go (slice_get s.pager (c Pager)) refl)
     where
       go : (o : Option PagerRec) → slice_get s.pager (c Pager) ≡ o → if_record (pager_demand s) o w
@@ -180,6 +182,7 @@ module _ (s : Recorded) (shape : IsRightShape s) (fits : IsSession s) (kept : (p
   placement_page_small n (Place q got content) is a e = let same : q ≡ a = eqb-true q a e in let lt = (pager_fits s fits n (Place q got content) is).0 in subst (λ k. k < s.geometry.pages) same lt
   placement_page_small n (Zero q) is a e = let same : q ≡ a = eqb-true q a e in let lt = pager_fits s fits n (Zero q) is in subst (λ k. k < s.geometry.pages) same lt
   placement_page_small n (Got k) is a e = absurd (cc)
+  placement_page_small n (Pull k) is a e = absurd (cc)
   placement_page_small n Ready is a e = absurd (cc)
   placement_page_small n (Fault k) is a e = absurd (cc)
   placement_page_small n (Join k) is a e = absurd (cc)
@@ -216,6 +219,7 @@ module _ (s : Recorded) (shape : IsRightShape s) (fits : IsSession s) (kept : (p
       }
   step_flat c w (Source, n) i may = record { at = step_kept s shape c w (Source, n) i.at may; flat_target = i.flat_target }
   step_flat c w (Link, n) i may = record { at = step_kept s shape c w (Link, n) i.at may; flat_target = i.flat_target }
+  step_flat c w (Lane, n) i may = record { at = step_kept s shape c w (Lane, n) i.at may; flat_target = i.flat_target }
   step_flat c w (Pager, n) i may =
       let r = there s.pager (c Pager) (length s.pager) (omega (arith, may.is_next, may.is_there)) (omega arith) in
       record {

@@ -4,7 +4,7 @@ use Rattle.std.specs.Prelude.{slice_get}
 use Rattle.migration_types.specs.declared.records.GuestRec.{GuestRec}
 use Rattle.migration_types.specs.declared.records.GuestRec.TheVariants.{Release}
 use Rattle.migration_types.specs.declared.records.PagerRec.{PagerRec}
-use Rattle.migration_types.specs.declared.records.PagerRec.TheVariants.{Got, Ready, Fault, Join, Want, Place, Zero, Skip, All}
+use Rattle.migration_types.specs.declared.records.PagerRec.TheVariants.{Got, Pull, Ready, Fault, Join, Want, Place, Zero, Skip, All}
 use Rattle.migration_types.specs.Sessions.{Recorded}
 use Rattle.migration_types.specs.declared.records.LogName.TheVariants.{Guest, Pager}
 use Rattle.audit_model.specs.World.{world_after, pager_demand, if_record, IsSafe}
@@ -17,7 +17,7 @@ use Rattle.audit_model.specs.declared.reasons.PageReason.{PageReason}
 use Rattle.audit_model.specs.declared.reasons.PageReason.TheVariants.{Read as WrongRead, Early, Given, Stale, Twice, Altered, Unfit, Over}
 use Rattle.audit_model.specs.Faults.{IsEarly, GuestFault, SourceFault, PagerFault, if_fault, IsPageFault, HasNoPageFault}
 use Rattle.migration_types.specs.declared.records.SourceRec.{SourceRec}
-use Rattle.migration_types.specs.declared.records.LogName.TheVariants.{Source, Link}
+use Rattle.migration_types.specs.declared.records.LogName.TheVariants.{Source, Link, Lane}
 use Rattle.audit_model.specs.Laws.{IsFaultless, FaultsBreak, DelayedBreaks, DelayedUnplaced, DelayedOver, UnplacedBreaks, BreaksAt, SafeExactlyIfClean}
 use Rattle.std.proofs.lemmas.Option.{slice_get_within}
 use Rattle.audit_model.proofs.Delays.{delayed_order}
@@ -62,6 +62,7 @@ module _ (s : Recorded) (shape : IsRightShape s) (order : List Name) (merging : 
       go (Place q got content) e d = let same : q ≡ page = eqb-true q page e in clash _ (over_touched past stands) (subst (λ k. (world_after s past).touched k ≡ false) same d.is_untouched)
       go (Zero q) e d = let same : q ≡ page = eqb-true q page e in clash _ (over_touched past stands) (subst (λ k. (world_after s past).touched k ≡ false) same d.is_untouched)
       go (Got k) e d = absurd (cc)
+      go (Pull k) e d = absurd (cc)
       go Ready e d = absurd (cc)
       go (Fault k) e d = absurd (cc)
       go (Join k) e d = absurd (cc)
@@ -119,6 +120,7 @@ module _ (s : Recorded) (shape : IsRightShape s) (given : HasMerging s) (safe : 
       go None is f = absurd f
       go (Some r) is f = slice_get_within s.source n r is
   there_is reason (Link, n) f = absurd f
+  there_is reason (Lane, n) f = absurd f
   there_is reason (Pager, n) f = go (slice_get s.pager n) refl f
     where
       go : (o : Option PagerRec) → slice_get s.pager n ≡ o → if_fault (PagerFault s reason n) o → n < length s.pager
@@ -140,6 +142,7 @@ module _ (s : Recorded) (shape : IsRightShape s) (given : HasMerging s) (safe : 
       go None f = f
       go (Some r) f = f
   early_fault (Link, n) f = f
+  early_fault (Lane, n) f = f
   early_fault (Pager, n) f = go (slice_get s.pager n) f
     where
       go : (o : Option PagerRec) → if_fault (PagerFault s Early n) o → ⊥
@@ -158,6 +161,7 @@ module _ (s : Recorded) (shape : IsRightShape s) (given : HasMerging s) (safe : 
       go None f = f
       go (Some r) f = f
   over_fault_at (Link, n) f = f
+  over_fault_at (Lane, n) f = f
   over_fault_at (Pager, n) f =
       let delayed = delayed_order s given.0 given.1 n in
       let breaks = delayed_over s shape given.0 given.1 n f delayed.0 delayed.1 in

@@ -1,11 +1,11 @@
--- The world after a merging's records is a function of the four cursors, but for the target's absent pages.
+-- The world after a merging's records is a function of the cursors, but for the target's absent pages.
 use Rattle.std.proofs.Common.{◌≡◌, ◌≢◌, ℕ, zero, suc, ◌+◌, ◌<◌, Bool, true, false, ◌&&◌, ◌||◌, cond, List, map, Some, refl, sym, ap, ◌∙◌, arith, eqb-true}
 use Rattle.std.specs.Prelude.{slice_get, slice_index, ◌==◌}
 use Rattle.std.specs.List.{range_with_len}
 use Rattle.migration_types.specs.declared.records.GuestRec.{GuestRec}
 use Rattle.migration_types.specs.declared.records.GuestRec.TheVariants.{Read, Write, Release, Miss, Halt, Resume, See}
 use Rattle.migration_types.specs.declared.records.PagerRec.{PagerRec}
-use Rattle.migration_types.specs.declared.records.PagerRec.TheVariants.{Got, Ready, Fault, Join, Want, Place, Zero, Skip, All}
+use Rattle.migration_types.specs.declared.records.PagerRec.TheVariants.{Got, Pull, Ready, Fault, Join, Want, Place, Zero, Skip, All}
 use Rattle.migration_types.specs.Sessions.{Recorded}
 use Rattle.migration_types.specs.Memory.{Memory, page_of}
 use Rattle.audit_model.specs.Flat.{changed, cell_after, flat, freed, freed_after, released_after, in_ledger, Home, AtSource, Nowhere, AtTarget, home_after, home, at_halt}
@@ -205,6 +205,7 @@ module _ (s : Recorded) (shape : IsRightShape s) (g p : ℕ) where
   pager_kept h w (Place a got content) is i = placement_kept h w (Place a got content) a is (λ q. refl) (with_content a content w.target) i
   pager_kept h w (Zero a) is i = placement_kept h w (Zero a) a is (λ q. refl) (with_zeros a w.target) i
   pager_kept h w (Got k) is i = pager_idle h w (Got k) is (λ q. refl) i
+  pager_kept h w (Pull k) is i = pager_idle h w (Pull k) is (λ q. refl) i
   pager_kept h w Ready is i = pager_idle h w Ready is (λ q. refl) i
   pager_kept h w (Fault k) is i = pager_idle h w (Fault k) is (λ q. refl) i
   pager_kept h w (Join k) is i = pager_idle h w (Join k) is (λ q. refl) i
@@ -265,6 +266,7 @@ module _ (s : Recorded) (shape : IsRightShape s) (g p : ℕ) where
   pager_keeps_flat h w (Zero a) is at left flat_content released free i =
       placement_keeps_flat h w (Zero a) a (λ d. 0) is (λ q. refl) at left (free a (itself a)) (λ d lt. sym (released_zero s (at_halt s) a d (released a refl))) i
   pager_keeps_flat h w (Got k) is at left flat_content released free i = idle_keeps_flat w (Got k) is (λ q. refl) i
+  pager_keeps_flat h w (Pull k) is at left flat_content released free i = idle_keeps_flat w (Pull k) is (λ q. refl) i
   pager_keeps_flat h w Ready is at left flat_content released free i = idle_keeps_flat w Ready is (λ q. refl) i
   pager_keeps_flat h w (Fault k) is at left flat_content released free i = idle_keeps_flat w (Fault k) is (λ q. refl) i
   pager_keeps_flat h w (Join k) is at left flat_content released free i = idle_keeps_flat w (Join k) is (λ q. refl) i

@@ -4,7 +4,7 @@ use Rattle.std.specs.Prelude.{slice_get, ◌==◌, nat_lt}
 use Rattle.std.specs.Str.{bytes_eq}
 use Rattle.std.proofs.lemmas.Bool.{ltb-true}
 use Rattle.std.proofs.lemmas.Slice.Eq.{bytes_eq-Decides}
-use Rattle.migration_types.specs.declared.records.LogName.TheVariants.{Guest, Source, Link, Pager}
+use Rattle.migration_types.specs.declared.records.LogName.TheVariants.{Guest, Source, Link, Lane, Pager}
 use Rattle.migration_types.specs.declared.records.GuestRec.{GuestRec}
 use Rattle.migration_types.specs.declared.records.GuestRec.TheVariants.{Read}
 use Rattle.migration_types.specs.declared.records.SourceRec.{SourceRec}
@@ -18,7 +18,7 @@ use Rattle.audit_model.specs.Mergings.{Cursors}
 use Rattle.audit_model.specs.Walks.{next, Walks}
 use Rattle.audit_model.specs.Flat.{flat, in_ledger, home, is_target, at_halt}
 use Rattle.audit_model.specs.inner.MergingTests.{may}
-use Rattle.audit_model.specs.Shape.{IsRightShape, in_phase, guest_named, source_named, link_named, pager_named, source_start, pager_start, is_first_send, keeps, is_placement_of}
+use Rattle.audit_model.specs.Shape.{IsRightShape, in_phase, guest_named, source_named, link_named, lane_named, pager_named, source_start, pager_start, is_first_send, keeps, is_placement_of}
 use Rattle.audit_model.specs.Certificates.{is_touch_of, IsHonest, IsOnlyPlacement, IsLateTouch}
 use Rattle.audit_model.proofs.FirstNames.{may_Decides}
 use Rattle.audit_model.proofs.PageFaultTests.{not_true}
@@ -48,7 +48,7 @@ each_at test log e n r is = sym (ap (λ o. keeps (test n) o) is) ∙ each_keeps 
 module _ (s : Recorded)
     (phases : each (in_phase s) s.guest ≡ true)
     (guest : each (λ n. guest_named s) s.guest ≡ true) (source : each (source_named s) s.source ≡ true)
-    (link : each (λ n. link_named s) s.link ≡ true) (pager : each (pager_named s) s.pager ≡ true)
+    (link : each (λ n. link_named s) s.link ≡ true) (lane : each (λ n. lane_named s) s.lane ≡ true) (pager : each (pager_named s) s.pager ≡ true)
     (source_starts : each (source_start s) s.source ≡ true) (pager_starts : each (pager_start s) s.pager ≡ true)
     (sends : each (is_first_send s) s.source ≡ true) where
   pub shape_by_tests : IsRightShape s
@@ -56,17 +56,21 @@ module _ (s : Recorded)
   shape_by_tests Named (Guest, n) = each_keeps (λ n. guest_named s) s.guest guest n
   shape_by_tests Named (Source, n) = each_keeps (source_named s) s.source source n
   shape_by_tests Named (Link, n) = each_keeps (λ n. link_named s) s.link link n
+  shape_by_tests Named (Lane, n) = each_keeps (λ n. lane_named s) s.lane lane n
   shape_by_tests Named (Pager, n) = each_keeps (pager_named s) s.pager pager n
   shape_by_tests Start (Source, n) = each_keeps (source_start s) s.source source_starts n
   shape_by_tests Start (Pager, n) = each_keeps (pager_start s) s.pager pager_starts n
   shape_by_tests SecondSend (Source, n) = each_keeps (is_first_send s) s.source sends n
   shape_by_tests Phases (Source, n) = refl
   shape_by_tests Phases (Link, n) = refl
+  shape_by_tests Phases (Lane, n) = refl
   shape_by_tests Phases (Pager, n) = refl
   shape_by_tests Start (Guest, n) = refl
   shape_by_tests Start (Link, n) = refl
+  shape_by_tests Start (Lane, n) = refl
   shape_by_tests SecondSend (Guest, n) = refl
   shape_by_tests SecondSend (Link, n) = refl
+  shape_by_tests SecondSend (Lane, n) = refl
   shape_by_tests SecondSend (Pager, n) = refl
 
 -- a walk by a test

@@ -1,6 +1,6 @@
 -- The faults of a page: a record and a reason.
 use Rattle.std.specs.Prelude.{◌≡◌, ◌≢◌, ℕ, ◌≤◌, suc, Bool, true, false, Option, Some, None, slice_get}
-use Rattle.migration_types.specs.declared.records.LogName.TheVariants.{Guest, Source, Link, Pager}
+use Rattle.migration_types.specs.declared.records.LogName.TheVariants.{Guest, Source, Link, Lane, Pager}
 use Rattle.migration_types.specs.declared.records.GuestRec.{GuestRec}
 use Rattle.migration_types.specs.declared.records.GuestRec.TheVariants.{Read, Release, See}
 use Rattle.migration_types.specs.declared.records.SourceRec.{SourceRec}
@@ -73,6 +73,7 @@ abbrev pub IsPageFault : Recorded → PageReason → Name → Type 0
 IsPageFault s reason (Guest, n) = if_fault (GuestFault s reason n) (slice_get s.guest n)
 IsPageFault s reason (Source, n) = if_fault (SourceFault s reason) (slice_get s.source n)
 IsPageFault s reason (Link, n) = ⊥
+IsPageFault s reason (Lane, n) = ⊥
 IsPageFault s reason (Pager, n) = if_fault (PagerFault s reason n) (slice_get s.pager n)
 
 -- no record has a fault of its page

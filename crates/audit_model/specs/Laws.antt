@@ -1,11 +1,11 @@
 -- The laws: what a right certificate means in every merging, and what a fault of a page means.
-use Rattle.std.specs.Prelude.{◌≡◌, ◌≢◌, ◌↔◌, ℕ, true, false, List, Some, Contains, slice_get}
+use Rattle.std.specs.Prelude.{◌≡◌, ◌≢◌, ◌↔◌, ℕ, true, false, List, [], Some, Contains, slice_get}
 use Rattle.migration_types.specs.declared.records.LogName.TheVariants.{Guest, Pager}
 use Rattle.migration_types.specs.declared.records.GuestRec.{GuestRec}
 use Rattle.migration_types.specs.declared.records.GuestRec.TheVariants.{Read, Release}
 use Rattle.migration_types.specs.declared.records.SourceRec.TheVariants.{Send}
 use Rattle.migration_types.specs.declared.records.PagerRec.{PagerRec}
-use Rattle.migration_types.specs.declared.records.PagerRec.TheVariants.{Zero}
+use Rattle.migration_types.specs.declared.records.PagerRec.TheVariants.{Pull, Place, Zero}
 use Rattle.migration_types.specs.declared.cert.First.{First}
 use Rattle.migration_types.specs.declared.cert.Run.{Run}
 use Rattle.migration_types.specs.declared.cert.Entry.{Entry}
@@ -148,12 +148,15 @@ HasCertificate s =
     (entries : List Entry) × IsRightCertificate s (record { version = s.version; entries = entries; runs = runs })
 
 -- Nothing that is new in the second version is met in a session of the first: no page is released at the target, so
--- none is freed there, no placement is over such a release, and no right certificate has a fresh page.
+-- none is freed there, no placement is over such a release, and no right certificate has a fresh page; and within the
+-- limits of sessions the lane is empty, and nothing is pulled from it.
 pub record IsPlain (s : Recorded) : Type 0 where
   pub releases_before : (n vcpu page : ℕ) → slice_get s.guest n ≡ Some (Release vcpu page) → home s n ≡ AtTarget → ⊥
   pub none_freed : (n page : ℕ) → freed s n page ≡ false
   pub none_over : (page : ℕ) → IsOver s page → ⊥
   pub none_fresh : (page first : ℕ) → IsRightEntry s page (Fresh first) → ⊥
+  pub no_lane : IsSession s → s.lane ≡ []
+  pub none_pulled : IsSession s → (n down : ℕ) → slice_get s.pager n ≡ Some (Pull down) → ⊥
 
 abbrev pub FirstVersionIsPlain : Recorded → Type 0
 FirstVersionIsPlain s = s.version ≡ One → IsRightShape s → IsPlain s
@@ -168,6 +171,22 @@ pub record CertifiedFromSource : Type 0 where
   pub place : ℕ
   pub first : First
   pub entry : slice_get certificate.entries page ≡ Some (Source send place (Some first))
+
+-- a session with a right certificate in which a page comes from the source over the lane, and is accessed at the target
+pub record CertifiedOverLane : Type 0 where
+  pub session : Recorded
+  pub certificate : Certified
+  pub is_certified : IsCertified session certificate
+  pub page : ℕ
+  pub send : ℕ
+  pub place : ℕ
+  pub first : First
+  pub entry : slice_get certificate.entries page ≡ Some (Source send place (Some first))
+  pub pull : ℕ
+  pub down : ℕ
+  pub content : List ℕ
+  pub placement : slice_get session.pager place ≡ Some (Place page pull content)
+  pub pulls : slice_get session.pager pull ≡ Some (Pull down)
 
 -- a session with a right certificate in which a released page comes back as zeros, and is accessed at the target
 pub record CertifiedBalloon : Type 0 where

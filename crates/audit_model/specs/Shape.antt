@@ -1,14 +1,17 @@
 -- The right shape of a session: what each record needs so that it has none of the four faults of shape.
-use Rattle.std.specs.Prelude.{◌≡◌, ℕ, zero, suc, Bool, true, false, not, ◌==◌, ◌&&◌, ◌||◌, nat_lt, List, length, Option, Some, None, slice_get}
-use Rattle.migration_types.specs.declared.records.LogName.TheVariants.{Guest, Source, Link, Pager}
+use Rattle.std.specs.Prelude.{◌≡◌, ℕ, zero, suc, Bool, true, false, not, ◌==◌, ◌&&◌, ◌||◌, nat_lt, List, length, Option, Some, None, is_some, slice_get}
+use Rattle.std.specs.Option.{option_map}
+use Rattle.migration_types.specs.declared.records.LogName.TheVariants.{Guest, Source, Link, Lane, Pager}
 use Rattle.migration_types.specs.declared.records.GuestRec.{GuestRec}
 use Rattle.migration_types.specs.declared.records.GuestRec.TheVariants.{Read, Write, Release, Miss, Halt, Resume, See}
 use Rattle.migration_types.specs.declared.records.SourceRec.{SourceRec}
 use Rattle.migration_types.specs.declared.records.SourceRec.TheVariants.{Halted, State, Send, Again, Ask}
 use Rattle.migration_types.specs.declared.records.LinkRec.{LinkRec}
 use Rattle.migration_types.specs.declared.records.LinkRec.TheVariants.{Down, Up}
+use Rattle.migration_types.specs.declared.records.LaneRec.{LaneRec}
+use Rattle.migration_types.specs.declared.records.LaneRec.TheVariants.{Down as LaneDown}
 use Rattle.migration_types.specs.declared.records.PagerRec.{PagerRec}
-use Rattle.migration_types.specs.declared.records.PagerRec.TheVariants.{Got, Ready, Fault, Join, Want, Place, Zero, Skip, All}
+use Rattle.migration_types.specs.declared.records.PagerRec.TheVariants.{Got, Pull, Ready, Fault, Join, Want, Place, Zero, Skip, All}
 use Rattle.migration_types.specs.declared.version.Version.{Version}
 use Rattle.migration_types.specs.declared.version.Version.TheVariants.{One, Two}
 use Rattle.migration_types.specs.Sessions.{Recorded}
@@ -54,7 +57,7 @@ is_sending State = true
 is_sending (Send p content) = true
 is_sending _ = false
 
--- whether it is something that the link delivers down
+-- whether it is something that the link or the lane delivers down
 abbrev pub goes_down : SourceRec → Bool
 goes_down State = true
 goes_down (Send p content) = true
@@ -76,10 +79,11 @@ abbrev pub is_ready : PagerRec → Bool
 is_ready Ready = true
 is_ready _ = false
 
--- whether it takes a delivery
-abbrev pub is_got : PagerRec → Bool
-is_got (Got down) = true
-is_got _ = false
+-- whether it takes a delivery, of the link or of the lane
+abbrev pub is_taking : PagerRec → Bool
+is_taking (Got down) = true
+is_taking (Pull down) = true
+is_taking _ = false
 
 -- whether it asks for a page
 abbrev pub is_want : PagerRec → Bool
@@ -109,21 +113,26 @@ abbrev pub down_sending : LinkRec → Option ℕ
 down_sending (Down sending) = Some sending
 down_sending (Up asking) = None
 
--- the link's record that a `got` takes
-abbrev pub got_down : PagerRec → Option ℕ
-got_down (Got down) = Some down
-got_down _ = None
+-- the source's record that a delivery of the lane delivers
+abbrev pub lane_sending : LaneRec → ℕ
+lane_sending (LaneDown sending) = sending
 
--- the delivery of a `got`: the source's record that was sent
+-- the source's record that was sent, of which the pager's record takes the delivery
+abbrev pub taken_sending : Recorded → PagerRec → Option ℕ
+taken_sending s (Got down) = if_there down_sending (slice_get s.link down)
+taken_sending s (Pull down) = option_map lane_sending (slice_get s.lane down)
+taken_sending s _ = None
+
+-- the delivery of a `got` or a `pull`: the source's record that was sent
 abbrev pub delivery : Recorded → ℕ → Option ℕ
-delivery s got = if_there (λ down. if_there down_sending (slice_get s.link down)) (if_there got_down (slice_get s.pager got))
+delivery s got = if_there (taken_sending s) (slice_get s.pager got)
 
 -- whether a source record passes the test, or is an `again` of one that does
 abbrev pub is_or_repeats : Recorded → (SourceRec → Bool) → SourceRec → Bool
 is_or_repeats s test (Again sending) = passes test (slice_get s.source sending)
 is_or_repeats s test r = test r
 
--- whether the delivery of a `got` is one that passes the test, or an `again` of it
+-- whether the delivery of a `got` or a `pull` is one that passes the test, or an `again` of it
 abbrev pub delivers : Recorded → (SourceRec → Bool) → ℕ → Bool
 delivers s test got = passes (λ sending. passes (is_or_repeats s test) (slice_get s.source sending)) (delivery s got)
 
@@ -168,12 +177,17 @@ abbrev pub link_named : Recorded → LinkRec → Bool
 link_named s (Down sending) = passes goes_down (slice_get s.source sending)
 link_named s (Up asking) = passes goes_up (slice_get s.pager asking)
 
+-- whether a record of the lane names a record of the kind that it must
+abbrev pub lane_named : Recorded → LaneRec → Bool
+lane_named s (LaneDown sending) = passes goes_down (slice_get s.source sending)
+
 -- whether the pager's record n names a record of the kind that it must
 abbrev pub pager_named : Recorded → ℕ → PagerRec → Bool
 pager_named s n (Got down) = passes is_down (slice_get s.link down)
+pager_named s n (Pull down) = is_some (slice_get s.lane down)
 pager_named s n (Fault miss) = passes is_miss (slice_get s.guest miss)
 pager_named s n (Join want) = nat_lt want n && passes is_want (slice_get s.pager want)
-pager_named s n (Skip got) = nat_lt got n && passes is_got (slice_get s.pager got)
+pager_named s n (Skip got) = nat_lt got n && passes is_taking (slice_get s.pager got)
 pager_named s n (Place p got content) = nat_lt got n && delivers s (is_send_of p) got
 pager_named s n _ = true
 
@@ -187,9 +201,10 @@ source_start s (suc (suc n)) (Halted halt) = false
 source_start s (suc (suc n)) State = false
 source_start s (suc (suc n)) _ = true
 
--- The pager's log begins with the state's `got` and `ready`, and has `ready` nowhere else.
+-- The pager's log begins with the state's `got` or `pull` and `ready`, and has `ready` nowhere else.
 abbrev pub pager_start : Recorded → ℕ → PagerRec → Bool
 pager_start s zero (Got down) = delivers s is_state 0
+pager_start s zero (Pull down) = delivers s is_state 0
 pager_start s zero _ = false
 pager_start s (suc zero) Ready = true
 pager_start s (suc zero) _ = false
@@ -212,6 +227,7 @@ is_right s Phases (Guest, n) = keeps (in_phase s n) (slice_get s.guest n)
 is_right s Named (Guest, n) = keeps (guest_named s) (slice_get s.guest n)
 is_right s Named (Source, n) = keeps (source_named s n) (slice_get s.source n)
 is_right s Named (Link, n) = keeps (link_named s) (slice_get s.link n)
+is_right s Named (Lane, n) = keeps (lane_named s) (slice_get s.lane n)
 is_right s Named (Pager, n) = keeps (pager_named s n) (slice_get s.pager n)
 is_right s Start (Source, n) = keeps (source_start s n) (slice_get s.source n)
 is_right s Start (Pager, n) = keeps (pager_start s n) (slice_get s.pager n)

@@ -1,6 +1,6 @@
 -- The guest's memory while it moves: two machines, of which each record changes one; and what each record demands.
 use Rattle.std.specs.Prelude.{◌≡◌, ◌≢◌, ℕ, true, false, List, [], ◌∷◌, Option, Some, None, slice_get, if◌then◌else◌}
-use Rattle.migration_types.specs.declared.records.LogName.TheVariants.{Guest, Source, Link, Pager}
+use Rattle.migration_types.specs.declared.records.LogName.TheVariants.{Guest, Source, Link, Lane, Pager}
 use Rattle.migration_types.specs.declared.records.GuestRec.{GuestRec}
 use Rattle.migration_types.specs.declared.records.GuestRec.TheVariants.{Read, Write, Release, Halt, Resume}
 use Rattle.migration_types.specs.declared.records.SourceRec.{SourceRec}
@@ -76,11 +76,12 @@ pager_step (Zero p) w =
     record w { target = with_zeros p w.target; resident = with_page p w.resident; placed = with_page p w.placed }
 pager_step _ w = w
 
--- what the record of this name leaves; a record of the source or of the link changes nothing
+-- what the record of this name leaves; a record of the source, the link or the lane changes nothing
 abbrev pub step : Recorded → Name → World → World
 step s (Guest, n) w = changed guest_step (slice_get s.guest n) w
 step s (Source, n) w = w
 step s (Link, n) w = w
+step s (Lane, n) w = w
 step s (Pager, n) w = changed pager_step (slice_get s.pager n) w
 
 -- the world after these records, from a world
@@ -154,6 +155,7 @@ abbrev pub Demand : Recorded → Name → World → Type 0
 Demand s (Guest, n) w = if_record (guest_demand s n) (slice_get s.guest n) w
 Demand s (Source, n) w = if_record (source_demand s) (slice_get s.source n) w
 Demand s (Link, n) w = Unit {0}
+Demand s (Lane, n) w = Unit {0}
 Demand s (Pager, n) w = if_record (pager_demand s) (slice_get s.pager n) w
 
 -- each record of the order finds its demand met

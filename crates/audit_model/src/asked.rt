@@ -1,9 +1,9 @@
 //! What is asked of a record: of which kind it is, which page it sends or places, what it delivers.
 
 ghost use Rattle.std.specs.Prelude.{◌≡◌};
-ghost use Rattle.audit_model.specs.Shape.{is_halt, is_resume, is_miss, is_state, is_send_of, is_sending, goes_down, is_down, is_up, is_ready, is_got, is_want, goes_up, is_placement, is_placement_of, delivery, delivers};
+ghost use Rattle.audit_model.specs.Shape.{is_halt, is_resume, is_miss, is_state, is_send_of, is_sending, goes_down, is_down, is_up, is_ready, is_taking, is_want, goes_up, is_placement, is_placement_of, taken_sending, delivery, delivers};
 
-use migration_types::{GuestRec, LinkRec, PageNo, PagerRec, Session, SourceRec};
+use migration_types::{GuestRec, LaneRec, LinkRec, PageNo, PagerRec, Session, SourceRec};
 
 /// Whether it is a halt.
 pub fn is_halt(rec: &GuestRec) -> bool
@@ -50,7 +50,7 @@ pub fn is_sending(rec: &SourceRec) -> bool
     matches!(rec, SourceRec::State | SourceRec::Send { .. })
 }
 
-/// Whether it is something that the link delivers down.
+/// Whether it is something that the link or the lane delivers down.
 pub fn goes_down(rec: &SourceRec) -> bool
     ensures { result ≡ goes_down rec.now }
 {
@@ -81,11 +81,11 @@ pub fn is_ready(rec: &PagerRec) -> bool
     matches!(rec, PagerRec::Ready)
 }
 
-/// Whether it is the arrival of a delivery.
-pub fn is_got(rec: &PagerRec) -> bool
-    ensures { result ≡ is_got rec.now }
+/// Whether it takes a delivery, of the link or of the lane.
+pub fn is_taking(rec: &PagerRec) -> bool
+    ensures { result ≡ is_taking rec.now }
 {
-    matches!(rec, PagerRec::Got { .. })
+    matches!(rec, PagerRec::Got { .. } | PagerRec::Pull { .. })
 }
 
 /// Whether it is a question for a page.
@@ -120,20 +120,30 @@ pub fn is_placement_of(rec: &PagerRec, page: PageNo) -> bool
     }
 }
 
-/// The delivery of a `got`: the source's record that was sent.
-pub fn delivery(session: &Session, got: u32) -> Option<u32>
-    ensures { result ≡ delivery session.now got }
+/// The source's record that was sent, of which a record of the pager takes the delivery.
+pub fn taken_sending(session: &Session, rec: &PagerRec) -> Option<u32>
+    ensures { result ≡ taken_sending session.now rec.now }
 {
-    let Some(PagerRec::Got { down }) = session.pager().get(got as usize) else {
-        return None;
-    };
-    match session.link().get(*down as usize) {
-        Some(LinkRec::Down { sending }) => Some(*sending),
+    match rec {
+        PagerRec::Got { down } => match session.link().get(*down as usize)? {
+            LinkRec::Down { sending } => Some(*sending),
+            LinkRec::Up { .. } => None,
+        },
+        PagerRec::Pull { down } => match session.lane().get(*down as usize)? {
+            LaneRec::Down { sending } => Some(*sending),
+        },
         _ => None,
     }
 }
 
-/// Whether the delivery of a `got` is the processor state, or a repeat of it.
+/// The delivery of a `got` or a `pull`: the source's record that was sent.
+pub fn delivery(session: &Session, got: u32) -> Option<u32>
+    ensures { result ≡ delivery session.now got }
+{
+    taken_sending(session, session.pager().get(got as usize)?)
+}
+
+/// Whether the delivery of a `got` or a `pull` is the processor state, or a repeat of it.
 pub fn delivers_state(session: &Session, got: u32) -> bool
     ensures { result ≡ delivers session.now is_state got }
 {
@@ -148,7 +158,7 @@ pub fn delivers_state(session: &Session, got: u32) -> bool
     }
 }
 
-/// Whether the delivery of a `got` is a `send` of the page, or a repeat of it.
+/// Whether the delivery of a `got` or a `pull` is a `send` of the page, or a repeat of it.
 pub fn delivers_send(session: &Session, page: PageNo, got: u32) -> bool
     ensures { result ≡ delivers session.now (is_send_of page) got }
 {

@@ -12,7 +12,7 @@ ghost use Rattle.audit_model.specs.FoundOrder.{IsKnot};
 ghost use Rattle.audit_model.specs.World.{IsSafe};
 ghost use Rattle.audit_model.specs.Worlds.{FollowsCursors, TargetIsFlat};
 ghost use Rattle.audit_model.specs.Shape.{IsRightShape};
-ghost use Rattle.audit_model.specs.Laws.{IsCertified, FindsResident, ReadsFlat, PlacedOnce, PlacedUntouched, ReleasedAsZeros, IsMigrated, IsFaultless, FaultsBreak, DelayedBreaks, DelayedUnplaced, HasDelayedOrders, UnplacedBreaks, DelayedOver, SafeExactlyIfClean, HasCertificate, FirstVersionIsPlain, CertifiedFromSource, CertifiedBalloon, CertifiedFresh};
+ghost use Rattle.audit_model.specs.Laws.{IsCertified, FindsResident, ReadsFlat, PlacedOnce, PlacedUntouched, ReleasedAsZeros, IsMigrated, IsFaultless, FaultsBreak, DelayedBreaks, DelayedUnplaced, HasDelayedOrders, UnplacedBreaks, DelayedOver, SafeExactlyIfClean, HasCertificate, FirstVersionIsPlain, CertifiedFromSource, CertifiedOverLane, CertifiedBalloon, CertifiedFresh};
 
 /// A list of names is a merging exactly where it is a walk of one cursor for each log, to the end of each. Where
 /// records are left and none of the next ones may follow, there is no merging; nor is there one where the found order
@@ -73,11 +73,12 @@ pub fn first_version_is_plain()
     ensures { (s : Recorded) → FirstVersionIsPlain s }
 {}
 
-/// There are sessions of the right shape with right certificates: one in which a page comes from the source, one in
-/// which a released page comes back as zeros, each of them used at the target, and one in which a page is released at
-/// the target, where it never comes.
+/// There are sessions of the right shape with right certificates: one in which a page comes from the source over the
+/// link, one in which it comes over the lane, one in which a released page comes back as zeros, each of them used at the
+/// target, and one in which a page is released at the target, where it never comes.
 pub fn premises_can_be_met()
     ensures from_source { CertifiedFromSource }
+    ensures over_lane { CertifiedOverLane }
     ensures balloon { CertifiedBalloon }
     ensures fresh { CertifiedFresh }
 {}

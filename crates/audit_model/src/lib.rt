@@ -12,7 +12,7 @@ mod naming;
 mod reasons;
 
 pub use asked::{
-    delivers_send, delivers_state, delivery, goes_down, goes_up, is_down, is_got, is_halt, is_miss,
+    delivers_send, delivers_state, delivery, goes_down, goes_up, is_down, is_halt, is_miss,
     is_placement, is_placement_of, is_ready, is_resume, is_send_of, is_sending, is_state, is_up,
     is_want,
 };
@@ -22,6 +22,7 @@ pub use laws::{
     mergings_are_walks, premises_can_be_met, worlds_follow_cursors,
 };
 pub use naming::{
-    guest_named, in_phase, link_named, pager_named, pager_start, source_named, source_start,
+    guest_named, in_phase, lane_named, link_named, pager_named, pager_start, source_named,
+    source_start,
 };
 pub use reasons::{PageReason, ShapeReason};

@@ -1,13 +1,13 @@
 //! Whether one record has the right shape: it stands in its phase and where its kind may, and names what it has to.
 
-ghost use Rattle.std.specs.Prelude.{◌≡◌};
-ghost use Rattle.audit_model.specs.Shape.{may_release, in_phase_by, guest_named, source_named, link_named, pager_named, source_start, pager_start};
+ghost use Rattle.std.specs.Prelude.{◌≡◌, slice_get};
+ghost use Rattle.audit_model.specs.Shape.{passes, goes_down, may_release, in_phase_by, guest_named, source_named, link_named, lane_named, pager_named, source_start, pager_start};
 
 use crate::asked::{
-    delivers_send, delivers_state, goes_down, goes_up, is_down, is_got, is_halt, is_miss,
-    is_placement, is_ready, is_sending, is_up, is_want,
+    delivers_send, delivers_state, goes_down, goes_up, is_down, is_halt, is_miss, is_placement,
+    is_ready, is_sending, is_taking, is_up, is_want,
 };
-use migration_types::{GuestRec, LinkRec, PagerRec, Session, SourceRec, Version};
+use migration_types::{GuestRec, LaneRec, LinkRec, PagerRec, Session, SourceRec, Version};
 
 /// Whether a release stands in a phase that allows it, by whether there was a halt and a resume before it.
 fn may_release(version: Version, halted: bool, resumed: bool) -> bool
@@ -76,16 +76,32 @@ pub fn source_start(session: &Session, place: usize, rec: &SourceRec) -> bool
     }
 }
 
+/// Whether the source's record of this place is there, and is something that goes down.
+fn sends_down(session: &Session, sending: u32) -> bool
+    ensures { result ≡ passes goes_down (slice_get session.now.source sending) }
+{
+    session
+        .source()
+        .get(sending as usize)
+        .is_some_and(goes_down)
+}
+
 /// Whether a record of the link names a record of the right kind.
 pub fn link_named(session: &Session, rec: &LinkRec) -> bool
     ensures { result ≡ link_named session.now rec.now }
 {
     match rec {
-        LinkRec::Down { sending } => session
-            .source()
-            .get(*sending as usize)
-            .is_some_and(goes_down),
+        LinkRec::Down { sending } => sends_down(session, *sending),
         LinkRec::Up { asking } => session.pager().get(*asking as usize).is_some_and(goes_up),
+    }
+}
+
+/// Whether a record of the lane names a record of the right kind.
+pub fn lane_named(session: &Session, rec: &LaneRec) -> bool
+    ensures { result ≡ lane_named session.now rec.now }
+{
+    match rec {
+        LaneRec::Down { sending } => sends_down(session, *sending),
     }
 }
 
@@ -95,12 +111,13 @@ pub fn pager_named(session: &Session, place: usize, rec: &PagerRec) -> bool
 {
     match rec {
         PagerRec::Got { down } => session.link().get(*down as usize).is_some_and(is_down),
+        PagerRec::Pull { down } => session.lane().get(*down as usize).is_some(),
         PagerRec::Fault { miss } => session.guest().get(*miss as usize).is_some_and(is_miss),
         PagerRec::Join { want } => {
             (*want as usize) < place && session.pager().get(*want as usize).is_some_and(is_want)
         }
         PagerRec::Skip { got } => (*got as usize) < place
-            && session.pager().get(*got as usize).is_some_and(is_got),
+            && session.pager().get(*got as usize).is_some_and(is_taking),
         PagerRec::Place { page, got, .. } => {
             (*got as usize) < place && delivers_send(session, *page, *got)
         }
@@ -113,7 +130,7 @@ pub fn pager_start(session: &Session, place: usize, rec: &PagerRec) -> bool
     ensures { result ≡ pager_start session.now place rec.now }
 {
     match place {
-        0 => matches!(rec, PagerRec::Got { .. }) && delivers_state(session, 0),
+        0 => is_taking(rec) && delivers_state(session, 0),
         1 => matches!(rec, PagerRec::Ready),
         _ => !matches!(rec, PagerRec::Ready),
     }

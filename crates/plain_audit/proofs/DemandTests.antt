@@ -5,7 +5,7 @@ use Rattle.std.specs.Bool.{Decides}
 use Rattle.std.proofs.lemmas.Bool.{and_from, and_parts}
 use Rattle.std.proofs.lemmas.List.{take_more, take_all}
 use Rattle.std.proofs.lemmas.Slice.Eq.{bytes_eq-Decides}
-use Rattle.migration_types.specs.declared.records.LogName.TheVariants.{Guest, Source, Link, Pager}
+use Rattle.migration_types.specs.declared.records.LogName.TheVariants.{Guest, Source, Link, Lane, Pager}
 use Rattle.migration_types.specs.declared.records.GuestRec.{GuestRec}
 use Rattle.migration_types.specs.declared.records.GuestRec.TheVariants.{Read, Write}
 use Rattle.migration_types.specs.declared.records.SourceRec.{SourceRec}
@@ -124,6 +124,7 @@ demand_Decides s w (Source, n) = go (slice_get s.source n)
     go None = always
     go (Some r) = source_Decides s w r
 demand_Decides s w (Link, n) = always
+demand_Decides s w (Lane, n) = always
 demand_Decides s w (Pager, n) = go (slice_get s.pager n)
   where
     go : (o : Option PagerRec) → Decides (keeps (pager_test s w) o) (if_record (pager_demand s) o w)

@@ -2,7 +2,7 @@
 use Rattle.std.proofs.Common.{◌≡◌, ℕ, ◌+◌, ◌<◌, Bool, true, false, ◌&&◌, cond, List, [], ◌∷◌, ◌++◌, length, take, get_or, Option, Some, None, refl, sym, ap, ◌∙◌, eqb-true}
 use Rattle.std.specs.Prelude.{slice_get, ◌==◌}
 use Rattle.std.proofs.lemmas.List.{take_more}
-use Rattle.migration_types.specs.declared.records.LogName.TheVariants.{Guest, Source, Link, Pager}
+use Rattle.migration_types.specs.declared.records.LogName.TheVariants.{Guest, Source, Link, Lane, Pager}
 use Rattle.migration_types.specs.declared.records.GuestRec.{GuestRec}
 use Rattle.migration_types.specs.declared.records.GuestRec.TheVariants.{Read, Write, Release, Miss, Halt, Resume, See}
 use Rattle.migration_types.specs.declared.records.PagerRec.{PagerRec}
@@ -73,6 +73,7 @@ module _ (w : World) (page cell : ℕ) where
       go (Some r) = after_guest r
   after_step s (Source, n) = refl
   after_step s (Link, n) = refl
+  after_step s (Lane, n) = refl
   after_step s (Pager, n) = go (slice_get s.pager n)
     where
       go : (o : Option PagerRec) → spot_at (changed pager_step o w) page cell ≡ changed (pager_spot page cell) o (spot_at w page cell)

@@ -1,6 +1,6 @@
 -- The world at one cell of one page, which the plain programs follow.
 use Rattle.std.specs.Prelude.{ℕ, Bool, true, false, ◌==◌, ◌&&◌, slice_get, slice_index, if◌then◌else◌}
-use Rattle.migration_types.specs.declared.records.LogName.TheVariants.{Guest, Source, Link, Pager}
+use Rattle.migration_types.specs.declared.records.LogName.TheVariants.{Guest, Source, Link, Lane, Pager}
 use Rattle.migration_types.specs.declared.records.GuestRec.{GuestRec}
 use Rattle.migration_types.specs.declared.records.GuestRec.TheVariants.{Read, Write, Release, Halt, Resume}
 use Rattle.migration_types.specs.declared.records.PagerRec.{PagerRec}
@@ -60,4 +60,5 @@ abbrev pub spot_step : Recorded → ℕ → ℕ → Name → Spot → Spot
 spot_step s page cell (Guest, n) o = changed (guest_spot page cell) (slice_get s.guest n) o
 spot_step s page cell (Source, n) o = o
 spot_step s page cell (Link, n) o = o
+spot_step s page cell (Lane, n) o = o
 spot_step s page cell (Pager, n) o = changed (pager_spot page cell) (slice_get s.pager n) o

@@ -1,7 +1,7 @@
 //! Faults of pages, plainly and slowly: whether one record has a fault, by looking at each earlier record.
 
 ghost use Rattle.std.specs.Prelude.{◌≡◌, ◌≤◌, ◌↔◌, IsTrue, length, slice_get};
-ghost use Rattle.migration_types.specs.declared.records.LogName.TheVariants.{Guest, Source, Link, Pager};
+ghost use Rattle.migration_types.specs.declared.records.LogName.TheVariants.{Guest, Source, Link, Lane, Pager};
 ghost use Rattle.migration_types.specs.Sessions.{IsSession};
 ghost use Rattle.audit_model.specs.Shape.{is_placement_of, earlier, passes};
 ghost use Rattle.audit_model.specs.Faults.{looks_at, has_looked, IsPageFault};

@@ -2,7 +2,7 @@
 
 ghost use Rattle.std.specs.Prelude.{◌≡◌, ◌<◌, ◌↔◌, IsTrue, length, take, slice_index_or};
 ghost use Rattle.migration_types.specs.Receipts.{Name};
-ghost use Rattle.audit_model.specs.Names.{receipt, log_length, same_log};
+ghost use Rattle.audit_model.specs.Names.{receipt, receipt_in, log_length, same_log};
 ghost use Rattle.audit_model.specs.Mergings.{IsMerging, at_start};
 ghost use Rattle.audit_model.specs.Walks.{cursors_from};
 ghost use Rattle.audit_model.specs.FoundOrder.{is_received};
@@ -18,7 +18,18 @@ fn log_length(session: &Session, log: LogName) -> usize
         LogName::Guest => session.guest().len(),
         LogName::Source => session.source().len(),
         LogName::Link => session.link().len(),
+        LogName::Lane => session.lane().len(),
         LogName::Pager => session.pager().len(),
+    }
+}
+
+/// What the record at a place is a receipt for.
+fn receipt_in<R: Record>(records: &[R], place: u32) -> Option<(LogName, u32)>
+    ensures { result ≡ receipt_in R.receipt records.now place }
+{
+    match records.get(place as usize) {
+        Some(logged) => logged.named(),
+        None => None,
     }
 }
 
@@ -27,22 +38,11 @@ fn receipt(session: &Session, log: LogName, place: u32) -> Option<(LogName, u32)
     ensures { result ≡ receipt session.now (log, place) }
 {
     match log {
-        LogName::Guest => match session.guest().get(place as usize) {
-            Some(logged) => logged.named(),
-            None => None,
-        },
-        LogName::Source => match session.source().get(place as usize) {
-            Some(logged) => logged.named(),
-            None => None,
-        },
-        LogName::Link => match session.link().get(place as usize) {
-            Some(logged) => logged.named(),
-            None => None,
-        },
-        LogName::Pager => match session.pager().get(place as usize) {
-            Some(logged) => logged.named(),
-            None => None,
-        },
+        LogName::Guest => receipt_in(session.guest(), place),
+        LogName::Source => receipt_in(session.source(), place),
+        LogName::Link => receipt_in(session.link(), place),
+        LogName::Lane => receipt_in(session.lane(), place),
+        LogName::Pager => receipt_in(session.pager(), place),
     }
 }
 
@@ -92,6 +92,7 @@ fn takes_all(session: &Session, order: &[(LogName, u32)]) -> bool
     taken(order, LogName::Guest) == log_length(session, LogName::Guest)
         && taken(order, LogName::Source) == log_length(session, LogName::Source)
         && taken(order, LogName::Link) == log_length(session, LogName::Link)
+        && taken(order, LogName::Lane) == log_length(session, LogName::Lane)
         && taken(order, LogName::Pager) == log_length(session, LogName::Pager)
 }
 

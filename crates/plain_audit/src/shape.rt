@@ -2,12 +2,12 @@
 //! record of its log.
 
 ghost use Rattle.std.specs.Prelude.{◌≡◌, ◌≤◌, length, slice_get};
-ghost use Rattle.migration_types.specs.declared.records.LogName.TheVariants.{Guest, Source, Link, Pager};
-ghost use Rattle.audit_model.specs.Shape.{passes, is_halt, is_resume, is_state, is_send_of, is_sending, is_placement, delivery, is_or_repeats, delivers, earlier, in_phase, guest_named, source_named, link_named, pager_named, source_start, pager_start, is_first_send, is_right};
+ghost use Rattle.migration_types.specs.declared.records.LogName.TheVariants.{Guest, Source, Link, Lane, Pager};
+ghost use Rattle.audit_model.specs.Shape.{passes, is_halt, is_resume, is_state, is_send_of, is_sending, is_placement, delivery, is_or_repeats, delivers, earlier, in_phase, guest_named, source_named, link_named, lane_named, pager_named, source_start, pager_start, is_first_send, is_right};
 
 use audit_model::{
-    ShapeReason, guest_named, in_phase, is_halt, is_resume, is_send_of, link_named, pager_named,
-    pager_start, source_named, source_start,
+    ShapeReason, guest_named, in_phase, is_halt, is_resume, is_send_of, lane_named, link_named,
+    pager_named, pager_start, source_named, source_start,
 };
 use migration_types::{GuestRec, LinkRec, LogName, PageNo, PagerRec, Session, SourceRec};
 
@@ -110,6 +110,16 @@ fn is_right_link(session: &Session, reason: ShapeReason, place: usize) -> bool
     }
 }
 
+/// Whether the lane's record of this place has no fault of shape for this reason.
+fn is_right_lane(session: &Session, reason: ShapeReason, place: usize) -> bool
+    ensures { result ≡ is_right session.now reason (Lane, place) }
+{
+    match session.lane().get(place) {
+        Some(record) => reason != ShapeReason::Named || lane_named(session, record),
+        None => true,
+    }
+}
+
 /// Whether the pager's record of this place has no fault of shape for this reason.
 fn is_right_pager(session: &Session, reason: ShapeReason, place: usize) -> bool
     ensures { result ≡ is_right session.now reason (Pager, place) }
@@ -132,6 +142,7 @@ pub fn is_right(session: &Session, reason: ShapeReason, log: LogName, place: usi
         LogName::Guest => is_right_guest(session, reason, place),
         LogName::Source => is_right_source(session, reason, place),
         LogName::Link => is_right_link(session, reason, place),
+        LogName::Lane => is_right_lane(session, reason, place),
         LogName::Pager => is_right_pager(session, reason, place),
     }
 }

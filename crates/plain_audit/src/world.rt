@@ -3,7 +3,7 @@
 
 ghost use Rattle.std.specs.Prelude.{◌≡◌, ◌≤◌, ◌↔◌, IsTrue, MatchOption, length, slice_get, slice_index};
 ghost use Rattle.migration_types.specs.Sessions.{IsSession};
-ghost use Rattle.migration_types.specs.declared.records.LogName.TheVariants.{Guest, Source, Link, Pager};
+ghost use Rattle.migration_types.specs.declared.records.LogName.TheVariants.{Guest, Source, Link, Lane, Pager};
 ghost use Rattle.audit_model.specs.Shape.{keeps};
 ghost use Rattle.audit_model.specs.World.{world_after, memory_at, Demand, IsSafeOrder, IsFirstBroken};
 ghost use Rattle.plain_audit.specs.Spots.{spot_at, spot_written, spot_released, spot_read, spot_placed, guest_spot, pager_spot, spot_step};
@@ -170,7 +170,7 @@ fn after_record(
             Some(logged) => after_guest(spot, page, cell, logged),
             None => spot,
         },
-        LogName::Source | LogName::Link => spot,
+        LogName::Source | LogName::Link | LogName::Lane => spot,
         LogName::Pager => match session.pager().get(place as usize) {
             Some(logged) => after_pager(spot, page, cell, logged),
             None => spot,
@@ -318,7 +318,7 @@ fn tests_demand(session: &Session, order: &[(LogName, u32)], log: LogName, place
             Some(logged) => source_demand(session, order, logged),
             None => true,
         },
-        LogName::Link => true,
+        LogName::Link | LogName::Lane => true,
         LogName::Pager => match session.pager().get(place as usize) {
             Some(logged) => pager_demand(session, order, logged),
             None => true,

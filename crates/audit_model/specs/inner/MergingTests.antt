@@ -1,6 +1,6 @@
 -- Tests for mergings, which the plain program computes.
 use Rattle.std.specs.Prelude.{Bool, ◌==◌, ◌&&◌, nat_lt}
-use Rattle.migration_types.specs.declared.records.LogName.TheVariants.{Guest, Source, Link, Pager}
+use Rattle.migration_types.specs.declared.records.LogName.TheVariants.{Guest, Source, Link, Lane, Pager}
 use Rattle.migration_types.specs.Receipts.{Name}
 use Rattle.migration_types.specs.Sessions.{Recorded}
 use Rattle.audit_model.specs.Names.{log_length, receipt}
@@ -14,4 +14,4 @@ may s c name = (name.1 == c name.0) && (nat_lt name.1 (log_length s name.0) && i
 -- whether each log was taken to its end
 abbrev pub all_taken : Recorded → Cursors → Bool
 all_taken s c =
-    (c Guest == log_length s Guest) && ((c Source == log_length s Source) && ((c Link == log_length s Link) && (c Pager == log_length s Pager)))
+    (c Guest == log_length s Guest) && ((c Source == log_length s Source) && ((c Link == log_length s Link) && ((c Lane == log_length s Lane) && (c Pager == log_length s Pager))))

@@ -1,7 +1,7 @@
 -- Tests for demands, which the plain programs compute.
 use Rattle.std.specs.Prelude.{ℕ, Bool, true, false, not, ◌==◌, ◌&&◌, List, slice_get}
 use Rattle.std.specs.Str.{bytes_eq}
-use Rattle.migration_types.specs.declared.records.LogName.TheVariants.{Guest, Source, Link, Pager}
+use Rattle.migration_types.specs.declared.records.LogName.TheVariants.{Guest, Source, Link, Lane, Pager}
 use Rattle.migration_types.specs.declared.records.GuestRec.{GuestRec}
 use Rattle.migration_types.specs.declared.records.GuestRec.TheVariants.{Read, Write}
 use Rattle.migration_types.specs.declared.records.SourceRec.{SourceRec}
@@ -54,4 +54,5 @@ abbrev pub demand_test : Recorded → World → Name → Bool
 demand_test s w (Guest, n) = keeps (guest_test s w n) (slice_get s.guest n)
 demand_test s w (Source, n) = keeps (source_test s w) (slice_get s.source n)
 demand_test s w (Link, n) = true
+demand_test s w (Lane, n) = true
 demand_test s w (Pager, n) = keeps (pager_test s w) (slice_get s.pager n)
