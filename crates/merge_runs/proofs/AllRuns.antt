@@ -3,7 +3,7 @@ use Rattle.std.proofs.Common.{◌≡◌, ℕ, ◌+◌, ◌<◌, ◌≤◌, List,
 use Rattle.std.specs.Option.{MatchOption}
 use Rattle.std.proofs.lemmas.List.{take-append-drop, take_all}
 use Rattle.migration_types.specs.declared.records.LogName.{LogName}
-use Rattle.migration_types.specs.declared.records.LogName.TheVariants.{Guest, Source, Link, Pager}
+use Rattle.migration_types.specs.declared.records.LogName.TheVariants.{Guest, Source, Link, Lane, Pager}
 use Rattle.migration_types.specs.declared.cert.Run.{Run}
 use Rattle.migration_types.specs.Extents.{Extent}
 use Rattle.migration_types.specs.Receipts.{Name}
@@ -28,6 +28,7 @@ pub few_records : (s : Recorded) → IsSession s → (log : LogName) → log_len
 few_records s limits Guest = limits.few_guest
 few_records s limits Source = limits.few_source
 few_records s limits Link = limits.few_link
+few_records s limits Lane = limits.few_lane
 few_records s limits Pager = limits.few_pager
 
 module _ (s : Recorded) (runs : List Run) (place : ℕ) (d : Run) (within : place < length runs) where

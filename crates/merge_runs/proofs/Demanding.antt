@@ -9,7 +9,7 @@ use Rattle.migration_types.specs.declared.records.GuestRec.TheVariants.{Read, Wr
 use Rattle.migration_types.specs.declared.records.SourceRec.{SourceRec}
 use Rattle.migration_types.specs.declared.records.SourceRec.TheVariants.{Halted, State, Send, Again, Ask, Done}
 use Rattle.migration_types.specs.declared.records.PagerRec.{PagerRec}
-use Rattle.migration_types.specs.declared.records.PagerRec.TheVariants.{Got, Ready, Fault, Join, Want, Place, Zero, Skip, All}
+use Rattle.migration_types.specs.declared.records.PagerRec.TheVariants.{Got, Pull, Ready, Fault, Join, Want, Place, Zero, Skip, All}
 use Rattle.migration_types.specs.Memory.{page_of}
 use Rattle.migration_types.specs.Sessions.{Recorded}
 use Rattle.audit_model.specs.declared.home.Home.{Home}
@@ -107,6 +107,7 @@ pager_yes s (Zero p) w e =
     let first = and_parts (not (w.placed p)) (not (w.touched p)) both.0 in
     record { is_new = not_true (w.placed p) first.0; is_untouched = not_true (w.touched p) first.1; is_released = both.1 }
 pager_yes s (Got d) w e = tt
+pager_yes s (Pull d) w e = tt
 pager_yes s Ready w e = tt
 pager_yes s (Fault i) w e = tt
 pager_yes s (Join i) w e = tt
@@ -118,6 +119,7 @@ pub pager_from : (s : Recorded) (r : PagerRec) (w : World) → pager_demand s r 
 pager_from s (Place p got content) w d = and_from _ _ (and_from _ _ (ap (λ b. not b) d.is_new) (ap (λ b. not b) d.is_untouched)) ((bytes_eq-Decides content (page_of s.geometry.cells w.source p)).1 d.is_the_page)
 pager_from s (Zero p) w d = and_from _ _ (and_from _ _ (ap (λ b. not b) d.is_new) (ap (λ b. not b) d.is_untouched)) d.is_released
 pager_from s (Got d2) w d = refl
+pager_from s (Pull d2) w d = refl
 pager_from s Ready w d = refl
 pager_from s (Fault i) w d = refl
 pager_from s (Join i) w d = refl

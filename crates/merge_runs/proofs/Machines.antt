@@ -5,8 +5,9 @@ use Rattle.migration_types.specs.declared.records.GuestRec.TheVariants.{Read, Wr
 use Rattle.migration_types.specs.declared.records.SourceRec.{SourceRec}
 use Rattle.migration_types.specs.declared.records.SourceRec.TheVariants.{Halted, State, Send, Again, Ask, Done}
 use Rattle.migration_types.specs.declared.records.PagerRec.{PagerRec}
-use Rattle.migration_types.specs.declared.records.PagerRec.TheVariants.{Got, Ready, Fault, Join, Want, Place, Zero, Skip, All}
+use Rattle.migration_types.specs.declared.records.PagerRec.TheVariants.{Got, Pull, Ready, Fault, Join, Want, Place, Zero, Skip, All}
 use Rattle.migration_types.specs.Extents.{Extent}
+use Rattle.migration_types.specs.declared.version.Version.{Version}
 use Rattle.migration_types.specs.Sessions.{GuestRecFits, SourceRecFits, PagerRecFits}
 use Rattle.audit_model.specs.World.{World}
 use Rattle.merge_runs.specs.declared.moving.Moving.{Moving}
@@ -54,16 +55,17 @@ source_has e m (Again i) sized fits = tt
 source_has e m (Ask i) sized fits = tt
 source_has e m Done sized fits = tt
 
-pub pager_has : (e : Extent) (m : Moving) (r : PagerRec) → IsSized e m → PagerRecFits e r → PagerHas m r
-pager_has e m (Place p got content) sized fits = (has_page e m p sized fits.0, fits.2.count ∙ sym (ap (λ (x : Extent). x.cells) sized.target.frames))
-pager_has e m (Zero p) sized fits = has_page e m p sized fits
-pager_has e m (Got d) sized fits = tt
-pager_has e m Ready sized fits = tt
-pager_has e m (Fault i) sized fits = tt
-pager_has e m (Join w) sized fits = tt
-pager_has e m (Want p) sized fits = tt
-pager_has e m (Skip g) sized fits = tt
-pager_has e m All sized fits = tt
+pub pager_has : (version : Version) (e : Extent) (m : Moving) (r : PagerRec) → IsSized e m → PagerRecFits version e r → PagerHas m r
+pager_has version e m (Place p got content) sized fits = (has_page e m p sized fits.0, fits.2.count ∙ sym (ap (λ (x : Extent). x.cells) sized.target.frames))
+pager_has version e m (Zero p) sized fits = has_page e m p sized fits
+pager_has version e m (Got d) sized fits = tt
+pager_has version e m (Pull d) sized fits = tt
+pager_has version e m Ready sized fits = tt
+pager_has version e m (Fault i) sized fits = tt
+pager_has version e m (Join w) sized fits = tt
+pager_has version e m (Want p) sized fits = tt
+pager_has version e m (Skip g) sized fits = tt
+pager_has version e m All sized fits = tt
 
 -- a record keeps the geometry
 pub sized_on : (e : Extent) (old new : Moving) (w : World) → IsSized e old → IsMoved old new w → IsSized e new

@@ -1,10 +1,10 @@
 -- One record more of a replay.
-use Rattle.std.proofs.Common.{◌≡◌, ℕ, zero, suc, ◌+◌, Bool, true, false, cond, List, [], ◌∷◌, ◌++◌, Option, Some, None, refl, sym, ap, ◌∙◌, subst, arith}
+use Rattle.std.proofs.Common.{◌≡◌, ℕ, zero, suc, ◌+◌, ◌⊎◌, inl, inr, Bool, true, false, cond, List, [], ◌∷◌, ◌++◌, Option, Some, None, refl, sym, ap, ◌∙◌, subst, arith}
 use Rattle.std.specs.Prelude.{slice_get}
 use Rattle.std.specs.Option.{MatchOption}
 use Rattle.std.proofs.lemmas.List.{append_assoc, append-nil}
 use Rattle.migration_types.specs.declared.records.LogName.{LogName}
-use Rattle.migration_types.specs.declared.records.LogName.TheVariants.{Guest, Source, Link, Pager}
+use Rattle.migration_types.specs.declared.records.LogName.TheVariants.{Guest, Source, Link, Lane, Pager}
 use Rattle.migration_types.specs.declared.records.GuestRec.{GuestRec}
 use Rattle.migration_types.specs.declared.records.SourceRec.{SourceRec}
 use Rattle.migration_types.specs.declared.records.PagerRec.{PagerRec}
@@ -88,6 +88,17 @@ broken_more s w names name None false holds back all = record {
 
 -- ---- the state after one record more
 
+-- the records of this log, which is not the guest's, change no machine and demand nothing
+pub record IsCalm (s : Recorded) (log : LogName) : Type 0 where
+  pub still : (n : ℕ) (w : World) → step s (log, n) w ≡ w
+  pub asks_nothing : (n : ℕ) (w : World) → Demand s (log, n) w
+  pub other : same_log log Guest ≡ false
+
+-- such are the records of the link, and those of the lane
+pub link_or_lane : (s : Recorded) (log : LogName) → (log ≡ Link) ⊎ (log ≡ Lane) → IsCalm s log
+link_or_lane s log (inl e) = subst (λ l. IsCalm s l) (sym e) (record { still = λ n w. refl; asks_nothing = λ n w. tt; other = refl })
+link_or_lane s log (inr e) = subst (λ l. IsCalm s l) (sym e) (record { still = λ n w. refl; asks_nothing = λ n w. tt; other = refl })
+
 module _ (s : Recorded) (order : List Name) where
   world_more : (name : Name) → world_after s (order ++ name ∷ []) ≡ step s name (world_after s order)
   world_more name = run_append s (start s) order (name ∷ [])
@@ -103,8 +114,9 @@ module _ (s : Recorded) (order : List Name) where
     broken = subst (λ (o : Option Name). MatchOption o (AllMet s (start s) (order ++ name ∷ [])) (Breaks s (start s) (order ++ name ∷ []))) (sym first) (broken_more s (start s) order name old.first_broken met holds back is.broken);
   }
 
-  pub link_more : (n : ℕ) (r : Replaying) → IsReplaying s order r → IsReplaying s (order ++ (Link, n) ∷ []) r
-  link_more n r is = quiet_more (Link, n) r r true is (λ w. refl) refl refl refl refl (λ e. tt) (λ d. refl)
+  -- nor demands anything
+  calm_more : (log : LogName) (n : ℕ) (r : Replaying) → IsCalm s log → IsReplaying s order r → IsReplaying s (order ++ (log, n) ∷ []) r
+  calm_more log n r calm is = quiet_more (log, n) r r true is (calm.still n) calm.other refl refl refl (λ e. calm.asks_nothing n (world_after s order)) (λ d. refl)
 
   pub source_more : (n : ℕ) (r : SourceRec) (old new : Replaying) → slice_get s.source n ≡ Some r → AreSized s.geometry old → IsReplaying s order old → new.moving ≡ old.moving → new.flat ≡ old.flat → new.first_broken ≡ noted (source_met old.moving.source.frames.geometry.cells r (world_of old.moving)) old.first_broken (Source, n) → IsReplaying s (order ++ (Source, n) ∷ []) new
   source_more n r old new at sized is moving flat_is first =
@@ -161,7 +173,7 @@ run_more s log from k first old new ran more order here is =
         ∙ own_moved (cursors_from at_start order) log k
         ∙ ap (λ m. m + k) here
 
--- the records of the link
-pub link_run : (s : Recorded) (from count : ℕ) (r : Replaying) → HasRun s Link from count r r
-link_run s from zero r = run_none s Link from r
-link_run s from (suc count) r = let one : count + 1 ≡ suc count = omega arith in subst (λ n. HasRun s Link from n r r) one (run_more s Link from count r r r (link_run s from count r) (λ order here is. link_more s order (from + count) r is))
+-- records that change no machine and demand nothing
+pub calm_run : (s : Recorded) (log : LogName) → IsCalm s log → (from count : ℕ) (r : Replaying) → HasRun s log from count r r
+calm_run s log calm from zero r = run_none s log from r
+calm_run s log calm from (suc count) r = let one : count + 1 ≡ suc count = omega arith in subst (λ n. HasRun s log from n r r) one (run_more s log from count r r r (calm_run s log calm from count r) (λ order here is. calm_more s order log (from + count) r calm is))

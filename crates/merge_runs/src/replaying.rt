@@ -1,7 +1,7 @@
 //! The replay of a merging: the machines as its records leave them, one after the other.
 
 ghost use Rattle.std.specs.Prelude.{◌≡◌, ◌+◌, ◌≤◌, [], length, IfOk, MatchResult};
-ghost use Rattle.migration_types.specs.declared.records.LogName.TheVariants.{Guest, Source, Link, Pager};
+ghost use Rattle.migration_types.specs.declared.records.LogName.TheVariants.{Guest, Source, Pager};
 ghost use Rattle.migration_types.specs.Sessions.{IsSession};
 ghost use Rattle.audit_model.specs.Names.{log_length};
 ghost use Rattle.audit_model.specs.Mergings.{IsMerging, spelled};
@@ -122,7 +122,7 @@ fn run_pager(session: &Session, replaying: &mut Replaying, from: usize, count: u
     }
 }
 
-/// Replays the next records of a log. Those of the link demand nothing, and change no machine.
+/// Replays the next records of a log. Those of the link and of the lane demand nothing, and change no machine.
 fn run_log(session: &Session, replaying: &mut Replaying, log: LogName, from: usize, count: usize)
     requires limits { IsSession session.now }
     requires within { from + count ≤ log_length session.now log }
@@ -133,7 +133,7 @@ fn run_log(session: &Session, replaying: &mut Replaying, log: LogName, from: usi
     match log {
         LogName::Guest => run_guest(session, replaying, from, count),
         LogName::Source => run_source(session, replaying, from, count),
-        LogName::Link => {}
+        LogName::Link | LogName::Lane => {}
         LogName::Pager => run_pager(session, replaying, from, count),
     }
 }

@@ -4,7 +4,7 @@ use Rattle.std.specs.Option.{MatchOption}
 use Rattle.std.proofs.lemmas.Bool.{cases_lt, cases_order}
 use Rattle.std.proofs.lemmas.Option.{slice_get_past}
 use Rattle.migration_types.specs.declared.records.LogName.{LogName}
-use Rattle.migration_types.specs.declared.records.LogName.TheVariants.{Guest, Source, Link, Pager}
+use Rattle.migration_types.specs.declared.records.LogName.TheVariants.{Guest, Source, Link, Lane, Pager}
 use Rattle.migration_types.specs.Receipts.{Name}
 use Rattle.migration_types.specs.Sessions.{Recorded, log_length, line_of}
 use Rattle.audit_model.specs.declared.reasons.PageReason.{PageReason}
@@ -43,6 +43,7 @@ past_end : (s : Recorded) (log : LogName) (n : ℕ) → log_length s log ≤ n �
 past_end s Guest n le = none_at s (Guest, n) (λ r f. subst (λ o. if_fault (GuestFault s r n) o) (slice_get_past s.guest n le) f)
 past_end s Source n le = none_at s (Source, n) (λ r f. subst (λ o. if_fault (SourceFault s r) o) (slice_get_past s.source n le) f)
 past_end s Link n le = none_at s (Link, n) (λ r f. f)
+past_end s Lane n le = none_at s (Lane, n) (λ r f. f)
 past_end s Pager n le = none_at s (Pager, n) (λ r f. subst (λ o. if_fault (PagerFault s r n) o) (slice_get_past s.pager n le) f)
 
 within : (s : Recorded) (log : LogName) (n : ℕ) (t : PageReason) → reason_at s (log, n) ≡ Some t → n < log_length s log
@@ -60,6 +61,7 @@ same_line : (s : Recorded) (log : LogName) (a b : ℕ) → a < b → line_of s (
 same_line s Guest a b lt = omega arith
 same_line s Source a b lt = omega arith
 same_line s Link a b lt = omega arith
+same_line s Lane a b lt = omega arith
 same_line s Pager a b lt = omega arith
 
 in_log : (s : Recorded) (log : LogName) (f : PageFault) → IsFirstOfLog s log f → (r : PageReason) (n : ℕ) → IsPageFault s r (log, n) → IsAfter s f.reason (log, f.place) r (log, n)
@@ -81,6 +83,7 @@ guest_first s f first = let lt : f.place < length s.guest = within s Guest f.pla
     go r (Guest, n) lt fault = in_log s Guest f first r n fault
     go r (Source, n) lt fault = inl (omega arith)
     go r (Link, n) lt fault = inl (omega arith)
+    go r (Lane, n) lt fault = inl (omega arith)
     go r (Pager, n) lt fault = inl (omega arith)
 
 source_first : (s : Recorded) (f : PageFault) → IsCleanLog s Guest → IsFirstOfLog s Source f → IsFirstPageFault s f.reason (f.log, f.place)
@@ -90,6 +93,7 @@ source_first s f guest first = let lt : f.place < length s.source = within s Sou
     go r (Guest, n) lt fault = clean_at s (Guest, n) r (guest n) fault
     go r (Source, n) lt fault = in_log s Source f first r n fault
     go r (Link, n) lt fault = absurd fault
+    go r (Lane, n) lt fault = absurd fault
     go r (Pager, n) lt fault = inl (omega arith)
 
 pager_first : (s : Recorded) (f : PageFault) → IsCleanLog s Guest → IsCleanLog s Source → IsFirstOfLog s Pager f → IsFirstPageFault s f.reason (f.log, f.place)
@@ -99,6 +103,7 @@ pager_first s f guest source first = named s Pager f first go
     go r (Guest, n) fault = clean_at s (Guest, n) r (guest n) fault
     go r (Source, n) fault = clean_at s (Source, n) r (source n) fault
     go r (Link, n) fault = absurd fault
+    go r (Lane, n) fault = absurd fault
     go r (Pager, n) fault = in_log s Pager f first r n fault
 
 moved_first : (s : Recorded) (f : PageFault) → IsCleanLog s Guest → IsFirstMoved s f → IsFirstPageFault s f.reason (f.log, f.place)
@@ -109,6 +114,7 @@ no_fault : (s : Recorded) → IsCleanLog s Guest → AreMovedClean s → HasNoPa
 no_fault s guest moved r (Guest, n) fault = clean_at s (Guest, n) r (guest n) fault
 no_fault s guest moved r (Source, n) fault = clean_at s (Source, n) r (moved.0 n) fault
 no_fault s guest moved r (Link, n) fault = fault
+no_fault s guest moved r (Lane, n) fault = fault
 no_fault s guest moved r (Pager, n) fault = clean_at s (Pager, n) r (moved.1 n) fault
 
 -- what the source's and the pager's logs have, where the guest's has none

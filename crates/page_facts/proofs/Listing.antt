@@ -7,7 +7,7 @@ use Rattle.std.proofs.lemmas.Option.{slice_get-get_or, slice_get_within}
 use Rattle.migration_types.specs.declared.records.SourceRec.{SourceRec}
 use Rattle.migration_types.specs.declared.records.SourceRec.TheVariants.{Halted, State, Send, Again, Ask, Done}
 use Rattle.migration_types.specs.declared.records.PagerRec.{PagerRec}
-use Rattle.migration_types.specs.declared.records.PagerRec.TheVariants.{Got, Ready, Fault, Join, Want, Place, Zero, Skip, All}
+use Rattle.migration_types.specs.declared.records.PagerRec.TheVariants.{Got, Pull, Ready, Fault, Join, Want, Place, Zero, Skip, All}
 use Rattle.migration_types.specs.Extents.{Extent}
 use Rattle.migration_types.specs.Memory.{page_of}
 use Rattle.migration_types.specs.Sessions.{Recorded}
@@ -140,6 +140,7 @@ module _ (s : Recorded) (page : ℕ) (f : Frame) (halted : IsFrame s page (at_ha
       ∙ ap (λ q. not (in_ledger s (at_halt s) q)) (sym same)
       ∙ ap (λ b. b && not (in_ledger s (at_halt s) p)) (sym own)
   places_wrong_is n (Got d) own = refl
+  places_wrong_is n (Pull d) own = refl
   places_wrong_is n Ready own = refl
   places_wrong_is n (Fault i) own = refl
   places_wrong_is n (Join w) own = refl
@@ -161,6 +162,7 @@ pub altered_only : (s : Recorded) (page n : ℕ) (r : PagerRec) → is_altered s
 altered_only s page n (Place p got content) t = (and_parts (p == page) _ t).0
 altered_only s page n (Zero p) t = (and_parts (p == page) _ t).0
 altered_only s page n (Got d) t = absurd (cc)
+altered_only s page n (Pull d) t = absurd (cc)
 altered_only s page n Ready t = absurd (cc)
 altered_only s page n (Fault i) t = absurd (cc)
 altered_only s page n (Join w) t = absurd (cc)
@@ -172,6 +174,7 @@ pub placed_is : (page : ℕ) (r : PagerRec) → of_page pager_page page r ≡ is
 placed_is page (Place p got content) = refl
 placed_is page (Zero p) = refl
 placed_is page (Got d) = refl
+placed_is page (Pull d) = refl
 placed_is page Ready = refl
 placed_is page (Fault i) = refl
 placed_is page (Join w) = refl

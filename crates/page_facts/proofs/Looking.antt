@@ -86,7 +86,7 @@ pub noted_start : (s : Recorded) (n : ℕ) (looks : Looks) → AreLooks s n look
 noted_start s n looks is = table_same s.geometry.pages looks.first (first_look s n) (λ p. or_here (first_look s n p) (is_placed s looks.reached p) n) is.table (λ p. noted_same (first_look s n p) (is_placed s looks.reached p) n (is.known p))
 
 pub fits_table : (s : Recorded) (m : ℕ) (r : PagerRec) (table : Values (Option ℕ)) (f : ℕ → Option ℕ) → IsSession s → slice_get s.pager m ≡ Some r → IsTable s.geometry.pages table f → PagerPage (pages_of table) r
-fits_table s m r table f limits is sized = subst (λ k. PagerPage k r) (sym sized.pages_are) (pager_page s.geometry r (each_at (PagerRecFits s.geometry) s.pager m r limits.pager is))
+fits_table s m r table f limits is sized = subst (λ k. PagerPage k r) (sym sized.pages_are) (pager_page s.version s.geometry r (each_at (PagerRecFits s.version s.geometry) s.pager m r limits.pager is))
 
 pub noted_more : (s : Recorded) (n m : ℕ) (r : PagerRec) (old new : Values (Option ℕ)) → slice_get s.pager m ≡ Some r → AreNoted s n m old → IsWith old new (placed_by n r (values old)) → AreNoted s n (m + 1) new
 noted_more s n m r old new is noted on =

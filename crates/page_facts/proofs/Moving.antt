@@ -3,8 +3,9 @@ use Rattle.std.proofs.Common.{◌≡◌, ℕ, Bool, false, Option, refl, sym}
 use Rattle.migration_types.specs.declared.records.SourceRec.{SourceRec}
 use Rattle.migration_types.specs.declared.records.SourceRec.TheVariants.{Halted, State, Send, Again, Ask, Done}
 use Rattle.migration_types.specs.declared.records.PagerRec.{PagerRec}
-use Rattle.migration_types.specs.declared.records.PagerRec.TheVariants.{Got, Ready, Fault, Join, Want, Place, Zero, Skip, All}
+use Rattle.migration_types.specs.declared.records.PagerRec.TheVariants.{Got, Pull, Ready, Fault, Join, Want, Place, Zero, Skip, All}
 use Rattle.migration_types.specs.Extents.{Extent}
+use Rattle.migration_types.specs.declared.version.Version.{Version}
 use Rattle.migration_types.specs.Sessions.{SourceRecFits, PagerRecFits}
 use Rattle.audit_model.specs.Shape.{is_placement_of}
 use Rattle.page_tables.specs.Tables.{or_here}
@@ -20,16 +21,17 @@ source_page e (Again i) f = tt
 source_page e (Ask i) f = tt
 source_page e Done f = tt
 
-pub pager_page : (e : Extent) (r : PagerRec) → PagerRecFits e r → PagerPage e.pages r
-pager_page e (Place p got content) f = f.0
-pager_page e (Zero p) f = f
-pager_page e (Got d) f = tt
-pager_page e Ready f = tt
-pager_page e (Fault m) f = tt
-pager_page e (Join w) f = tt
-pager_page e (Want p) f = tt
-pager_page e (Skip g) f = tt
-pager_page e All f = tt
+pub pager_page : (version : Version) (e : Extent) (r : PagerRec) → PagerRecFits version e r → PagerPage e.pages r
+pager_page version e (Place p got content) f = f.0
+pager_page version e (Zero p) f = f
+pager_page version e (Got d) f = tt
+pager_page version e (Pull d) f = tt
+pager_page version e Ready f = tt
+pager_page version e (Fault m) f = tt
+pager_page version e (Join w) f = tt
+pager_page version e (Want p) f = tt
+pager_page version e (Skip g) f = tt
+pager_page version e All f = tt
 
 -- ---- placements
 
@@ -46,6 +48,7 @@ placed_here n r f = go r
     go (Place q got content) = refl
     go (Zero q) = refl
     go (Got d) = λ i p. none p i
+    go (Pull d) = λ i p. none p i
     go Ready = λ i p. none p i
     go (Fault m) = λ i p. none p i
     go (Join w) = λ i p. none p i

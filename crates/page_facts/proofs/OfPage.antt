@@ -4,13 +4,13 @@ use Rattle.std.specs.Prelude.{slice_get, ◌==◌, is_some}
 use Rattle.std.specs.Option.{MatchOption}
 use Rattle.std.proofs.lemmas.Bool.{eqb-true, and_parts, and_from}
 use Rattle.migration_types.specs.declared.records.LogName.{LogName}
-use Rattle.migration_types.specs.declared.records.LogName.TheVariants.{Guest, Source, Link, Pager}
+use Rattle.migration_types.specs.declared.records.LogName.TheVariants.{Guest, Source, Link, Lane, Pager}
 use Rattle.migration_types.specs.declared.records.GuestRec.{GuestRec}
 use Rattle.migration_types.specs.declared.records.GuestRec.TheVariants.{Read, Write, Release, Miss, Halt, Resume, See}
 use Rattle.migration_types.specs.declared.records.SourceRec.{SourceRec}
 use Rattle.migration_types.specs.declared.records.SourceRec.TheVariants.{Halted, State, Send, Again, Ask, Done}
 use Rattle.migration_types.specs.declared.records.PagerRec.{PagerRec}
-use Rattle.migration_types.specs.declared.records.PagerRec.TheVariants.{Got, Ready, Fault, Join, Want, Place, Zero, Skip, All}
+use Rattle.migration_types.specs.declared.records.PagerRec.TheVariants.{Got, Pull, Ready, Fault, Join, Want, Place, Zero, Skip, All}
 use Rattle.migration_types.specs.Memory.{page_of}
 use Rattle.migration_types.specs.Receipts.{Name, log_index}
 use Rattle.migration_types.specs.Sessions.{Recorded}
@@ -22,6 +22,7 @@ use Rattle.audit_model.specs.Shape.{passes, is_placement_of, earlier}
 use Rattle.audit_model.specs.Certificates.{is_access_of}
 use Rattle.audit_model.specs.Faults.{IsEarly, IsOver, GuestFault, PagerFault, if_fault, IsPageFault}
 use Rattle.audit_model.specs.inner.PageFaultTests.{is_flat_page, is_wrong_read, is_given, is_stale, is_second, is_altered, is_unfit, fault_test}
+use Rattle.audit_model.proofs.Cuts.{same_from_test}
 use Rattle.audit_model.proofs.PageFaultTests.{fault_Decides}
 use Rattle.page_lists.specs.Paged.{guest_page, source_page, pager_page}
 use Rattle.page_lists.specs.Places.{of_page}
@@ -215,6 +216,7 @@ module _ (s : Recorded) (page : ℕ) where
     over_to n (Place p got content) own h = subst (λ q. OverAt n q) (sym (eqb-true p page own)) h
     over_to n (Zero p) own h = subst (λ q. OverAt n q) (sym (eqb-true p page own)) h
     over_to n (Got d) own h = absurd (cc)
+    over_to n (Pull d) own h = absurd (cc)
     over_to n Ready own h = absurd (cc)
     over_to n (Fault i) own h = absurd (cc)
     over_to n (Join q) own h = absurd (cc)
@@ -226,6 +228,7 @@ module _ (s : Recorded) (page : ℕ) where
     over_back n (Place p got content) own h = subst (λ q. OverAt n q) (eqb-true p page own) h
     over_back n (Zero p) own h = subst (λ q. OverAt n q) (eqb-true p page own) h
     over_back n (Got d) own h = absurd h
+    over_back n (Pull d) own h = absurd h
     over_back n Ready own h = absurd h
     over_back n (Fault i) own h = absurd h
     over_back n (Join q) own h = absurd h
@@ -308,6 +311,7 @@ module _ (s : Recorded) (page : ℕ) where
             ∙ ap (λ b. or_else b Twice (or_else (not (in_ledger s (at_halt s) p)) Unfit rest)) (twice_is n)
             ∙ ap (λ b. or_else (b && again page) Twice (or_else (b && not (in_ledger s (at_halt s) p)) Unfit rest)) (sym e)
         go (Got d) e rest = absurd (cc)
+        go (Pull d) e rest = absurd (cc)
         go Ready e rest = absurd (cc)
         go (Fault i) e rest = absurd (cc)
         go (Join q) e rest = absurd (cc)
@@ -333,6 +337,7 @@ module _ (s : Recorded) (page : ℕ) where
         go (Guest, n) at = g n at
         go (Source, n) at = o n at
         go (Link, n) at = refl
+        go (Lane, n) at = refl
         go (Pager, n) at = p n at
 
     -- the logs before this one have no fault of the page
@@ -349,22 +354,7 @@ module _ (s : Recorded) (page : ℕ) where
     }
       where
         same_log : (a b : LogName) → log_index a ≡ log_index b → a ≡ b
-        same_log Guest Guest e = refl
-        same_log Source Source e = refl
-        same_log Link Link e = refl
-        same_log Pager Pager e = refl
-        same_log Guest Source e = absurd (omega (arith, e))
-        same_log Guest Link e = absurd (omega (arith, e))
-        same_log Guest Pager e = absurd (omega (arith, e))
-        same_log Source Guest e = absurd (omega (arith, e))
-        same_log Source Link e = absurd (omega (arith, e))
-        same_log Source Pager e = absurd (omega (arith, e))
-        same_log Link Guest e = absurd (omega (arith, e))
-        same_log Link Source e = absurd (omega (arith, e))
-        same_log Link Pager e = absurd (omega (arith, e))
-        same_log Pager Guest e = absurd (omega (arith, e))
-        same_log Pager Source e = absurd (omega (arith, e))
-        same_log Pager Link e = absurd (omega (arith, e))
+        same_log a b e = same_from_test a b (eq-eqb (log_index a) (log_index b) e)
 
         go : (name : Name) → page_at s name ≡ Some page → Precedes name (x.log, x.place) → reason_at s name ≡ None
         go name at (inl lt) = before name at (subst (λ (l : LogName). log_index name.0 < log_index l) first.is_log lt)
@@ -379,12 +369,14 @@ module _ (s : Recorded) (page : ℕ) where
         before_source g (Guest, n) at lt = g n at
         before_source g (Source, n) at lt = absurd (omega (arith, lt))
         before_source g (Link, n) at lt = refl
+        before_source g (Lane, n) at lt = refl
         before_source g (Pager, n) at lt = absurd (omega (arith, lt))
 
         before_pager : IsCleanIn s page Guest → IsCleanIn s page Source → CleanBefore Pager
         before_pager g o (Guest, n) at lt = g n at
         before_pager g o (Source, n) at lt = o n at
         before_pager g o (Link, n) at lt = refl
+        before_pager g o (Lane, n) at lt = refl
         before_pager g o (Pager, n) at lt = absurd (omega (arith, lt))
 
         before_guest : CleanBefore Guest

@@ -5,7 +5,7 @@ use Rattle.std.specs.Option.{MatchOption}
 use Rattle.std.proofs.lemmas.Option.{slice_get-get_or}
 use Rattle.std.proofs.lemmas.Bool.{cases_lt}
 use Rattle.migration_types.specs.declared.records.LogName.{LogName}
-use Rattle.migration_types.specs.declared.records.LogName.TheVariants.{Guest, Source, Link, Pager}
+use Rattle.migration_types.specs.declared.records.LogName.TheVariants.{Guest, Source, Link, Lane, Pager}
 use Rattle.migration_types.specs.declared.records.GuestRec.{GuestRec}
 use Rattle.migration_types.specs.declared.records.GuestRec.TheVariants.{Read, Write, Release}
 use Rattle.migration_types.specs.declared.records.SourceRec.{SourceRec}
@@ -119,6 +119,7 @@ module _ (s : Recorded) where
   no_page (Guest, n) e = none_at s (Guest, n) (λ r f. if_none guest_page (GuestFault s r n) (guest_none n r) (slice_get s.guest n) e f)
   no_page (Source, n) e = none_at s (Source, n) (λ r f. if_none source_page (SourceFault s r) (source_none r) (slice_get s.source n) e f)
   no_page (Link, n) e = none_at s (Link, n) (λ r f. f)
+  no_page (Lane, n) e = none_at s (Lane, n) (λ r f. f)
   no_page (Pager, n) e = none_at s (Pager, n) (λ r f. if_none pager_page (PagerFault s r n) (pager_none n r) (slice_get s.pager n) e f)
 
   below_in : {A : Type 0} (page_of : A → Option ℕ) (log : List A) (n p : ℕ) → AreWithin page_of s.geometry.pages log → if_there page_of (slice_get log n) ≡ Some p → p < s.geometry.pages
@@ -133,7 +134,8 @@ module _ (s : Recorded) where
     page_below (Guest, n) p e = below_in guest_page s.guest n p (guest_within s.geometry s.guest limits.guest) e
     page_below (Source, n) p e = below_in source_page s.source n p (source_within s.geometry s.source limits.source) e
     page_below (Link, n) p e = absurd (cc)
-    page_below (Pager, n) p e = below_in pager_page s.pager n p (pager_within s.geometry s.pager limits.pager) e
+    page_below (Lane, n) p e = absurd (cc)
+    page_below (Pager, n) p e = below_in pager_page s.pager n p (pager_within s.version s.geometry s.pager limits.pager) e
 
     abbrev Pages : ℕ → Type 0
     Pages p = p < s.geometry.pages
@@ -170,6 +172,7 @@ module _ (s : Recorded) where
           go Guest e = guest_first s f (in_log Guest e)
           go Source e = moved_of_all s (Some f) (clean_log Source Guest e (omega arith)) (inl (in_log Source e))
           go Link e = let r = first.is_reason in let none : reason_at s (f.log, f.place) ≡ None = ap (λ (l : LogName). reason_at s (l, f.place)) e in absurd (cc)
+          go Lane e = let r = first.is_reason in let none : reason_at s (f.log, f.place) ≡ None = ap (λ (l : LogName). reason_at s (l, f.place)) e in absurd (cc)
           go Pager e = moved_of_all s (Some f) (clean_log Pager Guest e (omega arith)) (inr (clean_log Pager Source e (omega arith), in_log Pager e))
 
     pub all_is : (o : Option PageFault) → MatchOption o (AreClean s Pages) (IsFirstFaultOf s Pages) → MatchOption o (HasNoPageFault s) (λ f. IsFirstPageFault s f.reason (f.log, f.place))

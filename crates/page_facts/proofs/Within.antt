@@ -9,9 +9,10 @@ use Rattle.migration_types.specs.declared.records.GuestRec.TheVariants.{Read, Wr
 use Rattle.migration_types.specs.declared.records.SourceRec.{SourceRec}
 use Rattle.migration_types.specs.declared.records.SourceRec.TheVariants.{Halted, State, Send, Again, Ask, Done}
 use Rattle.migration_types.specs.declared.records.PagerRec.{PagerRec}
-use Rattle.migration_types.specs.declared.records.PagerRec.TheVariants.{Got, Ready, Fault, Join, Want, Place, Zero, Skip, All}
+use Rattle.migration_types.specs.declared.records.PagerRec.TheVariants.{Got, Pull, Ready, Fault, Join, Want, Place, Zero, Skip, All}
 use Rattle.migration_types.specs.Extents.{Extent}
 use Rattle.migration_types.specs.Pages.{InitPageFits, AreInitPages}
+use Rattle.migration_types.specs.declared.version.Version.{Version}
 use Rattle.migration_types.specs.Sessions.{GuestRecFits, SourceRecFits, PagerRecFits}
 use Rattle.audit_model.proofs.Lists.{each_at}
 use Rattle.page_lists.specs.Paged.{init_page, guest_page, source_page, pager_page}
@@ -46,13 +47,14 @@ source_within e log all = within source_page (SourceRecFits e) e.pages log go al
     go (Ask i) p fits is = absurd (cc)
     go Done p fits is = absurd (cc)
 
-pub pager_within : (e : Extent) (log : List PagerRec) → AllByRecursion (PagerRecFits e) log → AreWithin pager_page e.pages log
-pager_within e log all = within pager_page (PagerRecFits e) e.pages log go all
+pub pager_within : (version : Version) (e : Extent) (log : List PagerRec) → AllByRecursion (PagerRecFits version e) log → AreWithin pager_page e.pages log
+pager_within version e log all = within pager_page (PagerRecFits version e) e.pages log go all
   where
-    go : (r : PagerRec) (p : ℕ) → PagerRecFits e r → pager_page r ≡ Some p → p < e.pages
+    go : (r : PagerRec) (p : ℕ) → PagerRecFits version e r → pager_page r ≡ Some p → p < e.pages
     go (Place q got content) p fits is = let same : q ≡ p = cc in subst (λ k. k < e.pages) same fits.0
     go (Zero q) p fits is = let same : q ≡ p = cc in subst (λ k. k < e.pages) same fits
     go (Got d) p fits is = absurd (cc)
+    go (Pull d) p fits is = absurd (cc)
     go Ready p fits is = absurd (cc)
     go (Fault i) p fits is = absurd (cc)
     go (Join w) p fits is = absurd (cc)

@@ -1,7 +1,7 @@
 -- The first fault of a page, and of some pages.
 use Rattle.std.specs.Prelude.{◌≡◌, ℕ, ◌<◌, ◌⊎◌, Bool, ◌==◌, ◌&&◌, ◌||◌, nat_lt, Option, Some, None, slice_get, if◌then◌else◌}
 use Rattle.migration_types.specs.declared.records.LogName.{LogName}
-use Rattle.migration_types.specs.declared.records.LogName.TheVariants.{Guest, Source, Link, Pager}
+use Rattle.migration_types.specs.declared.records.LogName.TheVariants.{Guest, Source, Link, Lane, Pager}
 use Rattle.migration_types.specs.declared.records.PagerRec.{PagerRec}
 use Rattle.migration_types.specs.declared.records.PagerRec.TheVariants.{Zero}
 use Rattle.migration_types.specs.Receipts.{Name, log_index}
@@ -20,6 +20,7 @@ abbrev pub page_at : Recorded → Name → Option ℕ
 page_at s (Guest, n) = if_there guest_page (slice_get s.guest n)
 page_at s (Source, n) = if_there source_page (slice_get s.source n)
 page_at s (Link, n) = None
+page_at s (Lane, n) = None
 page_at s (Pager, n) = if_there pager_page (slice_get s.pager n)
 
 -- the record's line is less

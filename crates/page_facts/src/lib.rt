@@ -1,4 +1,4 @@
-//! What the four logs of a session say of each page, by the records of that page.
+//! What the logs of a session say of each page, by the records of that page.
 //!
 //! A checker, a maker of certificates and an audit all judge a page by the same few facts: whether a read of it gave
 //! another value than one machine would, what was sent of it, where it was placed, and when it was first used after

@@ -26,4 +26,4 @@ pub lists_of-requires-3-clause-within : goal.lists_of-requires-3-clause-within
 lists_of-requires-3-clause-within c =
     let s = c.args.session.now in
     let pages = c.pages-pages.ensures ∙ ap (λ (e : Extent). e.pages) c.geometry.ensures in
-    subst (λ k. AreWithin pager_page k c.pager.result.now) (sym pages) (subst (λ (xs : List PagerRec). AreWithin pager_page s.geometry.pages xs) (sym c.pager.ensures) (pager_within s.geometry s.pager c.keeps_limits.ensures.pager))
+    subst (λ k. AreWithin pager_page k c.pager.result.now) (sym pages) (subst (λ (xs : List PagerRec). AreWithin pager_page s.geometry.pages xs) (sym c.pager.ensures) (pager_within s.version s.geometry s.pager c.keeps_limits.ensures.pager))
