@@ -1,21 +1,21 @@
 -- Runs as long as they can be, made part by part.
 use Rattle.std.proofs.Common.{◌≡◌, ◌≢◌, ℕ, zero, suc, ◌+◌, ◌-◌, ◌<◌, ◌≤◌, ◌⊎◌, inl, inr, Bool, true, false, cond, List, [], ◌∷◌, ◌++◌, length, get_or, set, rules, refl, sym, ap, ◌∙◌, subst, arith}
 use denote.Enum.Bare.{sameb, same_true}
-use Rattle.std.specs.List.{AllByRecursion}
 use Rattle.migration_types.specs.contracts.records.LogName.{the_type}
 use Rattle.std.proofs.lemmas.Bool.{cases_lt}
 use Rattle.std.proofs.lemmas.List.{append_assoc, append-nil}
 use Rattle.migration_types.specs.declared.records.LogName.{LogName}
-use Rattle.migration_types.specs.declared.records.LogName.TheVariants.{Guest, Source, Link, Pager}
+use Rattle.migration_types.specs.declared.records.LogName.TheVariants.{Guest, Source, Link, Lane, Pager}
 use Rattle.migration_types.specs.declared.cert.Run.{Run}
-use Rattle.migration_types.specs.Certs.{RunFits, AreRuns}
 use Rattle.migration_types.specs.Receipts.{Name}
 use Rattle.audit_model.specs.Names.{same_log}
 use Rattle.audit_model.specs.Mergings.{Cursors, moved, at_start, run_names, spelled}
 use Rattle.audit_model.specs.Walks.{cursors_from}
 use Rattle.audit_model.proofs.Cuts.{same_from_test}
 use Rattle.merge_runs.proofs.Walking.{cursors_run, cursors_append, spelled_push, own_moved}
-use Rattle.audit_report.specs.inner.Parts.{ends, total, AreBlocks}
+use Rattle.cert_maker.specs.inner.Taking.{TakeRecords}
+use Rattle.cert_maker.proofs.Found.{all_push, get_below, get_last, length_push}
+use Rattle.audit_report.specs.inner.Parts.{ends, AreBlocks}
 
 -- ---- logs
 
@@ -23,6 +23,7 @@ same_itself : (log : LogName) → sameb the_type log log ≡ true
 same_itself Guest = refl
 same_itself Source = refl
 same_itself Link = refl
+same_itself Lane = refl
 same_itself Pager = refl
 
 pub same_logs_by : (a b : LogName) (t : Bool) → t ≡ sameb the_type a b → t ≡ true → a ≡ b
@@ -35,33 +36,14 @@ other_logs_by a b t e is same =
 
 -- ---- lists of runs
 
-all_push : (runs : List Run) (run : Run) → AllByRecursion RunFits runs → RunFits run → AllByRecursion RunFits (runs ++ run ∷ [])
-all_push [] run all fits = (fits, tt)
-all_push (r ∷ runs) run all fits = (all.0, all_push runs run all.1 fits)
-
-all_front : (runs : List Run) (run : Run) → AllByRecursion RunFits (runs ++ run ∷ []) → AllByRecursion RunFits runs × RunFits run
-all_front [] run all = (tt, all.0)
+all_front : (runs : List Run) (run : Run) → TakeRecords (runs ++ run ∷ []) → TakeRecords runs × (0 < run.count)
+all_front [] run all = let some = all.0 in (tt, omega (arith, some))
 all_front (r ∷ runs) run all = let more = all_front runs run all.1 in ((all.0, more.0), more.1)
-
-get_below : (runs : List Run) (run d : Run) (k : ℕ) → k < length runs → get_or (runs ++ run ∷ []) k d ≡ get_or runs k d
-get_below [] run d k lt = absurd (omega arith)
-get_below (r ∷ runs) run d zero lt = refl
-get_below (r ∷ runs) run d (suc k) lt = get_below runs run d k (omega arith)
-
-get_last : (runs : List Run) (run d : Run) (k : ℕ) → k ≡ length runs → get_or (runs ++ run ∷ []) k d ≡ run
-get_last [] run d zero e = refl
-get_last [] run d (suc k) e = absurd (omega arith)
-get_last (r ∷ runs) run d zero e = absurd (omega arith)
-get_last (r ∷ runs) run d (suc k) e = get_last runs run d k (omega arith)
 
 pub get_within : (runs : List Run) (k : ℕ) (a b : Run) → k < length runs → get_or runs k a ≡ get_or runs k b
 get_within [] k a b lt = absurd (omega arith)
 get_within (r ∷ runs) zero a b lt = refl
 get_within (r ∷ runs) (suc k) a b lt = get_within runs k a b (omega arith)
-
-length_push : (runs : List Run) (run : Run) → length (runs ++ run ∷ []) ≡ length runs + 1
-length_push [] run = refl
-length_push (r ∷ runs) run = let h = length_push runs run in omega (arith, h)
 
 set_last : (runs : List Run) (run x : Run) (k : ℕ) → k ≡ length runs → set (runs ++ run ∷ []) k x ≡ runs ++ x ∷ []
 set_last [] run x zero e = refl
@@ -93,12 +75,6 @@ run_split log place (suc m) n =
     let b : suc place + m ≡ place + suc m = omega arith in
     ap (λ k. run_names log place k) a ∙ ap (λ (ns : List Name). (log, place) ∷ ns) (run_split log (suc place) m n ∙ ap (λ k. run_names log (suc place) m ++ run_names log k n) b)
 
-total_moved : (c : Cursors) (log : LogName) (n : ℕ) → total (moved c log n) ≡ total c + n
-total_moved c Guest n = omega arith
-total_moved c Source n = omega arith
-total_moved c Link n = omega arith
-total_moved c Pager n = omega arith
-
 -- the cursors after a part more
 pub ends_after : (runs more : List Run) (log : LogName) (n : ℕ) → spelled more ≡ spelled runs ++ run_names log (ends runs log) n → ends more ≡ moved (ends runs) log n
 ends_after runs more log n e = ap (cursors_from at_start) e ∙ cursors_append at_start (spelled runs) (run_names log (ends runs log) n) ∙ cursors_run (ends runs) log (ends runs log) n
@@ -117,7 +93,6 @@ pub record IsAdded (runs : List Run) (log : LogName) (n : ℕ) (more : List Run)
 
 pub blocks_none : AreBlocks []
 blocks_none = record {
-  few = omega arith;
   small = λ l. omega arith;
   each = tt;
   alternate = λ k d lt. absurd (omega arith);
@@ -156,9 +131,8 @@ added_run runs more log n blocks room some apart is = subst (λ (rs : List Run).
 
     here : AreBlocks (runs ++ record { log = log; count = n } ∷ [])
     here = record {
-      few = let t : total (ends (runs ++ record { log = log; count = n } ∷ [])) ≡ total (ends runs) + n = ap total after ∙ total_moved (ends runs) log n in let f = blocks.few in omega (arith, t, length_push runs (record { log = log; count = n }));
       small = λ l. subst (λ (c : Cursors). c l ≤ 1048576) (sym after) (small_after (ends runs) log n blocks.small room l);
-      each = all_push runs (record { log = log; count = n }) blocks.each (record { some = omega arith; few = omega arith });
+      each = all_push runs (record { log = log; count = n }) blocks.each some;
       alternate = λ k x lt same. neighbours k x (omega (arith, length_push runs (record { log = log; count = n }))) same (cases_lt (k + 1) (length runs));
       last = λ k x at. last_at (get_or (runs ++ record { log = log; count = n } ∷ []) k x) (get_last runs (record { log = log; count = n }) x k (omega (arith, length_push runs (record { log = log; count = n }))));
     }
@@ -201,11 +175,9 @@ grown front run n blocks room = record { blocks = here; spelled = names }
     here : AreBlocks (front ++ record { log = run.log; count = run.count + n } ∷ [])
     here =
         let parts = all_front front run blocks.each in
-        let some = parts.1.some in
         record {
-          few = let t : total (ends (front ++ record { log = run.log; count = run.count + n } ∷ [])) ≡ total (ends (front ++ run ∷ [])) + n = ap total after ∙ total_moved (ends (front ++ run ∷ [])) run.log n in let f = blocks.few in omega (arith, t, lengths);
           small = λ l. subst (λ (c : Cursors). c l ≤ 1048576) (sym after) (small_after (ends (front ++ run ∷ [])) run.log n blocks.small room l);
-          each = all_push front (record { log = run.log; count = run.count + n }) parts.0 (record { some = omega arith; few = omega (arith, few_last) });
+          each = all_push front (record { log = run.log; count = run.count + n }) parts.0 (omega (arith, parts.1));
           alternate = λ k d lt same. blocks.alternate k d (omega (arith, lengths)) (sym (logs k d) ∙ same ∙ logs (k + 1) d);
           last = λ k d e. last_at (get_or (front ++ record { log = run.log; count = run.count + n } ∷ []) k d) (get_last front (record { log = run.log; count = run.count + n }) d k (omega (arith, length_push front (record { log = run.log; count = run.count + n }))));
         }
@@ -247,11 +219,3 @@ added_next runs more last d log len n blocks room long behind is other some more
         let here : len - 1 ≡ k = omega arith in
         let one : last ≡ get_or runs k x = is ∙ (ap (λ j. get_or runs j d) here ∙ get_within runs k d x (omega arith)) in
         other (ap (λ (r : Run). r.log) one ∙ same)
-
--- so the runs are within their limits
-pub block_runs : (runs : List Run) → AreBlocks runs → AreRuns runs
-block_runs runs blocks = record {
-  few = let f = blocks.few in omega (arith, f, blocks.small Guest, blocks.small Source, blocks.small Link, blocks.small Pager);
-  each = blocks.each;
-  alternate = blocks.alternate;
-}

@@ -2,10 +2,9 @@
 use Rattle.std.proofs.Common.{◌≡◌, ℕ, ◌+◌, ◌<◌, ◌≤◌, List, [], ◌∷◌, take, drop, length, get_or, refl, sym, ap, ◌∙◌, subst}
 use Rattle.std.proofs.lemmas.List.{take-append-drop}
 use Rattle.migration_types.specs.declared.records.LogName.{LogName}
-use Rattle.migration_types.specs.declared.records.LogName.TheVariants.{Guest, Source, Link, Pager}
 use Rattle.migration_types.specs.declared.cert.Run.{Run}
 use Rattle.migration_types.specs.Receipts.{Name}
-use Rattle.migration_types.specs.Sessions.{Recorded, IsSession}
+use Rattle.migration_types.specs.Sessions.{Recorded}
 use Rattle.audit_model.specs.Names.{log_length}
 use Rattle.audit_model.specs.Mergings.{Cursors, at_start, moved, spelled}
 use Rattle.audit_model.specs.Walks.{next, cursors_from, Walks, IsWholeWalk}
@@ -15,13 +14,6 @@ use Rattle.merge_runs.specs.Taken.{cursors_of}
 use Rattle.merge_runs.specs.declared.taken.Taken.{Taken}
 use Rattle.merge_runs.proofs.Walking.{walks_front, spelled_front, walk_back, walks_run, cursors_on, all_at}
 use Rattle.audit_report.specs.inner.Parts.{ends}
-
--- no log has more than 1,048,576 records
-pub log_small : (s : Recorded) (log : LogName) → IsSession s → log_length s log ≤ 1048576
-log_small s Guest limits = limits.few_guest
-log_small s Source limits = limits.few_source
-log_small s Link limits = limits.few_link
-log_small s Pager limits = limits.few_pager
 
 -- a walk keeps the cut consistent
 walk_cut : (s : Recorded) (c : Cursors) (names : List Name) → IsConsistentCut s c → Walks s c names → IsConsistentCut s (cursors_from c names)

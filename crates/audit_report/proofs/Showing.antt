@@ -5,7 +5,7 @@ use Rattle.std.specs.declared.alloc.AllocError.{AllocError}
 use Rattle.std.proofs.lemmas.Bool.{cases_lt}
 use Rattle.std.proofs.lemmas.Option.{slice_get_within}
 use Rattle.migration_types.specs.declared.records.LogName.{LogName}
-use Rattle.migration_types.specs.declared.records.LogName.TheVariants.{Guest, Source, Link, Pager}
+use Rattle.migration_types.specs.declared.records.LogName.TheVariants.{Guest, Source, Link, Lane, Pager}
 use Rattle.migration_types.specs.declared.records.GuestRec.{GuestRec}
 use Rattle.migration_types.specs.declared.records.GuestRec.TheVariants.{Read, Write, Release, Miss, Halt, Resume, See}
 use Rattle.migration_types.specs.declared.records.SourceRec.{SourceRec}
@@ -26,11 +26,12 @@ use Rattle.audit_model.specs.Delayed.{rearranged, IsFirstPlacement, IsDelayedOrd
 use Rattle.audit_model.specs.Laws.{IsFaultless, FaultsBreak, DelayedBreaks, DelayedOver, UnplacedBreaks, BreaksAt, SafeExactlyIfClean}
 use Rattle.audit_model.proofs.History.{earlier_true}
 use Rattle.audit_model.proofs.Clean.{false_if_not_true, clash}
+use Rattle.cert_maker.proofs.Fitting.{in_second}
 use Rattle.cert_maker.specs.Orders.{AreFoundRuns}
 use Rattle.audit_report.specs.declared.report.Report.{Report}
 use Rattle.audit_report.specs.declared.report.Report.TheVariants.{Clean, Shape, Knot, Faulty}
 use Rattle.audit_report.specs.inner.Cuts.{IsCutFor}
-use Rattle.audit_report.specs.Reports.{used_by, HasNoPlacement, IsEarlyFor, IsShownWith, IsUndelayed, ShowsFault, IsReport, IsClean}
+use Rattle.audit_report.specs.Reports.{used_by, HasNoPlacement, IsEarlyFor, IsShownWith, IsUndelayed, ShowsFault, IsReport, IsClean, ReportFits}
 
 -- ---- placements
 
@@ -76,6 +77,7 @@ module _ (s : Recorded) (order : List Name) (merging : IsMerging s order) where
       go None f = f
       go (Some r) f = f
   undelayed_breaks faults unplaced Early (Link, n) f none = absurd f
+  undelayed_breaks faults unplaced Early (Lane, n) f none = absurd f
   undelayed_breaks faults unplaced Early (Pager, n) f none = absurd (go (slice_get s.pager n) f)
     where
       go : (o : Option PagerRec) → if_fault (PagerFault s Early n) o → ⊥
@@ -93,6 +95,7 @@ module _ (s : Recorded) (order : List Name) (merging : IsMerging s order) where
           breaks order merging n early.page place r is (subst (λ p. IsEarly s n r p) same f.1) early.is_first delayed late
   early_shows breaks reason (Source, n) place f early delayed late = absurd (let e = early.uses in cc)
   early_shows breaks reason (Link, n) place f early delayed late = absurd (let e = early.uses in cc)
+  early_shows breaks reason (Lane, n) place f early delayed late = absurd (let e = early.uses in cc)
   early_shows breaks reason (Pager, n) place f early delayed late = absurd (let e = early.uses in cc)
 
   -- and a placement over a release, where it is delayed itself
@@ -124,7 +127,7 @@ found_shows s reason name runs faults unplaced found f none = record {
 }
 
 -- and the delayed order one that is shown with a placement
-delayed_run : (s : Recorded) (reason : PageReason) (name : Name) (place : ℕ) (d : Cursors) (runs order : List Run) → DelayedBreaks s → DelayedOver s → AreFoundRuns s runs → IsPageFault s reason name → IsShownWith s reason name place → IsCutFor s place d → AreRuns order → spelled order ≡ rearranged d (spelled runs) → ShowsFault s reason name order
+delayed_run : (s : Recorded) (reason : PageReason) (name : Name) (place : ℕ) (d : Cursors) (runs order : List Run) → DelayedBreaks s → DelayedOver s → AreFoundRuns s runs → IsPageFault s reason name → IsShownWith s reason name place → IsCutFor s place d → AreRuns s.version order → spelled order ≡ rearranged d (spelled runs) → ShowsFault s reason name order
 delayed_run s reason name place d runs order breaks over found f shown cut are is =
     let late : IsDelayedOrder s (spelled runs) (Pager, place) (spelled order) = record { cut = d; is_above = cut.is_above; is_delayed = cut.is_delayed; is = is } in
     let fails = delayed_shows s (spelled runs) found.is_found.is_merging breaks over reason name place f shown (spelled order) late in
@@ -153,7 +156,7 @@ delayed_run s reason name place d runs order breaks over found f shown cut are i
     same_place other (inr at) (inl also) = absurd (let e : Early ≡ Over = sym also.is_early ∙ at.is_over in cc)
     same_place other (inr at) (inr also) = ap (λ (n : Name). n.1) (sym at.is_itself ∙ also.is_itself)
 
-pub delayed_shown : (s : Recorded) (reason : PageReason) (name : Name) (place : ℕ) (d : Cursors) (runs : List Run) (r : Result (List Run) AllocError) → DelayedBreaks s → DelayedOver s → AreFoundRuns s runs → IsPageFault s reason name → IsShownWith s reason name place → IsCutFor s place d → IfOk r (λ order. AreRuns order) → IfOk r (λ order. spelled order ≡ rearranged d (spelled runs)) → IfOk r (λ order. ShowsFault s reason name order)
+pub delayed_shown : (s : Recorded) (reason : PageReason) (name : Name) (place : ℕ) (d : Cursors) (runs : List Run) (r : Result (List Run) AllocError) → DelayedBreaks s → DelayedOver s → AreFoundRuns s runs → IsPageFault s reason name → IsShownWith s reason name place → IsCutFor s place d → IfOk r (λ order. AreRuns s.version order) → IfOk r (λ order. spelled order ≡ rearranged d (spelled runs)) → IfOk r (λ order. ShowsFault s reason name order)
 delayed_shown s reason name place d runs (Ok order) breaks over found f shown cut are is = delayed_run s reason name place d runs order breaks over found f shown cut are is
 delayed_shown s reason name place d runs (Err e) breaks over found f shown cut are is = tt
 
@@ -170,6 +173,7 @@ fault_there s reason Source n f = go (slice_get s.source n) refl f
     go None is f = absurd f
     go (Some r) is f = slice_get_within s.source n r is
 fault_there s reason Link n f = absurd f
+fault_there s reason Lane n f = absurd f
 fault_there s reason Pager n f = go (slice_get s.pager n) refl f
   where
     go : (o : Option PagerRec) → slice_get s.pager n ≡ o → if_fault (PagerFault s reason n) o → n < length s.pager
@@ -202,3 +206,14 @@ module _ (s : Recorded) where
   pub exactly_of : ((t : Recorded) → IsFaultless t → IsSafe t) → SafeExactlyIfClean s → IsSession s → (r : Result Report AllocError) → IfOk r (IsReport s) → IfOk r (λ report. IsRightShape s → HasMerging s → IsSafe s ↔ IsClean report)
   exactly_of clean law fits (Ok report) is = safe_exactly clean law fits report is
   exactly_of clean law fits (Err e) is = tt
+
+  -- the text of a report's runs has room for them
+  fits_text : (report : Report) → IsReport s report → ReportFits report
+  fits_text (Clean cert) is = tt
+  fits_text (Shape fault) is = tt
+  fits_text (Knot line) is = tt
+  fits_text (Faulty line reason order) is = in_second s.version order is.1.shows.are_runs
+
+  pub fits_of : (r : Result Report AllocError) → IfOk r (IsReport s) → IfOk r ReportFits
+  fits_of (Ok report) is = fits_text report is
+  fits_of (Err e) is = tt

@@ -170,4 +170,5 @@ pub above_all : (d : Cursors) (runs : List Run) (k : ℕ) (parts : List Run) →
 above_all d runs k parts le going = record {
   blocks = going.blocks;
   names = going.names ∙ ap (λ (rs : List Run). filter (is_below d) (spelled runs) ++ filter (is_above d) (spelled rs)) (take_all k runs le);
+  ends = λ log. going.ends log ∙ ap (λ (rs : List Run). max (ends rs log) (d log)) (take_all k runs le);
 }

@@ -5,6 +5,7 @@ use Rattle.migration_types.specs.declared.records.GuestRec.{GuestRec}
 use Rattle.migration_types.specs.declared.records.GuestRec.TheVariants.{Read, Write}
 use Rattle.migration_types.specs.declared.records.PagerRec.{PagerRec}
 use Rattle.migration_types.specs.declared.cert.Run.{Run}
+use Rattle.migration_types.specs.declared.version.Version.TheVariants.{Two}
 use Rattle.migration_types.specs.Certs.{Certified, AreRuns}
 use Rattle.migration_types.specs.Receipts.{Name}
 use Rattle.migration_types.specs.Sessions.{Recorded, line_of}
@@ -70,7 +71,7 @@ pub record IsOrderFor (s : Recorded) (reason : PageReason) (name : Name) (order 
 
 -- these runs spell the order given with a fault, which is a merging in which the demand at the faulty record fails
 pub record ShowsFault (s : Recorded) (reason : PageReason) (name : Name) (runs : List Run) : Type 0 where
-  pub are_runs : AreRuns runs
+  pub are_runs : AreRuns s.version runs
   pub is_merging : IsMerging s (spelled runs)
   pub breaks : BreaksAt s (spelled runs) name
   pub is_order : IsOrderFor s reason name (spelled runs)
@@ -101,7 +102,7 @@ abbrev pub IsClean : Report → Type 0
 IsClean (Clean cert) = Unit {0}
 IsClean _ = ⊥
 
--- the runs of a fault's order are within the limits of their text
+-- the runs of a fault's order are within the limits of their text, which are those of the second version
 abbrev pub ReportFits : Report → Type 0
-ReportFits (Faulty line reason order) = AreRuns order
+ReportFits (Faulty line reason order) = AreRuns Two order
 ReportFits _ = Unit {0}

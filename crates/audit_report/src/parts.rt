@@ -97,7 +97,7 @@ pub(crate) fn rearranged(
     requires limits { IsSession session.now }
     requires merging { IsMerging session.now (spelled runs.now) }
     requires within { IsWithin session.now (cursors_of cut.now) }
-    ensures runs { IfOk result (λ order. AreRuns order) }
+    ensures runs { IfOk result (λ order. AreRuns session.now.version order) }
     ensures spelled { IfOk result (λ order. spelled order ≡ rearranged (cursors_of cut.now) (spelled runs.now)) }
 {
     let mut parts = below_parts(alloc, session, runs, cut)?;

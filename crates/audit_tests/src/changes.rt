@@ -77,6 +77,7 @@ fn count_before(text: &[u8], at: usize) -> Option<usize>
         if rest.starts_with(b"guest ")
             || rest.starts_with(b"source ")
             || rest.starts_with(b"link ")
+            || rest.starts_with(b"lane ")
             || rest.starts_with(b"pager ")
         {
             found = Some(line_end(text, n).saturating_sub(2));

@@ -5,7 +5,7 @@ use crate::numbers::Numbers;
 use crate::plain::{breaks_at, names_of, page_fault, shape_fault};
 use crate::texts::{
     AT_HOME, CIRCLE, EARLY_ACCESS, FRESH, HANDOVER, INITIAL_MEMORY, LATE_RELEASES, MIXED, OVER,
-    RELEASED, SEEN, STALE_PAGE, WRONG_READ, WRONG_SHAPE,
+    PULLED, RELEASED, SEEN, STALE_PAGE, WRONG_READ, WRONG_SHAPE,
 };
 use audit_model::{PageReason, ShapeReason};
 use audit_report::{Report, audit};
@@ -256,7 +256,7 @@ fn agrees_on_altered<R: Threads + Sync>(
 }
 
 /// The sessions.
-static SESSIONS: [&str; 14] = [
+static SESSIONS: [&str; 15] = [
     HANDOVER,
     RELEASED,
     MIXED,
@@ -271,6 +271,7 @@ static SESSIONS: [&str; 14] = [
     OVER,
     SEEN,
     LATE_RELEASES,
+    PULLED,
 ];
 
 #[test]
@@ -296,6 +297,7 @@ fn session_of_round(version: Version, round: usize) -> &'static str {
         (Version::One, _) => MIXED,
         (Version::Two, 0) => FRESH,
         (Version::Two, 1) => SEEN,
+        (Version::Two, 2) => PULLED,
         (Version::Two, _) => LATE_RELEASES,
     }
 }
@@ -327,7 +329,7 @@ fn commands_say_so_of_random_sessions(rt: HostRuntime) {
 }
 
 #[test]
-fn commands_say_so_of_random_releases_at_the_target(rt: HostRuntime) {
+fn commands_say_so_of_random_sessions_of_the_second_version(rt: HostRuntime) {
     let mut answers = Answers::none();
     let round = disagreement(&rt, rt.alloc(), Version::Two, 6000, &mut answers);
     assert!(rt; round == None, "{round:?}");

@@ -2,7 +2,7 @@
 
 ghost use Rattle.audit_report.specs.Reports.{ReportFits};
 
-use crate::texts::{FRESH, HANDOVER, OVER, SEEN};
+use crate::texts::{FRESH, HANDOVER, OVER, PULLED, SEEN};
 use audit_report::{Report, audit, print_report};
 use migration_types::Session;
 use session_log::read_session;
@@ -277,6 +277,33 @@ run pager 1
 end
 ";
 
+const PULLED_REPORT: &str = "clean
+postcopy-certificate 2
+pages 1
+page 0 source 2 3 3 2
+runs 6
+run guest 1
+run source 3
+run link 1
+run lane 1
+run pager 4
+run guest 3
+end
+";
+
+const UNSEEN_PULL_REPORT: &str = "faulty line 9 early
+postcopy-runs 1
+runs 7
+run guest 1
+run source 3
+run link 1
+run lane 1
+run pager 3
+run guest 2
+run pager 1
+end
+";
+
 const LATE_RELEASE_REPORT: &str = "shape line 9 phases
 ";
 
@@ -288,7 +315,7 @@ struct Case {
     report: &'static str,
 }
 
-static CASES: [Case; 17] = [
+static CASES: [Case; 19] = [
     Case {
         is: "a clean session",
         session: HANDOVER,
@@ -417,6 +444,18 @@ static CASES: [Case; 17] = [
         session: SEEN,
         changes: &[],
         report: SEEN_REPORT,
+    },
+    Case {
+        is: "a page that comes over the lane",
+        session: PULLED,
+        changes: &[],
+        report: PULLED_REPORT,
+    },
+    Case {
+        is: "that page used with no look",
+        session: PULLED,
+        changes: &[("guest 4", "guest 3"), ("see 3\n", "")],
+        report: UNSEEN_PULL_REPORT,
     },
 ];
 

@@ -474,6 +474,33 @@ skip 9
 end
 ";
 
+/// In the second version: page 0 comes over the lane, and is seen and read.
+pub const PULLED: &str = "postcopy-session 2
+pages 1
+cells 1
+init 1
+page 0 0000000000000006
+guest 4
+halt
+resume 1
+see 3
+r 0 0 0 6
+source 3
+halted 0
+state
+send 0 0000000000000006
+link 1
+down 1
+lane 1
+down 2
+pager 4
+got 0
+ready
+pull 0
+place 0 2 0000000000000006
+end
+";
+
 /// How many lines a text has.
 fn lines_of(text: &str) -> u32 {
     let mut lines = 0u32;

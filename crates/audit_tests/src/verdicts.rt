@@ -1,6 +1,6 @@
 //! Sessions through the checker, with a change at a time.
 
-use crate::texts::{FRESH, HANDOVER, RELEASED, SEEN};
+use crate::texts::{FRESH, HANDOVER, PULLED, RELEASED, SEEN};
 use audit_model::ShapeReason;
 use cert_check::{ShapeFault, Verdict, check, check_par, check_texts, check_texts_alone, shape};
 use cert_text::read_cert;
@@ -21,6 +21,9 @@ const FRESH_CERT: &str =
 
 const SEEN_CERT: &str =
     "postcopy-certificate 2\npages 1\npage 0 source 2 3 3 2\nruns 5\nrun guest 1\nrun source 3\nrun link 2\nrun pager 4\nrun guest 4\nend\n";
+
+const PULLED_CERT: &str =
+    "postcopy-certificate 2\npages 1\npage 0 source 2 3 3 2\nruns 6\nrun guest 1\nrun source 3\nrun link 1\nrun lane 1\nrun pager 4\nrun guest 3\nend\n";
 
 /// A change of a text, and the verdict that follows it.
 struct Case {
@@ -48,7 +51,7 @@ struct Table {
 const HALTED: &str =
     "postcopy-session 1\npages 2\ncells 1\ninit 1\npage 0 0000000000000005\nguest 2\nw 0 1 0 7\nhalt\nsource 1\nhalted 1\nlink 0\npager 0\nend\n";
 
-static TABLES: [Table; 8] = [
+static TABLES: [Table; 10] = [
     // The shape of the handover.
     Table {
         session: HANDOVER,
@@ -532,6 +535,63 @@ static TABLES: [Table; 8] = [
             },
         ],
     },
+    // A page that comes over the lane.
+    Table {
+        session: PULLED,
+        cert: PULLED_CERT,
+        changed: Changed::Session,
+        cases: &[
+            Case {
+                old: "pull 0",
+                new: "pull 1",
+                verdict: Verdict::Shape(ShapeFault {
+                    line: 22,
+                    reason: ShapeReason::Named,
+                }),
+            },
+            Case {
+                old: "lane 1\ndown 2",
+                new: "lane 1\ndown 0",
+                verdict: Verdict::Shape(ShapeFault {
+                    line: 18,
+                    reason: ShapeReason::Named,
+                }),
+            },
+            // The state may come over the lane too.
+            Case {
+                old: "link 1\ndown 1\nlane 1\ndown 2\npager 4\ngot 0\nready\npull 0",
+                new: "link 0\nlane 2\ndown 1\ndown 2\npager 4\npull 0\nready\npull 1",
+                verdict: Verdict::Runs(7),
+            },
+            Case {
+                old: "postcopy-session 2",
+                new: "postcopy-session 1",
+                verdict: Verdict::SessionText(17),
+            },
+        ],
+    },
+    Table {
+        session: PULLED,
+        cert: PULLED_CERT,
+        changed: Changed::Certificate,
+        cases: &[
+            Case {
+                old: "run lane 1\nrun pager 4",
+                new: "run pager 4\nrun lane 1",
+                verdict: Verdict::Runs(8),
+            },
+            Case {
+                old: "run lane 1",
+                new: "run lane 2",
+                verdict: Verdict::Runs(8),
+            },
+            Case {
+                old: "postcopy-certificate 2",
+                new: "postcopy-certificate 1",
+                verdict: Verdict::CertText(8),
+            },
+        ],
+    },
 ];
 
 /// Whether this is the verdict on two texts, of threads and of the calling thread alone.
@@ -617,7 +677,8 @@ fn right_certificates(rt: HostRuntime) {
     let are_right = are_right_texts(&rt, alloc, HANDOVER, HANDOVER_CERT)
         && are_right_texts(&rt, alloc, RELEASED, RELEASED_CERT)
         && are_right_texts(&rt, alloc, FRESH, FRESH_CERT)
-        && are_right_texts(&rt, alloc, SEEN, SEEN_CERT);
+        && are_right_texts(&rt, alloc, SEEN, SEEN_CERT)
+        && are_right_texts(&rt, alloc, PULLED, PULLED_CERT);
     assert!(rt; are_right);
 }
 

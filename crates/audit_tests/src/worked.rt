@@ -1,7 +1,7 @@
 //! The plain programs on the handover, on a session with a released page, and on faulty changes of both.
 
 use crate::plain::{names_of, page_fault, shape_fault};
-use crate::texts::{FOUND, FRESH, HANDOVER, OVER, RELEASED, SEEN, changed_session};
+use crate::texts::{FOUND, FRESH, HANDOVER, OVER, PULLED, RELEASED, SEEN, changed_session};
 use audit_model::{Home, PageReason, ShapeReason};
 use cert_text::read_runs;
 use migration_types::{LogName, PageNo, Session};
@@ -42,7 +42,7 @@ struct Case {
     said: Said,
 }
 
-static CASES: [Case; 22] = [
+static CASES: [Case; 25] = [
     Case {
         is: "a fault that names no miss",
         session: HANDOVER,
@@ -196,6 +196,27 @@ static CASES: [Case; 22] = [
         old: "see 3\nz 0 0",
         new: "z 0 0\nsee 3",
         said: Said::PageFault(24, PageReason::Over),
+    },
+    Case {
+        is: "a page that comes over the lane",
+        session: PULLED,
+        old: "pull 0",
+        new: "pull 0",
+        said: Said::Clean,
+    },
+    Case {
+        is: "a pull of nothing that the lane delivered",
+        session: PULLED,
+        old: "pull 0",
+        new: "pull 1",
+        said: Said::ShapeFault(22, ShapeReason::Named),
+    },
+    Case {
+        is: "a delivery of the lane that nothing sent",
+        session: PULLED,
+        old: "lane 1\ndown 2",
+        new: "lane 1\ndown 0",
+        said: Said::ShapeFault(18, ShapeReason::Named),
     },
 ];
 

@@ -1,17 +1,20 @@
 -- The first fault of a log is the first of the session where the logs before it have none.
-use Rattle.std.proofs.Common.{◌≡◌, ℕ, ◌<◌, ◌≤◌, ◌⊎◌, inl, inr, Bool, true, false, length, Some, None, refl, sym, ap, ◌∙◌, subst, arith}
+use Rattle.std.proofs.Common.{◌≡◌, ℕ, ◌+◌, ◌<◌, ◌≤◌, ◌⊎◌, inl, inr, Bool, true, false, length, Some, None, refl, sym, ap, ◌∙◌, subst, arith, eq-eqb}
 use Rattle.std.proofs.lemmas.Bool.{cases_lt, cases_order}
 use Rattle.migration_types.specs.declared.records.LogName.{LogName}
-use Rattle.migration_types.specs.declared.records.LogName.TheVariants.{Guest, Source, Link, Pager}
+use Rattle.migration_types.specs.declared.records.LogName.TheVariants.{Guest, Source, Link, Lane, Pager}
 use Rattle.audit_model.specs.declared.reasons.ShapeReason.{ShapeReason}
 use Rattle.audit_model.specs.declared.reasons.ShapeReason.TheVariants.{Phases, Named, Start, SecondSend}
-use Rattle.migration_types.specs.Sessions.{Recorded, line_of}
-use Rattle.migration_types.specs.Receipts.{Name}
+use Rattle.migration_types.specs.Receipts.{Name, log_index, logs}
+use Rattle.migration_types.specs.Sessions.{Recorded, IsSession, line_of}
 use Rattle.audit_model.specs.Names.{log_length}
 use Rattle.audit_model.specs.Shape.{is_right, IsRightShape}
 use Rattle.cert_check.specs.inner.FirstOfLog.{first_reason, reason_at, IsRightLog, IsFirstOfLog}
 use Rattle.audit_model.specs.Reasons.{rank}
 use Rattle.audit_model.specs.FirstFault.{IsFirstFault}
+use Rattle.audit_model.proofs.Cuts.{same_from_test}
+use Rattle.merge_runs.proofs.Lines.{lines_rise}
+use Rattle.merge_runs.proofs.Logs.{index_small}
 use Rattle.cert_check.proofs.FirstOfLog.{past_end}
 
 -- which of four tests a reason asks for
@@ -107,6 +110,7 @@ same_line : (s : Recorded) (log : LogName) (a b : ℕ) → a < b → line_of s (
 same_line s Guest a b lt = omega arith
 same_line s Source a b lt = omega arith
 same_line s Link a b lt = omega arith
+same_line s Lane a b lt = omega arith
 same_line s Pager a b lt = omega arith
 
 -- in one log
@@ -118,44 +122,33 @@ same_log_after s log place reason first r n f = go (cases_order n place)
     go (inr (inl lt)) = none_wrong s (log, n) r (first.is_right_below n lt) f
     go (inr (inr gt)) = inl (same_line s log place n gt)
 
-pub guest_first : (s : Recorded) (place : ℕ) (reason : ShapeReason) → IsFirstOfLog s Guest place reason → IsFirstFault s reason (Guest, place)
-guest_first s place reason first = let lt : place < length s.guest = within s Guest place reason first.is_reason in record { is_wrong = wrong_at s (Guest, place) reason first.is_reason; is_first = λ r other. go r other lt }
-  where
-    go : (r : ShapeReason) (other : Name) → place < length s.guest → is_right s r other ≡ false → IsAfter s reason (Guest, place) r other
-    go r (Guest, n) lt f = same_log_after s Guest place reason first r n f
-    go r (Source, n) lt f = inl (omega arith)
-    go r (Link, n) lt f = inl (omega arith)
-    go r (Pager, n) lt f = inl (omega arith)
+same_index : (a b : LogName) → log_index a ≡ log_index b → a ≡ b
+same_index a b e = same_from_test a b (eq-eqb (log_index a) (log_index b) e)
 
-pub source_first : (s : Recorded) (place : ℕ) (reason : ShapeReason) → IsRightLog s Guest → IsFirstOfLog s Source place reason → IsFirstFault s reason (Source, place)
-source_first s place reason guest first = let lt : place < length s.source = within s Source place reason first.is_reason in record { is_wrong = wrong_at s (Source, place) reason first.is_reason; is_first = λ r other. go r other lt }
-  where
-    go : (r : ShapeReason) (other : Name) → place < length s.source → is_right s r other ≡ false → IsAfter s reason (Source, place) r other
-    go r (Guest, n) lt f = none_wrong s (Guest, n) r (guest n) f
-    go r (Source, n) lt f = same_log_after s Source place reason first r n f
-    go r (Link, n) lt f = inl (omega arith)
-    go r (Pager, n) lt f = inl (omega arith)
+-- no record of the first so many logs has a fault
+abbrev pub AreRightLogs : Recorded → ℕ → Type 0
+AreRightLogs s count = (log : LogName) → log_index log < count → IsRightLog s log
 
-pub link_first : (s : Recorded) (place : ℕ) (reason : ShapeReason) → IsRightLog s Guest → IsRightLog s Source → IsFirstOfLog s Link place reason → IsFirstFault s reason (Link, place)
-link_first s place reason guest source first = let lt : place < length s.link = within s Link place reason first.is_reason in record { is_wrong = wrong_at s (Link, place) reason first.is_reason; is_first = λ r other. go r other lt }
-  where
-    go : (r : ShapeReason) (other : Name) → place < length s.link → is_right s r other ≡ false → IsAfter s reason (Link, place) r other
-    go r (Guest, n) lt f = none_wrong s (Guest, n) r (guest n) f
-    go r (Source, n) lt f = none_wrong s (Source, n) r (source n) f
-    go r (Link, n) lt f = same_log_after s Link place reason first r n f
-    go r (Pager, n) lt f = inl (omega arith)
+pub no_logs : (s : Recorded) → AreRightLogs s 0
+no_logs s log lt = absurd (omega arith)
 
-pub pager_first : (s : Recorded) (place : ℕ) (reason : ShapeReason) → IsRightLog s Guest → IsRightLog s Source → IsRightLog s Link → IsFirstOfLog s Pager place reason → IsFirstFault s reason (Pager, place)
-pager_first s place reason guest source link first = record { is_wrong = wrong_at s (Pager, place) reason first.is_reason; is_first = go }
+pub one_more_log : (s : Recorded) (log : LogName) → AreRightLogs s (log_index log) → IsRightLog s log → AreRightLogs s (log_index log + 1)
+one_more_log s log before right other lt = go (cases_lt (log_index other) (log_index log))
   where
-    go : (r : ShapeReason) (other : Name) → is_right s r other ≡ false → IsAfter s reason (Pager, place) r other
-    go r (Guest, n) f = none_wrong s (Guest, n) r (guest n) f
-    go r (Source, n) f = none_wrong s (Source, n) r (source n) f
-    go r (Link, n) f = none_wrong s (Link, n) r (link n) f
-    go r (Pager, n) f = same_log_after s Pager place reason first r n f
+    go : (log_index other < log_index log) ⊎ (log_index log ≤ log_index other) → IsRightLog s other
+    go (inl less) = before other less
+    go (inr more) = subst (IsRightLog s) (same_index log other (omega (arith, lt, more))) right
 
-pub shape_right : (s : Recorded) → IsRightLog s Guest → IsRightLog s Source → IsRightLog s Link → IsRightLog s Pager → IsRightShape s
-shape_right s guest source link pager r (Guest, n) = right_from_none s (Guest, n) (guest n) r
-shape_right s guest source link pager r (Source, n) = right_from_none s (Source, n) (source n) r
-shape_right s guest source link pager r (Link, n) = right_from_none s (Link, n) (link n) r
-shape_right s guest source link pager r (Pager, n) = right_from_none s (Pager, n) (pager n) r
+-- the first fault of a log, where the logs before it have none
+pub log_first : (s : Recorded) (log : LogName) (place : ℕ) (reason : ShapeReason) → IsSession s → AreRightLogs s (log_index log) → IsFirstOfLog s log place reason → IsFirstFault s reason (log, place)
+log_first s log place reason limits before first = record { is_wrong = wrong_at s (log, place) reason first.is_reason; is_first = λ r other f. go r other f (cases_order (log_index log) (log_index other.0)) }
+  where
+    go : (r : ShapeReason) (other : Name) → is_right s r other ≡ false → (log_index log ≡ log_index other.0) ⊎ ((log_index log < log_index other.0) ⊎ (log_index other.0 < log_index log)) → IsAfter s reason (log, place) r other
+    go r (m, n) f (inl same) =
+        let own : m ≡ log = same_index m log (sym same) in
+        subst (λ (l : LogName). IsAfter s reason (log, place) r (l, n)) (sym own) (same_log_after s log place reason first r n (subst (λ (l : LogName). is_right s r (l, n) ≡ false) own f))
+    go r (m, n) f (inr (inl behind)) = inl (lines_rise s limits log m place n behind (within s log place reason first.is_reason))
+    go r (m, n) f (inr (inr earlier)) = none_wrong s (m, n) r (before m earlier n) f
+
+pub shape_right : (s : Recorded) → AreRightLogs s (length logs) → IsRightShape s
+shape_right s right r (log, n) = right_from_none s (log, n) (right log (index_small log) n) r

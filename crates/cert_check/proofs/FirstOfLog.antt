@@ -4,13 +4,14 @@ use Rattle.std.specs.Prelude.{slice_get}
 use Rattle.std.proofs.lemmas.Bool.{cases_lt}
 use Rattle.std.proofs.lemmas.Option.{slice_get_past}
 use Rattle.migration_types.specs.declared.records.LogName.{LogName}
-use Rattle.migration_types.specs.declared.records.LogName.TheVariants.{Guest, Source, Link, Pager}
+use Rattle.migration_types.specs.declared.records.LogName.TheVariants.{Guest, Source, Link, Lane, Pager}
 use Rattle.migration_types.specs.declared.records.GuestRec.{GuestRec}
 use Rattle.migration_types.specs.declared.records.SourceRec.{SourceRec}
 use Rattle.migration_types.specs.declared.records.SourceRec.TheVariants.{Halted, State, Send, Again, Ask, Done}
 use Rattle.audit_model.specs.declared.reasons.ShapeReason.{ShapeReason}
 use Rattle.migration_types.specs.Sessions.{Recorded}
 use Rattle.migration_types.specs.declared.records.LinkRec.{LinkRec}
+use Rattle.migration_types.specs.declared.records.LaneRec.{LaneRec}
 use Rattle.migration_types.specs.declared.records.PagerRec.{PagerRec}
 use Rattle.audit_model.specs.Names.{log_length}
 use Rattle.page_tables.specs.Tables.{Values, values, IsWith}
@@ -18,7 +19,7 @@ use Rattle.std.specs.Option.{MatchOption}
 use Rattle.log_passes.specs.declared.Found.{Found}
 use Rattle.log_passes.specs.Passes.{HaveNone, IsFirstFrom}
 use Rattle.audit_model.specs.Flat.{changed}
-use Rattle.audit_model.specs.Shape.{keeps, earlier, is_send_of, in_phase, guest_named, source_named, source_start, is_first_send, link_named, pager_named, pager_start}
+use Rattle.audit_model.specs.Shape.{keeps, earlier, is_send_of, in_phase, guest_named, source_named, source_start, is_first_send, link_named, lane_named, pager_named, pager_start}
 use Rattle.cert_check.specs.inner.FirstOfLog.{first_reason, is_unmarked, marked_by, sent_before, AreSent, reason_at, IsRightBelow, IsRightLog, IsFirstOfLog}
 
 -- one more record of a log
@@ -45,6 +46,12 @@ link_past s n past = ap (λ o. first_reason true (keeps (link_named s) o) true t
 pub link_reason_at : (s : Recorded) (n : ℕ) (r : LinkRec) → slice_get s.link n ≡ Some r → reason_at s (Link, n) ≡ first_reason true (link_named s r) true true
 link_reason_at s n r e = ap (λ o. first_reason true (keeps (link_named s) o) true true) e
 
+lane_past : (s : Recorded) (n : ℕ) → length s.lane ≤ n → reason_at s (Lane, n) ≡ None
+lane_past s n past = ap (λ o. first_reason true (keeps (lane_named s) o) true true) (slice_get_past s.lane n past)
+
+pub lane_reason_at : (s : Recorded) (n : ℕ) (r : LaneRec) → slice_get s.lane n ≡ Some r → reason_at s (Lane, n) ≡ first_reason true (lane_named s r) true true
+lane_reason_at s n r e = ap (λ o. first_reason true (keeps (lane_named s) o) true true) e
+
 pager_past : (s : Recorded) (n : ℕ) → length s.pager ≤ n → reason_at s (Pager, n) ≡ None
 pager_past s n past = ap (λ o. first_reason true (keeps (pager_named s n) o) (keeps (pager_start s n) o) true) (slice_get_past s.pager n past)
 
@@ -55,6 +62,7 @@ pub past_end : (s : Recorded) (log : LogName) (n : ℕ) → log_length s log ≤
 past_end s Guest n le = guest_past s n le
 past_end s Source n le = source_past s n le
 past_end s Link n le = link_past s n le
+past_end s Lane n le = lane_past s n le
 past_end s Pager n le = pager_past s n le
 
 to_the_end : (s : Recorded) (log : LogName) (k : ℕ) → ((n : ℕ) → k ≤ n → reason_at s (log, n) ≡ None) → IsRightBelow s log k → IsRightLog s log

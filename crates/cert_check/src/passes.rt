@@ -1,17 +1,17 @@
 //! How the records of each log are judged for the shape, one after the other.
 
 ghost use Rattle.std.specs.Prelude.{◌≡◌, ◌||◌, true};
-ghost use Rattle.migration_types.specs.declared.records.LogName.TheVariants.{Guest, Source, Link, Pager};
+ghost use Rattle.migration_types.specs.declared.records.LogName.TheVariants.{Guest, Source, Link, Lane, Pager};
 ghost use Rattle.audit_model.specs.Names.{log_length};
-ghost use Rattle.audit_model.specs.Shape.{in_phase_by, is_halt, is_resume, guest_named, source_named, link_named, pager_named, source_start, pager_start};
+ghost use Rattle.audit_model.specs.Shape.{in_phase_by, is_halt, is_resume, guest_named, source_named, link_named, lane_named, pager_named, source_start, pager_start};
 ghost use Rattle.page_tables.specs.Tables.{pages_of, values, IsWith};
 ghost use Rattle.page_facts.specs.Moved.{SourcePage};
 ghost use Rattle.cert_check.specs.inner.FirstOfLog.{first_reason, is_unmarked, marked_by, reason_at, AreSent};
 ghost use Rattle.cert_check.specs.inner.Phases.{ArePhases, ArePhasesAfter};
 
 use audit_model::{
-    ShapeReason, guest_named, in_phase, is_halt, is_resume, link_named, pager_named, pager_start,
-    source_named, source_start,
+    ShapeReason, guest_named, in_phase, is_halt, is_resume, lane_named, link_named, pager_named,
+    pager_start, source_named, source_start,
 };
 use log_passes::Pass;
 use migration_types::{GuestRec, PagerRec, Session, SourceRec};
@@ -32,6 +32,9 @@ pub(crate) struct SourcePass;
 
 /// The pass over the link's log.
 pub(crate) struct LinkPass;
+
+/// The pass over the lane's log.
+pub(crate) struct LanePass;
 
 /// The pass over the pager's log.
 pub(crate) struct PagerPass;
@@ -157,6 +160,25 @@ impl Pass for LinkPass {
 
     fn judge(session: &Session, _nothing: &mut (), n: usize) -> Option<ShapeReason> {
         if !link_named(session, &session.link()[n]) {
+            return Some(ShapeReason::Named);
+        }
+        None
+    }
+}
+
+impl Pass for LanePass {
+    type State = ();
+
+    type Reason = ShapeReason;
+
+    ghost count = { λ s. log_length s Lane };
+
+    ghost reason = { λ s n. reason_at s (Lane, n) };
+
+    ghost IsAt = { λ s n u. Unit {0} };
+
+    fn judge(session: &Session, _nothing: &mut (), n: usize) -> Option<ShapeReason> {
+        if !lane_named(session, &session.lane()[n]) {
             return Some(ShapeReason::Named);
         }
         None

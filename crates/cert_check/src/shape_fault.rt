@@ -1,13 +1,13 @@
 //! The shape of a session: its first fault.
 
 ghost use Rattle.std.specs.Prelude.{◌≡◌, MatchOption, IfOk};
-ghost use Rattle.migration_types.specs.declared.records.LogName.TheVariants.{Guest, Source, Link, Pager};
+ghost use Rattle.migration_types.specs.declared.records.LogName.TheVariants.{Guest, Source, Link, Lane, Pager};
 ghost use Rattle.migration_types.specs.Sessions.{IsSession, line_of};
 ghost use Rattle.audit_model.specs.Shape.{IsRightShape};
 ghost use Rattle.cert_check.specs.inner.FirstOfLog.{IsRightLog, IsFirstOfLog};
 ghost use Rattle.cert_check.specs.Verdicts.{IsShapeFault};
 
-use crate::passes::{GuestPass, LinkPass, PagerPass, Phases, SourcePass};
+use crate::passes::{GuestPass, LanePass, LinkPass, PagerPass, Phases, SourcePass};
 use crate::verdict::ShapeFault;
 use audit_model::ShapeReason;
 use log_passes::{Found, first_found};
@@ -46,6 +46,14 @@ fn link_fault(session: &Session) -> Option<Found<ShapeReason>>
     first_found::<LinkPass>(session, &mut (), 0, session.link().len())
 }
 
+/// The first fault of the lane's log.
+fn lane_fault(session: &Session) -> Option<Found<ShapeReason>>
+    requires { IsSession session.now }
+    ensures { MatchOption result (IsRightLog session.now Lane) (λ f. IsFirstOfLog session.now Lane f.place f.reason) }
+{
+    first_found::<LanePass>(session, &mut (), 0, session.lane().len())
+}
+
 /// The first fault of the pager's log.
 fn pager_fault(session: &Session) -> Option<Found<ShapeReason>>
     requires { IsSession session.now }
@@ -82,6 +90,9 @@ pub fn shape(alloc: Global, session: &Session) -> Result<Option<ShapeFault>, All
     }
     if let Some(fault) = link_fault(session) {
         return Ok(Some(told(session, LogName::Link, fault)));
+    }
+    if let Some(fault) = lane_fault(session) {
+        return Ok(Some(told(session, LogName::Lane, fault)));
     }
     if let Some(fault) = pager_fault(session) {
         return Ok(Some(told(session, LogName::Pager, fault)));

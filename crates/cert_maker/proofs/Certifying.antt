@@ -16,8 +16,10 @@ use Rattle.audit_model.specs.Mergings.{IsMerging, spelled}
 use Rattle.audit_model.specs.Shape.{IsRightShape}
 use Rattle.audit_model.specs.Laws.{FirstVersionIsPlain}
 use Rattle.audit_model.specs.Certificates.{IsCovered, IsRightEntry, IsRightCertificate}
+use Rattle.audit_model.proofs.Walked.{merging_is_walk}
 use Rattle.cert_maker.specs.Made.{IsMade}
 use Rattle.cert_maker.specs.inner.Entries.{HasBarePage, AreMade, is_fresh, version_for}
+use Rattle.cert_maker.proofs.Fitting.{fitting_runs, take_records}
 
 -- ---- limits
 
@@ -65,12 +67,23 @@ of_right_shape s entries plain made shape = by_fresh (list_any is_fresh entries)
     by_fresh true e = let f = fresh_at entries e in two_where_fresh s.version entries e ∙ by_version f.0 f.1 f.2 s.version refl
     by_fresh false e = ap (λ (b : Bool). if b then Two else s.version) e
 
-pub made_cert : (s : Recorded) (version : Version) (entries : List Entry) (runs : List Run) → version ≡ version_for s.version entries → IsSession s → AreMade s entries → AreRuns runs → IsCert (record { version = version; entries = entries; runs = runs })
-made_cert s version entries runs is_version limits made are_runs = record {
+-- the runs of a merging fit the session's version, and so the certificate's
+made_runs : (s : Recorded) (version : Version) (entries : List Entry) (runs : List Run) → version ≡ version_for s.version entries → IsSession s → IsMerging s (spelled runs) → AreRuns Two runs → AreRuns version runs
+made_runs s version entries runs is_version limits merging fits = subst (λ (v : Version). AreRuns v runs) (sym is_version) (go (list_any is_fresh entries))
+  where
+    own : AreRuns s.version runs
+    own = fitting_runs s runs limits (take_records Two runs fits) fits.alternate (λ log. let all = (merging_is_walk s (spelled runs) merging).1 log in omega (arith, all))
+
+    go : (b : Bool) → AreRuns (if b then Two else s.version) runs
+    go true = fits
+    go false = own
+
+pub made_cert : (s : Recorded) (version : Version) (entries : List Entry) (runs : List Run) → version ≡ version_for s.version entries → IsSession s → AreMade s entries → IsMerging s (spelled runs) → AreRuns Two runs → IsCert (record { version = version; entries = entries; runs = runs })
+made_cert s version entries runs is_version limits made merging fits = record {
   some_pages = let some = limits.geometry.some_pages in let e = made.pages in omega arith;
   few_pages = let few = limits.geometry.few_pages in let e = made.pages in omega arith;
   entries = all_from (EntryFits version) entries (λ page entry is. entry_fits s version page entry limits (made.each page entry is).right (λ fresh. is_version ∙ two_where_fresh s.version entries (any_fresh entries page entry is fresh)));
-  runs = are_runs;
+  runs = made_runs s version entries runs is_version limits merging fits;
 }
 
 -- ---- the answers

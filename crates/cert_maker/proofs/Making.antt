@@ -7,7 +7,7 @@ use Rattle.migration_types.specs.declared.records.GuestRec.{GuestRec}
 use Rattle.migration_types.specs.declared.records.GuestRec.TheVariants.{Read, Write, Release, Miss, Halt, Resume, See}
 use Rattle.migration_types.specs.declared.records.SourceRec.TheVariants.{Send, Again}
 use Rattle.migration_types.specs.declared.records.PagerRec.{PagerRec}
-use Rattle.migration_types.specs.declared.records.PagerRec.TheVariants.{Got, Ready, Fault, Join, Want, Place, Zero, Skip, All}
+use Rattle.migration_types.specs.declared.records.PagerRec.TheVariants.{Got, Pull, Ready, Fault, Join, Want, Place, Zero, Skip, All}
 use Rattle.migration_types.specs.declared.cert.First.{First}
 use Rattle.migration_types.specs.declared.cert.Entry.{Entry}
 use Rattle.migration_types.specs.declared.cert.Entry.TheVariants.{Nothing, Fresh, Source, Balloon}
@@ -207,6 +207,7 @@ module _ (s : Recorded) (page : ℕ) (f : PageFacts) (facts : IsFacts s page f) 
       by_record place first is (Place p got content) e = sent place first is (send_of s got) e
       by_record place first is (Zero p) e = let same : Balloon place first ≡ entry = cc in subst (λ (x : Entry). NamesEarliest s x) same is
       by_record place first is (Got i) e = absurd (cc)
+      by_record place first is (Pull i) e = absurd (cc)
       by_record place first is Ready e = absurd (cc)
       by_record place first is (Fault i) e = absurd (cc)
       by_record place first is (Join i) e = absurd (cc)

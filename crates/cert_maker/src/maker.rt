@@ -1,6 +1,7 @@
 //! Certificates.
 
 ghost use Rattle.std.specs.Prelude.{MatchResult};
+ghost use Rattle.migration_types.specs.declared.version.Version.TheVariants.{Two};
 ghost use Rattle.migration_types.specs.Certs.{AreRuns};
 ghost use Rattle.page_facts.specs.Findings.{AreFindings};
 ghost use Rattle.cert_maker.specs.Made.{IsMade, IsRefused};
@@ -30,7 +31,7 @@ pub enum MakeFault {
 /// over the records, and memory for the entries, a few numbers for each page, one for each record that is of a page, and
 /// the cells of one page. On an error the runs are dropped.
 pub fn make(alloc: Global, session: &Session, runs: Seq<Run>) -> Result<Cert, MakeFault>
-    requires { AreRuns runs }
+    requires { AreRuns Two runs }
     ensures { MatchResult result (IsMade session.now runs) (IsRefused session.now runs) }
 {
     let Ok(found) = findings_of(alloc, session) else {
@@ -47,7 +48,7 @@ pub fn make_by(
     found: &[Findings],
     runs: Seq<Run>,
 ) -> Result<Cert, MakeFault>
-    requires runs { AreRuns runs }
+    requires runs { AreRuns Two runs }
     requires found { AreFindings session.now found.now }
     ensures { MatchResult result (IsMade session.now runs) (IsRefused session.now runs) }
 {

@@ -1,29 +1,24 @@
 -- The runs of an order cut in two.
-use Rattle.std.specs.Prelude.{◌≡◌, ℕ, ◌+◌, ◌≤◌, List, length, slice_index_or, min}
-use Rattle.std.specs.List.{AllByRecursion, filter}
+use Rattle.std.specs.Prelude.{◌≡◌, ℕ, ◌+◌, ◌≤◌, List, length, slice_index_or, min, max}
+use Rattle.std.specs.List.{filter}
 use Rattle.migration_types.specs.declared.records.LogName.{LogName}
-use Rattle.migration_types.specs.declared.records.LogName.TheVariants.{Guest, Source, Link, Pager}
 use Rattle.migration_types.specs.declared.cert.Run.{Run}
-use Rattle.migration_types.specs.Certs.{RunFits, Alternate}
+use Rattle.migration_types.specs.Certs.{Alternate}
 use Rattle.migration_types.specs.Sessions.{Recorded}
 use Rattle.audit_model.specs.Names.{log_length}
 use Rattle.audit_model.specs.Mergings.{Cursors, at_start, spelled}
 use Rattle.audit_model.specs.Walks.{cursors_from}
 use Rattle.audit_model.specs.Delayed.{is_below, rearranged}
+use Rattle.cert_maker.specs.inner.Taking.{TakeRecords}
 
 -- how many records of each log the runs take
 abbrev pub ends : List Run → Cursors
 ends runs = cursors_from at_start (spelled runs)
 
--- how many records the cursors have passed
-abbrev pub total : Cursors → ℕ
-total c = c Guest + c Source + c Link + c Pager
-
--- runs as long as they can be, within the limits of a certificate's runs
+-- runs as long as they can be, of logs with no more records than a session's can have
 pub record AreBlocks (runs : List Run) : Type 0 where
-  pub few : length runs ≤ total (ends runs)
   pub small : (log : LogName) → ends runs log ≤ 1048576
-  pub each : AllByRecursion RunFits runs
+  pub each : TakeRecords runs
   pub alternate : Alternate runs
   pub last : (k : ℕ) (d : Run) → k + 1 ≡ length runs → (slice_index_or runs k d).count ≤ ends runs (slice_index_or runs k d).log
 
@@ -41,3 +36,4 @@ pub record AreBelow (d : Cursors) (runs parts : List Run) : Type 0 where
 pub record AreRearranged (d : Cursors) (runs parts : List Run) : Type 0 where
   pub blocks : AreBlocks parts
   pub names : spelled parts ≡ rearranged d (spelled runs)
+  pub ends : (log : LogName) → ends parts log ≡ max (ends runs log) (d log)

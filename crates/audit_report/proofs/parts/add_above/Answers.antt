@@ -7,7 +7,8 @@ use Rattle.audit_model.specs.Mergings.{Cursors, spelled}
 use Rattle.audit_model.specs.Walks.{IsWholeWalk}
 use Rattle.audit_model.specs.Delayed.{is_below}
 use Rattle.merge_runs.specs.Taken.{cursors_of}
-use Rattle.audit_report.proofs.Points.{log_small, room_at, moved_on}
+use Rattle.cert_maker.proofs.Fitting.{log_fits}
+use Rattle.audit_report.proofs.Points.{room_at, moved_on}
 use Rattle.audit_report.proofs.Blocks.{IsAdded}
 use Rattle.audit_report.proofs.Splitting.{above_none, above_on, above_all}
 use Rattle.audit_report.proofs.parts.add_above.Goals.{In-loop-run}
@@ -27,7 +28,7 @@ fits : (c : In-loop-run) → cursors_of c.loop-run.taken (run_of c).log + (run_o
 fits c = room_at c.args.session.now c.args.runs.now (whole c) c.loop-run.taken c.loop-run.run-index no_run c.loop-run.invariant.at c.loop-run-test.true
 
 small : (c : In-loop-run) → cursors_of c.loop-run.taken (run_of c).log + (run_of c).count ≤ 1048576
-small c = omega (arith, fits c, log_small c.args.session.now (run_of c).log c.requires.limits)
+small c = omega (arith, fits c, log_fits c.args.session.now (run_of c).log c.requires.limits)
 
 pub loop-run-init : goal.loop-run-init
 loop-run-init c =
@@ -45,7 +46,7 @@ add_part-requires-clause-room c =
     let run : Run = get_or c.args.runs.now c.loop-run.run-index no_run in
     let here = ap (λ (x : Cursors). x run.log) c.loop-run.invariant.at in
     let ends_at = c.loop-run.invariant.going.ends run.log in
-    omega (arith, here, ends_at, c.below_of-below.ensures, small at, c.requires.within run.log, log_small s run.log c.requires.limits)
+    omega (arith, here, ends_at, c.below_of-below.ensures, small at, c.requires.within run.log, log_fits s run.log c.requires.limits)
 
 pub loop-run-preserved : goal.loop-run-preserved
 loop-run-preserved c =

@@ -5,7 +5,8 @@ use Rattle.audit_model.specs.Mergings.{Cursors, spelled}
 use Rattle.audit_model.specs.Walks.{IsWholeWalk}
 use Rattle.merge_runs.specs.Taken.{cursors_of}
 use Rattle.audit_report.specs.inner.Parts.{AreBelow}
-use Rattle.audit_report.proofs.Points.{log_small, room_at, moved_on}
+use Rattle.cert_maker.proofs.Fitting.{log_fits}
+use Rattle.audit_report.proofs.Points.{room_at, moved_on}
 use Rattle.audit_report.proofs.Blocks.{IsAdded}
 use Rattle.audit_report.proofs.Splitting.{below_none, below_on, below_all}
 use Rattle.audit_report.proofs.parts.below_parts.Goals.{In-loop-run}
@@ -22,7 +23,7 @@ whole : (c : In-loop-run) → IsWholeWalk c.args.session.now (spelled c.args.run
 whole c = (c.mergings_are_walks.ensures.walks c.args.session.now (spelled c.args.runs.now)).0 c.requires.merging
 
 small : (c : In-loop-run) → cursors_of c.loop-run.taken (run_of c).log + (run_of c).count ≤ 1048576
-small c = omega (arith, room_at c.args.session.now c.args.runs.now (whole c) c.loop-run.taken c.loop-run.run-index no_run c.loop-run.invariant.at c.loop-run-test.true, log_small c.args.session.now (run_of c).log c.requires.limits)
+small c = omega (arith, room_at c.args.session.now c.args.runs.now (whole c) c.loop-run.taken c.loop-run.run-index no_run c.loop-run.invariant.at c.loop-run-test.true, log_fits c.args.session.now (run_of c).log c.requires.limits)
 
 pub loop-run-init : goal.loop-run-init
 loop-run-init c = record {

@@ -14,7 +14,8 @@ returns-in_default-made c =
 pub new-requires : goal.new-requires
 new-requires c =
     let s = c.args.session.now in
-    made_cert s c.version_for-version.result c.in-Some.entries c.args.runs c.version_for-version.ensures c.keeps_limits.ensures (MatchOption-at_some (HasBarePage s) (AreMade s) c.in-Some.entries c.in-Some.is c.in-Ok.ensures) c.requires.runs
+    let merging = subst (λ (runs : List Run). IsMerging s (spelled runs)) c.as_slice.ensures (c.if-not-is_merging.ensures.0 refl) in
+    made_cert s c.version_for-version.result c.in-Some.entries c.args.runs c.version_for-version.ensures c.keeps_limits.ensures (MatchOption-at_some (HasBarePage s) (AreMade s) c.in-Some.entries c.in-Some.is c.in-Ok.ensures) merging c.requires.runs
 
 pub returns : goal.returns
 returns c =

@@ -10,19 +10,19 @@ use Rattle.cert_maker.proofs.order.found_runs.Goals as goal
 pub loop-log-init : goal.loop-log-init
 loop-log-init c =
     let n = c.next_run-first.ensures in
-    going_start c.args.session.now _ _ c.next_run-first.result _ c.keeps_limits.ensures c.nothing-taken.ensures n.log n.goes c.moved-taken.ensures c.in_ok-runs.ensures
+    going_start c.args.session.now _ _ c.next_run-first.result _ c.nothing-taken.ensures n.log n.goes c.moved-taken.ensures c.in_ok-runs.ensures
 
 pub loop-log-preserved : goal.loop-log-preserved
 loop-log-preserved c =
     let n = c.next_run-run.ensures in
-    going_on c.args.session.now _ _ _ _ c.in-Some.log c.next_run-run.result c.keeps_limits.ensures c.loop-log.invariant (sym c.first_ready.ensures ∙ c.in-Some.is) n.log n.goes c.moved-taken-in-Some.ensures c.in_ok-push.ensures.items
+    going_on c.args.session.now _ _ _ _ c.in-Some.log c.next_run-run.result c.loop-log.invariant (sym c.first_ready.ensures ∙ c.in-Some.is) n.log n.goes c.moved-taken-in-Some.ensures c.in_ok-push.ensures.items
 
 pub loop-log-smaller : goal.loop-log-smaller
 loop-log-smaller c =
     let s = c.args.session.now in
     let n = c.next_run-run.ensures in
     let first = sym c.first_ready.ensures ∙ c.in-Some.is in
-    let going = going_on s _ _ _ _ c.in-Some.log c.next_run-run.result c.keeps_limits.ensures c.loop-log.invariant first n.log n.goes c.moved-taken-in-Some.ensures c.in_ok-push.ensures.items in
+    let going = going_on s _ _ _ _ c.in-Some.log c.next_run-run.result c.loop-log.invariant first n.log n.goes c.moved-taken-in-Some.ensures c.in_ok-push.ensures.items in
     left_less s (cursors_of c.loop-log.taken) (cursors_of c.moved-taken-in-Some.result) c.in-Some.log c.next_run-run.result.count first n.goes c.moved-taken-in-Some.ensures going.within
 
 pub returns : goal.returns
