@@ -10,13 +10,15 @@ use Rattle.migration_types.specs.declared.records.SourceRec.{SourceRec}
 use Rattle.migration_types.specs.declared.records.SourceRec.TheVariants.{Halted, State, Send, Again, Ask, Done}
 use Rattle.migration_types.specs.declared.records.LinkRec.{LinkRec}
 use Rattle.migration_types.specs.declared.records.LinkRec.TheVariants.{Down, Up}
+use Rattle.migration_types.specs.declared.records.LaneRec.{LaneRec}
+use Rattle.migration_types.specs.declared.records.LaneRec.TheVariants.{Down as LaneDown}
 use Rattle.migration_types.specs.declared.records.PagerRec.{PagerRec}
-use Rattle.migration_types.specs.declared.records.PagerRec.TheVariants.{Got, Ready, Fault, Join, Want, Place, Zero, Skip, All}
+use Rattle.migration_types.specs.declared.records.PagerRec.TheVariants.{Got, Pull, Ready, Fault, Join, Want, Place, Zero, Skip, All}
 use Rattle.migration_types.specs.declared.version.Version.{Version}
 use Rattle.migration_types.specs.declared.version.Version.TheVariants.{One, Two}
 use Rattle.migration_types.specs.Sessions.{Recorded}
-use Rattle.session_log.specs.Records.{guest_line, source_line, link_line, pager_line}
-use Rattle.session_log.specs.Grammar.{header, pages_key, cells_key, init_key, guest_key, source_key, link_key, lane, pager_key, page_line, with_lane, session_lines}
+use Rattle.session_log.specs.Records.{guest_line, source_line, link_line, lane_line, pager_line}
+use Rattle.session_log.specs.Grammar.{header, pages_key, cells_key, init_key, guest_key, source_key, link_key, lane_key, pager_key, page_line, with_lane, session_lines}
 
 -- the last line is `end`, and none before it
 pub record IsClosed (lines : List (List ℕ)) : Type 0 where
@@ -68,8 +70,12 @@ link_other : (r : LinkRec) → link_line r ≢ codes "end"
 link_other (Down sending) = other_line (link_line (Down sending)) refl
 link_other (Up asking) = other_line (link_line (Up asking)) refl
 
+lane_other : (r : LaneRec) → lane_line r ≢ codes "end"
+lane_other (LaneDown sending) = other_line (lane_line (LaneDown sending)) refl
+
 pager_other : (r : PagerRec) → pager_line r ≢ codes "end"
 pager_other (Got down) = other_line (pager_line (Got down)) refl
+pager_other (Pull down) = other_line (pager_line (Pull down)) refl
 pager_other Ready = other_line (pager_line Ready) refl
 pager_other (Fault miss) = other_line (pager_line (Fault miss)) refl
 pager_other (Join want) = other_line (pager_line (Join want)) refl
@@ -86,14 +92,14 @@ header_other : (version : Version) → header version ≢ codes "end"
 header_other One = other_line (header One) refl
 header_other Two = other_line (header Two) refl
 
-closed_lane : (version : Version) (lines : List (List ℕ)) → IsClosed lines → IsClosed (with_lane version lines)
-closed_lane One lines c = c
-closed_lane Two lines c = closed_cons lane lines (other_line lane refl) c
+closed_lane : (version : Version) (records : List LaneRec) (lines : List (List ℕ)) → IsClosed lines → IsClosed (with_lane version records lines)
+closed_lane One records lines c = c
+closed_lane Two records lines c = closed_counted lane_key lane_line records lines (other_line (lane_key ++ decimal (length records)) refl) lane_other c
 
 pub closed_session : (s : Recorded) → IsClosed (session_lines s)
 closed_session s =
     let pager = closed_counted pager_key pager_line s.pager (codes "end" ∷ []) (other_line (pager_key ++ decimal (length s.pager)) refl) pager_other closed_end in
-    let link = closed_counted link_key link_line s.link _ (other_line (link_key ++ decimal (length s.link)) refl) link_other (closed_lane s.version _ pager) in
+    let link = closed_counted link_key link_line s.link _ (other_line (link_key ++ decimal (length s.link)) refl) link_other (closed_lane s.version s.lane _ pager) in
     let source = closed_counted source_key source_line s.source _ (other_line (source_key ++ decimal (length s.source)) refl) source_other link in
     let guest = closed_counted guest_key guest_line s.guest _ (other_line (guest_key ++ decimal (length s.guest)) refl) guest_other source in
     let init = closed_counted init_key page_line s.init _ (other_line (init_key ++ decimal (length s.init)) refl) page_other guest in

@@ -1,14 +1,16 @@
 -- What a record is about: a page, or what another record is about; and how a record is marked.
 use Rattle.std.specs.Prelude.{ℕ, zero, suc, Bool, true, false, Option, Some, None, slice_get, ◌==◌, ◌&&◌, if◌then◌else◌}
-use Rattle.migration_types.specs.declared.records.LogName.TheVariants.{Guest, Source, Link, Pager}
+use Rattle.migration_types.specs.declared.records.LogName.TheVariants.{Guest, Source, Link, Lane, Pager}
 use Rattle.migration_types.specs.declared.records.GuestRec.{GuestRec}
 use Rattle.migration_types.specs.declared.records.GuestRec.TheVariants.{Read, Write, Release, Miss, Halt, Resume, See}
 use Rattle.migration_types.specs.declared.records.SourceRec.{SourceRec}
 use Rattle.migration_types.specs.declared.records.SourceRec.TheVariants.{Halted, State, Send, Again, Ask, Done}
 use Rattle.migration_types.specs.declared.records.LinkRec.{LinkRec}
 use Rattle.migration_types.specs.declared.records.LinkRec.TheVariants.{Down, Up}
+use Rattle.migration_types.specs.declared.records.LaneRec.{LaneRec}
+use Rattle.migration_types.specs.declared.records.LaneRec.TheVariants.{Down as LaneDown}
 use Rattle.migration_types.specs.declared.records.PagerRec.{PagerRec}
-use Rattle.migration_types.specs.declared.records.PagerRec.TheVariants.{Got, Ready, Fault, Join, Want, Place, Zero, Skip, All}
+use Rattle.migration_types.specs.declared.records.PagerRec.TheVariants.{Got, Pull, Ready, Fault, Join, Want, Place, Zero, Skip, All}
 use Rattle.migration_types.specs.Receipts.{Name}
 use Rattle.migration_types.specs.Sessions.{Recorded}
 use Rattle.audit_model.specs.Names.{same_log}
@@ -42,8 +44,12 @@ abbrev pub link_about : LinkRec → About
 link_about (Down sending) = Record Source sending
 link_about (Up asking) = Record Pager asking
 
+abbrev pub lane_about : LaneRec → About
+lane_about (LaneDown sending) = Record Source sending
+
 abbrev pub pager_about : PagerRec → About
 pager_about (Got down) = Record Link down
+pager_about (Pull down) = Record Lane down
 pager_about Ready = Nothing
 pager_about (Fault miss) = Record Guest miss
 pager_about (Join want) = Record Pager want
@@ -62,6 +68,7 @@ abbrev pub about : Recorded → Name → About
 about s (Guest, n) = about_in guest_about (slice_get s.guest n)
 about s (Source, n) = about_in source_about (slice_get s.source n)
 about s (Link, n) = about_in link_about (slice_get s.link n)
+about s (Lane, n) = about_in lane_about (slice_get s.lane n)
 about s (Pager, n) = about_in pager_about (slice_get s.pager n)
 
 abbrev pub page_by : (Name → Option ℕ) → About → Option ℕ

@@ -18,11 +18,13 @@ fn place_among(session: &Session, name: Name) -> usize {
     let guest = session.guest().len();
     let source = guest.saturating_add(session.source().len());
     let link = source.saturating_add(session.link().len());
+    let lane = link.saturating_add(session.lane().len());
     let before = match name.0 {
         LogName::Guest => 0,
         LogName::Source => guest,
         LogName::Link => source,
-        LogName::Pager => link,
+        LogName::Lane => link,
+        LogName::Pager => lane,
     };
     before.saturating_add(name.1 as usize)
 }

@@ -2,7 +2,7 @@
 
 use crate::records::Name;
 use crate::words::{push, push_with};
-use migration_types::{GuestRec, LinkRec, LogName, PageNo, PagerRec, Session, SourceRec};
+use migration_types::{GuestRec, LaneRec, LinkRec, LogName, PageNo, PagerRec, Session, SourceRec};
 use std::alloc::AllocError;
 
 /// Adds a word and a page.
@@ -70,9 +70,16 @@ fn push_link(out: &mut Vec<u8>, rec: &LinkRec) -> Result<(), AllocError> {
     }
 }
 
+fn push_lane(out: &mut Vec<u8>, rec: &LaneRec) -> Result<(), AllocError> {
+    match *rec {
+        LaneRec::Down { sending } => push_with(out, b"down ", u64::from(sending)),
+    }
+}
+
 fn push_pager(out: &mut Vec<u8>, rec: &PagerRec) -> Result<(), AllocError> {
     match rec {
         PagerRec::Got { down } => push_with(out, b"got ", u64::from(*down)),
+        PagerRec::Pull { down } => push_with(out, b"pull ", u64::from(*down)),
         PagerRec::Ready => push(out, b"ready"),
         PagerRec::Fault { miss } => push_with(out, b"fault ", u64::from(*miss)),
         PagerRec::Join { want } => push_with(out, b"join ", u64::from(*want)),
@@ -105,6 +112,10 @@ pub(crate) fn push_label(
         },
         LogName::Link => match session.link().get(place) {
             Some(rec) => push_link(out, rec),
+            None => Ok(()),
+        },
+        LogName::Lane => match session.lane().get(place) {
+            Some(rec) => push_lane(out, rec),
             None => Ok(()),
         },
         LogName::Pager => match session.pager().get(place) {

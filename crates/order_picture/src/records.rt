@@ -28,6 +28,7 @@ pub(crate) fn receipt(session: &Session, name: Name) -> Option<Name>
         LogName::Guest => receipt_in(session.guest(), place),
         LogName::Source => receipt_in(session.source(), place),
         LogName::Link => receipt_in(session.link(), place),
+        LogName::Lane => receipt_in(session.lane(), place),
         LogName::Pager => receipt_in(session.pager(), place),
     }
 }

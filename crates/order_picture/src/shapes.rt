@@ -2,13 +2,10 @@
 
 use crate::focus::Mark;
 use crate::words::{push, push_with};
-use migration_types::LogName;
+use migration_types::{LogName, Session};
 use std::alloc::AllocError;
 
-/// The width of a picture, in pixels, as all lengths here.
-pub(crate) const WIDTH: u64 = 900;
-
-/// Where the first row begins.
+/// Where the first row begins, in pixels, as all lengths here.
 pub(crate) const TOP: u64 = 136;
 
 /// The height of a row.
@@ -25,13 +22,63 @@ pub(crate) enum Look {
     Stuck,
 }
 
-/// The middle of a log's column.
-pub(crate) fn column(log: LogName) -> u64 {
-    match log {
-        LogName::Guest => 194,
-        LogName::Source => 422,
-        LogName::Link => 606,
-        LogName::Pager => 790,
+/// The columns of a picture: one for each log, for the lane only where it has records.
+#[derive(Clone, Copy)]
+pub(crate) struct Columns {
+    has_lane: bool,
+}
+
+impl Columns {
+    /// The columns for the logs of a session.
+    pub(crate) fn of(session: &Session) -> Self {
+        Columns {
+            has_lane: !session.lane().is_empty(),
+        }
+    }
+
+    /// Whether there is one for this log.
+    pub(crate) fn has(self, log: LogName) -> bool {
+        self.has_lane || log != LogName::Lane
+    }
+
+    /// The width of the picture.
+    pub(crate) fn width(self) -> u64 {
+        if self.has_lane { 1084 } else { 900 }
+    }
+
+    /// The middle of a log's column; of a lane that has none that of the link's.
+    pub(crate) fn middle(self, log: LogName) -> u64 {
+        match log {
+            LogName::Guest => 194,
+            LogName::Source => 422,
+            LogName::Link => 606,
+            LogName::Lane => self.width().saturating_sub(294),
+            LogName::Pager => self.width().saturating_sub(110),
+        }
+    }
+
+    /// The left edge of a box in a log's column.
+    fn left(self, log: LogName) -> u64 {
+        self.middle(log).saturating_sub(half(log))
+    }
+
+    /// The right edge of a box in a log's column.
+    fn right(self, log: LogName) -> u64 {
+        self.middle(log).saturating_add(half(log))
+    }
+
+    /// Whether the one log's column is left of the other's.
+    fn are_in_order(self, one: LogName, other: LogName) -> bool {
+        self.middle(one) < self.middle(other)
+    }
+
+    /// Where an arrow meets a log's box on the side of another log.
+    fn side(self, log: LogName, other: LogName) -> u64 {
+        if self.are_in_order(other, log) {
+            self.left(log)
+        } else {
+            self.right(log)
+        }
     }
 }
 
@@ -96,7 +143,13 @@ fn paint(look: Look) -> &'static [u8] {
 }
 
 /// Adds the sign of the faulty record, a cross, or of what it concerns, a diamond, at the right of its box.
-fn push_sign(out: &mut Vec<u8>, look: Look, log: LogName, row: usize) -> Result<(), AllocError> {
+fn push_sign(
+    out: &mut Vec<u8>,
+    columns: Columns,
+    look: Look,
+    log: LogName,
+    row: usize,
+) -> Result<(), AllocError> {
     let sign: &[u8] = match look {
         Look::Marked(Mark::Faulty) => {
             b")'><path class='cross' d='M-4 -4L4 4M-4 4L4 -4' fill='none' stroke='#c21e1e' stroke-width='2.5'/></g>"
@@ -106,7 +159,7 @@ fn push_sign(out: &mut Vec<u8>, look: Look, log: LogName, row: usize) -> Result<
         }
         _ => return Ok(()),
     };
-    let x = column(log).saturating_add(half(log)).saturating_sub(12);
+    let x = columns.right(log).saturating_sub(12);
     push_with(out, b"<g transform='translate(", x)?;
     push_with(out, b" ", middle_of(row))?;
     push(out, sign)
@@ -115,29 +168,31 @@ fn push_sign(out: &mut Vec<u8>, look: Look, log: LogName, row: usize) -> Result<
 /// Adds a record's box, with its sign.
 pub(crate) fn push_box(
     out: &mut Vec<u8>,
+    columns: Columns,
     look: Look,
     log: LogName,
     row: usize,
 ) -> Result<(), AllocError> {
     push(out, b"<rect")?;
-    push_attribute(out, b"x", column(log).saturating_sub(half(log)))?;
+    push_attribute(out, b"x", columns.left(log))?;
     push_attribute(out, b"y", top_of(row).saturating_add(3))?;
     push_attribute(out, b"width", half(log).saturating_mul(2))?;
     push_attribute(out, b"height", BOX)?;
     push(out, b" rx='4'")?;
     push(out, paint(look))?;
     push(out, b"/>")?;
-    push_sign(out, look, log, row)
+    push_sign(out, columns, look, log, row)
 }
 
 /// Begins a text at the left of a record's box.
-pub(crate) fn begin_label(out: &mut Vec<u8>, log: LogName, row: usize) -> Result<(), AllocError> {
+pub(crate) fn begin_label(
+    out: &mut Vec<u8>,
+    columns: Columns,
+    log: LogName,
+    row: usize,
+) -> Result<(), AllocError> {
     push(out, b"<text class='ink' fill='#1f2328'")?;
-    push_attribute(
-        out,
-        b"x",
-        column(log).saturating_sub(half(log)).saturating_add(7),
-    )?;
+    push_attribute(out, b"x", columns.left(log).saturating_add(7))?;
     push_attribute(out, b"y", top_of(row).saturating_add(17))?;
     push(out, b">")
 }
@@ -177,33 +232,30 @@ fn begin_line(out: &mut Vec<u8>, x1: u64, y1: u64, x2: u64, y2: u64) -> Result<(
 }
 
 /// Adds the line down a log's column, up to behind so many rows.
-pub(crate) fn push_column(out: &mut Vec<u8>, log: LogName, rows: usize) -> Result<(), AllocError> {
-    let x = column(log);
+pub(crate) fn push_column(
+    out: &mut Vec<u8>,
+    columns: Columns,
+    log: LogName,
+    rows: usize,
+) -> Result<(), AllocError> {
+    let x = columns.middle(log);
     begin_line(out, x, TOP - 6, x, top_of(rows))?;
     push(out, b" class='life' stroke='#d1d9e0'/>")
-}
-
-/// Where an arrow meets a log's box on the side of another log.
-fn side(log: LogName, other: LogName) -> u64 {
-    if column(other) < column(log) {
-        column(log).saturating_sub(half(log))
-    } else {
-        column(log).saturating_add(half(log))
-    }
 }
 
 /// Adds an arrow from one record to another, of the page's colour or not.
 pub(crate) fn push_arrow(
     out: &mut Vec<u8>,
+    columns: Columns,
     from: (LogName, usize),
     to: (LogName, usize),
     of_page: bool,
 ) -> Result<(), AllocError> {
     begin_line(
         out,
-        side(from.0, to.0),
+        columns.side(from.0, to.0),
         middle_of(from.1),
-        side(to.0, from.0),
+        columns.side(to.0, from.0),
         middle_of(to.1),
     )?;
     if of_page {
@@ -222,12 +274,13 @@ pub(crate) fn push_arrow(
 /// Adds the end of an arrow from a record that has no row.
 pub(crate) fn push_stub(
     out: &mut Vec<u8>,
+    columns: Columns,
     sender: LogName,
     log: LogName,
     row: usize,
 ) -> Result<(), AllocError> {
-    let x = side(log, sender);
-    let from = if column(sender) < column(log) {
+    let x = columns.side(log, sender);
+    let from = if columns.are_in_order(sender, log) {
         x.saturating_sub(22)
     } else {
         x.saturating_add(22)

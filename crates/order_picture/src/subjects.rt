@@ -1,10 +1,10 @@
 //! What a record is about.
 
 ghost use Rattle.std.specs.Prelude.{◌≡◌, slice_get};
-ghost use Rattle.order_picture.specs.Subjects.{guest_about, source_about, link_about, pager_about, about, page_of};
+ghost use Rattle.order_picture.specs.Subjects.{guest_about, source_about, link_about, lane_about, pager_about, about, page_of};
 
 use crate::records::Name;
-use migration_types::{GuestRec, LinkRec, LogName, PageNo, PagerRec, Session, SourceRec};
+use migration_types::{GuestRec, LaneRec, LinkRec, LogName, PageNo, PagerRec, Session, SourceRec};
 
 /// What a record is about.
 #[derive(Clone, Copy)]
@@ -54,11 +54,20 @@ fn link_about(rec: &LinkRec) -> About
     }
 }
 
+fn lane_about(rec: &LaneRec) -> About
+    ensures { result ≡ lane_about rec.now }
+{
+    match *rec {
+        LaneRec::Down { sending } => About::Record(LogName::Source, sending),
+    }
+}
+
 fn pager_about(rec: &PagerRec) -> About
     ensures { result ≡ pager_about rec.now }
 {
     match rec {
         PagerRec::Got { down } => About::Record(LogName::Link, *down),
+        PagerRec::Pull { down } => About::Record(LogName::Lane, *down),
         PagerRec::Ready => About::Nothing,
         PagerRec::Fault { miss } => About::Record(LogName::Guest, *miss),
         PagerRec::Join { want } => About::Record(LogName::Pager, *want),
@@ -86,6 +95,10 @@ fn subject(session: &Session, name: Name) -> About
         },
         LogName::Link => match session.link().get(place as usize) {
             Some(rec) => link_about(rec),
+            None => About::Nothing,
+        },
+        LogName::Lane => match session.lane().get(place as usize) {
+            Some(rec) => lane_about(rec),
             None => About::Nothing,
         },
         LogName::Pager => match session.pager().get(place as usize) {

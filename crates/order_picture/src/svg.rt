@@ -8,8 +8,8 @@ use crate::labels::push_label;
 use crate::picture::{Picture, Row};
 use crate::records::{Name, receipt};
 use crate::shapes::{
-    Look, WIDTH, begin_fold, begin_label, begin_margin, column, push_arrow, push_attribute,
-    push_box, push_column, push_stub, row_class, top_of,
+    Columns, Look, begin_fold, begin_label, begin_margin, push_arrow, push_attribute, push_box,
+    push_column, push_stub, row_class, top_of,
 };
 use crate::words::{page_reason, push, push_log, push_name, push_title, push_with, shape_reason};
 use audit_report::{Report, push_first_line};
@@ -223,23 +223,35 @@ fn push_heading(
     end_text(out)
 }
 
+/// Adds a column's name, and the line down it.
+fn push_column_of(
+    out: &mut Vec<u8>,
+    columns: Columns,
+    log: LogName,
+    rows: usize,
+) -> Result<(), AllocError> {
+    push(
+        out,
+        b"<text class='ink' fill='#1f2328' font-weight='bold' text-anchor='middle' y='120'",
+    )?;
+    push_attribute(out, b"x", columns.middle(log))?;
+    push(out, b">")?;
+    push_log(out, log)?;
+    end_text(out)?;
+    push_column(out, columns, log, rows)?;
+    push(out, b"\n")
+}
+
 /// Adds the columns' names, and the lines down them.
-fn push_columns(out: &mut Vec<u8>, rows: usize) -> Result<(), AllocError> {
+fn push_columns(out: &mut Vec<u8>, columns: Columns, rows: usize) -> Result<(), AllocError> {
     push(
         out,
         b"<text class='soft' fill='#59636e' text-anchor='end' x='62' y='120'>line</text>\n",
     )?;
     for log in logs() {
-        push(
-            out,
-            b"<text class='ink' fill='#1f2328' font-weight='bold' text-anchor='middle' y='120'",
-        )?;
-        push_attribute(out, b"x", column(log))?;
-        push(out, b">")?;
-        push_log(out, log)?;
-        end_text(out)?;
-        push_column(out, log, rows)?;
-        push(out, b"\n")?;
+        if columns.has(log) {
+            push_column_of(out, columns, log, rows)?;
+        }
     }
     Ok(())
 }
@@ -279,16 +291,17 @@ fn push_received(
     let Some(sent) = receipt(session, (*log, *number)) else {
         return Ok(());
     };
+    let columns = Columns::of(session);
     let sender = picture.senders.get(place).copied().unwrap_or(None);
     match sender {
         Some(from) => {
             let of_page = stands_out(Some(row)) && stands_out(picture.rows.get(from));
             match seat_of(&picture.rows, from) {
-                Some(seat) => push_arrow(out, seat, (*log, place), of_page)?,
+                Some(seat) => push_arrow(out, columns, seat, (*log, place), of_page)?,
                 None => {}
             }
         }
-        None => push_stub(out, sent.0, *log, place)?,
+        None => push_stub(out, columns, sent.0, *log, place)?,
     }
     push(out, b"\n")
 }
@@ -301,13 +314,14 @@ fn push_seat(
     look: Look,
     row: usize,
 ) -> Result<(), AllocError> {
+    let columns = Columns::of(session);
     if let Some(line) = line_at(session, name.0, name.1) {
         begin_margin(out, row)?;
         push_with(out, b"", u64::from(line))?;
         push(out, b"</text>")?;
     }
-    push_box(out, look, name.0, row)?;
-    begin_label(out, name.0, row)?;
+    push_box(out, columns, look, name.0, row)?;
+    begin_label(out, columns, name.0, row)?;
     push_with(
         out,
         b"<tspan class='soft' fill='#59636e'>",
@@ -422,11 +436,14 @@ fn push_inside(
 ) -> Result<(), AllocError> {
     let left = left_count(session, &picture.taken);
     let rows = picture.rows.len().saturating_add(left);
+    let columns = Columns::of(session);
+    let width = columns.width();
     let height = top_of(rows).saturating_add(BELOW);
     push(out, b"xmlns='http://www.w3.org/2000/svg'")?;
-    push_attribute(out, b"width", WIDTH)?;
+    push_attribute(out, b"width", width)?;
     push_attribute(out, b"height", height)?;
-    push_with(out, b" viewBox='0 0 900 ", height)?;
+    push_with(out, b" viewBox='0 0 ", width)?;
+    push_with(out, b" ", height)?;
     push(
         out,
         b"' font-family='system-ui, sans-serif' font-size='12'>\n<title>",
@@ -439,7 +456,7 @@ fn push_inside(
         b"<rect class='paper' fill='#ffffff' width='100%' height='100%'/>\n",
     )?;
     push_heading(out, session, report, picture, shown)?;
-    push_columns(out, rows)?;
+    push_columns(out, columns, rows)?;
     push_rows(out, session, picture)?;
     push_left(out, session, picture)?;
     push_legend(out, rows)

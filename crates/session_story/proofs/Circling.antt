@@ -1,24 +1,26 @@
 -- Records that wait for one another.
 use Rattle.std.proofs.Common.{◌≡◌, ℕ, zero, suc, ◌+◌, ◌<◌, ◌≤◌, ◌⊎◌, inl, inr, Bool, true, false, cond, List, [], ◌∷◌, ◌++◌, length, Option, Some, None, refl, sym, ap, ◌∙◌, subst, arith}
-use Rattle.std.specs.Prelude.{slice_get}
+use Rattle.std.specs.Prelude.{slice_get, is_some}
 use Rattle.std.proofs.lemmas.Bool.{cases_lt}
 use Rattle.std.proofs.lemmas.List.{length_push}
 use Rattle.std.proofs.lemmas.Option.{slice_get_within}
 use Rattle.migration_types.specs.declared.records.LogName.{LogName}
-use Rattle.migration_types.specs.declared.records.LogName.TheVariants.{Guest, Source, Link, Pager}
+use Rattle.migration_types.specs.declared.records.LogName.TheVariants.{Guest, Source, Link, Lane, Pager}
 use Rattle.migration_types.specs.declared.records.GuestRec.{GuestRec}
 use Rattle.migration_types.specs.declared.records.GuestRec.TheVariants.{Read, Write, Release, Miss, Halt, Resume, See}
 use Rattle.migration_types.specs.declared.records.SourceRec.{SourceRec}
 use Rattle.migration_types.specs.declared.records.SourceRec.TheVariants.{Halted, State, Send, Again, Ask, Done}
 use Rattle.migration_types.specs.declared.records.LinkRec.{LinkRec}
 use Rattle.migration_types.specs.declared.records.LinkRec.TheVariants.{Down, Up}
+use Rattle.migration_types.specs.declared.records.LaneRec.{LaneRec}
+use Rattle.migration_types.specs.declared.records.LaneRec.TheVariants.{Down as LaneDown}
 use Rattle.migration_types.specs.declared.records.PagerRec.{PagerRec}
-use Rattle.migration_types.specs.declared.records.PagerRec.TheVariants.{Got, Ready, Fault, Join, Want, Place, Zero, Skip, All}
-use Rattle.migration_types.specs.Receipts.{Name, guest_receipt, source_receipt, link_receipt, pager_receipt}
-use Rattle.migration_types.specs.Sessions.{Recorded, line_of}
+use Rattle.migration_types.specs.declared.records.PagerRec.TheVariants.{Got, Pull, Ready, Fault, Join, Want, Place, Zero, Skip, All}
+use Rattle.migration_types.specs.Receipts.{Name, guest_receipt, source_receipt, link_receipt, lane_receipt, pager_receipt}
+use Rattle.migration_types.specs.Sessions.{Recorded, IsSession, line_of}
 use Rattle.audit_model.specs.declared.reasons.ShapeReason.TheVariants.{Named}
 use Rattle.audit_model.specs.Names.{if_there, log_length, receipt, same_log}
-use Rattle.audit_model.specs.Shape.{passes, keeps, is_ready, is_placement, is_halt, is_up, goes_down, goes_up, is_down, is_miss, guest_named, source_named, link_named, pager_named, IsRightShape}
+use Rattle.audit_model.specs.Shape.{passes, keeps, is_ready, is_placement, is_halt, is_up, goes_down, goes_up, is_down, is_miss, guest_named, source_named, link_named, lane_named, pager_named, IsRightShape}
 use Rattle.audit_model.specs.Mergings.{Cursors, at_start}
 use Rattle.audit_model.specs.Walks.{MayFollow}
 use Rattle.audit_model.specs.FoundOrder.{first_ready, IsLeastLeft}
@@ -36,6 +38,13 @@ passes_there : {A : Type 0} (test : A → Bool) (log : List A) (n : ℕ) → pas
 passes_there test log n e = go (slice_get log n) refl e
   where
     go : (o : Option _) → slice_get log n ≡ o → passes test o ≡ true → n < length log
+    go None is f = absurd (cc)
+    go (Some r) is f = slice_get_within log n r is
+
+is_there : {A : Type 0} (log : List A) (n : ℕ) → is_some (slice_get log n) ≡ true → n < length log
+is_there log n e = go (slice_get log n) refl e
+  where
+    go : (o : Option _) → slice_get log n ≡ o → is_some o ≡ true → n < length log
     go None is f = absurd (cc)
     go (Some r) is f = slice_get_within log n r is
 
@@ -63,9 +72,14 @@ link_there s n sent None k e = absurd (cc)
 link_there s n sent (Some (Down i)) k e = let same : (Source, i) ≡ sent = cc in subst (λ (x : Name). x.1 < log_length s x.0) same (passes_there goes_down s.source i k)
 link_there s n sent (Some (Up i)) k e = let same : (Pager, i) ≡ sent = cc in subst (λ (x : Name). x.1 < log_length s x.0) same (passes_there goes_up s.pager i k)
 
+lane_there : (s : Recorded) (n : ℕ) (sent : Name) (o : Option LaneRec) → keeps (lane_named s) o ≡ true → if_there lane_receipt o ≡ Some sent → sent.1 < log_length s sent.0
+lane_there s n sent None k e = absurd (cc)
+lane_there s n sent (Some (LaneDown i)) k e = let same : (Source, i) ≡ sent = cc in subst (λ (x : Name). x.1 < log_length s x.0) same (passes_there goes_down s.source i k)
+
 pager_there : (s : Recorded) (n : ℕ) (sent : Name) (o : Option PagerRec) → keeps (pager_named s n) o ≡ true → if_there pager_receipt o ≡ Some sent → sent.1 < log_length s sent.0
 pager_there s n sent None k e = absurd (cc)
 pager_there s n sent (Some (Got i)) k e = let same : (Link, i) ≡ sent = cc in subst (λ (x : Name). x.1 < log_length s x.0) same (passes_there is_down s.link i k)
+pager_there s n sent (Some (Pull i)) k e = let same : (Lane, i) ≡ sent = cc in subst (λ (x : Name). x.1 < log_length s x.0) same (is_there s.lane i k)
 pager_there s n sent (Some Ready) k e = absurd (cc)
 pager_there s n sent (Some (Fault i)) k e = let same : (Guest, i) ≡ sent = cc in subst (λ (x : Name). x.1 < log_length s x.0) same (passes_there is_miss s.guest i k)
 pager_there s n sent (Some (Join i)) k e = absurd (cc)
@@ -80,6 +94,7 @@ pub named_there : (s : Recorded) → IsRightShape s → (name sent : Name) → r
 named_there s shape (Guest, n) sent e = guest_there s n sent (slice_get s.guest n) (shape Named (Guest, n)) e
 named_there s shape (Source, n) sent e = source_there s n sent (slice_get s.source n) (shape Named (Source, n)) e
 named_there s shape (Link, n) sent e = link_there s n sent (slice_get s.link n) (shape Named (Link, n)) e
+named_there s shape (Lane, n) sent e = lane_there s n sent (slice_get s.lane n) (shape Named (Lane, n)) e
 named_there s shape (Pager, n) sent e = pager_there s n sent (slice_get s.pager n) (shape Named (Pager, n)) e
 
 module _ (s : Recorded) (c : Cursors) (stuck : first_ready s c ≡ None) (log : LogName) (left : c log < log_length s log) where
@@ -166,16 +181,17 @@ pub unfound_less : (found : Cursors) (log : LogName) (n : ℕ) → found log ≡
 unfound_less found Guest n e lt = let was = ap one_if_none e in let here = none_left n lt in omega (arith, was, here)
 unfound_less found Source n e lt = let was = ap one_if_none e in let here = none_left n lt in omega (arith, was, here)
 unfound_less found Link n e lt = let was = ap one_if_none e in let here = none_left n lt in omega (arith, was, here)
+unfound_less found Lane n e lt = let was = ap one_if_none e in let here = none_left n lt in omega (arith, was, here)
 unfound_less found Pager n e lt = let was = ap one_if_none e in let here = none_left n lt in omega (arith, was, here)
 
 -- the records go round
-pub goes_round : (s : Recorded) (c : Cursors) (first : LogName) (k : Knot) → IsTakenInOrder s c → first_left s c ≡ Some first → IsCircleAt s c first k → IsCircle s k
-goes_round s c first k taken is_first at = record {
+pub goes_round : (s : Recorded) (c : Cursors) (first : LogName) (k : Knot) → IsSession s → IsTakenInOrder s c → first_left s c ≡ Some first → IsCircleAt s c first k → IsCircle s k
+goes_round s c first k limits taken is_first at = record {
   some = at.some;
   starts = λ w is. record {
     order = taken.order;
     is_found_order = taken.is_found_order;
-    is_least_left = subst (λ (d : Cursors). IsLeastLeft s d (line_of s (w.log, w.place))) (sym taken.are_cursors) (least_left s c first (line_of s (w.log, w.place)) taken.within is_first (start w is));
+    is_least_left = subst (λ (d : Cursors). IsLeastLeft s d (line_of s (w.log, w.place))) (sym taken.are_cursors) (least_left s c first (line_of s (w.log, w.place)) limits is_first (start w is));
   };
   receives = λ i w is. let each = (at.waits.each i w is).0 in subst (λ (p : ℕ). receipt s (w.log, p) ≡ Some (w.sent_log, w.sent_place)) (sym each.place_is) each.receives;
   goes_on = λ i w other is on. let log = at.waits.goes_on i w other is on in record {

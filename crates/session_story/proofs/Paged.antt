@@ -1,13 +1,13 @@
 -- The page and the place of a record that is a fault.
 use Rattle.std.proofs.Common.{◌≡◌, ℕ, ◌<◌, Bool, false, List, length, Option, Some, None, refl}
 use Rattle.std.specs.Prelude.{slice_get}
-use Rattle.migration_types.specs.declared.records.LogName.TheVariants.{Guest, Source, Link, Pager}
+use Rattle.migration_types.specs.declared.records.LogName.TheVariants.{Guest, Source, Link, Lane, Pager}
 use Rattle.migration_types.specs.declared.records.GuestRec.{GuestRec}
 use Rattle.migration_types.specs.declared.records.GuestRec.TheVariants.{Read, Write, Release, Miss, Halt, Resume, See}
 use Rattle.migration_types.specs.declared.records.SourceRec.{SourceRec}
 use Rattle.migration_types.specs.declared.records.SourceRec.TheVariants.{Halted, State, Send, Again, Ask, Done}
 use Rattle.migration_types.specs.declared.records.PagerRec.{PagerRec}
-use Rattle.migration_types.specs.declared.records.PagerRec.TheVariants.{Got, Ready, Fault, Join, Want, Place, Zero, Skip, All}
+use Rattle.migration_types.specs.declared.records.PagerRec.TheVariants.{Got, Pull, Ready, Fault, Join, Want, Place, Zero, Skip, All}
 use Rattle.migration_types.specs.Receipts.{Name}
 use Rattle.migration_types.specs.Sessions.{Recorded, IsSession, line_of, log_length}
 use Rattle.audit_model.specs.declared.reasons.PageReason.{PageReason}
@@ -18,7 +18,7 @@ use Rattle.std.proofs.lemmas.Option.{slice_get_within}
 use Rattle.audit_model.specs.FirstFault.{IsFirstPageFault}
 use Rattle.audit_model.specs.declared.reasons.ShapeReason.{ShapeReason}
 use Rattle.audit_model.specs.declared.reasons.ShapeReason.TheVariants.{Phases, Named, Start, SecondSend}
-use Rattle.audit_model.specs.Shape.{keeps, in_phase, guest_named, source_named, link_named, pager_named, source_start, pager_start, is_first_send, is_right}
+use Rattle.audit_model.specs.Shape.{keeps, in_phase, guest_named, source_named, link_named, lane_named, pager_named, source_start, pager_start, is_first_send, is_right}
 use Rattle.audit_report.proofs.Showing.{fault_there}
 use Rattle.session_story.specs.Lines.{IsRecordAt}
 use Rattle.page_lists.specs.Paged.{guest_page, source_page, pager_page}
@@ -116,6 +116,14 @@ pager_paged s Twice n (Got d) e f = absurd f
 pager_paged s Altered n (Got d) e f = absurd f
 pager_paged s Unfit n (Got d) e f = absurd f
 pager_paged s Over n (Got d) e f = absurd f
+pager_paged s WrongRead n (Pull d) e f = absurd f
+pager_paged s Early n (Pull d) e f = absurd f
+pager_paged s Given n (Pull d) e f = absurd f
+pager_paged s Stale n (Pull d) e f = absurd f
+pager_paged s Twice n (Pull d) e f = absurd f
+pager_paged s Altered n (Pull d) e f = absurd f
+pager_paged s Unfit n (Pull d) e f = absurd f
+pager_paged s Over n (Pull d) e f = absurd f
 pager_paged s WrongRead n Ready e f = absurd f
 pager_paged s Early n Ready e f = absurd f
 pager_paged s Given n Ready e f = absurd f
@@ -174,6 +182,7 @@ pub fault_paged : (s : Recorded) (reason : PageReason) (name : Name) → IsPageF
 fault_paged s reason (Guest, n) f e = paged_there guest_page (GuestFault s reason n) (guest_paged s reason n) (slice_get s.guest n) e f
 fault_paged s reason (Source, n) f e = paged_there source_page (SourceFault s reason) (source_paged s reason n) (slice_get s.source n) e f
 fault_paged s reason (Link, n) f e = f
+fault_paged s reason (Lane, n) f e = f
 fault_paged s reason (Pager, n) f e = paged_there pager_page (PagerFault s reason n) (pager_paged s reason n) (slice_get s.pager n) e f
 
 below_at : {A : Type 0} (page_of : A → Option ℕ) (pages : ℕ) (log : List A) (n p : ℕ) → ((m q : ℕ) (r : A) → slice_get log m ≡ Some r → page_of r ≡ Some q → q < pages) → (o : Option A) → slice_get log n ≡ o → if_there page_of o ≡ Some p → p < pages
@@ -185,7 +194,8 @@ pub page_below : (s : Recorded) → IsSession s → (name : Name) (p : ℕ) → 
 page_below s fits (Guest, n) p e = below_at guest_page s.geometry.pages s.guest n p (guest_within s.geometry s.guest fits.guest).each (slice_get s.guest n) refl e
 page_below s fits (Source, n) p e = below_at source_page s.geometry.pages s.source n p (source_within s.geometry s.source fits.source).each (slice_get s.source n) refl e
 page_below s fits (Link, n) p e = absurd (cc)
-page_below s fits (Pager, n) p e = below_at pager_page s.geometry.pages s.pager n p (pager_within s.geometry s.pager fits.pager).each (slice_get s.pager n) refl e
+page_below s fits (Lane, n) p e = absurd (cc)
+page_below s fits (Pager, n) p e = below_at pager_page s.geometry.pages s.pager n p (pager_within s.version s.geometry s.pager fits.pager).each (slice_get s.pager n) refl e
 
 -- the record that stands at the line of the first fault is the first fault
 pub at_line : (s : Recorded) (line : ℕ) (reason : PageReason) (found : Option Name) → IsRecordAt s line found → (name : Name) → line ≡ line_of s name → IsFirstPageFault s reason name → found ≡ Some name
@@ -195,6 +205,7 @@ at_line s line reason found at (log, n) e first = at (log, n) (fault_there s rea
 pub guest_read : (s : Recorded) (name : Name) → IsPageFault s WrongRead name → name.0 ≡ Guest
 guest_read s (Guest, n) f = refl
 guest_read s (Link, n) f = absurd f
+guest_read s (Lane, n) f = absurd f
 guest_read s (Source, n) f = go (slice_get s.source n) f
   where
     go : (o : Option SourceRec) → if_fault (SourceFault s WrongRead) o → Source ≡ Guest
@@ -209,6 +220,7 @@ guest_read s (Pager, n) f = go (slice_get s.pager n) f
 pub guest_early : (s : Recorded) (name : Name) → IsPageFault s Early name → name.0 ≡ Guest
 guest_early s (Guest, n) f = refl
 guest_early s (Link, n) f = absurd f
+guest_early s (Lane, n) f = absurd f
 guest_early s (Source, n) f = go (slice_get s.source n) f
   where
     go : (o : Option SourceRec) → if_fault (SourceFault s Early) o → Source ≡ Guest
@@ -233,15 +245,19 @@ wrong_there s Phases (Guest, n) e = kept_there (in_phase s n) s.guest n e
 wrong_there s Named (Guest, n) e = kept_there (guest_named s) s.guest n e
 wrong_there s Named (Source, n) e = kept_there (source_named s n) s.source n e
 wrong_there s Named (Link, n) e = kept_there (link_named s) s.link n e
+wrong_there s Named (Lane, n) e = kept_there (lane_named s) s.lane n e
 wrong_there s Named (Pager, n) e = kept_there (pager_named s n) s.pager n e
 wrong_there s Start (Source, n) e = kept_there (source_start s n) s.source n e
 wrong_there s Start (Pager, n) e = kept_there (pager_start s n) s.pager n e
 wrong_there s SecondSend (Source, n) e = kept_there (is_first_send s n) s.source n e
 wrong_there s Phases (Source, n) e = absurd (cc)
 wrong_there s Phases (Link, n) e = absurd (cc)
+wrong_there s Phases (Lane, n) e = absurd (cc)
 wrong_there s Phases (Pager, n) e = absurd (cc)
 wrong_there s Start (Guest, n) e = absurd (cc)
 wrong_there s Start (Link, n) e = absurd (cc)
+wrong_there s Start (Lane, n) e = absurd (cc)
 wrong_there s SecondSend (Guest, n) e = absurd (cc)
 wrong_there s SecondSend (Link, n) e = absurd (cc)
+wrong_there s SecondSend (Lane, n) e = absurd (cc)
 wrong_there s SecondSend (Pager, n) e = absurd (cc)

@@ -85,3 +85,4 @@ pub record IsCounts (s : Recorded) (entries : List Entry) (c : Counts) : Type 0 
   pub repeats : c.repeats ≡ how_many (λ m. is_again) s.source (length s.source)
   pub waits : c.waits ≡ how_many (λ m. is_join) s.pager (length s.pager)
   pub dropped : c.dropped ≡ how_many (λ m. is_skip) s.pager (length s.pager)
+  pub by_lane : c.by_lane ≡ length s.lane

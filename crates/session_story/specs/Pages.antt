@@ -7,6 +7,8 @@ use Rattle.migration_types.specs.declared.records.SourceRec.{SourceRec}
 use Rattle.migration_types.specs.declared.records.SourceRec.TheVariants.{Send}
 use Rattle.migration_types.specs.declared.records.LinkRec.{LinkRec}
 use Rattle.migration_types.specs.declared.records.LinkRec.TheVariants.{Down, Up}
+use Rattle.migration_types.specs.declared.records.LaneRec.{LaneRec}
+use Rattle.migration_types.specs.declared.records.LaneRec.TheVariants.{Down as LaneDown}
 use Rattle.migration_types.specs.Receipts.{Name}
 use Rattle.migration_types.specs.Sessions.{Recorded}
 use Rattle.audit_model.specs.Flat.{at_halt}
@@ -23,23 +25,31 @@ changes page (Write vcpu p cell value) = p == page
 changes page (Release vcpu p) = p == page
 changes page _ = false
 
--- a delivery of the page's `send`, or of a repeat of it
+-- whether the source's record n is the page's `send`, or a repeat of it
+abbrev pub sends : Recorded → ℕ → ℕ → Bool
+sends s page n = passes (is_or_repeats s (is_send_of page)) (slice_get s.source n)
+
+-- a delivery of the page's `send`, or of a repeat of it, by the link or by the lane
 abbrev pub carries : Recorded → ℕ → LinkRec → Bool
-carries s page (Down sending) = passes (is_or_repeats s (is_send_of page)) (slice_get s.source sending)
+carries s page (Down sending) = sends s page sending
 carries s page (Up asking) = false
+
+abbrev pub lane_carries : Recorded → ℕ → LaneRec → Bool
+lane_carries s page (LaneDown sending) = sends s page sending
 
 -- the halt and the resume
 pub record IsHandover (s : Recorded) (h : Handover) : Type 0 where
   pub halt : h.halt ≡ first_before (λ m. is_halt) s.guest (length s.guest)
   pub resume : h.resume ≡ first_before (λ m. is_resume) s.guest (length s.guest)
 
--- The last change of the page before the halt, its `send`, the first delivery of that packet, the pager's first `got` of
--- it, and what the logs say of the page's placements, of its uses and of the looks at it.
+-- The last change of the page before the halt, its `send`, the first delivery of that packet by the link and by the lane,
+-- the first record of the pager that takes one, and what the logs say of the page's placements, of its uses and of the looks at it.
 pub record IsPageStory (s : Recorded) (page : ℕ) (t : PageStory) : Type 0 where
   pub page_is : t.page ≡ page
   pub changed : t.changed ≡ last_before (λ m. changes page) s.guest (at_halt s)
   pub sent : t.sent ≡ first_before (λ m. is_send_of page) s.source (length s.source)
   pub delivered : t.delivered ≡ first_before (λ m. carries s page) s.link (length s.link)
+  pub by_lane : t.by_lane ≡ first_before (λ m. lane_carries s page) s.lane (length s.lane)
   pub got : t.got ≡ first_before (λ m r. delivers s (is_send_of page) m) s.pager (length s.pager)
   pub found : IsFindings s page t.found
 

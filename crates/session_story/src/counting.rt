@@ -31,6 +31,8 @@ pub struct Counts {
     pub waits: u32,
     /// Deliveries that the pager dropped.
     pub dropped: u32,
+    /// Deliveries of the lane.
+    pub by_lane: u32,
 }
 
 /// How many pages came in which way, by the entries of a certificate, and how many records there are of some kinds. Takes
@@ -51,5 +53,6 @@ pub fn counts_of(session: &Session, entries: &[Entry]) -> Counts
         repeats: count_of(session, &SourceQuestion::Again, session.source()),
         waits: count_of(session, &PagerQuestion::Join, session.pager()),
         dropped: count_of(session, &PagerQuestion::Skip, session.pager()),
+        by_lane: session.lane().len() as u32,
     }
 }

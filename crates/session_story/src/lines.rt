@@ -1,14 +1,13 @@
 //! The record that stands at a line of a session's text, and the line of a record.
 
 ghost use Rattle.std.specs.Prelude.{◌≡◌, ◌+◌, ◌<◌, ◌≤◌, ℕ, MatchOption};
-ghost use Rattle.migration_types.specs.Sessions.{lane_lines};
 ghost use Rattle.audit_model.specs.Names.{log_length};
 ghost use Rattle.session_story.specs.Lines.{IsRecordAt};
 ghost use Rattle.session_story.specs.Places.{HasNoRecord, IsAtLine, IsAtLineOf};
 ghost use Rattle.session_story.specs.inner.Sections.{IsPlaceIn};
 
 use merge_runs::records_of;
-use migration_types::{LogName, Session, Version};
+use migration_types::{LogName, Session, lane_lines};
 use session_log::line_of;
 
 /// The place of a line among so many lines, of which the first is this one.
@@ -19,16 +18,6 @@ fn place_in(line: u32, first: u32, count: u32) -> Option<u32>
         Some(line - first)
     } else {
         None
-    }
-}
-
-/// How many lines of the lane stand before the pager's log.
-fn lane_lines(session: &Session) -> u32
-    ensures { result ≡ lane_lines session.now.version }
-{
-    match session.version() {
-        Version::One => 0,
-        Version::Two => 1,
     }
 }
 
@@ -43,6 +32,7 @@ pub fn record_at(session: &Session, line: u32) -> Option<(LogName, u32)>
     let guest = session.guest().len() as u32;
     let source = session.source().len() as u32;
     let link = session.link().len() as u32;
+    let lane = session.lane().len() as u32;
     let pager = session.pager().len() as u32;
     let first = 6 + init;
     if let Some(place) = place_in(line, first, guest) {
@@ -56,7 +46,11 @@ pub fn record_at(session: &Session, line: u32) -> Option<(LogName, u32)>
     if let Some(place) = place_in(line, first, link) {
         return Some((LogName::Link, place));
     }
-    let first = first + link + 1 + lane_lines(session);
+    let first = first + link + 1;
+    if let Some(place) = place_in(line, first, lane) {
+        return Some((LogName::Lane, place));
+    }
+    let first = first + lane_lines(session.version(), lane);
     match place_in(line, first, pager) {
         Some(place) => Some((LogName::Pager, place)),
         None => None,

@@ -8,7 +8,7 @@ ghost use Rattle.page_facts.specs.Tables.{first_before};
 ghost use Rattle.session_story.specs.Pages.{IsHandover, IsPageStory, changes};
 ghost use Rattle.session_story.specs.Scans.{last_before};
 
-use crate::questions::{GuestQuestion, LinkQuestion, PagerQuestion, SourceQuestion};
+use crate::questions::{GuestQuestion, LaneQuestion, LinkQuestion, PagerQuestion, SourceQuestion};
 use crate::scans::{first_of, last_of};
 use migration_types::{PageNo, Session};
 use page_facts::{Findings, frame_for, halt_place, judge_page, lists_for};
@@ -33,7 +33,9 @@ pub struct PageStory {
     pub sent: Option<u32>,
     /// The link's first delivery of that packet, or of a repeat of it.
     pub delivered: Option<u32>,
-    /// The pager's first `got` of such a delivery.
+    /// The lane's first delivery of it, or of a repeat of it.
+    pub by_lane: Option<u32>,
+    /// The pager's first `got` or `pull` of such a delivery.
     pub got: Option<u32>,
     /// What the logs say of its placements, of its uses at the target and of the looks at it.
     pub found: Findings,
@@ -93,12 +95,14 @@ pub fn story_of(alloc: Global, session: &Session, page: PageNo) -> Result<PageSt
     let changed = last_change(session, page);
     let sent = send_of(session, page);
     let delivered = first_of(session, &LinkQuestion::Carries(page), session.link());
+    let by_lane = first_of(session, &LaneQuestion::Carries(page), session.lane());
     let got = first_of(session, &PagerQuestion::Gets(page), session.pager());
     Ok(PageStory {
         page,
         changed,
         sent,
         delivered,
+        by_lane,
         got,
         found,
     })

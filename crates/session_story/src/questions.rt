@@ -2,13 +2,13 @@
 
 ghost use Rattle.std.specs.Prelude.{◌≡◌};
 ghost use Rattle.session_story.specs.Values.{sets};
-ghost use Rattle.session_story.specs.Pages.{changes, carries};
+ghost use Rattle.session_story.specs.Pages.{changes, sends, carries, lane_carries};
 ghost use Rattle.session_story.specs.Counted.{is_want_of, brings_want, takes_want, is_push};
-ghost use Rattle.session_story.specs.inner.Questions.{asks_guest, asks_source, asks_link, asks_pager, asks_entry};
+ghost use Rattle.session_story.specs.inner.Questions.{asks_guest, asks_source, asks_link, asks_lane, asks_pager, asks_entry};
 
 use crate::scans::Question;
 use audit_model::{delivers_send, is_halt, is_miss, is_resume, is_send_of};
-use migration_types::{Entry, GuestRec, LinkRec, PageNo, PagerRec, Session, SourceRec};
+use migration_types::{Entry, GuestRec, LaneRec, LinkRec, PageNo, PagerRec, Session, SourceRec};
 
 /// What is asked of a record of the guest.
 #[derive(Clone, Copy)]
@@ -37,6 +37,13 @@ pub(crate) enum SourceQuestion {
 /// What is asked of a record of the link.
 #[derive(Clone, Copy)]
 pub(crate) enum LinkQuestion {
+    /// Whether it delivers the page's `send`, or a repeat of it.
+    Carries(PageNo),
+}
+
+/// What is asked of a record of the lane.
+#[derive(Clone, Copy)]
+pub(crate) enum LaneQuestion {
     /// Whether it delivers the page's `send`, or a repeat of it.
     Carries(PageNo),
 }
@@ -85,20 +92,38 @@ fn sets(rec: &GuestRec, page: PageNo, cell: u16) -> bool
     }
 }
 
-/// Whether a record delivers the page's `send`, or a repeat of it.
+/// Whether the source's record of this number is the page's `send`, or a repeat of it.
+fn sends(session: &Session, page: PageNo, n: u32) -> bool
+    ensures { result ≡ sends session.now page n }
+{
+    let source = session.source();
+    match source.get(n as usize) {
+        Some(SourceRec::Again { sending }) => {
+            source
+                .get(*sending as usize)
+                .is_some_and(|rec| is_send_of(rec, page))
+        }
+        Some(rec) => is_send_of(rec, page),
+        None => false,
+    }
+}
+
+/// Whether a record of the link delivers the page's `send`, or a repeat of it.
 fn carries(session: &Session, rec: &LinkRec, page: PageNo) -> bool
     ensures { result ≡ carries session.now page rec.now }
 {
-    let source = session.source();
     match *rec {
-        LinkRec::Down { sending } => match source.get(sending as usize) {
-            Some(SourceRec::Again { sending }) => source
-                .get(*sending as usize)
-                .is_some_and(|rec| is_send_of(rec, page)),
-            Some(rec) => is_send_of(rec, page),
-            None => false,
-        },
+        LinkRec::Down { sending } => sends(session, page, sending),
         LinkRec::Up { .. } => false,
+    }
+}
+
+/// Whether a record of the lane delivers the page's `send`, or a repeat of it.
+fn lane_carries(session: &Session, rec: &LaneRec, page: PageNo) -> bool
+    ensures { result ≡ lane_carries session.now page rec.now }
+{
+    match *rec {
+        LaneRec::Down { sending } => sends(session, page, sending),
     }
 }
 
@@ -192,6 +217,18 @@ impl Question for LinkQuestion {
     fn holds(&self, session: &Session, _n: usize, rec: &LinkRec) -> bool {
         match *self {
             LinkQuestion::Carries(page) => carries(session, rec, page),
+        }
+    }
+}
+
+impl Question for LaneQuestion {
+    type Record = LaneRec;
+
+    ghost holds = { asks_lane };
+
+    fn holds(&self, session: &Session, _n: usize, rec: &LaneRec) -> bool {
+        match *self {
+            LaneQuestion::Carries(page) => lane_carries(session, rec, page),
         }
     }
 }

@@ -43,6 +43,7 @@ fn receipt_at(session: &Session, log: LogName, place: usize) -> Option<(LogName,
         LogName::Guest => session.guest().get(place)?.named(),
         LogName::Source => session.source().get(place)?.named(),
         LogName::Link => session.link().get(place)?.named(),
+        LogName::Lane => session.lane().get(place)?.named(),
         LogName::Pager => session.pager().get(place)?.named(),
     }
 }

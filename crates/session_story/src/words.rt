@@ -14,6 +14,11 @@ use migration_types::{Session, Version};
 pub use records::{log_word, push_place, push_record};
 use std::alloc::{AllocError, Global};
 
+/// Whether the lane of a session has records: of other sessions nothing is said of a lane.
+fn has_lane(session: &Session) -> bool {
+    !session.lane().is_empty()
+}
+
 /// Adds how a clean session went.
 fn push_counts(out: &mut String, version: Version, counts: &Counts) -> Result<(), AllocError> {
     let sent = counts.sent;
@@ -26,6 +31,7 @@ fn push_counts(out: &mut String, version: Version, counts: &Counts) -> Result<()
     let dropped = counts.dropped;
     let misses = counts.misses;
     let waits = counts.waits;
+    let by_lane = counts.by_lane;
     out.push_str(
         "In every order of the records each read gives what one machine that never moved would give.\n",
     )?;
@@ -46,6 +52,9 @@ fn push_counts(out: &mut String, version: Version, counts: &Counts) -> Result<()
         "Sendings of a page: {sends}, of which unasked: {pushes}\n"
     )?;
     write!(out, "Repeats of a packet: {repeats}\n")?;
+    if by_lane > 0 {
+        write!(out, "Packets that the lane delivered: {by_lane}\n")?;
+    }
     write!(out, "Packets that the pager dropped: {dropped}\n")?;
     write!(
         out,

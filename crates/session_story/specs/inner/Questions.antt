@@ -5,10 +5,11 @@ use Rattle.migration_types.specs.declared.records.GuestRec.{GuestRec}
 use Rattle.migration_types.specs.declared.records.GuestRec.TheVariants.{See}
 use Rattle.migration_types.specs.declared.records.SourceRec.{SourceRec}
 use Rattle.migration_types.specs.declared.records.LinkRec.{LinkRec}
+use Rattle.migration_types.specs.declared.records.LaneRec.{LaneRec}
 use Rattle.migration_types.specs.declared.records.PagerRec.{PagerRec}
 use Rattle.migration_types.specs.Sessions.{Recorded}
 use Rattle.audit_model.specs.Shape.{is_halt, is_resume, is_miss, is_send_of, delivers}
-use Rattle.session_story.specs.Pages.{changes, carries}
+use Rattle.session_story.specs.Pages.{changes, carries, lane_carries}
 use Rattle.session_story.specs.Values.{sets}
 use Rattle.session_story.specs.Counted.{is_unmoved, is_fresh, is_sent, is_zeroed, is_send, is_again, is_push, is_join, is_skip}
 use Rattle.session_story.specs.declared.looks.Look.{Look}
@@ -18,6 +19,8 @@ use Rattle.session_story.specs.declared.questions.SourceQuestion.{SourceQuestion
 use Rattle.session_story.specs.declared.questions.SourceQuestion.TheVariants as source
 use Rattle.session_story.specs.declared.questions.LinkQuestion.{LinkQuestion}
 use Rattle.session_story.specs.declared.questions.LinkQuestion.TheVariants as link
+use Rattle.session_story.specs.declared.questions.LaneQuestion.{LaneQuestion}
+use Rattle.session_story.specs.declared.questions.LaneQuestion.TheVariants as lane
 use Rattle.session_story.specs.declared.questions.PagerQuestion.{PagerQuestion}
 use Rattle.session_story.specs.declared.questions.PagerQuestion.TheVariants as pager
 use Rattle.session_story.specs.declared.questions.EntryQuestion.{EntryQuestion}
@@ -38,6 +41,9 @@ asks_source source.Again s n = is_again
 
 abbrev pub asks_link : LinkQuestion → Recorded → ℕ → LinkRec → Bool
 asks_link (link.Carries page) s n = carries s page
+
+abbrev pub asks_lane : LaneQuestion → Recorded → ℕ → LaneRec → Bool
+asks_lane (lane.Carries page) s n = lane_carries s page
 
 abbrev pub asks_pager : PagerQuestion → Recorded → ℕ → PagerRec → Bool
 asks_pager (pager.Gets page) s n = λ r. delivers s (is_send_of page) n

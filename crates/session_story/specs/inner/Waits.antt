@@ -1,7 +1,7 @@
 -- What a record waits for, where the logs were taken up to some places.
 use Rattle.std.specs.Prelude.{◌≡◌, ℕ, zero, suc, ◌+◌, ◌<◌, ◌≤◌, List, length, Some, slice_get}
 use Rattle.migration_types.specs.declared.records.LogName.{LogName}
-use Rattle.migration_types.specs.declared.records.LogName.TheVariants.{Guest, Source, Link, Pager}
+use Rattle.migration_types.specs.declared.records.LogName.TheVariants.{Guest, Source, Link, Lane, Pager}
 use Rattle.migration_types.specs.Sessions.{Recorded}
 use Rattle.audit_model.specs.Names.{receipt}
 use Rattle.audit_model.specs.Mergings.{Cursors}
@@ -32,7 +32,7 @@ one_if_none zero = 1
 one_if_none (suc n) = 0
 
 abbrev pub unfound : Cursors → ℕ
-unfound c = one_if_none (c Guest) + one_if_none (c Source) + one_if_none (c Link) + one_if_none (c Pager)
+unfound c = one_if_none (c Guest) + one_if_none (c Source) + one_if_none (c Link) + one_if_none (c Lane) + one_if_none (c Pager)
 
 -- the records wait for one another, the first being of this log
 pub record IsCircleAt (s : Recorded) (c : Cursors) (first : LogName) (k : Knot) : Type 0 where

@@ -1,5 +1,6 @@
 //! The fault of a page in words.
 
+use super::has_lane;
 use super::records::{push_place, push_record};
 use crate::faults::{Detail, FaultStory};
 use crate::looks::Look;
@@ -263,6 +264,32 @@ fn push_step(
     out.push_str("\n")
 }
 
+/// Whether the lane's delivery of a page is told: the pager takes this one, or there is no other.
+fn comes_by_lane(session: &Session, page: &PageStory) -> bool {
+    match page.got {
+        Some(got) => matches!(
+            session.pager().get(got as usize),
+            Some(PagerRec::Pull { .. })
+        ),
+        None => page.delivered.is_none(),
+    }
+}
+
+/// Adds the delivery of a page.
+fn push_delivery(out: &mut String, session: &Session, page: &PageStory) -> Result<(), AllocError> {
+    let (log, place) = if comes_by_lane(session, page) {
+        (LogName::Lane, page.by_lane)
+    } else {
+        (LogName::Link, page.delivered)
+    };
+    let none = if has_lane(session) {
+        "neither the link nor the lane delivers it"
+    } else {
+        "the link does not deliver it"
+    };
+    push_step(out, session, log, place, "", none)
+}
+
 /// Adds a page's story, in the order in which it should happen.
 fn push_story(out: &mut String, session: &Session, fault: &FaultStory) -> Result<(), AllocError> {
     let page = &fault.page;
@@ -292,14 +319,7 @@ fn push_story(out: &mut String, session: &Session, fault: &FaultStory) -> Result
         "",
         "the source does not send it",
     )?;
-    push_step(
-        out,
-        session,
-        LogName::Link,
-        page.delivered,
-        "",
-        "the link does not deliver it",
-    )?;
+    push_delivery(out, session, page)?;
     push_step(
         out,
         session,

@@ -1,7 +1,7 @@
 //! Records in words: where one stands, and what was done.
 
 use crate::lines::line_at;
-use migration_types::{GuestRec, LinkRec, LogName, PagerRec, Session, SourceRec};
+use migration_types::{GuestRec, LaneRec, LinkRec, LogName, PagerRec, Session, SourceRec};
 use std::alloc::AllocError;
 
 /// The word of a log, as its section of a session's text has it.
@@ -10,6 +10,7 @@ pub fn log_word(log: LogName) -> &'static str {
         LogName::Guest => "guest",
         LogName::Source => "source",
         LogName::Link => "link",
+        LogName::Lane => "lane",
         LogName::Pager => "pager",
     }
 }
@@ -112,10 +113,23 @@ fn push_link(out: &mut String, rec: &LinkRec) -> Result<(), AllocError> {
     }
 }
 
+/// Adds what a record of the lane says.
+fn push_lane(out: &mut String, rec: &LaneRec) -> Result<(), AllocError> {
+    match *rec {
+        LaneRec::Down { sending } => {
+            write!(
+                out,
+                "the lane delivers to the pager what source {sending} sent"
+            )
+        }
+    }
+}
+
 /// Adds what a record of the pager says.
 fn push_pager(out: &mut String, rec: &PagerRec) -> Result<(), AllocError> {
     match rec {
         PagerRec::Got { down } => { write!(out, "the pager takes what link {down} delivered") }
+        PagerRec::Pull { down } => { write!(out, "the pager pulls what lane {down} delivered") }
         PagerRec::Ready => out.push_str("the pager is ready for the guest"),
         PagerRec::Fault { miss } => { write!(out, "the pager learns of the miss guest {miss}") }
         PagerRec::Join { want } => {
@@ -166,6 +180,10 @@ pub fn push_record(
         },
         LogName::Link => match session.link().get(n) {
             Some(rec) => push_link(out, rec),
+            None => out.push_str("no record"),
+        },
+        LogName::Lane => match session.lane().get(n) {
+            Some(rec) => push_lane(out, rec),
             None => out.push_str("no record"),
         },
         LogName::Pager => match session.pager().get(n) {

@@ -1,10 +1,11 @@
 //! What is wrong with the shape of a session, in words.
 
+use super::has_lane;
 use super::records::{log_word, push_place, push_record};
 use crate::lines::line_at;
 use crate::shapes::ShapeStory;
 use audit_model::ShapeReason;
-use migration_types::{GuestRec, LinkRec, LogName, PagerRec, Session, SourceRec, Version};
+use migration_types::{GuestRec, LaneRec, LinkRec, LogName, PagerRec, Session, SourceRec, Version};
 use std::alloc::AllocError;
 
 /// What a record has to name, and the log and the number that it names.
@@ -14,6 +15,9 @@ struct Naming {
     log: LogName,
     place: u32,
 }
+
+/// What goes down, by the link or by the lane.
+const SENDING: &str = "a `state`, a `send` or an `again` of the source";
 
 fn has_to_name(wanted: &'static str, log: LogName, place: u32) -> Option<Naming> {
     Some(Naming { wanted, log, place })
@@ -49,11 +53,7 @@ fn source_naming(rec: &SourceRec) -> Option<Naming> {
 /// What a record of the link has to name.
 fn link_naming(rec: &LinkRec) -> Option<Naming> {
     match *rec {
-        LinkRec::Down { sending } => has_to_name(
-            "a `state`, a `send` or an `again` of the source",
-            LogName::Source,
-            sending,
-        ),
+        LinkRec::Down { sending } => has_to_name(SENDING, LogName::Source, sending),
         LinkRec::Up { asking } => has_to_name(
             "a `want` or an `all` of the pager",
             LogName::Pager,
@@ -62,15 +62,35 @@ fn link_naming(rec: &LinkRec) -> Option<Naming> {
     }
 }
 
+/// What a record of the lane has to name.
+fn lane_naming(rec: &LaneRec) -> Option<Naming> {
+    match *rec {
+        LaneRec::Down { sending } => has_to_name(SENDING, LogName::Source, sending),
+    }
+}
+
 /// What a record of the pager has to name.
-fn pager_naming(rec: &PagerRec) -> Option<Naming> {
+fn pager_naming(session: &Session, rec: &PagerRec) -> Option<Naming> {
     match *rec {
         PagerRec::Got { down } => has_to_name("a `down` of the link", LogName::Link, down),
+        PagerRec::Pull { down } => has_to_name("a `down` of the lane", LogName::Lane, down),
         PagerRec::Fault { miss } => has_to_name("a `miss` of the guest", LogName::Guest, miss),
         PagerRec::Join { want } => has_to_name("a `want` before it", LogName::Pager, want),
-        PagerRec::Skip { got } => has_to_name("a `got` before it", LogName::Pager, got),
+        PagerRec::Skip { got } => has_to_name(
+            if has_lane(session) {
+                "a `got` or a `pull` before it"
+            } else {
+                "a `got` before it"
+            },
+            LogName::Pager,
+            got,
+        ),
         PagerRec::Place { got, .. } => has_to_name(
-            "a `got` before it that took a `send` of the page, or a repeat of it",
+            if has_lane(session) {
+                "a `got` or a `pull` before it that took a `send` of the page, or a repeat of it"
+            } else {
+                "a `got` before it that took a `send` of the page, or a repeat of it"
+            },
             LogName::Pager,
             got,
         ),
@@ -85,7 +105,8 @@ fn naming_of(session: &Session, story: &ShapeStory) -> Option<Naming> {
         LogName::Guest => guest_naming(session.guest().get(n)?),
         LogName::Source => source_naming(session.source().get(n)?),
         LogName::Link => link_naming(session.link().get(n)?),
-        LogName::Pager => pager_naming(session.pager().get(n)?),
+        LogName::Lane => lane_naming(session.lane().get(n)?),
+        LogName::Pager => pager_naming(session, session.pager().get(n)?),
     }
 }
 
@@ -138,8 +159,11 @@ fn push_phase(out: &mut String, session: &Session, story: &ShapeStory) -> Result
 }
 
 /// Adds how a log begins.
-fn push_start(out: &mut String, log: LogName) -> Result<(), AllocError> {
+fn push_start(out: &mut String, session: &Session, log: LogName) -> Result<(), AllocError> {
     match log {
+        LogName::Pager if has_lane(session) => out.push_str(
+            "The pager's log begins with the `got` or the `pull` of the state and with `ready`, and has no other `ready`.\n",
+        ),
         LogName::Pager => out.push_str(
             "The pager's log begins with the `got` of the state and with `ready`, and has no other `ready`.\n",
         ),
@@ -171,7 +195,7 @@ pub(crate) fn push_shape_story(
     match story.reason {
         ShapeReason::Phases => push_phase(out, session, story),
         ShapeReason::Named => push_named(out, session, story),
-        ShapeReason::Start => push_start(out, story.log),
+        ShapeReason::Start => push_start(out, session, story.log),
         ShapeReason::SecondSend => push_second(out, session, story),
     }
 }

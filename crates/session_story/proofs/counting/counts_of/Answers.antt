@@ -1,6 +1,7 @@
 use Rattle.std.proofs.Common.{List, length, ap, ◌∙◌}
 use Rattle.migration_types.specs.declared.records.GuestRec.{GuestRec}
 use Rattle.migration_types.specs.declared.records.SourceRec.{SourceRec}
+use Rattle.migration_types.specs.declared.records.LaneRec.{LaneRec}
 use Rattle.migration_types.specs.declared.records.PagerRec.{PagerRec}
 use Rattle.audit_model.specs.Shape.{is_miss}
 use Rattle.session_story.specs.Scans.{how_many}
@@ -21,4 +22,5 @@ returns c =
       repeats = c.count_of-8.ensures ∙ ap (λ (log : List SourceRec). how_many (λ m. is_again) log (length log)) c.source-3.ensures;
       waits = c.count_of-9.ensures ∙ ap (λ (log : List PagerRec). how_many (λ m. is_join) log (length log)) c.pager.ensures;
       dropped = c.count_of-10.ensures ∙ ap (λ (log : List PagerRec). how_many (λ m. is_skip) log (length log)) c.pager-2.ensures;
+      by_lane = ap (λ (log : List LaneRec). length log) c.lane.ensures;
     }
