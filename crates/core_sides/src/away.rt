@@ -214,6 +214,7 @@ impl<'a> Away<'a> {
             guest: Seq::from_vec(guest),
             source,
             link: Seq::from_vec(link),
+            lane: Seq::from_vec(Vec::new(self.alloc)),
             pager,
         };
         Ok(Session::new(self.script.version(), self.source.geometry(), init, logs))
@@ -227,6 +228,7 @@ impl<'a> Away<'a> {
     {
         let init = self.script.copied_init(self.alloc)?;
         let Away {
+            alloc,
             script,
             source,
             link,
@@ -240,6 +242,7 @@ impl<'a> Away<'a> {
             guest: Seq::from_vec(guest),
             source: Seq::from_vec(source.into_log()),
             link: Seq::from_vec(link.into_log()),
+            lane: Seq::from_vec(Vec::new(alloc)),
             pager: Seq::from_vec(pager.into_log()),
         };
         Ok(Session::new(script.version(), geometry, init, logs))

@@ -47,6 +47,7 @@ impl Copied for PagerRec {
     fn copied(&self, alloc: Global) -> Result<PagerRec, AllocError> {
         match self {
             PagerRec::Got { down } => Ok(PagerRec::Got { down: *down }),
+            PagerRec::Pull { down } => Ok(PagerRec::Pull { down: *down }),
             PagerRec::Ready => Ok(PagerRec::Ready),
             PagerRec::Fault { miss } => Ok(PagerRec::Fault { miss: *miss }),
             PagerRec::Join { want } => Ok(PagerRec::Join { want: *want }),

@@ -190,6 +190,7 @@ fn guest_session(
         guest,
         source: Seq::from_vec(Vec::new(alloc)),
         link: Seq::from_vec(Vec::new(alloc)),
+        lane: Seq::from_vec(Vec::new(alloc)),
         pager: Seq::from_vec(Vec::new(alloc)),
     };
     Session::new(version, geometry, init, logs)

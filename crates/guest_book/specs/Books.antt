@@ -25,7 +25,7 @@ part_of b = record { geometry = b.frames.geometry; log = b.log; memory = memory_
 
 -- what is recorded, in the first version, of a machine where the guest's log alone has records
 abbrev pub guest_session : Extent → List InitPage → List GuestRec → Recorded
-guest_session geometry init log = record { version = One; geometry = geometry; init = init; guest = log; source = []; link = []; pager = [] }
+guest_session geometry init log = record { version = One; geometry = geometry; init = init; guest = log; source = []; link = []; lane = []; pager = [] }
 
 -- The log has reads, writes and releases alone, of pages and cells of the machine, and is within its limit. From some
 -- initial pages, the frames are those of one machine that never moved, and the released pages those of the log.

@@ -3,15 +3,15 @@
 ghost use Rattle.std.specs.Prelude.{◌≡◌, ◌<◌, ◌≤◌, IfOk, IfErr, IsTrue};
 ghost use Rattle.std.specs.List.{AllByRecursion};
 ghost use Rattle.text_lines.specs.Contents.{IsContent};
-ghost use Rattle.migration_types.specs.Sessions.{GuestRecFits, SourceRecFits, LinkRecFits, PagerRecFits, recorded, IsNumber};
+ghost use Rattle.migration_types.specs.Sessions.{GuestRecFits, SourceRecFits, LinkRecFits, LaneRecFits, PagerRecFits, HasLane, recorded, IsNumber};
 ghost use Rattle.host_checks.specs.Outcomes.{IsRefused};
 ghost use Rattle.host_checks.specs.inner.Limits.{AreShort, AreOfMachine};
 
 use crate::outcome::RunFault;
 use guest_script::Script;
 use migration_types::{
-    Contents, Geometry, GuestRec, LAST_RECORD, LAST_VCPU, LinkRec, Logs, MOST_RECORDS, PageNo,
-    PagerRec, Session, SourceRec,
+    Contents, Geometry, GuestRec, LAST_RECORD, LAST_VCPU, LaneRec, LinkRec, Logs, MOST_RECORDS,
+    PageNo, PagerRec, Session, SourceRec, Version,
 };
 use std::alloc::Global;
 
@@ -20,6 +20,13 @@ fn is_number(number: u32) -> bool
     ensures { IsTrue result → IsNumber number }
 {
     number <= LAST_RECORD
+}
+
+/// Whether sessions of the version have a lane.
+fn has_lane(version: Version) -> bool
+    ensures { IsTrue result → HasLane version }
+{
+    matches!(version, Version::Two)
 }
 
 /// Whether the machine has the page.
@@ -106,11 +113,20 @@ fn link_fits(rec: &LinkRec) -> bool
     }
 }
 
-fn pager_fits(geometry: Geometry, rec: &PagerRec) -> bool
-    ensures { IsTrue result → PagerRecFits geometry rec.now }
+fn lane_fits(version: Version, rec: &LaneRec) -> bool
+    ensures { IsTrue result → LaneRecFits version rec.now }
+{
+    match *rec {
+        LaneRec::Down { sending } => has_lane(version) && is_number(sending),
+    }
+}
+
+fn pager_fits(version: Version, geometry: Geometry, rec: &PagerRec) -> bool
+    ensures { IsTrue result → PagerRecFits version geometry rec.now }
 {
     match rec {
         PagerRec::Got { down } => is_number(*down),
+        PagerRec::Pull { down } => has_lane(version) && is_number(*down),
         PagerRec::Ready | PagerRec::All => true,
         PagerRec::Fault { miss } => is_number(*miss),
         PagerRec::Join { want } => is_number(*want),
@@ -143,10 +159,16 @@ fn link_log_fits(log: &[LinkRec]) -> bool
     log.iter().all(|rec| link_fits(rec))
 }
 
-fn pager_log_fits(geometry: Geometry, log: &[PagerRec]) -> bool
-    ensures { IsTrue result → AllByRecursion (PagerRecFits geometry) log.now }
+fn lane_log_fits(version: Version, log: &[LaneRec]) -> bool
+    ensures { IsTrue result → AllByRecursion (LaneRecFits version) log.now }
 {
-    log.iter().all(|rec| pager_fits(geometry, rec))
+    log.iter().all(|rec| lane_fits(version, rec))
+}
+
+fn pager_log_fits(version: Version, geometry: Geometry, log: &[PagerRec]) -> bool
+    ensures { IsTrue result → AllByRecursion (PagerRecFits version geometry) log.now }
+{
+    log.iter().all(|rec| pager_fits(version, geometry, rec))
 }
 
 /// Whether each log has as many records as a log may have.
@@ -157,17 +179,19 @@ fn are_short(logs: &Logs) -> bool
     logs.guest.as_slice().len() <= most
         && logs.source.as_slice().len() <= most
         && logs.link.as_slice().len() <= most
+        && logs.lane.as_slice().len() <= most
         && logs.pager.as_slice().len() <= most
 }
 
-/// Whether each record of the logs has numbers of the machine.
-fn are_of_machine(geometry: Geometry, logs: &Logs) -> bool
-    ensures { IsTrue result → AreOfMachine geometry logs.now }
+/// Whether each record of the logs may stand in a session of the version, and has numbers of the machine.
+fn are_of_machine(version: Version, geometry: Geometry, logs: &Logs) -> bool
+    ensures { IsTrue result → AreOfMachine version geometry logs.now }
 {
     guest_log_fits(geometry, logs.guest.as_slice())
         && source_log_fits(geometry, logs.source.as_slice())
         && link_log_fits(logs.link.as_slice())
-        && pager_log_fits(geometry, logs.pager.as_slice())
+        && lane_log_fits(version, logs.lane.as_slice())
+        && pager_log_fits(version, geometry, logs.pager.as_slice())
 }
 
 /// The session of a script's version and machine with these logs. Refused: a record is beyond a session's limits, or
@@ -178,7 +202,7 @@ pub(crate) fn session_of(alloc: Global, script: &Script, logs: Logs) -> Result<S
 {
     script.keeps_limits();
     let geometry = script.geometry();
-    if !are_short(&logs) || !are_of_machine(geometry, &logs) {
+    if !are_short(&logs) || !are_of_machine(script.version(), geometry, &logs) {
         return Err(RunFault::TranscriptDiffers);
     }
     let Ok(init) = script.copied_init(alloc) else {

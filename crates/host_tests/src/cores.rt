@@ -27,7 +27,10 @@ fn fills_the_log(core: &mut Core<'_>) -> bool {
 fn has_recorded(core: &Core<'_>, records: usize) -> bool {
     match core.session() {
         Ok(session) => {
-            let others = session.source().len() + session.link().len() + session.pager().len();
+            let others = session.source().len()
+                + session.link().len()
+                + session.lane().len()
+                + session.pager().len();
             session.guest().len() == records && others == 0
         }
         Err(_) => false,

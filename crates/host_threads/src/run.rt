@@ -98,11 +98,18 @@ fn run_threads<R: Threads + Wait + Sync, G: Gate, L: Relay + Drop>(
 }
 
 /// What the books have recorded.
-fn logs_of(guest: Vec<GuestRec>, source: SourceBook, link: LinkBook, pager: PagerBook) -> Logs {
+fn logs_of(
+    alloc: Global,
+    guest: Vec<GuestRec>,
+    source: SourceBook,
+    link: LinkBook,
+    pager: PagerBook,
+) -> Logs {
     Logs {
         guest: Seq::from_vec(guest),
         source: Seq::from_vec(source.into_log()),
         link: Seq::from_vec(link.into_log()),
+        lane: Seq::from_vec(Vec::new(alloc)),
         pager: Seq::from_vec(pager.into_log()),
     }
 }
@@ -147,7 +154,7 @@ fn checked<R: Threads + Sync>(
         return Err(RunFault::TranscriptDiffers);
     };
     let (guest, store) = target.into_parts();
-    let logs = logs_of(guest, source, link.into_inner(), pager.into_inner());
+    let logs = logs_of(alloc, guest, source, link.into_inner(), pager.into_inner());
     settle(rt, alloc, script, logs, store, Seq::from_vec(transcripts))
 }
 

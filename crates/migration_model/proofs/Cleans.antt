@@ -15,9 +15,9 @@ use Rattle.migration_types.specs.Sessions.{Recorded}
 use Rattle.migration_types.specs.declared.records.GuestRec.{GuestRec}
 use Rattle.migration_types.specs.declared.records.GuestRec.TheVariants.{Halt, Miss, Read, Release, Resume, See, Write}
 use Rattle.migration_types.specs.declared.records.LinkRec.{LinkRec}
-use Rattle.migration_types.specs.declared.records.LogName.TheVariants.{Guest, Link, Pager, Source as FromSource}
+use Rattle.migration_types.specs.declared.records.LogName.TheVariants.{Guest, Lane, Link, Pager, Source as FromSource}
 use Rattle.migration_types.specs.declared.records.PagerRec.{PagerRec}
-use Rattle.migration_types.specs.declared.records.PagerRec.TheVariants.{All, Fault, Got, Join, Place, Ready, Skip, Want, Zero}
+use Rattle.migration_types.specs.declared.records.PagerRec.TheVariants.{All, Fault, Got, Join, Place, Pull, Ready, Skip, Want, Zero}
 use Rattle.migration_types.specs.declared.records.SourceRec.{SourceRec}
 use Rattle.migration_types.specs.declared.records.SourceRec.TheVariants.{Send}
 use Rattle.migration_model.proofs.Grows.{freed_before, guest_more, link_more, pager_more, source_more}
@@ -108,6 +108,7 @@ module _ (s : Recorded) (memory : Memory) (ledger : Pages) (z : IsFrozen s memor
       go None is e = e
       go (Some r) is e = source_not reason r (k.source n r is) e
   no_page_fault k reason (Link, n) = λ e. e
+  no_page_fault k reason (Lane, n) = λ e. e
   no_page_fault k reason (Pager, n) = go (slice_get s.pager n) refl
     where
       go : (o : Option PagerRec) → slice_get s.pager n ≡ o → if_fault (PagerFault s reason n) o → ⊥
@@ -240,6 +241,7 @@ pager_clean_push : (cells : ℕ) (memory : Memory) (ledger : Pages) (r : PagerRe
 pager_clean_push cells memory ledger r log n (Place p g c) le h = (first_stays r log n p le ∙ h.0, h.1)
 pager_clean_push cells memory ledger r log n (Zero p) le h = (first_stays r log n p le ∙ h.0, h.1)
 pager_clean_push cells memory ledger r log n (Got k) le h = tt
+pager_clean_push cells memory ledger r log n (Pull k) le h = tt
 pager_clean_push cells memory ledger r log n Ready le h = tt
 pager_clean_push cells memory ledger r log n (Fault k) le h = tt
 pager_clean_push cells memory ledger r log n (Join k) le h = tt

@@ -328,7 +328,7 @@ pub pager_pushed : {o : List Name} (r : PagerRec) (a : Away) → AwayKept o a �
     IsThere (away_session a) (pager_receipt r) → pager_goes_on r ≡ true →
     ((p : ℕ) → is_placement_of p r ≡ false) →
     PagerClean a.source.geometry.cells a.source.memory a.source.ledger a.pager.log (length a.pager.log) r →
-    PagerWithin a.source.geometry r →
+    PagerWithin a.version a.source.geometry r →
     (r ≡ All → IsComplete a.source.geometry.pages a.source.ledger (is_there a.target)) →
     AwayKept (o ++ (Pager, length a.pager.log) ∷ []) (record a { pager = record a.pager { log = a.pager.log ++ r ∷ [] } })
 pager_pushed {o} r a k ready named there on other clean within all =

@@ -4,23 +4,26 @@ use Rattle.audit_model.proofs.Grown.{grown_merges}
 use Rattle.audit_model.specs.Flat.{before, changed, freed, freed_after, home_after}
 use Rattle.audit_model.specs.Mergings.{IsMerging}
 use Rattle.audit_model.specs.Names.{if_there, receipt, same_log}
-use Rattle.audit_model.specs.Shape.{delivers, delivery, down_sending, got_down, guest_named, is_or_repeats, is_send_of, is_state, link_named, pager_named, pager_start, passes, source_named}
+use Rattle.audit_model.specs.Shape.{delivers, delivery, down_sending, guest_named, is_or_repeats, is_send_of, is_state, lane_named, lane_sending, link_named, pager_named, pager_start, passes, source_named, taken_sending}
 use Rattle.audit_model.specs.Walks.{IsGrown}
 use Rattle.audit_model.specs.declared.home.Home.TheVariants.{AtSource}
 use Rattle.migration_types.specs.Receipts.{Name, guest_receipt, link_receipt, pager_receipt, source_receipt}
 use Rattle.migration_types.specs.Sessions.{Recorded, log_length}
 use Rattle.migration_types.specs.declared.records.GuestRec.{GuestRec}
 use Rattle.migration_types.specs.declared.records.GuestRec.TheVariants.{Halt, Miss, Read, Release, Resume, See, Write}
+use Rattle.migration_types.specs.declared.records.LaneRec.{LaneRec}
+use Rattle.migration_types.specs.declared.records.LaneRec.TheVariants.{Down as LaneDown}
 use Rattle.migration_types.specs.declared.records.LinkRec.{LinkRec}
 use Rattle.migration_types.specs.declared.records.LinkRec.TheVariants.{Down, Up}
 use Rattle.migration_types.specs.declared.records.LogName.{LogName}
-use Rattle.migration_types.specs.declared.records.LogName.TheVariants.{Guest, Link, Pager, Source as FromSource}
+use Rattle.migration_types.specs.declared.records.LogName.TheVariants.{Guest, Lane, Link, Pager, Source as FromSource}
 use Rattle.migration_types.specs.declared.records.PagerRec.{PagerRec}
-use Rattle.migration_types.specs.declared.records.PagerRec.TheVariants.{All, Fault, Got, Join, Place, Ready, Skip, Want, Zero}
+use Rattle.migration_types.specs.declared.records.PagerRec.TheVariants.{All, Fault, Got, Join, Place, Pull, Ready, Skip, Want, Zero}
 use Rattle.migration_types.specs.declared.records.SourceRec.{SourceRec}
 use Rattle.migration_types.specs.declared.records.SourceRec.TheVariants.{Again, Ask, Done, Halted, Send, State}
-use Rattle.migration_model.proofs.Lists.{and_both, and_left, and_right, get_new, get_old, length_suc, passes_stays}
+use Rattle.migration_model.proofs.Lists.{and_both, and_left, and_right, get_new, get_old, length_suc, passes_stays, some_stays}
 use Rattle.std.proofs.Common.{Bool, List, None, Option, Some, [], ap, arith, cond, length, refl, subst, suc, sym, true, zero, ℕ, ◌++◌, ◌<◌, ◌∙◌, ◌∷◌, ◌≡◌}
+use Rattle.std.specs.Option.{option_map}
 use Rattle.std.specs.Prelude.{slice_get}
 
 -- one record more in a log
@@ -41,19 +44,20 @@ pub record Extends (s t : Recorded) : Type 0 where
   pub guest : (n : ℕ) (r : GuestRec) → slice_get s.guest n ≡ Some r → slice_get t.guest n ≡ Some r
   pub source : (n : ℕ) (r : SourceRec) → slice_get s.source n ≡ Some r → slice_get t.source n ≡ Some r
   pub link : (n : ℕ) (r : LinkRec) → slice_get s.link n ≡ Some r → slice_get t.link n ≡ Some r
+  pub lane : (n : ℕ) (r : LaneRec) → slice_get s.lane n ≡ Some r → slice_get t.lane n ≡ Some r
   pub pager : (n : ℕ) (r : PagerRec) → slice_get s.pager n ≡ Some r → slice_get t.pager n ≡ Some r
 
 pub guest_extends : (r : GuestRec) (s : Recorded) → Extends s (guest_more r s)
-guest_extends r s = record { guest = λ n x e. get_old _ _ n x e; source = λ n x e. e; link = λ n x e. e; pager = λ n x e. e }
+guest_extends r s = record { guest = λ n x e. get_old _ _ n x e; source = λ n x e. e; link = λ n x e. e; lane = λ n x e. e; pager = λ n x e. e }
 
 pub source_extends : (r : SourceRec) (s : Recorded) → Extends s (source_more r s)
-source_extends r s = record { guest = λ n x e. e; source = λ n x e. get_old _ _ n x e; link = λ n x e. e; pager = λ n x e. e }
+source_extends r s = record { guest = λ n x e. e; source = λ n x e. get_old _ _ n x e; link = λ n x e. e; lane = λ n x e. e; pager = λ n x e. e }
 
 pub link_extends : (r : LinkRec) (s : Recorded) → Extends s (link_more r s)
-link_extends r s = record { guest = λ n x e. e; source = λ n x e. e; link = λ n x e. get_old _ _ n x e; pager = λ n x e. e }
+link_extends r s = record { guest = λ n x e. e; source = λ n x e. e; link = λ n x e. get_old _ _ n x e; lane = λ n x e. e; pager = λ n x e. e }
 
 pub pager_extends : (r : PagerRec) (s : Recorded) → Extends s (pager_more r s)
-pager_extends r s = record { guest = λ n x e. e; source = λ n x e. e; link = λ n x e. e; pager = λ n x e. get_old _ _ n x e }
+pager_extends r s = record { guest = λ n x e. e; source = λ n x e. e; link = λ n x e. e; lane = λ n x e. e; pager = λ n x e. get_old _ _ n x e }
 
 -- the receipts of a log that has grown by one
 old_receipts : {A : Type 0} (f : A → Option Name) (xs : List A) (x : A) (n : ℕ) → n < length xs → if_there f (slice_get (xs ++ x ∷ []) n) ≡ if_there f (slice_get xs n)
@@ -80,12 +84,14 @@ guest_grown r s there = record {
     lengths Guest = length_suc s.guest r
     lengths FromSource = refl
     lengths Link = refl
+    lengths Lane = refl
     lengths Pager = refl
 
     receipts : (other : Name) → other.1 < log_length s other.0 → receipt (guest_more r s) other ≡ receipt s other
     receipts (Guest, n) lt = old_receipts guest_receipt s.guest r n lt
     receipts (FromSource, n) lt = refl
     receipts (Link, n) lt = refl
+    receipts (Lane, n) lt = refl
     receipts (Pager, n) lt = refl
 
 source_grown : (r : SourceRec) (s : Recorded) → IsThere s (source_receipt r) → IsGrown s (source_more r s) (FromSource, length s.source)
@@ -100,12 +106,14 @@ source_grown r s there = record {
     lengths Guest = refl
     lengths FromSource = length_suc s.source r
     lengths Link = refl
+    lengths Lane = refl
     lengths Pager = refl
 
     receipts : (other : Name) → other.1 < log_length s other.0 → receipt (source_more r s) other ≡ receipt s other
     receipts (Guest, n) lt = refl
     receipts (FromSource, n) lt = old_receipts source_receipt s.source r n lt
     receipts (Link, n) lt = refl
+    receipts (Lane, n) lt = refl
     receipts (Pager, n) lt = refl
 
 link_grown : (r : LinkRec) (s : Recorded) → IsThere s (link_receipt r) → IsGrown s (link_more r s) (Link, length s.link)
@@ -120,12 +128,14 @@ link_grown r s there = record {
     lengths Guest = refl
     lengths FromSource = refl
     lengths Link = length_suc s.link r
+    lengths Lane = refl
     lengths Pager = refl
 
     receipts : (other : Name) → other.1 < log_length s other.0 → receipt (link_more r s) other ≡ receipt s other
     receipts (Guest, n) lt = refl
     receipts (FromSource, n) lt = refl
     receipts (Link, n) lt = old_receipts link_receipt s.link r n lt
+    receipts (Lane, n) lt = refl
     receipts (Pager, n) lt = refl
 
 pager_grown : (r : PagerRec) (s : Recorded) → IsThere s (pager_receipt r) → IsGrown s (pager_more r s) (Pager, length s.pager)
@@ -140,12 +150,14 @@ pager_grown r s there = record {
     lengths Guest = refl
     lengths FromSource = refl
     lengths Link = refl
+    lengths Lane = refl
     lengths Pager = length_suc s.pager r
 
     receipts : (other : Name) → other.1 < log_length s other.0 → receipt (pager_more r s) other ≡ receipt s other
     receipts (Guest, n) lt = refl
     receipts (FromSource, n) lt = refl
     receipts (Link, n) lt = refl
+    receipts (Lane, n) lt = refl
     receipts (Pager, n) lt = old_receipts pager_receipt s.pager r n lt
 
 -- a recorded order stays a merging
@@ -177,21 +189,34 @@ pub names : (s : Recorded) (name : Name) → name.1 < log_length s name.0 → Is
 names s name lt sent e = let same : name ≡ sent = cc in subst (λ k. k.1 < log_length s k.0) same lt
 
 module _ (s t : Recorded) (x : Extends s t) where
+  -- what a record takes the delivery of stays
+  taken_stays : (r : PagerRec) (n : ℕ) → taken_sending s r ≡ Some n → taken_sending t r ≡ Some n
+  taken_stays (Got down) n e = go (slice_get s.link down) refl e
+    where
+      go : (o : Option LinkRec) → slice_get s.link down ≡ o → if_there down_sending o ≡ Some n → if_there down_sending (slice_get t.link down) ≡ Some n
+      go None is e = absurd (cc)
+      go (Some d) is e = ap (λ o. if_there down_sending o) (x.link down d is) ∙ e
+  taken_stays (Pull down) n e = go (slice_get s.lane down) refl e
+    where
+      go : (o : Option LaneRec) → slice_get s.lane down ≡ o → option_map lane_sending o ≡ Some n → option_map lane_sending (slice_get t.lane down) ≡ Some n
+      go None is e = absurd (cc)
+      go (Some d) is e = ap (λ o. option_map lane_sending o) (x.lane down d is) ∙ e
+  taken_stays Ready n e = absurd (cc)
+  taken_stays (Fault k) n e = absurd (cc)
+  taken_stays (Join k) n e = absurd (cc)
+  taken_stays (Want p) n e = absurd (cc)
+  taken_stays (Place p k c) n e = absurd (cc)
+  taken_stays (Zero p) n e = absurd (cc)
+  taken_stays (Skip k) n e = absurd (cc)
+  taken_stays All n e = absurd (cc)
+
   -- a delivery stays
   delivery_stays : (got n : ℕ) → delivery s got ≡ Some n → delivery t got ≡ Some n
-  delivery_stays got n e = from_pager (slice_get s.pager got) refl e
+  delivery_stays got n e = go (slice_get s.pager got) refl e
     where
-      from_link : (down : ℕ) (o : Option LinkRec) → slice_get s.link down ≡ o → if_there down_sending o ≡ Some n → if_there down_sending (slice_get t.link down) ≡ Some n
-      from_link down None is e = absurd (cc)
-      from_link down (Some r) is e = ap (λ o. if_there down_sending o) (x.link down r is) ∙ e
-
-      by_down : (o : Option ℕ) → if_there (λ down. if_there down_sending (slice_get s.link down)) o ≡ Some n → if_there (λ down. if_there down_sending (slice_get t.link down)) o ≡ Some n
-      by_down None e = absurd (cc)
-      by_down (Some down) e = from_link down (slice_get s.link down) refl e
-
-      from_pager : (o : Option PagerRec) → slice_get s.pager got ≡ o → if_there (λ down. if_there down_sending (slice_get s.link down)) (if_there got_down o) ≡ Some n → delivery t got ≡ Some n
-      from_pager None is e = absurd (cc)
-      from_pager (Some r) is e = ap (λ o. if_there (λ down. if_there down_sending (slice_get t.link down)) (if_there got_down o)) (x.pager got r is) ∙ by_down (got_down r) e
+      go : (o : Option PagerRec) → slice_get s.pager got ≡ o → if_there (taken_sending s) o ≡ Some n → delivery t got ≡ Some n
+      go None is e = absurd (cc)
+      go (Some r) is e = ap (λ o. if_there (taken_sending t) o) (x.pager got r is) ∙ taken_stays r n e
 
   repeats_stays : (test : SourceRec → Bool) (r : SourceRec) → is_or_repeats s test r ≡ true → is_or_repeats t test r ≡ true
   repeats_stays test (Again k) e = passes_stays test test s.source t.source k (x.source k) (λ y e. e) e
@@ -231,8 +256,12 @@ module _ (s t : Recorded) (x : Extends s t) where
   link_named_stays (Down k) e = passes_stays _ _ s.source t.source k (x.source k) (λ y e. e) e
   link_named_stays (Up k) e = passes_stays _ _ s.pager t.pager k (x.pager k) (λ y e. e) e
 
+  pub lane_named_stays : (r : LaneRec) → lane_named s r ≡ true → lane_named t r ≡ true
+  lane_named_stays (LaneDown k) e = passes_stays _ _ s.source t.source k (x.source k) (λ y e. e) e
+
   pub pager_named_stays : (n : ℕ) (r : PagerRec) → pager_named s n r ≡ true → pager_named t n r ≡ true
   pager_named_stays n (Got k) e = passes_stays _ _ s.link t.link k (x.link k) (λ y e. e) e
+  pager_named_stays n (Pull k) e = some_stays s.lane t.lane k (x.lane k) e
   pager_named_stays n (Fault k) e = passes_stays _ _ s.guest t.guest k (x.guest k) (λ y e. e) e
   pager_named_stays n (Join k) e = and_both _ _ (and_left _ _ e) (passes_stays _ _ s.pager t.pager k (x.pager k) (λ y e. e) (and_right _ _ e))
   pager_named_stays n (Skip k) e = and_both _ _ (and_left _ _ e) (passes_stays _ _ s.pager t.pager k (x.pager k) (λ y e. e) (and_right _ _ e))
@@ -244,6 +273,7 @@ module _ (s t : Recorded) (x : Extends s t) where
 
   pub pager_start_stays : (n : ℕ) (r : PagerRec) → pager_start s n r ≡ true → pager_start t n r ≡ true
   pager_start_stays zero (Got k) e = delivers_stays is_state 0 e
+  pager_start_stays zero (Pull k) e = delivers_stays is_state 0 e
   pager_start_stays zero Ready e = absurd (cc)
   pager_start_stays zero (Fault k) e = absurd (cc)
   pager_start_stays zero (Join k) e = absurd (cc)
@@ -254,6 +284,7 @@ module _ (s t : Recorded) (x : Extends s t) where
   pager_start_stays zero All e = absurd (cc)
   pager_start_stays (suc zero) Ready e = refl
   pager_start_stays (suc zero) (Got k) e = absurd (cc)
+  pager_start_stays (suc zero) (Pull k) e = absurd (cc)
   pager_start_stays (suc zero) (Fault k) e = absurd (cc)
   pager_start_stays (suc zero) (Join k) e = absurd (cc)
   pager_start_stays (suc zero) (Want p) e = absurd (cc)
@@ -263,6 +294,7 @@ module _ (s t : Recorded) (x : Extends s t) where
   pager_start_stays (suc zero) All e = absurd (cc)
   pager_start_stays (suc (suc n)) Ready e = absurd (cc)
   pager_start_stays (suc (suc n)) (Got k) e = refl
+  pager_start_stays (suc (suc n)) (Pull k) e = refl
   pager_start_stays (suc (suc n)) (Fault k) e = refl
   pager_start_stays (suc (suc n)) (Join k) e = refl
   pager_start_stays (suc (suc n)) (Want p) e = refl

@@ -21,6 +21,7 @@ use Rattle.migration_model.specs.Machine.{After, Away, Before, Books, Home, Vcpu
 use Rattle.migration_types.specs.PageSets.{with_page, without_page}
 use Rattle.migration_types.specs.Sessions.{Recorded}
 use Rattle.migration_types.specs.declared.records.GuestRec.TheVariants.{Halt, Miss, See}
+use Rattle.migration_types.specs.declared.records.LaneRec.{LaneRec}
 use Rattle.migration_types.specs.declared.records.PagerRec.TheVariants.{Fault, Skip}
 use Rattle.migration_types.specs.declared.records.SourceRec.TheVariants.{Again, Done}
 use Rattle.page_stream.specs.declared.Packet.{Packet}
@@ -282,14 +283,15 @@ pub record GrowsByTwo (s t : Recorded) : Type 0 where
   pub guest : IsLittleMore s.guest t.guest
   pub source : IsLittleMore s.source t.source
   pub link : IsLittleMore s.link t.link
+  pub lane : IsLittleMore s.lane t.lane
   pub pager : IsLittleMore s.pager t.pager
 
 stays_short : (s : Recorded) → GrowsByTwo s s
-stays_short s = record { guest = none_more s.guest; source = none_more s.source; link = none_more s.link; pager = none_more s.pager }
+stays_short s = record { guest = none_more s.guest; source = none_more s.source; link = none_more s.link; lane = none_more s.lane; pager = none_more s.pager }
 
 home_ops_more : (v : ℕ) (vcpu : Vcpu) (ops : List Op) (h : Home) → GrowsByTwo (home_session h) (home_session (home_ops v vcpu ops h))
 home_ops_more v vcpu [] h = stays_short (home_session h)
-home_ops_more v vcpu (op ∷ ops) h = record { guest = guest_more v op h.guest; source = omega arith; link = omega arith; pager = omega arith }
+home_ops_more v vcpu (op ∷ ops) h = record { guest = guest_more v op h.guest; source = omega arith; link = omega arith; lane = omega arith; pager = omega arith }
 
 home_step_more : (v : ℕ) (vcpu : Option Vcpu) (h : Home) → GrowsByTwo (home_session h) (home_session (home_step v vcpu h))
 home_step_more v None h = stays_short (home_session h)
@@ -300,7 +302,7 @@ home_more (GuestStep v) h = home_step_more v (slice_get h.vcpus v) h
 home_more HaltGuest h = go (all_at_move h.vcpus)
   where
     go : (at_move : Bool) → GrowsByTwo (home_session h) (session_of (cond at_move (After (halted h)) (Before h)))
-    go true = record { guest = one_more h.guest.log Halt; source = omega arith; link = omega arith; pager = omega arith }
+    go true = record { guest = one_more h.guest.log Halt; source = omega arith; link = omega arith; lane = omega arith; pager = omega arith }
     go false = stays_short (home_session h)
 home_more Push h = stays_short (home_session h)
 home_more Serve h = stays_short (home_session h)
@@ -314,7 +316,7 @@ home_more PagerTick h = stays_short (home_session h)
 
 away_ops_more : (v : ℕ) (vcpu : Vcpu) (ops : List Op) (a : Away) → GrowsByTwo (away_session a) (away_session (away_ops v vcpu ops a))
 away_ops_more v vcpu [] a = stays_short (away_session a)
-away_ops_more v vcpu (op ∷ ops) a = record { guest = access_more v op a.target; source = none_more a.source.log; link = none_more a.link.log; pager = none_more a.pager.log }
+away_ops_more v vcpu (op ∷ ops) a = record { guest = access_more v op a.target; source = none_more a.source.log; link = none_more a.link.log; lane = none_more {A = LaneRec} []; pager = none_more a.pager.log }
 
 away_step_more : (v : ℕ) (vcpu : Option Vcpu) (a : Away) → GrowsByTwo (away_session a) (away_session (away_step v vcpu a))
 away_step_more v None a = stays_short (away_session a)
@@ -324,7 +326,7 @@ pushed_more : (a : Away) → GrowsByTwo (away_session a) (away_session (pushed a
 pushed_more a = go (nat_lt (length a.link.down) a.window)
   where
     go : (fits : Bool) → GrowsByTwo (away_session a) (away_session (cond fits (offered with_back (source_push a.source) a) a))
-    go true = record { guest = none_more a.target.log; source = push_more a.source; link = back_more (source_push a.source).packet a.link; pager = none_more a.pager.log }
+    go true = record { guest = none_more a.target.log; source = push_more a.source; link = back_more (source_push a.source).packet a.link; lane = none_more {A = LaneRec} []; pager = none_more a.pager.log }
     go false = stays_short (away_session a)
 
 served_more : (arrivals : List Arrival) (a : Away) → GrowsByTwo (away_session a) (away_session (served arrivals a))
@@ -333,26 +335,27 @@ served_more (x ∷ rest) a = record {
   guest = none_more a.target.log;
   source = serve_more x.number x.packet a.source;
   link = front_more (source_serve x.number x.packet a.source).packet (record a.link { up_arrivals = rest });
+  lane = none_more {A = LaneRec} [];
   pager = none_more a.pager.log;
 }
 
 popped_more : (arrivals : List Arrival) (a : Away) → GrowsByTwo (away_session a) (away_session (popped arrivals a))
 popped_more [] a = stays_short (away_session a)
-popped_more (x ∷ rest) a = record { guest = none_more a.target.log; source = none_more a.source.log; link = none_more a.link.log; pager = pop_more x.number x.packet a.pager }
+popped_more (x ∷ rest) a = record { guest = none_more a.target.log; source = none_more a.source.log; link = none_more a.link.log; lane = none_more {A = LaneRec} []; pager = pop_more x.number x.packet a.pager }
 
 paged_more : (r : Paged) (a : Away) → PagedMore a.pager a.target r → GrowsByTwo (away_session a) (away_session (paged r a))
-paged_more r a k = record { guest = k.target; source = none_more a.source.log; link = none_more a.link.log; pager = k.pager }
+paged_more r a k = record { guest = k.target; source = none_more a.source.log; link = none_more a.link.log; lane = none_more {A = LaneRec} []; pager = k.pager }
 
 sent_more : (r : Sent) (a : Away) → IsLittleMore a.pager.log r.book.log → GrowsByTwo (away_session a) (away_session (sent_up r a))
-sent_more r a k = record { guest = none_more a.target.log; source = none_more a.source.log; link = up_more r.packet a.link; pager = k }
+sent_more r a k = record { guest = none_more a.target.log; source = none_more a.source.log; link = up_more r.packet a.link; lane = none_more {A = LaneRec} []; pager = k }
 
 away_more : (e : Event) (a : Away) → GrowsByTwo (away_session a) (away_session (away_event e a))
 away_more (GuestStep v) a = away_step_more v (slice_get a.vcpus v) a
 away_more HaltGuest a = stays_short (away_session a)
 away_more Push a = pushed_more a
 away_more Serve a = served_more a.link.up_arrivals a
-away_more SourceTick a = record { guest = none_more a.target.log; source = source_tick_more a.source; link = back_more (source_tick a.source).packet a.link; pager = none_more a.pager.log }
-away_more (LinkTurn direction fate) a = record { guest = none_more a.target.log; source = none_more a.source.log; link = turn_more direction fate a.link; pager = none_more a.pager.log }
+away_more SourceTick a = record { guest = none_more a.target.log; source = source_tick_more a.source; link = back_more (source_tick a.source).packet a.link; lane = none_more {A = LaneRec} []; pager = none_more a.pager.log }
+away_more (LinkTurn direction fate) a = record { guest = none_more a.target.log; source = none_more a.source.log; link = turn_more direction fate a.link; lane = none_more {A = LaneRec} []; pager = none_more a.pager.log }
 away_more PagerPop a = popped_more a.link.down_arrivals a
 away_more PagerFault a = paged_more (next_fault a.pager a.target) a (next_fault_more a.pager a.target)
 away_more PagerFlush a = sent_more (pager_flush a.pager) a (flush_more a.pager)

@@ -14,7 +14,7 @@ use Rattle.migration_types.specs.declared.version.Version.TheVariants.{One, Two}
 use Rattle.migration_types.specs.declared.records.GuestRec.{GuestRec}
 use Rattle.migration_types.specs.declared.records.GuestRec.TheVariants.{Halt, Miss, Read, Release, Resume, See, Write}
 use Rattle.migration_types.specs.declared.records.LogName.{LogName}
-use Rattle.migration_types.specs.declared.records.LogName.TheVariants.{Guest, Link, Pager, Source as FromSource}
+use Rattle.migration_types.specs.declared.records.LogName.TheVariants.{Guest, Lane, Link, Pager, Source as FromSource}
 use Rattle.migration_types.specs.declared.records.PagerRec.TheVariants.{All}
 use Rattle.migration_types.specs.declared.records.SourceRec.{SourceRec}
 use Rattle.migration_types.specs.declared.records.SourceRec.TheVariants.{Done, Halted, State}
@@ -327,14 +327,15 @@ no_places : (script : Scripted) → (l : LogName) → [] ≡ range_with_len 0 (l
 no_places script Guest = refl
 no_places script FromSource = refl
 no_places script Link = refl
+no_places script Lane = refl
 no_places script Pager = refl
 
 pub start_keeps : (script : Scripted) → IsScript script → HomeKept [] (first_home script)
 start_keeps script fits = record {
   ops = λ n r is. nothing n r is;
-  named = record { phases = λ n r is. nothing n r is; guest = λ n r is. nothing n r is; source = λ n r is. nothing n r is; link = λ n r is. nothing n r is; pager = λ n r is. nothing n r is; first_sends = λ n r is. nothing n r is };
+  named = record { phases = λ n r is. nothing n r is; guest = λ n r is. nothing n r is; source = λ n r is. nothing n r is; link = λ n r is. nothing n r is; lane = λ n r is. nothing n r is; pager = λ n r is. nothing n r is; first_sends = λ n r is. nothing n r is };
   merges = record { each_once_in_order = no_places script; receipts_after = λ past name sent stands e. no_order past stands.0 name stands.1 };
-  limits = record { extent = fits.geometry; init = fits.init; guest = λ n r is. nothing n r is; source = λ n r is. nothing n r is; pager = λ n r is. nothing n r is };
+  limits = record { extent = fits.geometry; init = fits.init; guest = λ n r is. nothing n r is; source = λ n r is. nothing n r is; lane = λ n r is. nothing n r is; pager = λ n r is. nothing n r is };
   reads = λ n r is. nothing n r is;
   memory_is = λ p c. refl;
   wide = wide_initial script.geometry script.init fits.init.each;

@@ -5,16 +5,19 @@ use Rattle.migration_types.specs.Extents.{Extent, IsExtent}
 use Rattle.migration_types.specs.Memory.{Memory, initial, page_of, with_cell, with_content, with_zeros}
 use Rattle.migration_types.specs.PageSets.{Pages}
 use Rattle.migration_types.specs.Pages.{AreInitPages, InitPageFits}
-use Rattle.migration_types.specs.Sessions.{GuestRecFits, IsNumber, IsSession, LinkRecFits, PagerRecFits, Recorded, SourceRecFits}
+use Rattle.migration_types.specs.Sessions.{GuestRecFits, HasLane, IsNumber, IsSession, LaneRecFits, LinkRecFits, PagerRecFits, Recorded, SourceRecFits}
 use Rattle.migration_types.specs.declared.pages.InitPage.{InitPage}
 use Rattle.migration_types.specs.declared.records.GuestRec.{GuestRec}
 use Rattle.migration_types.specs.declared.records.GuestRec.TheVariants.{Halt, Miss, Read, Release, Resume, See, Write}
+use Rattle.migration_types.specs.declared.records.LaneRec.{LaneRec}
+use Rattle.migration_types.specs.declared.records.LaneRec.TheVariants.{Down as LaneDown}
 use Rattle.migration_types.specs.declared.records.LinkRec.{LinkRec}
 use Rattle.migration_types.specs.declared.records.LinkRec.TheVariants.{Down, Up}
 use Rattle.migration_types.specs.declared.records.PagerRec.{PagerRec}
-use Rattle.migration_types.specs.declared.records.PagerRec.TheVariants.{All, Fault, Got, Join, Place, Ready, Skip, Want, Zero}
+use Rattle.migration_types.specs.declared.records.PagerRec.TheVariants.{All, Fault, Got, Join, Place, Pull, Ready, Skip, Want, Zero}
 use Rattle.migration_types.specs.declared.records.SourceRec.{SourceRec}
 use Rattle.migration_types.specs.declared.records.SourceRec.TheVariants.{Again, Ask, Done, Halted, Send, State}
+use Rattle.migration_types.specs.declared.version.Version.{Version}
 use Rattle.migration_model.proofs.Cleans.{IsClean}
 use Rattle.migration_model.proofs.Grows.{guest_more, link_more, pager_more, source_more}
 use Rattle.migration_model.proofs.Lists.{AllAt, all_each, all_push, and_left}
@@ -23,7 +26,7 @@ use Rattle.std.proofs.Common.{Bool, List, None, Option, Some, [], arith, cond, f
 use Rattle.std.proofs.lemmas.Bool.{ltb-true}
 use Rattle.std.proofs.lemmas.Option.{slice_get_within}
 use Rattle.std.specs.List.{AllByRecursion, range_with_len}
-use Rattle.std.specs.Prelude.{map, nat_lt, slice_get, slice_index, ◌==◌, ◌^◌}
+use Rattle.std.specs.Prelude.{is_some, map, nat_lt, slice_get, slice_index, ◌==◌, ◌^◌}
 use Rattle.text_lines.specs.Contents.{IsContent}
 
 -- what must be seen of a record when it is made: its own numbers, and not those of other records
@@ -36,18 +39,20 @@ abbrev pub SourceWithin : Extent → SourceRec → Type 0
 SourceWithin e (Send p content) = p < e.pages
 SourceWithin e _ = Unit {0}
 
-abbrev pub PagerWithin : Extent → PagerRec → Type 0
-PagerWithin e (Want p) = p < e.pages
-PagerWithin e (Place p got content) = p < e.pages
-PagerWithin e (Zero p) = p < e.pages
-PagerWithin e _ = Unit {0}
+abbrev pub PagerWithin : Version → Extent → PagerRec → Type 0
+PagerWithin version e (Pull down) = HasLane version
+PagerWithin version e (Want p) = p < e.pages
+PagerWithin version e (Place p got content) = p < e.pages
+PagerWithin version e (Zero p) = p < e.pages
+PagerWithin version e _ = Unit {0}
 
 pub record IsLimited (s : Recorded) : Type 0 where
   pub extent : IsExtent s.geometry
   pub init : AreInitPages s.geometry s.init
   pub guest : AllAt (λ n r. GuestWithin s.geometry r) s.guest
   pub source : AllAt (λ n r. SourceWithin s.geometry r) s.source
-  pub pager : AllAt (λ n r. PagerWithin s.geometry r) s.pager
+  pub lane : AllAt (λ n r. HasLane s.version) s.lane
+  pub pager : AllAt (λ n r. PagerWithin s.version s.geometry r) s.pager
 
 -- each cell has 64 bits
 abbrev pub IsWide : Memory → Type 0
@@ -59,6 +64,7 @@ guest_limits r s here k = record {
   init = k.init;
   guest = all_push (λ n y. GuestWithin s.geometry y) (λ n y. GuestWithin s.geometry y) s.guest r k.guest (λ n y is h. h) here;
   source = k.source;
+  lane = k.lane;
   pager = k.pager;
 }
 
@@ -68,19 +74,21 @@ source_limits r s here k = record {
   init = k.init;
   guest = k.guest;
   source = all_push (λ n y. SourceWithin s.geometry y) (λ n y. SourceWithin s.geometry y) s.source r k.source (λ n y is h. h) here;
+  lane = k.lane;
   pager = k.pager;
 }
 
 pub link_limits : (r : LinkRec) (s : Recorded) → IsLimited s → IsLimited (link_more r s)
-link_limits r s k = record { extent = k.extent; init = k.init; guest = k.guest; source = k.source; pager = k.pager }
+link_limits r s k = record { extent = k.extent; init = k.init; guest = k.guest; source = k.source; lane = k.lane; pager = k.pager }
 
-pub pager_limits : (r : PagerRec) (s : Recorded) → PagerWithin s.geometry r → IsLimited s → IsLimited (pager_more r s)
+pub pager_limits : (r : PagerRec) (s : Recorded) → PagerWithin s.version s.geometry r → IsLimited s → IsLimited (pager_more r s)
 pager_limits r s here k = record {
   extent = k.extent;
   init = k.init;
   guest = k.guest;
   source = k.source;
-  pager = all_push (λ n y. PagerWithin s.geometry y) (λ n y. PagerWithin s.geometry y) s.pager r k.pager (λ n y is h. h) here;
+  lane = k.lane;
+  pager = all_push (λ n y. PagerWithin s.version s.geometry y) (λ n y. PagerWithin s.version s.geometry y) s.pager r k.pager (λ n y is h. h) here;
 }
 
 -- memories
@@ -132,10 +140,18 @@ passes_there {A} test xs n few e = go (slice_get xs n) refl e
 there_number : {A : Type 0} (xs : List A) (n m : ℕ) (x : A) → length xs ≤ 1048576 → slice_get xs n ≡ Some x → nat_lt m n ≡ true → IsNumber m
 there_number xs n m x few is e = let lt = slice_get_within xs n x is in let low : m < n = ltb-true m n e in omega (arith, lt, few, low)
 
+some_there : {A : Type 0} (xs : List A) (n : ℕ) → length xs ≤ 1048576 → is_some (slice_get xs n) ≡ true → IsNumber n
+some_there {A} xs n few e = go (slice_get xs n) refl e
+  where
+    go : (o : Option A) → slice_get xs n ≡ o → is_some o ≡ true → IsNumber n
+    go None is e = absurd (cc)
+    go (Some x) is e = let lt = slice_get_within xs n x is in omega (arith, lt, few)
+
 pub record HasRoom (s : Recorded) : Type 0 where
   pub guest : length s.guest ≤ 1048576
   pub source : length s.source ≤ 1048576
   pub link : length s.link ≤ 1048576
+  pub lane : length s.lane ≤ 1048576
   pub pager : length s.pager ≤ 1048576
 
 module _ (s : Recorded) (room : HasRoom s) (named : IsNamed s) (k : IsLimited s) where
@@ -152,6 +168,9 @@ module _ (s : Recorded) (room : HasRoom s) (named : IsNamed s) (k : IsLimited s)
   link_fit n (Down i) is = passes_there goes_down s.source i room.source (named.link n (Down i) is)
   link_fit n (Up i) is = passes_there goes_up s.pager i room.pager (named.link n (Up i) is)
 
+  lane_fit : (n : ℕ) (r : LaneRec) → slice_get s.lane n ≡ Some r → LaneRecFits s.version r
+  lane_fit n (LaneDown i) is = (k.lane n (LaneDown i) is, passes_there goes_down s.source i room.source (named.lane n (LaneDown i) is))
+
   module _ (memory : Memory) (ledger : Pages) (wide : IsWide memory) (clean : IsClean s memory ledger) where
     source_fit : (n : ℕ) (r : SourceRec) → slice_get s.source n ≡ Some r → SourceRecFits s.geometry r
     source_fit n (Halted i) is = passes_there is_halt s.guest i room.guest (named.source n (Halted i) is)
@@ -161,8 +180,9 @@ module _ (s : Recorded) (room : HasRoom s) (named : IsNamed s) (k : IsLimited s)
     source_fit n (Ask i) is = passes_there is_up s.link i room.link (named.source n (Ask i) is)
     source_fit n Done is = tt
 
-    pager_fit : (n : ℕ) (r : PagerRec) → slice_get s.pager n ≡ Some r → PagerRecFits s.geometry r
+    pager_fit : (n : ℕ) (r : PagerRec) → slice_get s.pager n ≡ Some r → PagerRecFits s.version s.geometry r
     pager_fit n (Got i) is = passes_there is_down s.link i room.link (named.pager n (Got i) is)
+    pager_fit n (Pull i) is = (k.pager n (Pull i) is, some_there s.lane i room.lane (named.pager n (Pull i) is))
     pager_fit n Ready is = tt
     pager_fit n (Fault i) is = passes_there is_miss s.guest i room.guest (named.pager n (Fault i) is)
     pager_fit n (Join i) is = there_number s.pager n i (Join i) room.pager is (and_left _ _ (named.pager n (Join i) is))
@@ -183,9 +203,11 @@ module _ (s : Recorded) (room : HasRoom s) (named : IsNamed s) (k : IsLimited s)
       few_guest = room.guest;
       few_source = room.source;
       few_link = room.link;
+      few_lane = room.lane;
       few_pager = room.pager;
       guest = all_each (GuestRecFits s.geometry) s.guest guest_fit;
       source = all_each (SourceRecFits s.geometry) s.source source_fit;
       link = all_each LinkRecFits s.link link_fit;
-      pager = all_each (PagerRecFits s.geometry) s.pager pager_fit;
+      lane = all_each (LaneRecFits s.version) s.lane lane_fit;
+      pager = all_each (PagerRecFits s.version s.geometry) s.pager pager_fit;
     }

@@ -76,6 +76,13 @@ passes_stays {A} test other xs ys n stays kept e = go (slice_get xs n) refl e
     go None is e = absurd (cc)
     go (Some x) is e = ap (λ o. passes other o) (stays x is) ∙ kept x e
 
+pub some_stays : {A : Type 0} (xs ys : List A) (n : ℕ) → ((x : A) → slice_get xs n ≡ Some x → slice_get ys n ≡ Some x) → is_some (slice_get xs n) ≡ true → is_some (slice_get ys n) ≡ true
+some_stays {A} xs ys n stays e = go (slice_get xs n) refl e
+  where
+    go : (o : Option A) → slice_get xs n ≡ o → is_some o ≡ true → is_some (slice_get ys n) ≡ true
+    go None is e = absurd (cc)
+    go (Some x) is e = ap is_some (stays x is)
+
 pub passes_at : {A : Type 0} (test : A → Bool) (xs : List A) (n : ℕ) (x : A) → slice_get xs n ≡ Some x → test x ≡ true → passes test (slice_get xs n) ≡ true
 passes_at test xs n x is e = ap (λ o. passes test o) is ∙ e
 

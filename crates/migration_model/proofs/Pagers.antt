@@ -4,7 +4,7 @@ use Rattle.audit_model.proofs.Touched.{released_zero}
 use Rattle.audit_model.proofs.Worlds.{content_at}
 use Rattle.audit_model.specs.Flat.{at_halt, in_ledger}
 use Rattle.audit_model.specs.Names.{if_there}
-use Rattle.audit_model.specs.Shape.{delivers, delivery, down_sending, got_down, is_down, is_got, is_miss, is_or_repeats, is_placement_of, is_send_of, is_state, is_want, pager_start, passes}
+use Rattle.audit_model.specs.Shape.{delivers, delivery, down_sending, is_down, is_miss, is_or_repeats, is_placement_of, is_send_of, is_state, is_taking, is_want, pager_start, passes, taken_sending}
 use Rattle.balloon_ledger.specs.Released.{released}
 use Rattle.fault_queue.specs.Waiting.{Waiting, entry, is_asked, is_waiting, joined, with_waiter, without}
 use Rattle.link_book.specs.declared.Arrival.{Arrival}
@@ -157,7 +157,7 @@ skip_keeps : {o : List Name} (g i : ℕ) (a : Away) → AwayKept o a → IsReady
 skip_keeps g i a k ready is =
     let s = away_session a in
     pager_pushed (Skip g) a k ready
-    (and_both _ _ (lt-ltb g (length s.pager) (slice_get_within s.pager g (Got i) is)) (passes_at is_got s.pager g (Got i) is refl))
+    (and_both _ _ (lt-ltb g (length s.pager) (slice_get_within s.pager g (Got i) is)) (passes_at is_taking s.pager g (Got i) is refl))
     (names_none s) refl (λ q. refl) tt tt (λ e. absurd (cc))
 
 popped_later_keeps : (o : List Name) (i : ℕ) (packet : Packet) (a : Away) → AwayKept o a → IsReady (away_session a) → DownArrived (away_session a) (released_of a) (record { number = i; packet = packet }) → Arrives o a (record a { pager = pops_later i packet a.pager })
@@ -275,7 +275,7 @@ first_keeps o i n rel a k unready fact = record {
     delivers_state : delivers (pager_more Ready (pager_more (Got i) (away_session a))) is_state 0 ≡ true
     delivers_state =
         ap (λ o. passes (λ m. passes (is_or_repeats (pager_more Ready (pager_more (Got i) (away_session a))) is_state) (slice_get a.source.log m)) o)
-        (ap (λ o. if_there (λ down. if_there down_sending (slice_get a.link.log down)) (if_there got_down o)) got ∙ ap (λ o. if_there down_sending o) fact.0)
+        (ap (λ o. if_there (taken_sending (pager_more Ready (pager_more (Got i) (away_session a)))) o) got ∙ ap (λ o. if_there down_sending o) fact.0)
         ∙ state_there fact.1.1
 
 first_packet_keeps : (o : List Name) (i : ℕ) (packet : Packet) (a : Away) → AwayKept o a → a.pager.released ≡ None → DownArrived (away_session a) (released_of a) (record { number = i; packet = packet }) → Arrives o a (record a { pager = pops_first i packet a.pager })
@@ -303,7 +303,7 @@ delivers_page : (s : Recorded) (x : Incoming) → HasCome s x → delivers s (is
 delivers_page s x h = ap (λ o. passes (λ n. passes (is_or_repeats s (is_send_of x.page)) (slice_get s.source n)) o) delivery_is ∙ at h.is_page.is_it
   where
     delivery_is : delivery s x.got ≡ Some h.number
-    delivery_is = ap (λ o. if_there (λ down. if_there down_sending (slice_get s.link down)) (if_there got_down o)) h.got ∙ ap (λ o. if_there down_sending o) h.came
+    delivery_is = ap (λ o. if_there (taken_sending s) o) h.got ∙ ap (λ o. if_there down_sending o) h.came
 
     itself : is_or_repeats s (is_send_of x.page) (Send x.page x.contents) ≡ true
     itself = eq-eqb x.page x.page refl

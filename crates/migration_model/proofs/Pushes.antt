@@ -17,7 +17,7 @@ use Rattle.migration_types.specs.declared.records.GuestRec.{GuestRec}
 use Rattle.migration_types.specs.declared.records.GuestRec.TheVariants.{Miss, Read, Release, Resume, See, Write}
 use Rattle.migration_types.specs.declared.records.LogName.TheVariants.{Guest, Pager}
 use Rattle.migration_types.specs.declared.records.PagerRec.{PagerRec}
-use Rattle.migration_types.specs.declared.records.PagerRec.TheVariants.{All, Fault, Got, Join, Place, Ready, Skip, Want, Zero}
+use Rattle.migration_types.specs.declared.records.PagerRec.TheVariants.{All, Fault, Got, Join, Place, Pull, Ready, Skip, Want, Zero}
 use Rattle.residency.specs.Placements.{is_covered, is_resident, with_placement}
 use Rattle.migration_model.proofs.Cleans.{GuestClean, IsBareRelease, PagerClean, freed_here, freed_stays, guest_cleans, guest_frozen, is_release, over_guest, over_other, over_pager, pager_cleans}
 use Rattle.migration_model.proofs.Facts.{AwayKept, HasMissed, IsReady, IsWaitedFor, PhaseKept, TargetKept, VcpusKept, away_home, frontier_stays, is_there, link_stays, misses_stay, not_new, pager_stays, ready_stays, released_of, unready_goes}
@@ -184,6 +184,7 @@ is_a_placement : (p : ℕ) (r : PagerRec) → is_placement_of p r ≡ true → i
 is_a_placement p (Place q g c) e = refl
 is_a_placement p (Zero q) e = refl
 is_a_placement p (Got k) e = absurd (cc)
+is_a_placement p (Pull k) e = absurd (cc)
 is_a_placement p Ready e = absurd (cc)
 is_a_placement p (Fault k) e = absurd (cc)
 is_a_placement p (Join k) e = absurd (cc)
@@ -432,7 +433,7 @@ pub put_pushed : {o : List Name} (r : PagerRec) (q : ℕ) (memory : Memory) (wai
     pager_named (away_session a) (length a.pager.log) r ≡ true → IsThere (away_session a) (pager_receipt r) → pager_goes_on r ≡ true →
     is_there a.target q ≡ false → ((p : ℕ) → is_placement_of p r ≡ (q == p)) →
     PagerClean a.source.geometry.cells a.source.memory a.source.ledger a.pager.log (length a.pager.log) r →
-    PagerWithin a.source.geometry r →
+    PagerWithin a.version a.source.geometry r →
     (r ≡ All → ⊥) →
     ((c : ℕ) → c < a.source.geometry.cells → memory q c ≡ a.source.memory q c) →
     ((p c : ℕ) → (q == p) ≡ false → memory p c ≡ a.target.memory p c) →

@@ -1,15 +1,15 @@
 -- The shape of a session that grows.
-use Rattle.audit_model.specs.Shape.{IsRightShape, earlier, guest_named, in_phase, in_phase_by, is_first_send, is_halt, is_resume, is_send_of, keeps, link_named, pager_named, pager_start, source_named, source_start}
+use Rattle.audit_model.specs.Shape.{IsRightShape, earlier, guest_named, in_phase, in_phase_by, is_first_send, is_halt, is_resume, is_send_of, keeps, lane_named, link_named, pager_named, pager_start, source_named, source_start}
 use Rattle.audit_model.specs.declared.reasons.ShapeReason.TheVariants.{Named, Phases, SecondSend, Start}
 use Rattle.migration_types.specs.Sessions.{Recorded}
 use Rattle.migration_types.specs.declared.records.GuestRec.{GuestRec}
 use Rattle.migration_types.specs.declared.records.LinkRec.{LinkRec}
-use Rattle.migration_types.specs.declared.records.LogName.TheVariants.{Guest, Link, Pager, Source as FromSource}
+use Rattle.migration_types.specs.declared.records.LogName.TheVariants.{Guest, Lane, Link, Pager, Source as FromSource}
 use Rattle.migration_types.specs.declared.records.PagerRec.{PagerRec}
-use Rattle.migration_types.specs.declared.records.PagerRec.TheVariants.{All, Fault, Got, Join, Place, Ready, Skip, Want, Zero}
+use Rattle.migration_types.specs.declared.records.PagerRec.TheVariants.{All, Fault, Got, Join, Place, Pull, Ready, Skip, Want, Zero}
 use Rattle.migration_types.specs.declared.records.SourceRec.{SourceRec}
 use Rattle.migration_types.specs.declared.records.SourceRec.TheVariants.{Again, Ask, Done, Halted, Send, State}
-use Rattle.migration_model.proofs.Grows.{guest_extends, guest_more, guest_named_stays, link_extends, link_more, link_named_stays, pager_extends, pager_more, pager_named_stays, pager_start_stays, source_extends, source_more, source_named_stays}
+use Rattle.migration_model.proofs.Grows.{guest_extends, guest_more, guest_named_stays, lane_named_stays, link_extends, link_more, link_named_stays, pager_extends, pager_more, pager_named_stays, pager_start_stays, source_extends, source_more, source_named_stays}
 use Rattle.migration_model.proofs.Lists.{AllAt, all_push, before_push, length_suc}
 use Rattle.std.proofs.Common.{Bool, List, None, Option, Some, [], ap, arith, false, length, not, refl, suc, true, zero, ℕ, ◌<◌, ◌||◌, ◌∙◌, ◌∷◌, ◌≡◌, ◌≤◌}
 use Rattle.std.proofs.lemmas.Bool.{lt-ltb, ltb-true}
@@ -22,6 +22,7 @@ pub record IsNamed (s : Recorded) : Type 0 where
   pub guest : AllAt (λ n r. guest_named s r ≡ true) s.guest
   pub source : AllAt (λ n r. source_named s n r ≡ true) s.source
   pub link : AllAt (λ n r. link_named s r ≡ true) s.link
+  pub lane : AllAt (λ n r. lane_named s r ≡ true) s.lane
   pub pager : AllAt (λ n r. pager_named s n r ≡ true) s.pager
   pub first_sends : AllAt (λ n r. is_first_send s n r ≡ true) s.source
 
@@ -40,18 +41,22 @@ pub right_shape : (s : Recorded) → IsNamed s → IsStarted s → IsRightShape 
 right_shape s k b Phases (Guest, n) = keeps_all (in_phase s) s.guest k.phases n
 right_shape s k b Phases (FromSource, n) = refl
 right_shape s k b Phases (Link, n) = refl
+right_shape s k b Phases (Lane, n) = refl
 right_shape s k b Phases (Pager, n) = refl
 right_shape s k b Named (Guest, n) = keeps_all (λ n. guest_named s) s.guest k.guest n
 right_shape s k b Named (FromSource, n) = keeps_all (source_named s) s.source k.source n
 right_shape s k b Named (Link, n) = keeps_all (λ n. link_named s) s.link k.link n
+right_shape s k b Named (Lane, n) = keeps_all (λ n. lane_named s) s.lane k.lane n
 right_shape s k b Named (Pager, n) = keeps_all (pager_named s) s.pager k.pager n
 right_shape s k b Start (Guest, n) = refl
 right_shape s k b Start (FromSource, n) = keeps_all (source_start s) s.source b.source n
 right_shape s k b Start (Link, n) = refl
+right_shape s k b Start (Lane, n) = refl
 right_shape s k b Start (Pager, n) = keeps_all (pager_start s) s.pager b.pager n
 right_shape s k b SecondSend (Guest, n) = refl
 right_shape s k b SecondSend (FromSource, n) = keeps_all (is_first_send s) s.source k.first_sends n
 right_shape s k b SecondSend (Link, n) = refl
+right_shape s k b SecondSend (Lane, n) = refl
 right_shape s k b SecondSend (Pager, n) = refl
 
 -- the phase of a record is as it was
@@ -71,6 +76,7 @@ guest_shapes r s k phase named =
       guest = all_push (λ n y. guest_named s y ≡ true) (λ n y. guest_named t y ≡ true) s.guest r k.guest (λ n y is e. guest_named_stays s t x y e) (guest_named_stays s t x r named);
       source = λ n y is. source_named_stays s t x n y (k.source n y is);
       link = λ n y is. link_named_stays s t x y (k.link n y is);
+      lane = λ n y is. lane_named_stays s t x y (k.lane n y is);
       pager = λ n y is. pager_named_stays s t x n y (k.pager n y is);
       first_sends = k.first_sends;
     }
@@ -143,6 +149,7 @@ pager_start_goes_on s zero r le e = absurd (omega arith)
 pager_start_goes_on s (suc zero) r le e = absurd (omega arith)
 pager_start_goes_on s (suc (suc n)) Ready le e = absurd (cc)
 pager_start_goes_on s (suc (suc n)) (Got k) le e = refl
+pager_start_goes_on s (suc (suc n)) (Pull k) le e = refl
 pager_start_goes_on s (suc (suc n)) (Fault k) le e = refl
 pager_start_goes_on s (suc (suc n)) (Join k) le e = refl
 pager_start_goes_on s (suc (suc n)) (Want p) le e = refl
@@ -176,6 +183,7 @@ source_shapes r s k named first =
       guest = λ n y is. guest_named_stays s t x y (k.guest n y is);
       source = all_push (λ n y. source_named s n y ≡ true) (λ n y. source_named t n y ≡ true) s.source r k.source (λ n y is e. source_named_stays s t x n y e) (source_named_stays s t x (length s.source) r named);
       link = λ n y is. link_named_stays s t x y (k.link n y is);
+      lane = λ n y is. lane_named_stays s t x y (k.lane n y is);
       pager = λ n y is. pager_named_stays s t x n y (k.pager n y is);
       first_sends = all_push (λ n y. is_first_send s n y ≡ true) (λ n y. is_first_send t n y ≡ true) s.source r k.first_sends
           (λ n y is e. let lt : n < length s.source = slice_get_within s.source n y is in first_push r s n y (omega arith) ∙ e)
@@ -191,6 +199,7 @@ link_shapes r s k named =
       guest = λ n y is. guest_named_stays s t x y (k.guest n y is);
       source = λ n y is. source_named_stays s t x n y (k.source n y is);
       link = all_push (λ n y. link_named s y ≡ true) (λ n y. link_named t y ≡ true) s.link r k.link (λ n y is e. link_named_stays s t x y e) (link_named_stays s t x r named);
+      lane = λ n y is. lane_named_stays s t x y (k.lane n y is);
       pager = λ n y is. pager_named_stays s t x n y (k.pager n y is);
       first_sends = k.first_sends;
     }
@@ -204,6 +213,7 @@ pager_shapes r s k named =
       guest = λ n y is. guest_named_stays s t x y (k.guest n y is);
       source = λ n y is. source_named_stays s t x n y (k.source n y is);
       link = λ n y is. link_named_stays s t x y (k.link n y is);
+      lane = λ n y is. lane_named_stays s t x y (k.lane n y is);
       pager = all_push (λ n y. pager_named s n y ≡ true) (λ n y. pager_named t n y ≡ true) s.pager r k.pager (λ n y is e. pager_named_stays s t x n y e) (pager_named_stays s t x (length s.pager) r named);
       first_sends = k.first_sends;
     }

@@ -11,7 +11,7 @@ use Rattle.audit_model.specs.Worlds.{resident_before}
 use Rattle.migration_types.specs.Receipts.{Name}
 use Rattle.migration_types.specs.Sessions.{Recorded}
 use Rattle.migration_types.specs.declared.records.GuestRec.{GuestRec}
-use Rattle.migration_types.specs.declared.records.LogName.TheVariants.{Guest, Link, Pager, Source as FromSource}
+use Rattle.migration_types.specs.declared.records.LogName.TheVariants.{Guest, Lane, Link, Pager, Source as FromSource}
 use Rattle.migration_types.specs.declared.records.PagerRec.{PagerRec}
 use Rattle.migration_model.proofs.Cleans.{guest_not, no_page_fault}
 use Rattle.migration_model.proofs.Facts.{Arrives, AwayKept, IsComplete, close_none, is_there}
@@ -76,6 +76,7 @@ home_no_fault o h k reason (Guest, n) = go (slice_get h.guest.log n) refl
     go (Some r) is e = guest_not (home_session h) n r (k.reads n r is) reason e
 home_no_fault o h k reason (FromSource, n) = λ e. e
 home_no_fault o h k reason (Link, n) = λ e. e
+home_no_fault o h k reason (Lane, n) = λ e. e
 home_no_fault o h k reason (Pager, n) = λ e. e
 
 home_faultless : (o : List Name) (h : Home) → HomeKept o h → HasRoom (home_session h) → IsFaultlessSession (home_session h) o
@@ -143,14 +144,17 @@ room_there s e =
     let guest = nat_le (length s.guest) 1048576 in
     let source = nat_le (length s.source) 1048576 in
     let link = nat_le (length s.link) 1048576 in
+    let lane = nat_le (length s.lane) 1048576 in
     let pager = nat_le (length s.pager) 1048576 in
-    let three : ((guest && source) && link) ≡ true = and_left ((guest && source) && link) pager e in
+    let four : (((guest && source) && link) && lane) ≡ true = and_left (((guest && source) && link) && lane) pager e in
+    let three : ((guest && source) && link) ≡ true = and_left ((guest && source) && link) lane four in
     let two : (guest && source) ≡ true = and_left (guest && source) link three in
     record {
       guest = leb-true (length s.guest) 1048576 (and_left guest source two);
       source = leb-true (length s.source) 1048576 (and_right guest source two);
       link = leb-true (length s.link) 1048576 (and_right (guest && source) link three);
-      pager = leb-true (length s.pager) 1048576 (and_right ((guest && source) && link) pager e);
+      lane = leb-true (length s.lane) 1048576 (and_right ((guest && source) && link) lane four);
+      pager = leb-true (length s.pager) 1048576 (and_right (((guest && source) && link) && lane) pager e);
     }
 
 step_keeps : (e : Event) (core next : Machine) → MachineKept core → step e core ≡ Some next → MachineKept next
@@ -177,7 +181,7 @@ core_faultless core k = go core.books core.order k.books k.room
 
 pub run_kept : (script : Scripted) (events : List Event) (core : Machine) → IsScript script → run events (start script) ≡ Some core → MachineKept core
 run_kept script events core fits is =
-    run_keeps events (start script) core (record { books = start_keeps script fits; room = record { guest = omega arith; source = omega arith; link = omega arith; pager = omega arith } }) is
+    run_keeps events (start script) core (record { books = start_keeps script fits; room = record { guest = omega arith; source = omega arith; link = omega arith; lane = omega arith; pager = omega arith } }) is
 
 pub run_is_faultless : (script : Scripted) (events : List Event) (core : Machine) → IsScript script → run events (start script) ≡ Some core → IsFaultlessRecording core
 run_is_faultless script events core fits is = core_faultless core (run_kept script events core fits is)

@@ -131,7 +131,7 @@ event e core = recorded core.books core.order (books_event e core.books)
 
 -- no log has more than 1,048,576 records
 abbrev pub has_room : Recorded → Bool
-has_room s = nat_le (length s.guest) 1048576 && nat_le (length s.source) 1048576 && nat_le (length s.link) 1048576 && nat_le (length s.pager) 1048576
+has_room s = nat_le (length s.guest) 1048576 && nat_le (length s.source) 1048576 && nat_le (length s.link) 1048576 && nat_le (length s.lane) 1048576 && nat_le (length s.pager) 1048576
 
 -- an event that needs more records than a log has room for is refused
 abbrev pub if_room : Machine → Option Machine

@@ -3,7 +3,7 @@ use Rattle.std.specs.Prelude.{ℕ, ◌≤◌, ◌-◌, List, [], ◌++◌, lengt
 use Rattle.std.specs.List.{AllByRecursion}
 use Rattle.migration_types.specs.declared.pages.InitPage.{InitPage}
 use Rattle.migration_types.specs.declared.records.LogName.{LogName}
-use Rattle.migration_types.specs.declared.records.LogName.TheVariants.{Guest, Source, Link, Pager}
+use Rattle.migration_types.specs.declared.records.LogName.TheVariants.{Guest, Source, Link, Lane, Pager}
 use Rattle.migration_types.specs.Extents.{Extent, IsExtent}
 use Rattle.migration_types.specs.Pages.{AreInitPages}
 use Rattle.migration_types.specs.Receipts.{Name}
@@ -68,9 +68,9 @@ pub data Books : Type 0 where
   Before : Home → Books
   After : Away → Books
 
--- what the books have recorded, in the version of the script
+-- what the books have recorded, in the version of the script: the lane's log has no records
 abbrev pub home_session : Home → Recorded
-home_session h = record { version = h.version; geometry = h.guest.geometry; init = h.init; guest = h.guest.log; source = []; link = []; pager = [] }
+home_session h = record { version = h.version; geometry = h.guest.geometry; init = h.init; guest = h.guest.log; source = []; link = []; lane = []; pager = [] }
 
 abbrev pub away_session : Away → Recorded
 away_session a = record {
@@ -80,6 +80,7 @@ away_session a = record {
   guest = a.target.log;
   source = a.source.log;
   link = a.link.log;
+  lane = [];
   pager = a.pager.log;
 }
 
@@ -96,6 +97,6 @@ pub record Machine : Type 0 where
 abbrev pub grown : {A : Type 0} → LogName → List A → List A → List Name
 grown log old new = run_names log (length old) (length new - length old)
 
--- the names of the records by which a session grew: the guest's, the source's, the link's and then the pager's
+-- the names of the records by which a session grew: the guest's, the source's, the link's, the lane's and then the pager's
 abbrev pub new_names : Recorded → Recorded → List Name
-new_names s t = grown Guest s.guest t.guest ++ grown Source s.source t.source ++ grown Link s.link t.link ++ grown Pager s.pager t.pager
+new_names s t = grown Guest s.guest t.guest ++ grown Source s.source t.source ++ grown Link s.link t.link ++ grown Lane s.lane t.lane ++ grown Pager s.pager t.pager

@@ -59,6 +59,7 @@ session_of_two = record {
   guest = Halt ∷ Resume 1 ∷ Miss 0 1 ∷ Miss 1 1 ∷ See 8 ∷ Read 0 1 0 7 ∷ Read 1 1 0 7 ∷ [];
   source = Halted 0 ∷ State ∷ Ask 1 ∷ Send 1 (7 ∷ []) ∷ Ask 2 ∷ Again 3 ∷ [];
   link = Down 1 ∷ Up 3 ∷ Up 6 ∷ Down 5 ∷ [];
+  lane = [];
   pager = Got 0 ∷ Ready ∷ Fault 2 ∷ Want 1 ∷ Fault 3 ∷ Join 3 ∷ Want 1 ∷ Got 3 ∷ Place 1 7 (7 ∷ []) ∷ [];
 }
 
@@ -93,6 +94,7 @@ session_of_one = record {
   guest = Release 0 1 ∷ Halt ∷ Resume 1 ∷ Miss 0 1 ∷ See 8 ∷ Read 0 1 0 0 ∷ [];
   source = Halted 1 ∷ State ∷ Send 0 (0 ∷ []) ∷ Again 1 ∷ Ask 4 ∷ Again 2 ∷ Ask 5 ∷ Done ∷ [];
   link = Down 2 ∷ Down 3 ∷ Down 1 ∷ Down 2 ∷ Up 5 ∷ Up 9 ∷ [];
+  lane = [];
   pager = Got 1 ∷ Ready ∷ Got 2 ∷ Skip 2 ∷ Got 3 ∷ Want 0 ∷ Place 0 4 (0 ∷ []) ∷ Fault 3 ∷ Zero 1 ∷ All ∷ [];
 }
 
@@ -127,6 +129,7 @@ session_of_release = record {
   guest = Halt ∷ Resume 1 ∷ Release 0 0 ∷ Read 0 0 0 0 ∷ [];
   source = Halted 0 ∷ State ∷ Send 0 (6 ∷ []) ∷ [];
   link = Down 1 ∷ Down 2 ∷ [];
+  lane = [];
   pager = Got 0 ∷ Ready ∷ Got 1 ∷ Skip 2 ∷ [];
 }
 

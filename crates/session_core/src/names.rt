@@ -14,25 +14,29 @@ pub struct Lengths {
     pub guest: usize,
     pub source: usize,
     pub link: usize,
+    pub lane: usize,
     pub pager: usize,
 }
 
 /// Appends the names of the records by which the logs have grown, at most two each, for which there is room.
 pub fn push_names(order: &mut Vec<(LogName, u32)>, old: Lengths, new: Lengths)
-    requires room { vec_len order.old + 8 ≤ vec_capacity order.old }
+    requires room { vec_len order.old + 10 ≤ vec_capacity order.old }
     requires guest { new.guest ≤ old.guest + 2 }
     requires source { new.source ≤ old.source + 2 }
     requires link { new.link ≤ old.link + 2 }
+    requires lane { new.lane ≤ old.lane + 2 }
     requires pager { new.pager ≤ old.pager + 2 }
     requires few_guest { new.guest ≤ most_records }
     requires few_source { new.source ≤ most_records }
     requires few_link { new.link ≤ most_records }
+    requires few_lane { new.lane ≤ most_records }
     requires few_pager { new.pager ≤ most_records }
     ensures { order.new.items ≡ order.old.items ++ names_between old new }
 {
     push_run(order, LogName::Guest, old.guest, new.guest);
     push_run(order, LogName::Source, old.source, new.source);
     push_run(order, LogName::Link, old.link, new.link);
+    push_run(order, LogName::Lane, old.lane, new.lane);
     push_run(order, LogName::Pager, old.pager, new.pager);
 }
 

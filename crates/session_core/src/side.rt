@@ -70,18 +70,21 @@ impl<'a> Side<'a> {
                 guest: home.guest_log().len(),
                 source: 0,
                 link: 0,
+                lane: 0,
                 pager: 0,
             },
             Side::Away(away) => Lengths {
                 guest: away.guest_log().len(),
                 source: away.source_log().len(),
                 link: away.link_log().len(),
+                lane: 0,
                 pager: away.pager_log().len(),
             },
             Side::Halting => Lengths {
                 guest: 0,
                 source: 0,
                 link: 0,
+                lane: 0,
                 pager: 0,
             },
         }

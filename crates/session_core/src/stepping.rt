@@ -26,7 +26,7 @@ pub fn step_books(
     ensures err { OnErr result (machine side.new order.new.items ≡ machine side.old order.old.items) }
 {
     // No event appends more than two records to a log.
-    order.reserve(8)?;
+    order.reserve(10)?;
     let old = side.lengths();
     side.event(event)?;
     side.keeps_limits();

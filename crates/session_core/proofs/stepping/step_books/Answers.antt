@@ -22,5 +22,8 @@ push_names-requires-clause-source c = let k = (grows c).source in omega (arith, 
 pub push_names-requires-clause-link : goal.push_names-requires-clause-link
 push_names-requires-clause-link c = let k = (grows c).link in omega (arith, k, ap (λ l. l.link) c.lengths-old.ensures, ap (λ l. l.link) c.lengths.ensures)
 
+pub push_names-requires-clause-lane : goal.push_names-requires-clause-lane
+push_names-requires-clause-lane c = let k = (grows c).lane in omega (arith, k, ap (λ l. l.lane) c.lengths-old.ensures, ap (λ l. l.lane) c.lengths.ensures)
+
 pub push_names-requires-clause-pager : goal.push_names-requires-clause-pager
 push_names-requires-clause-pager c = let k = (grows c).pager in omega (arith, k, ap (λ l. l.pager) c.lengths-old.ensures, ap (λ l. l.pager) c.lengths.ensures)
