@@ -13,7 +13,7 @@ class Session:
         self.pages, self.cells = int(head[1][1]), int(head[2][1])
         self.initial = {int(line[1]): self.contents(line[2]) for line in head[4:]}
         self.logs = {log: [line.split(" ") for line in cut.logs[log]] for log in LOGS}
-        self.guest, self.source, self.link, self.pager = (self.logs[log] for log in LOGS)
+        self.guest, self.source, self.pager = (self.logs[log] for log in ("guest", "source", "pager"))
 
     def contents(self, hexadecimal):
         return [int(hexadecimal[i:i + 16], 16) for i in range(0, 16 * self.cells, 16)]
@@ -47,9 +47,10 @@ class Session:
     def placements(self, page):
         return [n for n, record in enumerate(self.pager) if record[0] in ("place", "zero") and record[1] == str(page)]
 
-    def delivers(self, got, send):
-        """Whether the pager's record GOT took a `send`, or a repeat of it."""
-        sent = int(self.link[int(self.pager[got][1])][1])
+    def delivers(self, taking, send):
+        """Whether a `got` or a `pull` of the pager took a `send`, or a repeat of it."""
+        kind, down = self.pager[taking]
+        sent = int(self.logs[RECEIPTS[kind]][int(down)][1])
         return sent == send or self.source[sent] == ["again", str(send)]
 
 

@@ -1,13 +1,14 @@
 """The text of a session, cut into what stands before the logs and the records of each log."""
 
-LOGS = ("guest", "source", "link", "pager")
+LOGS = ("guest", "source", "link", "lane", "pager")
 
 # The log that a receipt names a record of.
-RECEIPTS = {"resume": "pager", "see": "pager", "halted": "guest", "fault": "guest", "down": "source", "up": "pager", "ask": "link", "got": "link"}
+RECEIPTS = {"resume": "pager", "see": "pager", "halted": "guest", "fault": "guest", "down": "source", "up": "pager", "ask": "link", "got": "link", "pull": "lane"}
 
-# The first line of a session of the second version, which has a line of the lane before the pager's log.
-SECOND = "postcopy-session 2"
-LANE = "lane 0"
+
+def logs_of(version):
+    """The logs that a session of this version has; the lane is in the second alone."""
+    return [log for log in LOGS if log != "lane" or version == 2]
 
 
 class SessionText:
@@ -16,31 +17,26 @@ class SessionText:
     def __init__(self, text):
         lines = text.split("\n")
         at = 4 + int(lines[3].split()[1])
-        self.head, self.logs = lines[:at], {}
-        for log in LOGS:
-            at += self.lane_lines(log)
+        self.head, self.logs = lines[:at], {log: [] for log in LOGS}
+        for log in self.told():
             count = int(lines[at].split()[1])
             self.logs[log] = lines[at + 1:at + 1 + count]
             at += 1 + count
 
-    def lane_lines(self, log):
-        """How many lines of the lane stand right before this log's."""
-        return int(log == "pager" and self.head[0] == SECOND)
+    def told(self):
+        """The logs that a session of its version has."""
+        return logs_of(int(self.head[0].split()[1]))
 
     def text(self):
         lines = list(self.head)
-        for log in LOGS:
-            lines += [LANE] * self.lane_lines(log) + [f"{log} {len(self.logs[log])}", *self.logs[log]]
+        for log in self.told():
+            lines += [f"{log} {len(self.logs[log])}", *self.logs[log]]
         return "\n".join(lines + ["end", ""])
 
     def line(self, log, place):
         """The line of a record, where lines count from 1."""
-        at = len(self.head)
-        for name in LOGS:
-            at += self.lane_lines(name) + 1
-            if name == log:
-                return at + 1 + place
-            at += len(self.logs[name])
+        before = self.told()[:self.told().index(log)]
+        return len(self.head) + sum(1 + len(self.logs[name]) for name in before) + 2 + place
 
     def named(self, log, place):
         """The record of another log that a record is a receipt for, or None."""
@@ -55,6 +51,45 @@ class SessionText:
             taken[log] += count
         return order
 
+    def is_ready(self, log, taken):
+        """Whether a log has a further record, where so many of each are taken, and what this one names is taken."""
+        if taken[log] >= len(self.logs[log]):
+            return False
+        named = self.named(log, taken[log])
+        return named is None or named[1] < taken[named[0]]
+
+    def found_order(self):
+        """The records, by log and place, in the found order, as far as it goes."""
+        taken, order, current = dict.fromkeys(LOGS, 0), [], "guest"
+        while True:
+            ready = [log for log in LOGS if self.is_ready(log, taken)]
+            if not ready:
+                return order
+            current = current if current in ready else ready[0]
+            order.append((current, taken[current]))
+            taken[current] += 1
+
+    def delayed_order(self, log, place):
+        """The found order, where a record comes last with all that depends on it: what is later in a log, and the receipts."""
+        late, order = {(log, place)}, self.found_order()
+        for name in order:
+            if (name[0], name[1] - 1) in late or self.named(*name) in late:
+                late.add(name)
+        return sorted(order, key=lambda name: name in late)
+
     def to_second(self):
         """Makes it one of the second version, with the same records."""
-        self.head[0] = SECOND
+        self.head[0] = "postcopy-session 2"
+
+    def carry(self, carried):
+        """Has the lane deliver these packets, in this order, and the link no more. Each is a `down` of the link, by its place;
+        the session is of the right shape."""
+        link = self.logs["link"]
+        kept = [n for n in range(len(link)) if n not in carried]
+        self.logs["link"], self.logs["lane"] = [link[n] for n in kept], [link[n] for n in carried]
+        for log, kind in (("source", "ask"), ("pager", "got")):
+            for n, record in enumerate(self.logs[log]):
+                words = record.split(" ")
+                if words[0] == kind:
+                    at = int(words[1])
+                    self.logs[log][n] = f"pull {carried.index(at)}" if at in carried else f"{kind} {kept.index(at)}"

@@ -9,7 +9,7 @@ are well formed.
 """
 import sys
 
-from session_text import LANE, LOGS
+from session_text import LOGS, logs_of
 
 MOST_RECORDS = 1_048_576
 
@@ -317,8 +317,7 @@ class Migration:
 
     def session(self):
         lines = list(self.script.opening)
-        for log in LOGS:
-            lines += [LANE] * (log == "pager" and self.script.version == 2)
+        for log in logs_of(self.script.version):
             lines.append(f"{log} {len(self.logs[log])}")
             lines += [" ".join(record) for record in self.logs[log]]
         return "\n".join(lines + ["end", ""])

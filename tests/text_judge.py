@@ -1,7 +1,7 @@
 """At which line a text is refused, slowly and plainly: by the tables of docs/FORMATS.md, line by line and word by word."""
 import re
 
-from session_text import LOGS
+from session_text import logs_of
 
 MOST_RECORDS = 2**20
 NUMBER = re.compile("0|[1-9][0-9]*")
@@ -11,8 +11,11 @@ RECORDS = {
     "guest": {"r": "vpcx", "w": "vpcx", "z": "vp", "miss": "vp", "halt": "", "resume": "n", "see": "n"},
     "source": {"halted": "n", "state": "", "send": "ph", "again": "n", "ask": "n", "done": ""},
     "link": {"down": "n", "up": "n"},
-    "pager": {"got": "n", "ready": "", "fault": "n", "join": "n", "want": "p", "place": "pnh", "zero": "p", "skip": "n", "all": ""},
+    "lane": {"down": "n"},
+    "pager": {"got": "n", "pull": "n", "ready": "", "fault": "n", "join": "n", "want": "p", "place": "pnh", "zero": "p", "skip": "n", "all": ""},
 }
+# The kinds of records that the second version alone has.
+LATER = {"pull"}
 FATES = ("deliver", "lose", "repeat", "back")
 EVENTS = {"halt", "push", "serve", "source-tick", "pop", "flush", "pager-tick", "fault", "deliver"}
 EVENTS |= {f"link {direction} {fate}" for direction in ("down", "up") for fate in FATES}
@@ -75,24 +78,25 @@ def machine(line):
 def session(line):
     version = keyed(line(), "postcopy-session", 1, 2)
     pages, cells = machine(line)
-    for log in LOGS:
-        demand(log != "pager" or version == 1 or line() == "lane 0")
+    for log in logs_of(version):
+        kinds = {kind: fields for kind, fields in RECORDS[log].items() if version == 2 or kind not in LATER}
         for _ in range(keyed(line(), log, 0, MOST_RECORDS)):
-            fielded(line(), RECORDS[log], pages, cells)
+            fielded(line(), kinds, pages, cells)
 
 
-def runs(line):
-    before = None
-    for _ in range(keyed(line(), "runs", 0, 4 * MOST_RECORDS)):
+def runs(line, version):
+    """Runs of the logs that sessions of this version have, as many as these logs may have records."""
+    logs, before = logs_of(version), None
+    for _ in range(keyed(line(), "runs", 0, len(logs) * MOST_RECORDS)):
         words = line().split(" ")
-        demand(len(words) == 3 and words[0] == "run" and words[1] in LOGS and words[1] != before)
+        demand(len(words) == 3 and words[0] == "run" and words[1] in logs and words[1] != before)
         number(words[2], 1, MOST_RECORDS)
         before = words[1]
 
 
 def runs_alone(line):
     demand(line() == "postcopy-runs 1")
-    runs(line)
+    runs(line, 2)
 
 
 def certificate(line):
@@ -104,7 +108,7 @@ def certificate(line):
         numbers = words[3:-2] if words[-2:] == ["-", "-"] else words[3:]
         for word in numbers:
             number(word, 0, MOST_RECORDS - 1)
-    runs(line)
+    runs(line, version)
 
 
 def script(line):

@@ -1,11 +1,12 @@
 #!/usr/bin/env python3
-"""Writes a session from the traces of a test guest, a source, a relay and a pager.
+"""Writes a session from the traces of a test guest, a source, a relay and a pager, and of a lane if there is one.
 
     session_from_traces.py FOLDER [--cut] > session
 
-FOLDER has guest.trace, source.trace, link.trace and pager.trace. A line of a trace is a time, the event's name, what
-happened, and with what, as KEY=VALUE. A key that is a log's name tells of an event in that log's trace, and `of` tells of an
-earlier one in the same trace. The times are of four clocks that do not agree, and nothing here looks at them.
+FOLDER has guest.trace, source.trace, link.trace and pager.trace. Where a second link carried pages down, the lane, it has
+lane.trace too, and the session is of the second version. A line of a trace is a time, the event's name, what happened, and
+with what, as KEY=VALUE. A key that is a log's name tells of an event in that log's trace, and `of` tells of an earlier one in
+the same trace. The times are of clocks that do not agree, and nothing here looks at them.
 
 A page has one cell: the sum, which is a hash of 64 bits of the whole page, and 0 for a page of zeros.
 
@@ -13,9 +14,10 @@ Where an event tells of one that no trace has, there is a hole, and no session i
 with all that follow it in its trace, until there is no hole.
 """
 import argparse
+import os
 import sys
 
-LOGS = ("guest", "source", "link", "pager")
+LOGS = ("guest", "source", "link", "lane", "pager")
 
 # The records, by the log and by what happened. Other events become none.
 RECORDS = {
@@ -38,8 +40,10 @@ RECORDS = {
         "finish": "done",
     },
     "link": {"down": "down {source}", "up": "up {pager}"},
+    "lane": {"down": "down {source}"},
     "pager": {
         "packet": "got {link}",
+        "pushed": "pull {lane}",
         "ready": "ready",
         "fault": "fault {guest}",
         "join": "join {of}",
@@ -89,10 +93,11 @@ def trace(folder, log):
 
 
 class Recording:
-    """Four traces, and what of them becomes a record."""
+    """The traces, and what of them becomes a record."""
 
     def __init__(self, folder, cut):
-        self.traces = {log: trace(folder, log) for log in LOGS}
+        self.has_lane = os.path.exists(f"{folder}/lane.trace")
+        self.traces = {log: trace(folder, log) if log != "lane" or self.has_lane else {} for log in LOGS}
         self.cut_at_holes(cut)
         begin = next(iter(self.traces["guest"].values()), None)
         if begin is None or begin.what != "begin":
@@ -178,14 +183,14 @@ class Recording:
         return [f"init {len(sums)}", *(f"page {page} {sums[page]}" for page in sorted(sums))]
 
     def text(self):
-        lines = ["postcopy-session 1", f"pages {len(self.frames)}", "cells 1", *self.initial_pages()]
-        for log in LOGS:
+        lines = [f"postcopy-session {2 if self.has_lane else 1}", f"pages {len(self.frames)}", "cells 1", *self.initial_pages()]
+        for log in LOGS if self.has_lane else [log for log in LOGS if log != "lane"]:
             lines += [f"{log} {len(self.kept[log])}", *map(self.record, self.kept[log].values())]
         return "\n".join([*lines, "end", ""])
 
 
 def main():
-    words = argparse.ArgumentParser(description="Writes a session from four traces.")
+    words = argparse.ArgumentParser(description="Writes a session from the traces of a migration.")
     words.add_argument("folder")
     words.add_argument("--cut", action="store_true", help="cut the traces in front of what tells of a missing event")
     asked = words.parse_args()

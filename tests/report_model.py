@@ -1,0 +1,29 @@
+"""The first line of what `audit` says of a session, slowly and plainly, by docs/FORMATS.md. It takes sessions that are well formed."""
+from check_model import Session
+from session_text import LOGS, SessionText
+from shape_model import shape_fault
+from world_model import first_fault
+
+
+def knot_of(session):
+    """The first record, by line, that is next in its log where the found order ends: its log and its place there; or None."""
+    order = session.found_order()
+    taken = {log: sum(name[0] == log for name in order) for log in LOGS}
+    return next(((log, taken[log]) for log in LOGS if taken[log] < len(session.logs[log])), None)
+
+
+def judgement(text):
+    """The first word of the report, and the log, the place there and the reason of the record that it names, as far as it does."""
+    misshapen = shape_fault(text)
+    if misshapen is not None:
+        return ("shape", *misshapen)
+    knot = knot_of(SessionText(text))
+    if knot is not None:
+        return ("knot", *knot)
+    fault = first_fault(Session(text))
+    return ("clean",) if fault is None else ("faulty", *fault)
+
+
+def first_line(text):
+    word, *named = judgement(text)
+    return " ".join([word, "line", str(SessionText(text).line(*named[:2])), *named[2:]]) if named else word
