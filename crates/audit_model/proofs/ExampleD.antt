@@ -116,14 +116,16 @@ certified_d = record { is_session = limits_d; shape = shape_d; certificate = rig
 
 pub over_lane : CertifiedOverLane
 over_lane = record {
-  session = session_d;
-  certificate = certificate_d;
-  is_certified = certified_d;
-  page = 0;
-  send = 2;
-  place = 3;
-  first = first_0;
-  entry = refl;
+  sourced = record {
+    session = session_d;
+    certificate = certificate_d;
+    is_certified = certified_d;
+    page = 0;
+    send = 2;
+    place = 3;
+    first = first_0;
+    entry = refl;
+  };
   pull = 2;
   down = 0;
   content = 6 ∷ [];

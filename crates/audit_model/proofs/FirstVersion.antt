@@ -1,4 +1,5 @@
--- A session of the first version and of the right shape releases no page at the target; within its limits it has no lane.
+-- A session of the first version and of the right shape releases no page at the target; within its limits it has no
+-- lane.
 use Rattle.std.proofs.Common.{◌≡◌, ℕ, zero, suc, Bool, false, ◌==◌, List, [], ◌∷◌, Option, Some, None, refl, sym, ◌∙◌, subst}
 use Rattle.std.specs.Prelude.{slice_get}
 use Rattle.std.specs.List.{AllByRecursion}
@@ -9,7 +10,7 @@ use Rattle.migration_types.specs.declared.records.LaneRec.TheVariants.{Down}
 use Rattle.migration_types.specs.declared.records.PagerRec.TheVariants.{Pull}
 use Rattle.migration_types.specs.declared.version.Version.TheVariants.{One}
 use Rattle.migration_types.specs.Sessions.{Recorded, HasLane, LaneRecFits}
-use Rattle.audit_model.specs.Flat.{changed, freed, freed_page, freed_after, Home, AtSource, Nowhere, AtTarget, home}
+use Rattle.audit_model.specs.Flat.{changed, freed, marked_late, freed_after, Home, AtSource, Nowhere, AtTarget, home}
 use Rattle.audit_model.specs.Shape.{IsRightShape}
 use Rattle.audit_model.specs.Laws.{FirstVersionIsPlain}
 use Rattle.audit_model.proofs.Fits.{pager_fits}
@@ -27,7 +28,7 @@ module _ (s : Recorded) (one : s.version ≡ One) (shape : IsRightShape s) where
   none_freed zero page = refl
   none_freed (suc n) page = go (slice_get s.guest n) refl (none_freed n page)
     where
-      at : (h : Home) → h ≡ AtSource → (b : Bool) → freed s n page ≡ false → freed_page h b (freed s n page) ≡ false
+      at : (h : Home) → h ≡ AtSource → (b : Bool) → freed s n page ≡ false → marked_late h b (freed s n page) ≡ false
       at AtSource same b e = e
       at Nowhere same b e = e
       at AtTarget same b e = absurd (AtSource≢AtTarget (sym same))

@@ -5,10 +5,10 @@ use Rattle.std.proofs.lemmas.Bool.{cases_lt}
 use Rattle.migration_types.specs.declared.records.GuestRec.{GuestRec}
 use Rattle.migration_types.specs.declared.records.GuestRec.TheVariants.{Read, Write, Release, Miss, Halt, Resume, See}
 use Rattle.migration_types.specs.Sessions.{Recorded}
-use Rattle.audit_model.specs.Flat.{changed, cell_after, flat, released_after, in_ledger, Home, AtSource, Nowhere, AtTarget, home_after, home, at_halt, freed, freed_page, freed_after}
+use Rattle.audit_model.specs.Flat.{changed, cell_after, flat, released_after, in_ledger, Home, AtSource, Nowhere, AtTarget, home_after, home, at_halt, freed, marked_late, freed_after}
 use Rattle.audit_model.specs.Shape.{IsRightShape}
 use Rattle.audit_model.specs.Certificates.{is_access_of, is_touch_of, IsLateTouch}
-use Rattle.audit_model.specs.Worlds.{touch_page, touch_after, touched}
+use Rattle.audit_model.specs.Worlds.{touch_after, touched}
 use Rattle.audit_model.proofs.History.{AtSource≢AtTarget, AtSource≢Nowhere, home_at_write, home_at_release, home_at_resume, halt_is_at_halt}
 
 -- a page of the ledger reads as zeros
@@ -37,19 +37,19 @@ released_zero s (suc n) q d e = go (released_zero s n q d) (slice_get s.guest n)
     go rec None e = rec e
     go rec (Some r) e = released_zero_step q d r (in_ledger s n q) (flat s n q d) rec e
 
-untouched_before : (h : Home) (t old : Bool) → touch_page h t old ≡ false → old ≡ false
+untouched_before : (h : Home) (t old : Bool) → marked_late h t old ≡ false → old ≡ false
 untouched_before AtSource t old e = e
 untouched_before Nowhere t old e = e
 untouched_before AtTarget true old e = absurd (cc)
 untouched_before AtTarget false old e = e
 
-untouched_write : (h : Home) (t u old : Bool) (v x y : ℕ) → h ≢ Nowhere → h ≢ AtSource → touch_page h t old ≡ false → (old ≡ false → x ≡ y) → cond (t && u) v x ≡ y
+untouched_write : (h : Home) (t u old : Bool) (v x y : ℕ) → h ≢ Nowhere → h ≢ AtSource → marked_late h t old ≡ false → (old ≡ false → x ≡ y) → cond (t && u) v x ≡ y
 untouched_write AtSource t u old v x y a b e f = absurd (b refl)
 untouched_write Nowhere t u old v x y a b e f = absurd (a refl)
 untouched_write AtTarget true u old v x y a b e f = absurd (cc)
 untouched_write AtTarget false u old v x y a b e f = f e
 
-untouched_release : (h : Home) (t old : Bool) (x y : ℕ) → h ≢ Nowhere → h ≢ AtSource → touch_page h t old ≡ false → (old ≡ false → x ≡ y) → cond t 0 x ≡ y
+untouched_release : (h : Home) (t old : Bool) (x y : ℕ) → h ≢ Nowhere → h ≢ AtSource → marked_late h t old ≡ false → (old ≡ false → x ≡ y) → cond t 0 x ≡ y
 untouched_release AtSource t old x y a b e f = absurd (b refl)
 untouched_release Nowhere t old x y a b e f = absurd (a refl)
 untouched_release AtTarget true old x y a b e f = absurd (cc)
@@ -86,7 +86,7 @@ pub touched_access : (s : Recorded) (n q : ℕ) → touched s n q ≡ true → (
 touched_access s zero q e = absurd (cc)
 touched_access s (suc n) q e = go (λ b. let r = touched_access s n q b in (r.0, omega (arith, r.1), r.2)) (slice_get s.guest n) refl e
   where
-    here : (r : GuestRec) → slice_get s.guest n ≡ Some r → (h : Home) → home s n ≡ h → (t : Bool) → is_touch_of q r ≡ t → (touched s n q ≡ true → (m : ℕ) × (m < suc n) × IsLateTouch s q m) → touch_page h t (touched s n q) ≡ true → (m : ℕ) × (m < suc n) × IsLateTouch s q m
+    here : (r : GuestRec) → slice_get s.guest n ≡ Some r → (h : Home) → home s n ≡ h → (t : Bool) → is_touch_of q r ≡ t → (touched s n q ≡ true → (m : ℕ) × (m < suc n) × IsLateTouch s q m) → marked_late h t (touched s n q) ≡ true → (m : ℕ) × (m < suc n) × IsLateTouch s q m
     here r is AtSource at t by rec e = rec e
     here r is Nowhere at t by rec e = rec e
     here r is AtTarget at true by rec e = (n, omega arith, record { by = r; stands = is; is_touch = by; is_late = at })
@@ -129,7 +129,7 @@ pub freed_by : (s : Recorded) (n q : ℕ) → freed s n q ≡ true → (m : ℕ)
 freed_by s zero q e = absurd (cc)
 freed_by s (suc n) q e = go (λ f. let r = freed_by s n q f in (r.0, omega (arith, r.1), r.2)) (slice_get s.guest n) refl e
   where
-    here : (v p : ℕ) → slice_get s.guest n ≡ Some (Release v p) → (h : Home) → home s n ≡ h → (t : Bool) → (p == q) ≡ t → (freed s n q ≡ true → (m : ℕ) × (m < suc n) × IsLateTouch s q m) → freed_page h t (freed s n q) ≡ true → (m : ℕ) × (m < suc n) × IsLateTouch s q m
+    here : (v p : ℕ) → slice_get s.guest n ≡ Some (Release v p) → (h : Home) → home s n ≡ h → (t : Bool) → (p == q) ≡ t → (freed s n q ≡ true → (m : ℕ) × (m < suc n) × IsLateTouch s q m) → marked_late h t (freed s n q) ≡ true → (m : ℕ) × (m < suc n) × IsLateTouch s q m
     here v p is AtSource at t by rec e = rec e
     here v p is Nowhere at t by rec e = rec e
     here v p is AtTarget at true by rec e = (n, omega arith, record { by = Release v p; stands = is; is_touch = by; is_late = at })
@@ -151,20 +151,21 @@ left_if_freed s n q e =
     let r = freed_by s n q e in
     home_stays s r.0 n (omega (arith, r.1)) (λ f. AtSource≢AtTarget (sym f ∙ r.2.is_late))
 
+-- what was marked is marked still
+pub mark_stays : (h : Home) (b : Bool) {old : Bool} → old ≡ true → marked_late h b old ≡ true
+mark_stays AtSource b e = e
+mark_stays Nowhere b e = e
+mark_stays AtTarget true e = refl
+mark_stays AtTarget false e = e
+
 -- what was released after handover is freed
 pub freed_true : (s : Recorded) (m n v q : ℕ) → slice_get s.guest m ≡ Some (Release v q) → home s m ≡ AtTarget → (q == q) ≡ true → m < n → freed s n q ≡ true
 freed_true s m zero v q is at same lt = absurd (omega arith)
 freed_true s m (suc n) v q is at same lt = go (λ l. freed_true s m n v q is at same l) (cases_lt m n)
   where
-    stays : (h : Home) (b : Bool) → freed s n q ≡ true → freed_page h b (freed s n q) ≡ true
-    stays AtSource b e = e
-    stays Nowhere b e = e
-    stays AtTarget true e = refl
-    stays AtTarget false e = e
-
     kept : (o : Option GuestRec) → freed s n q ≡ true → changed (freed_after (home s n) q) o (freed s n q) ≡ true
     kept None e = e
-    kept (Some (Release w p)) e = stays (home s n) (p == q) e
+    kept (Some (Release w p)) e = mark_stays (home s n) (p == q) e
     kept (Some Halt) e = e
     kept (Some (Resume i)) e = e
     kept (Some (Read w p c x)) e = e
@@ -176,7 +177,7 @@ freed_true s m (suc n) v q is at same lt = go (λ l. freed_true s m n v q is at 
     here k e =
         let is' : slice_get s.guest k ≡ Some (Release v q) = subst (λ j. slice_get s.guest j ≡ Some (Release v q)) e is in
         let at' : home s k ≡ AtTarget = subst (λ j. home s j ≡ AtTarget) e at in
-        ap (λ o. changed (freed_after (home s k) q) o (freed s k q)) is' ∙ ap (λ h. freed_page h (q == q) (freed s k q)) at' ∙ ap (λ b. cond b true (freed s k q)) same
+        ap (λ o. changed (freed_after (home s k) q) o (freed s k q)) is' ∙ ap (λ h. marked_late h (q == q) (freed s k q)) at' ∙ ap (λ b. cond b true (freed s k q)) same
 
     go : (m < n → freed s n q ≡ true) → (m < n) ⊎ (n ≤ m) → freed s (suc n) q ≡ true
     go rec (inl l) = kept (slice_get s.guest n) (rec l)
@@ -187,19 +188,13 @@ pub touched_true : (s : Recorded) (m n q : ℕ) → IsLateTouch s q m → m < n 
 touched_true s m zero q late lt = absurd (omega arith)
 touched_true s m (suc n) q late lt = go (λ l. touched_true s m n q late l) (cases_lt m n)
   where
-    stays : (h : Home) (b : Bool) → touched s n q ≡ true → touch_page h b (touched s n q) ≡ true
-    stays AtSource b e = e
-    stays Nowhere b e = e
-    stays AtTarget true e = refl
-    stays AtTarget false e = e
-
     kept : (o : Option GuestRec) → touched s n q ≡ true → changed (touch_after (home s n) q) o (touched s n q) ≡ true
     kept None e = e
-    kept (Some (Release w p)) e = stays (home s n) (p == q) e
+    kept (Some (Release w p)) e = mark_stays (home s n) (p == q) e
     kept (Some Halt) e = e
     kept (Some (Resume i)) e = e
-    kept (Some (Read w p c x)) e = stays (home s n) (p == q) e
-    kept (Some (Write w p c x)) e = stays (home s n) (p == q) e
+    kept (Some (Read w p c x)) e = mark_stays (home s n) (p == q) e
+    kept (Some (Write w p c x)) e = mark_stays (home s n) (p == q) e
     kept (Some (Miss w p)) e = e
     kept (Some (See k)) e = e
 

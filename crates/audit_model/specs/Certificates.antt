@@ -15,6 +15,11 @@ use Rattle.migration_types.specs.Memory.{page_of}
 use Rattle.audit_model.specs.Flat.{flat, ReadsFlatAt, in_ledger, AtTarget, home, at_halt}
 use Rattle.audit_model.specs.Shape.{is_placement_of, delivery}
 
+-- whether it is of a page that was released at the target, where it never came
+abbrev pub is_fresh : Entry → Bool
+is_fresh (Fresh first) = true
+is_fresh _ = false
+
 -- a read or a write of the page
 abbrev pub is_access_of : ℕ → GuestRec → Bool
 is_access_of page (Read vcpu p c value) = p == page

@@ -56,15 +56,15 @@ abbrev pub is_target : Home → Bool
 is_target AtTarget = true
 is_target _ = false
 
--- whether a page is freed after a record that releases it or not, by where the guest is
-abbrev pub freed_page : Home → Bool → Bool → Bool
-freed_page AtSource releases old = old
-freed_page Nowhere releases old = old
-freed_page AtTarget releases old = if releases then true else old
+-- whether a page is marked after a record that marks it or not, where a record marks at the target alone
+abbrev pub marked_late : Home → Bool → Bool → Bool
+marked_late AtSource marks old = old
+marked_late Nowhere marks old = old
+marked_late AtTarget marks old = if marks then true else old
 
 -- whether a page is freed after this record, by where the guest is
 abbrev pub freed_after : Home → ℕ → GuestRec → Bool → Bool
-freed_after h page (Release vcpu p) old = freed_page h (p == page) old
+freed_after h page (Release vcpu p) old = marked_late h (p == page) old
 freed_after h page _ old = old
 
 -- the pages that the guest has released at the target before its record n

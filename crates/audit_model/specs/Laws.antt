@@ -172,21 +172,14 @@ pub record CertifiedFromSource : Type 0 where
   pub first : First
   pub entry : slice_get certificate.entries page ≡ Some (Source send place (Some first))
 
--- a session with a right certificate in which a page comes from the source over the lane, and is accessed at the target
+-- one in which that page comes over the lane
 pub record CertifiedOverLane : Type 0 where
-  pub session : Recorded
-  pub certificate : Certified
-  pub is_certified : IsCertified session certificate
-  pub page : ℕ
-  pub send : ℕ
-  pub place : ℕ
-  pub first : First
-  pub entry : slice_get certificate.entries page ≡ Some (Source send place (Some first))
+  pub sourced : CertifiedFromSource
   pub pull : ℕ
   pub down : ℕ
   pub content : List ℕ
-  pub placement : slice_get session.pager place ≡ Some (Place page pull content)
-  pub pulls : slice_get session.pager pull ≡ Some (Pull down)
+  pub placement : slice_get sourced.session.pager sourced.place ≡ Some (Place sourced.page pull content)
+  pub pulls : slice_get sourced.session.pager pull ≡ Some (Pull down)
 
 -- a session with a right certificate in which a released page comes back as zeros, and is accessed at the target
 pub record CertifiedBalloon : Type 0 where

@@ -36,6 +36,11 @@ abbrev pub is_resume : GuestRec → Bool
 is_resume (Resume ready) = true
 is_resume _ = false
 
+-- whether it is a release
+abbrev pub is_release : GuestRec → Bool
+is_release (Release vcpu p) = true
+is_release _ = false
+
 -- whether it is a miss
 abbrev pub is_miss : GuestRec → Bool
 is_miss (Miss vcpu p) = true

@@ -14,7 +14,8 @@ use Rattle.migration_types.specs.Sessions.{Recorded}
 use Rattle.audit_model.specs.Mergings.{IsMerging, StandsAfter}
 use Rattle.audit_model.specs.Flat.{flat, Home, AtSource, Nowhere, AtTarget, changed}
 
--- where the guest is, the memories of both machines, the resident, placed and touched pages at the target, and the ledger
+-- where the guest is, the memories of both machines, the resident, placed and touched pages at the target, and the
+-- ledger
 pub record World : Type 0 where
   pub home : Home
   pub source : Memory
@@ -36,7 +37,8 @@ start s = record {
   ledger = no_page;
 }
 
--- a write where the guest is: it takes the page out of the ledger, or touches it at the target, where only a resident page changes
+-- a write where the guest is: it takes the page out of the ledger, or touches it at the target, where only a resident
+-- page changes
 abbrev pub write_at : Home → ℕ → ℕ → ℕ → World → World
 write_at AtSource p c value w = record w { source = with_cell p c value w.source; ledger = without_page p w.ledger }
 write_at Nowhere p c value w = w

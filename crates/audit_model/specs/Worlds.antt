@@ -1,5 +1,5 @@
 -- The world before each record of a merging, which the cursors of what was taken decide.
-use Rattle.std.specs.Prelude.{◌≡◌, ℕ, zero, suc, ◌<◌, ◌≤◌, Bool, true, false, ◌||◌, ◌==◌, List, ◌++◌, Some, slice_get, if◌then◌else◌}
+use Rattle.std.specs.Prelude.{◌≡◌, ℕ, zero, suc, ◌<◌, ◌≤◌, Bool, true, false, ◌||◌, ◌==◌, List, ◌++◌, Some, slice_get}
 use Rattle.migration_types.specs.declared.records.LogName.{LogName}
 use Rattle.migration_types.specs.declared.records.LogName.TheVariants.{Guest, Pager}
 use Rattle.migration_types.specs.declared.records.GuestRec.{GuestRec}
@@ -9,7 +9,7 @@ use Rattle.migration_types.specs.Sessions.{Recorded}
 use Rattle.audit_model.specs.Names.{log_length, receipt}
 use Rattle.audit_model.specs.Mergings.{IsMerging, Cursors, at_start}
 use Rattle.audit_model.specs.Walks.{cursors_from}
-use Rattle.audit_model.specs.Flat.{changed, flat, freed, in_ledger, Home, AtSource, Nowhere, AtTarget, home, at_halt}
+use Rattle.audit_model.specs.Flat.{changed, flat, freed, in_ledger, Home, AtSource, Nowhere, AtTarget, home, at_halt, marked_late}
 use Rattle.audit_model.specs.Shape.{is_placement_of, earlier}
 use Rattle.audit_model.specs.World.{World, world_after}
 
@@ -24,17 +24,11 @@ come_to AtSource n halt = n
 come_to Nowhere n halt = halt
 come_to AtTarget n halt = halt
 
--- whether a page is touched after a record that reads, writes or releases it or not, by where the guest is
-abbrev pub touch_page : Home → Bool → Bool → Bool
-touch_page AtSource is_of_page old = old
-touch_page Nowhere is_of_page old = old
-touch_page AtTarget is_of_page old = if is_of_page then true else old
-
 -- whether a page is touched after this record, by where the guest is
 abbrev pub touch_after : Home → ℕ → GuestRec → Bool → Bool
-touch_after h page (Read vcpu p c value) old = touch_page h (p == page) old
-touch_after h page (Write vcpu p c value) old = touch_page h (p == page) old
-touch_after h page (Release vcpu p) old = touch_page h (p == page) old
+touch_after h page (Read vcpu p c value) old = marked_late h (p == page) old
+touch_after h page (Write vcpu p c value) old = marked_late h (p == page) old
+touch_after h page (Release vcpu p) old = marked_late h (p == page) old
 touch_after h page _ old = old
 
 -- the pages that the guest has touched at the target before its record n

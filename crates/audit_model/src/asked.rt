@@ -1,7 +1,7 @@
 //! What is asked of a record: of which kind it is, which page it sends or places, what it delivers.
 
-ghost use Rattle.std.specs.Prelude.{◌≡◌};
-ghost use Rattle.audit_model.specs.Shape.{is_halt, is_resume, is_miss, is_state, is_send_of, is_sending, goes_down, is_down, is_up, is_ready, is_taking, is_want, goes_up, is_placement, is_placement_of, taken_sending, delivery, delivers};
+ghost use Rattle.std.specs.Prelude.{◌≡◌, slice_get};
+ghost use Rattle.audit_model.specs.Shape.{is_halt, is_resume, is_miss, is_state, is_send_of, is_sending, goes_down, is_down, is_up, is_ready, is_taking, is_want, goes_up, is_placement, is_placement_of, taken_sending, delivery, is_or_repeats, delivers, passes};
 
 use migration_types::{GuestRec, LaneRec, LinkRec, PageNo, PagerRec, Session, SourceRec};
 
@@ -158,13 +158,10 @@ pub fn delivers_state(session: &Session, got: u32) -> bool
     }
 }
 
-/// Whether the delivery of a `got` or a `pull` is a `send` of the page, or a repeat of it.
-pub fn delivers_send(session: &Session, page: PageNo, got: u32) -> bool
-    ensures { result ≡ delivers session.now (is_send_of page) got }
+/// Whether the source's record of this number is a `send` of the page, or a repeat of it.
+pub fn sends(session: &Session, page: PageNo, sending: u32) -> bool
+    ensures { result ≡ passes (is_or_repeats session.now (is_send_of page)) (slice_get session.now.source sending) }
 {
-    let Some(sending) = delivery(session, got) else {
-        return false;
-    };
     let source = session.source();
     match source.get(sending as usize) {
         Some(SourceRec::Again { sending }) => {
@@ -175,4 +172,11 @@ pub fn delivers_send(session: &Session, page: PageNo, got: u32) -> bool
         Some(rec) => is_send_of(rec, page),
         None => false,
     }
+}
+
+/// Whether the delivery of a `got` or a `pull` is a `send` of the page, or a repeat of it.
+pub fn delivers_send(session: &Session, page: PageNo, got: u32) -> bool
+    ensures { result ≡ delivers session.now (is_send_of page) got }
+{
+    delivery(session, got).is_some_and(|sending| sends(session, page, sending))
 }

@@ -74,8 +74,8 @@ pub fn first_version_is_plain()
 {}
 
 /// There are sessions of the right shape with right certificates: one in which a page comes from the source over the
-/// link, one in which it comes over the lane, one in which a released page comes back as zeros, each of them used at the
-/// target, and one in which a page is released at the target, where it never comes.
+/// link, one in which it comes over the lane, one in which a released page comes back as zeros, each of them used at
+/// the target, and one in which a page is released at the target, where it never comes.
 pub fn premises_can_be_met()
     ensures from_source { CertifiedFromSource }
     ensures over_lane { CertifiedOverLane }

@@ -61,8 +61,8 @@ pub record IsUndelayed (s : Recorded) (reason : PageReason) (name : Name) : Type
   pub unplaced : (page : ℕ) → reason ≡ Early → page_used s name ≡ Some page → HasNoPlacement s page
   pub is_not_over : reason ≢ Over
 
--- The order that is given with a fault: the found order, or, for an early access to a page that is placed, this order with
--- the page's first placement delayed, or, for a placement over a release, with this placement delayed.
+-- The order that is given with a fault: the found order, or, for an early access to a page that is placed, this order
+-- with the page's first placement delayed, or, for a placement over a release, with this placement delayed.
 pub record IsOrderFor (s : Recorded) (reason : PageReason) (name : Name) (order : List Name) : Type 0 where
   pub found : List Name
   pub is_found : IsFound s found

@@ -110,12 +110,12 @@ pub(crate) fn audit_by<J: Judges>(
 /// A session of the right shape that has a merging is safe exactly where the report is `Clean`, which has a right
 /// certificate over the found order. `Faulty` has the fault of least line, and then of least reason, and the runs of a
 /// merging in which the demand of that record fails: of the found order, or of the order in which a placement comes as
-/// late as it can, with all that depends on it: for an early access to a page that is placed the page's first placement,
-/// and for a placement over a release this one.
+/// late as it can, with all that depends on it: for an early access to a page that is placed the page's first
+/// placement, and for a placement over a release this one.
 ///
-/// The pages are judged by threads side by side, for which alone the call waits; a small session is judged by the calling
-/// thread. Takes a few passes over the records and the runs. The only error is want of memory, for a few numbers for each
-/// page, one for each record that is of a page, the cells of a page for each thread, and the runs.
+/// The pages are judged by threads side by side, for which alone the call waits; a small session is judged by the
+/// calling thread. Takes a few passes over the records and the runs. The only error is want of memory, for a few
+/// numbers for each page, one for each record that is of a page, the cells of a page for each thread, and the runs.
 pub fn audit<R: Threads + Sync>(
     rt: &R,
     alloc: Global,

@@ -1,5 +1,5 @@
-//! The audit of a recorded session: it is clean, with a right certificate; or it has a fault, and an order of its records
-//! in which the demand at the faulty line fails.
+//! The audit of a recorded session: it is clean, with a right certificate; or it has a fault, and an order of its
+//! records in which the demand at the faulty line fails.
 #![tactic(auto)]
 
 mod auditing;

@@ -40,8 +40,8 @@ pub fn push_first_line(out: &mut Vec<u8>, report: &Report) -> Result<(), AllocEr
     }
 }
 
-/// The text behind the first line: the certificate's where the report is clean, that of the order's runs where a page has
-/// a fault, and else none.
+/// The text behind the first line: the certificate's where the report is clean, that of the order's runs where a page
+/// has a fault, and else none.
 fn text_behind(alloc: Global, report: &Report) -> Result<Vec<u8>, AllocError>
     requires { ReportFits report.now }
     ensures { IfOk result (λ out. out.items ≡ ended (lines_behind report.now)) }

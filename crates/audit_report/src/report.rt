@@ -14,8 +14,8 @@ pub enum Report {
     /// The session's logs have no merging. Of the records that can never be taken this is the line of the first that is
     /// next in its log.
     Knot(u32),
-    /// The session is not safe: the line and the reason of the first fault of a page, and the runs of a merging in which
-    /// the demand of the record at this line fails.
+    /// The session is not safe: the line and the reason of the first fault of a page, and the runs of a merging in
+    /// which the demand of the record at this line fails.
     Faulty {
         line: u32,
         reason: PageReason,

@@ -38,11 +38,12 @@ fn reported(alloc: Global, session: &Session) -> Result<Audited, AllocError>
 
 /// The report on the session that a text spells, or the line at which the text is refused.
 ///
-/// Where there is a report the text spells exactly one session. Where this session has the right shape and a merging, it is
-/// safe exactly where the report is clean; where the report is clean it is safe, and where a page has a fault it is not.
+/// Where there is a report the text spells exactly one session. Where this session has the right shape and a merging,
+/// it is safe exactly where the report is clean; where the report is clean it is safe, and where a page has a fault it
+/// is not.
 ///
-/// The pages are judged by the calling thread alone, which waits for nobody. Nothing is assumed of who wrote the text. The
-/// only error is want of memory, which may come before the text is judged.
+/// The pages are judged by the calling thread alone, which waits for nobody. Nothing is assumed of who wrote the text.
+/// The only error is want of memory, which may come before the text is judged.
 pub fn audit_text(alloc: Global, session: &[u8]) -> Result<Audited, AllocError>
     ensures audited { IfOk result (IsAudited session.now) }
     ensures one_session { IfOk result (λ audited. HasReport audited → SpellsOneSession session.now) }

@@ -62,8 +62,8 @@ fn wanted_of(alloc: Global, report: &Report, wanted: Wanted) -> Result<Vec<u8>, 
     }
 }
 
-/// What is wanted of the audit of a text, or the line at which the text is refused. Each line ends with LF. An error: there
-/// is no memory for it.
+/// What is wanted of the audit of a text, or the line at which the text is refused. Each line ends with LF. An error:
+/// there is no memory for it.
 pub fn print_audited(
     alloc: Global,
     audited: &Audited,

@@ -15,10 +15,10 @@ use Rattle.migration_types.specs.Sessions.{Recorded, IsSession, IsNumber}
 use Rattle.audit_model.specs.Mergings.{IsMerging, spelled}
 use Rattle.audit_model.specs.Shape.{IsRightShape}
 use Rattle.audit_model.specs.Laws.{FirstVersionIsPlain}
-use Rattle.audit_model.specs.Certificates.{IsCovered, IsRightEntry, IsRightCertificate}
+use Rattle.audit_model.specs.Certificates.{is_fresh, IsCovered, IsRightEntry, IsRightCertificate}
 use Rattle.audit_model.proofs.Walked.{merging_is_walk}
 use Rattle.cert_maker.specs.Made.{IsMade}
-use Rattle.cert_maker.specs.inner.Entries.{HasBarePage, AreMade, is_fresh, version_for}
+use Rattle.cert_maker.specs.inner.Entries.{HasBarePage, AreMade, version_for}
 use Rattle.cert_maker.proofs.Fitting.{fitting_runs, take_records}
 
 -- ---- limits

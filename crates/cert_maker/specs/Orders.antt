@@ -16,8 +16,8 @@ pub record AreFoundRuns (s : Recorded) (runs : List Run) : Type 0 where
   pub is_found : IsFound s (spelled runs)
   pub are_runs : AreRuns s.version runs
 
--- the runs of the found order, as far as it goes, within the limits of a certificate's runs of the session's version; and
--- the cursors behind them
+-- the runs of the found order, as far as it goes, within the limits of a certificate's runs of the session's version;
+-- and the cursors behind them
 pub record IsFoundFront (s : Recorded) (runs : List Run) (c : Cursors) : Type 0 where
   pub is_found_order : IsFoundOrder s (spelled runs)
   pub are_runs : AreRuns s.version runs

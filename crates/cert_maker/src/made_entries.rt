@@ -4,10 +4,11 @@ ghost use Rattle.std.specs.Prelude.{◌≡◌, ◌<◌, length, slice_get, IfOk,
 ghost use Rattle.std.specs.List.{list_any};
 ghost use Rattle.migration_types.specs.Sessions.{IsSession};
 ghost use Rattle.audit_model.specs.Names.{if_there};
+ghost use Rattle.audit_model.specs.Certificates.{is_fresh};
 ghost use Rattle.page_facts.specs.Facts.{IsFacts};
 ghost use Rattle.page_facts.specs.Findings.{AreFindings};
 ghost use Rattle.page_facts.specs.Looks.{first_look};
-ghost use Rattle.cert_maker.specs.inner.Entries.{send_of, first_of, entry_at, unplaced_entry, entry_of, IsMadeEntry, HasNoEntry, AreMade, HasBarePage, is_fresh, version_for};
+ghost use Rattle.cert_maker.specs.inner.Entries.{send_of, first_of, entry_at, unplaced_entry, entry_of, IsMadeEntry, HasNoEntry, AreMade, HasBarePage, version_for};
 
 use audit_model::delivery;
 use migration_types::{Entry, First, PageNo, PagerRec, Seq, Session, SourceRec, Version};
@@ -113,8 +114,8 @@ pub(crate) fn version_for(session: &Session, entries: &Seq<Entry>) -> Version
     session.version()
 }
 
-/// A right entry for each page, with the earliest look that serves, by what is found of the pages. None: a page has no right
-/// entry. An error: there is no memory for the entries.
+/// A right entry for each page, with the earliest look that serves, by what is found of the pages. None: a page has no
+/// right entry. An error: there is no memory for the entries.
 pub(crate) fn entries_in(
     alloc: Global,
     session: &Session,

@@ -27,9 +27,9 @@ pub enum MakeFault {
 
 /// The right certificate of a session with these runs, in the session's version. (A session of the first version that
 /// needs an entry of the second is not of the right shape, and its certificate is of the second.) Each entry with a
-/// placement and a first touch names the earliest look that covers the placement. Takes one pass over the runs and a few
-/// over the records, and memory for the entries, a few numbers for each page, one for each record that is of a page, and
-/// the cells of one page. On an error the runs are dropped.
+/// placement and a first touch names the earliest look that covers the placement. Takes one pass over the runs and a
+/// few over the records, and memory for the entries, a few numbers for each page, one for each record that is of a
+/// page, and the cells of one page. On an error the runs are dropped.
 pub fn make(alloc: Global, session: &Session, runs: Seq<Run>) -> Result<Cert, MakeFault>
     requires { AreRuns Two runs }
     ensures { MatchResult result (IsMade session.now runs) (IsRefused session.now runs) }
@@ -40,8 +40,8 @@ pub fn make(alloc: Global, session: &Session, runs: Seq<Run>) -> Result<Cert, Ma
     make_by(alloc, session, &found, runs)
 }
 
-/// The same by what is found of each page, page 0 first. Takes one pass over the runs and two over the pages, and memory
-/// for the entries alone.
+/// The same by what is found of each page, page 0 first. Takes one pass over the runs and two over the pages, and
+/// memory for the entries alone.
 pub fn make_by(
     alloc: Global,
     session: &Session,

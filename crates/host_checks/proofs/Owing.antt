@@ -16,7 +16,7 @@ use Rattle.migration_types.specs.Receipts.{Name}
 use Rattle.migration_types.specs.Sessions.{Recorded}
 use Rattle.audit_model.specs.Mergings.{IsMerging, at_start, spelled}
 use Rattle.audit_model.specs.Walks.{cursors_from}
-use Rattle.audit_model.specs.Flat.{changed, flat, freed, freed_after, freed_page, home, in_ledger, at_halt}
+use Rattle.audit_model.specs.Flat.{changed, flat, freed, freed_after, home, in_ledger, at_halt, marked_late}
 use Rattle.audit_model.specs.declared.home.Home.{Home}
 use Rattle.audit_model.specs.declared.home.Home.TheVariants.{AtSource, Nowhere, AtTarget}
 use Rattle.audit_model.specs.Shape.{is_placement_of}
@@ -65,7 +65,7 @@ freed_later s page n (suc m) le is = go (λ l. freed_later s page n m l is) (cas
 freed_by : (s : Recorded) (page n vcpu : ℕ) → slice_get s.guest n ≡ Some (Release vcpu page) → home s n ≡ AtTarget → freed s (suc n) page ≡ true
 freed_by s page n vcpu is late =
     ap (λ o. changed (freed_after (home s n) page) o (freed s n page)) is
-    ∙ ap (λ h. freed_page h (page == page) (freed s n page)) late
+    ∙ ap (λ h. marked_late h (page == page) (freed s n page)) late
     ∙ ap (λ b. cond b true (freed s n page)) (same_page page)
 
 -- where a page is placed or was released at the target, it is resident

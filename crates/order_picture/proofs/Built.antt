@@ -1,5 +1,5 @@
 -- Rows, as they are built.
-use Rattle.std.proofs.Common.{◌≡◌, ℕ, zero, suc, ◌+◌, ◌<◌, ◌≤◌, ◌⊎◌, inl, inr, Bool, true, false, cond, ◌||◌, List, [], ◌∷◌, ◌++◌, length, refl, sym, ap, ◌∙◌, subst, arith}
+use Rattle.std.proofs.Common.{◌≡◌, ℕ, suc, ◌+◌, ◌<◌, ◌≤◌, ◌⊎◌, inl, inr, Bool, true, false, cond, ◌||◌, List, [], ◌∷◌, ◌++◌, length, refl, sym, ap, ◌∙◌, subst, arith}
 use Rattle.std.specs.Prelude.{nat_lt}
 use Rattle.std.specs.List.{list_any}
 use Rattle.std.proofs.lemmas.Bool.{cases_lt, lt-ltb, le-ltb}
@@ -13,7 +13,6 @@ use Rattle.audit_model.specs.Walks.{next, cursors_from}
 use Rattle.merge_runs.specs.Taken.{cursors_of}
 use Rattle.merge_runs.proofs.Walking.{cursors_append, cursors_run}
 use Rattle.order_picture.specs.declared.focus.Mark.{Mark}
-use Rattle.order_picture.specs.declared.focus.Mark.TheVariants.{Faulty, Concerned, OfPage, Plain}
 use Rattle.order_picture.specs.declared.picture.Row.{Row}
 use Rattle.order_picture.specs.declared.picture.Row.TheVariants.{Record, Fold}
 use Rattle.order_picture.specs.declared.rows.Building.{Building}

@@ -1,5 +1,5 @@
 -- The names that runs take, and marks.
-use Rattle.std.proofs.Common.{◌≡◌, ℕ, zero, suc, ◌+◌, ◌<◌, ◌≤◌, Bool, true, false, cond, List, [], ◌∷◌, ◌++◌, length, take, drop, refl, sym, ap, ◌∙◌, subst, arith, Option, Some, None}
+use Rattle.std.proofs.Common.{◌≡◌, ℕ, zero, suc, ◌+◌, ◌<◌, ◌≤◌, Bool, true, false, cond, List, [], ◌∷◌, ◌++◌, length, take, drop, refl, sym, ap, ◌∙◌, subst, arith}
 use Rattle.std.specs.List.{list_any}
 use Rattle.std.proofs.lemmas.List.{take-append-drop}
 use Rattle.migration_types.specs.declared.records.LogName.{LogName}
@@ -12,7 +12,6 @@ use Rattle.audit_model.specs.Walks.{cursors_from, Walks}
 use Rattle.merge_runs.proofs.Walking.{walks_front, walk_back, walks_run, spelled_front, the_run}
 use Rattle.order_picture.specs.declared.focus.Mark.TheVariants.{Faulty, Concerned, OfPage, Plain}
 use Rattle.order_picture.specs.declared.focus.Focus.{Focus}
-use Rattle.order_picture.specs.declared.subjects.About.{About}
 use Rattle.order_picture.specs.Rows.{is_faulty}
 use Rattle.order_picture.specs.Subjects.{about, page_by, page_within, page_of, is_one, is_page, mark_of}
 

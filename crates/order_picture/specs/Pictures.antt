@@ -1,5 +1,5 @@
 -- The picture of a session's records in the order of a report, or along given runs.
-use Rattle.std.specs.Prelude.{◌≡◌, ℕ, ◌≤◌, List, Option, Some, None, length, map, option_and_then}
+use Rattle.std.specs.Prelude.{◌≡◌, ℕ, ◌≤◌, List, Option, None, length, map, option_and_then}
 use Rattle.std.specs.List.{list_any}
 use Rattle.std.specs.Option.{MatchOption}
 use Rattle.migration_types.specs.declared.cert.Run.{Run}
@@ -35,8 +35,8 @@ pub record IsFocus (s : Recorded) (r : Report) (focus : Focus) : Type 0 where
   pub fault : IsFault s r focus.fault
   pub page : focus.page ≡ option_and_then (page_of s) focus.fault
 
--- A picture of the records that the runs take, as far as they can be taken: each record has its place in one row, there are
--- few rows, the faulty record has one of its own, and each row knows the row whose record it receives.
+-- A picture of the records that the runs take, as far as they can be taken: each record has its place in one row, there
+-- are few rows, the faulty record has one of its own, and each row knows the row whose record it receives.
 pub record IsPictureOf (s : Recorded) (r : Report) (runs : List Run) (p : Picture) : Type 0 where
   pub order : List Name
   pub drawn : IsDrawn s runs order p.bad

@@ -13,8 +13,8 @@ use Rattle.order_picture.specs.declared.picture.Row.{Row}
 use Rattle.order_picture.specs.declared.picture.Row.TheVariants.{Record, Fold}
 use Rattle.order_picture.specs.Subjects.{is_one}
 
--- The rows have the records of the order, in its sequence, each in one row: a row has one record with its mark, or the next
--- few of them, of which it has the count of each log.
+-- The rows have the records of the order, in its sequence, each in one row: a row has one record with its mark, or the
+-- next few of them, of which it has the count of each log.
 abbrev pub Covers : (Name → Mark) → List Row → List Name → Type 0
 Covers mark [] order = order ≡ []
 Covers mark (Record log place m ∷ rows) order = (rest : List Name) × (order ≡ (log, place) ∷ rest) × (m ≡ mark (log, place)) × Covers mark rows rest

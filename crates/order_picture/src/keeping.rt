@@ -1,6 +1,6 @@
-//! Which records of an order have a row of their own: the page's, what these receive, the halt and the resume, and those
-//! that stand next to the faulty one; of too many the first, the last, those nearest to it, and the release that a
-//! placement is over.
+//! Which records of an order have a row of their own: the page's, what these receive, the halt and the resume, and
+//! those that stand next to the faulty one; of too many the first, the last, those nearest to it, and the release that
+//! a placement is over.
 
 use crate::focus::{Focus, Mark, mark_of};
 use crate::records::{Name, is_one, receipt};
@@ -136,8 +136,8 @@ fn fill_gaps(wanted: &mut Vec<bool>) {
     }
 }
 
-/// Which places of an order have a row of their own, of which this is the middle. Takes a flag for each record. An error:
-/// there is no memory for it.
+/// Which places of an order have a row of their own, of which this is the middle. Takes a flag for each record. An
+/// error: there is no memory for it.
 pub(crate) fn kept_in(
     alloc: Global,
     session: &Session,

@@ -48,8 +48,8 @@ fn push_runs(names: &mut Vec<Name>, session: &Session, runs: &[Run]) -> Result<T
     Ok(taken)
 }
 
-/// The records that the runs take, where they spell a merging, and else those that the runs before the first bad one take.
-/// Takes memory for the names. An error: there is no memory for them.
+/// The records that the runs take, where they spell a merging, and else those that the runs before the first bad one
+/// take. Takes memory for the names. An error: there is no memory for them.
 pub(crate) fn draw_along(
     alloc: Global,
     session: &Session,

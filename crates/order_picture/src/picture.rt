@@ -40,8 +40,8 @@ pub struct Picture {
     pub senders: Vec<Option<usize>>,
     /// How many records of each log it has.
     pub taken: Taken,
-    /// The place of the first run that cannot be taken, or the number of the runs where records are left; none where it has
-    /// all records.
+    /// The place of the first run that cannot be taken, or the number of the runs where records are left; none where it
+    /// has all records.
     pub bad: Option<usize>,
     /// What it is about.
     pub focus: Focus,
@@ -106,7 +106,8 @@ fn resumes(session: &Session, name: Name) -> bool {
         )
 }
 
-/// Around which place of an order most is shown: the faulty record, or the end where the order is not whole, or the resume.
+/// Around which place of an order most is shown: the faulty record, or the end where the order is not whole, or the
+/// resume.
 fn middle_of(session: &Session, focus: &Focus, order: &[Name], is_whole: bool) -> usize {
     if let Some(place) = order.iter().position(|name| is_one(focus.fault, *name)) {
         return place;
@@ -120,8 +121,8 @@ fn middle_of(session: &Session, focus: &Focus, order: &[Name], is_whole: bool) -
         .unwrap_or(0)
 }
 
-/// The picture of a session's records along runs: of all of them, where the runs spell a merging, and else of those that the
-/// runs before the first bad one take.
+/// The picture of a session's records along runs: of all of them, where the runs spell a merging, and else of those
+/// that the runs before the first bad one take.
 pub fn plan_along(
     alloc: Global,
     session: &Session,
@@ -145,9 +146,9 @@ pub fn plan_along(
     })
 }
 
-/// The picture of a report: along the runs that show its fault; of a clean session along those of its certificate; and where
-/// there is no such order, along the found order as far as it goes. Takes a few passes over the records, and memory for the
-/// names of the records and two flags for each. An error: there is no memory for them.
+/// The picture of a report: along the runs that show its fault; of a clean session along those of its certificate; and
+/// where there is no such order, along the found order as far as it goes. Takes a few passes over the records, and
+/// memory for the names of the records and two flags for each. An error: there is no memory for them.
 pub fn plan(alloc: Global, session: &Session, report: &Report) -> Result<Picture, AllocError>
     ensures { IfOk result (IsPicture session.now report.now) }
 {

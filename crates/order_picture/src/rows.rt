@@ -124,8 +124,8 @@ impl Building {
         self.folded += 1;
     }
 
-    /// Takes the next record, another than the faulty one or the faulty one once more, which has a row where it is wanted and
-    /// there is room for it.
+    /// Takes the next record, another than the faulty one or the faulty one once more, which has a row where it is
+    /// wanted and there is room for it.
     fn take_other(&mut self, name: Name, mark: Mark, wanted: bool) -> Result<(), AllocError>
         requires few { self.old.folded + 1 < 2 ^ 64 }
         requires since { cursors_of self.old.since name.0 ≤ self.old.folded }
@@ -141,7 +141,8 @@ impl Building {
         self.keep_other(name, mark)
     }
 
-    /// Takes the next record, which has a row where it is wanted and there is room for it, and where it is the faulty one.
+    /// Takes the next record, which has a row where it is wanted and there is room for it, and where it is the faulty
+    /// one.
     fn take(&mut self, name: Name, mark: Mark, wanted: bool) -> Result<(), AllocError>
         requires few { self.old.folded + 1 < 2 ^ 64 }
         requires since { cursors_of self.old.since name.0 ≤ self.old.folded }

@@ -462,8 +462,8 @@ fn push_inside(
     push_legend(out, rows)
 }
 
-/// The text of a picture of this session, with the report's first line above it: SVG without scripts, in light colours and
-/// in dark ones. An error: there is no memory for it.
+/// The text of a picture of this session, with the report's first line above it: SVG without scripts, in light colours
+/// and in dark ones. An error: there is no memory for it.
 pub fn picture_text(
     alloc: Global,
     session: &Session,

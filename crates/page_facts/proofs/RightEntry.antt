@@ -20,12 +20,12 @@ use Rattle.migration_types.specs.declared.cert.Entry.TheVariants.{Nothing, Fresh
 use Rattle.audit_model.specs.declared.home.Home.{Home}
 use Rattle.audit_model.specs.declared.home.Home.TheVariants.{AtSource, Nowhere, AtTarget}
 use Rattle.audit_model.specs.Flat.{flat, in_ledger, home, is_target, at_halt}
-use Rattle.audit_model.specs.Shape.{passes, is_send_of, is_placement_of, delivery}
+use Rattle.audit_model.specs.Shape.{passes, is_release, is_send_of, is_placement_of, delivery}
 use Rattle.audit_model.specs.Certificates.{is_touch_of, IsLateTouch, IsHonest, IsOnlyPlacement, IsCovered, IsNothing, IsFresh, IsFromSource, IsBalloon, IsOf, IsRightEntry}
 use Rattle.page_facts.specs.declared.facts.PageFacts.{PageFacts}
 use Rattle.page_facts.specs.Tables.{some_before, first_before}
 use Rattle.page_facts.specs.Facts.{IsFacts}
-use Rattle.page_facts.specs.Judged.{is_wrong_read, is_wrong_send, is_altered, is_late_touch, is_release, releases_at}
+use Rattle.page_facts.specs.Judged.{is_wrong_read, is_wrong_send, is_altered, is_late_touch, releases_at}
 use Rattle.page_facts.specs.Moved.{is_again}
 use Rattle.page_facts.specs.inner.EntryTests.{is_place, is_absent, sees_from, repeats, delivers_from, places_from, zeroes, covers, is_once, is_right_of, is_right_entry}
 use Rattle.page_facts.proofs.Before.{some_false, some_true, first_none, first_some, IsFirstAt}

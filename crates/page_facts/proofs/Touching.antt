@@ -8,12 +8,12 @@ use Rattle.migration_types.specs.declared.records.GuestRec.TheVariants.{Read, Wr
 use Rattle.migration_types.specs.Sessions.{Recorded}
 use Rattle.audit_model.specs.declared.home.Home.{Home}
 use Rattle.audit_model.specs.declared.home.Home.TheVariants.{AtSource, Nowhere, AtTarget}
-use Rattle.audit_model.specs.Flat.{changed, home, is_target, freed_page, freed_after, freed}
-use Rattle.audit_model.specs.Shape.{passes}
+use Rattle.audit_model.specs.Flat.{changed, home, is_target, marked_late, freed_after, freed}
+use Rattle.audit_model.specs.Shape.{passes, is_release}
 use Rattle.audit_model.specs.Certificates.{is_access_of, is_touch_of}
 use Rattle.audit_model.specs.Faults.{looks_at, has_looked, IsOver}
 use Rattle.page_facts.specs.Tables.{some_before, first_before}
-use Rattle.page_facts.specs.Judged.{is_late_touch, is_release, releases_at}
+use Rattle.page_facts.specs.Judged.{is_late_touch, releases_at}
 use Rattle.page_facts.specs.Looks.{first_look}
 use Rattle.page_facts.specs.Findings.{IsFindings}
 use Rattle.page_facts.specs.declared.findings.Findings.{Findings}
@@ -37,7 +37,7 @@ freed_some : (s : Recorded) (page n : ℕ) → freed s n page ≡ some_before (f
 freed_some s page zero = refl
 freed_some s page (suc n) = go (slice_get s.guest n) ∙ ap (λ b. passes (frees s page n) (slice_get s.guest n) || b) (freed_some s page n)
   where
-    by : (h : Home) (here old : Bool) → freed_page h here old ≡ ((here && is_target h) || old)
+    by : (h : Home) (here old : Bool) → marked_late h here old ≡ ((here && is_target h) || old)
     by AtTarget true old = refl
     by AtTarget false old = refl
     by AtSource true old = refl

@@ -10,7 +10,7 @@ use Rattle.migration_types.specs.declared.records.PagerRec.TheVariants.{Place, Z
 use Rattle.migration_types.specs.Memory.{page_of}
 use Rattle.migration_types.specs.Sessions.{Recorded}
 use Rattle.audit_model.specs.Flat.{flat, in_ledger, home, is_target, at_halt}
-use Rattle.audit_model.specs.Shape.{passes}
+use Rattle.audit_model.specs.Shape.{passes, is_release}
 use Rattle.audit_model.specs.Certificates.{is_touch_of}
 use Rattle.page_tables.specs.Tables.{Values}
 use Rattle.page_facts.specs.Tables.{first_before, noted, IsTable}
@@ -23,11 +23,6 @@ is_wrong_read s page n _ = false
 -- a read, a write or a release of the page after handover
 abbrev pub is_late_touch : Recorded → ℕ → ℕ → GuestRec → Bool
 is_late_touch s page n r = is_touch_of page r && is_target (home s n)
-
--- whether it is a release
-abbrev pub is_release : GuestRec → Bool
-is_release (Release vcpu page) = true
-is_release _ = false
 
 -- whether the guest's record at this place, if there is one, is a release
 abbrev pub releases_at : Recorded → Option ℕ → Bool

@@ -158,8 +158,8 @@ fn judge_pages(
 }
 
 /// What the logs of a session say of each page, page 0 first. Takes a few passes over each log, memory for some numbers
-/// for each page and one for each record that is of a page, and for the cells of one page. An error: there is no memory for
-/// them.
+/// for each page and one for each record that is of a page, and for the cells of one page. An error: there is no memory
+/// for them.
 pub fn findings_of(alloc: Global, session: &Session) -> Result<Vec<Findings>, AllocError>
     ensures { IfOk result (λ found. AreFindings session.now found.items) }
 {

@@ -115,8 +115,8 @@ pub(crate) fn start(session: &Session, init: &PageLists, frame: &mut Frame, page
     frame.wrong = None;
 }
 
-/// Does the records at a page's places, from the one of this index on, up to a record of the guest. Answers the index of
-/// the first that is left.
+/// Does the records at a page's places, from the one of this index on, up to a record of the guest. Answers the index
+/// of the first that is left.
 pub(crate) fn run(
     session: &Session,
     page: PageNo,

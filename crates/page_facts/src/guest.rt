@@ -40,8 +40,8 @@ fn note_touch(first: &mut Table<Option<u32>>, rec: &GuestRec, late: bool, n: u32
     }
 }
 
-/// The guest's first read, write or release of each page after handover. Takes each record of the guest once, and memory
-/// for a number for each page. An error: there is no memory for them.
+/// The guest's first read, write or release of each page after handover. Takes each record of the guest once, and
+/// memory for a number for each page. An error: there is no memory for them.
 pub(crate) fn first_touches(
     alloc: Global,
     session: &Session,

@@ -2,9 +2,9 @@
 //!
 //! A checker, a maker of certificates and an audit all judge a page by the same few facts: whether a read of it gave
 //! another value than one machine would, what was sent of it, where it was placed, and when it was first used after
-//! handover. [`lists_for`] builds once where the records of each page are, [`judge_page`] finds the facts of a page by its
-//! records alone, with its cells in a frame that fits a cache, and [`fault_of`] its first fault. [`findings_of`] judges each
-//! page once, and [`first_fault_in`] finds the first fault of all.
+//! handover. [`lists_for`] builds once where the records of each page are, [`judge_page`] finds the facts of a page by
+//! its records alone, with its cells in a frame that fits a cache, and [`fault_of`] its first fault. [`findings_of`]
+//! judges each page once, and [`first_fault_in`] finds the first fault of all.
 #![tactic(auto)]
 
 mod facts;

@@ -73,8 +73,8 @@ fn take_look(session: &Session, looks: &mut Looks, placement: u32, n: u32)
     }
 }
 
-/// The guest's first look at a placement of each page, or at a later record of the pager. Takes each record of the guest
-/// and of the pager once, and memory for a number for each page. An error: there is no memory for them.
+/// The guest's first look at a placement of each page, or at a later record of the pager. Takes each record of the
+/// guest and of the pager once, and memory for a number for each page. An error: there is no memory for them.
 pub(crate) fn first_looks(
     alloc: Global,
     session: &Session,

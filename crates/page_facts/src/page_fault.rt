@@ -187,8 +187,8 @@ fn first_in_logs(session: &Session, findings: &Findings) -> Option<PageFault>
     or_next(guest_fault(findings), moved)
 }
 
-/// The fault of least line, and then of least reason, of a page with these findings; none where no record of the page is a
-/// fault. Takes no memory.
+/// The fault of least line, and then of least reason, of a page with these findings; none where no record of the page
+/// is a fault. Takes no memory.
 pub fn fault_of(session: &Session, findings: &Findings, page: PageNo) -> Option<PageFault>
     requires { IsFindings session.now page findings.now }
     ensures { MatchOption result (IsClean session.now page) (IsFirstFault session.now page) }
@@ -211,8 +211,8 @@ fn first_of_pages(session: &Session, found: &[Findings]) -> Option<PageFault>
     first
 }
 
-/// The fault of least line, and then of least reason, of a session's pages by what is found of each; none where no record
-/// is a fault. Takes no memory.
+/// The fault of least line, and then of least reason, of a session's pages by what is found of each; none where no
+/// record is a fault. Takes no memory.
 pub fn first_fault_in(session: &Session, found: &[Findings]) -> Option<PageFault>
     requires { AreFindings session.now found.now }
     ensures { MatchOption result (HasNoPageFault session.now) (λ f. IsFirstPageFault session.now f.reason (f.log, f.place)) }
@@ -221,9 +221,9 @@ pub fn first_fault_in(session: &Session, found: &[Findings]) -> Option<PageFault
     first_of_pages(session, found)
 }
 
-/// The fault of least line, and then of least reason, of a session's pages; none where no record is a fault. Takes a few
-/// passes over each log, memory for some numbers for each page and one for each record that is of a page, and for the
-/// cells of one page. The only error is want of that memory.
+/// The fault of least line, and then of least reason, of a session's pages; none where no record is a fault. Takes a
+/// few passes over each log, memory for some numbers for each page and one for each record that is of a page, and for
+/// the cells of one page. The only error is want of that memory.
 pub fn first_page_fault(alloc: Global, session: &Session) -> Result<Option<PageFault>, AllocError>
     ensures { IfOk result (λ fault. MatchOption fault (HasNoPageFault session.now) (λ f. IsFirstPageFault session.now f.reason (f.log, f.place))) }
 {

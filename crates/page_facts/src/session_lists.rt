@@ -93,8 +93,8 @@ fn together(_session: &Session, guest: PageLists, others: Others) -> SessionList
     }
 }
 
-/// The lists of a session. Takes a few passes over each log, and memory for a few numbers for each page and one for each
-/// record that is of a page. An error: there is no memory for them.
+/// The lists of a session. Takes a few passes over each log, and memory for a few numbers for each page and one for
+/// each record that is of a page. An error: there is no memory for them.
 pub fn lists_for(alloc: Global, session: &Session) -> Result<SessionLists, AllocError>
     ensures { IfOk result (AreSessionLists session.now) }
 {

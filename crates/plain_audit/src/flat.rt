@@ -4,8 +4,8 @@
 ghost use Rattle.std.specs.Prelude.{◌≡◌, ◌≤◌, length};
 ghost use Rattle.migration_types.specs.Memory.{initial};
 ghost use Rattle.migration_types.specs.Pages.{AreInitPages};
-ghost use Rattle.audit_model.specs.Flat.{cell_after, flat, released_after, in_ledger, home_after, home, freed_page, freed_after, freed, halt_place, at_halt};
-ghost use Rattle.audit_model.specs.Worlds.{touch_page, touch_after, touched};
+ghost use Rattle.audit_model.specs.Flat.{cell_after, flat, released_after, in_ledger, home_after, home, marked_late, freed_after, freed, halt_place, at_halt};
+ghost use Rattle.audit_model.specs.Worlds.{touch_after, touched};
 
 use audit_model::{Home, is_halt};
 use migration_types::{GuestRec, InitPage, PageNo, Session};
@@ -113,8 +113,7 @@ pub fn home_before(session: &Session, place: usize) -> Home
 
 /// Whether a page is marked after a record that marks pages at the target alone, where it was `old` before.
 fn marked_by(home: Home, marks: bool, old: bool) -> bool
-    ensures frees { result ≡ freed_page home marks old }
-    ensures touches { result ≡ touch_page home marks old }
+    ensures { result ≡ marked_late home marks old }
 {
     match home {
         Home::AtSource | Home::Nowhere => old,

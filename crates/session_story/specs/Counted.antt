@@ -1,7 +1,7 @@
 -- How many pages came in which way, and how much else there is of a session.
 use Rattle.std.specs.Prelude.{◌≡◌, ℕ, zero, suc, Bool, true, false, not, ◌==◌, List, length, slice_get}
 use Rattle.migration_types.specs.declared.cert.Entry.{Entry}
-use Rattle.migration_types.specs.declared.cert.Entry.TheVariants.{Nothing, Fresh, Source, Balloon}
+use Rattle.migration_types.specs.declared.cert.Entry.TheVariants.{Nothing, Source, Balloon}
 use Rattle.migration_types.specs.declared.records.SourceRec.{SourceRec}
 use Rattle.migration_types.specs.declared.records.SourceRec.TheVariants.{Send, Again, Ask}
 use Rattle.migration_types.specs.declared.records.LinkRec.{LinkRec}
@@ -9,6 +9,7 @@ use Rattle.migration_types.specs.declared.records.LinkRec.TheVariants.{Down, Up}
 use Rattle.migration_types.specs.declared.records.PagerRec.{PagerRec}
 use Rattle.migration_types.specs.declared.records.PagerRec.TheVariants.{Want, Join, Skip}
 use Rattle.migration_types.specs.Sessions.{Recorded}
+use Rattle.audit_model.specs.Certificates.{is_fresh}
 use Rattle.audit_model.specs.Shape.{passes, is_miss}
 use Rattle.session_story.specs.Scans.{how_many}
 use Rattle.session_story.specs.declared.counting.Counts.{Counts}
@@ -17,11 +18,6 @@ use Rattle.session_story.specs.declared.counting.Counts.{Counts}
 abbrev pub is_unmoved : Entry → Bool
 is_unmoved Nothing = true
 is_unmoved _ = false
-
--- the page was released at the target and never placed
-abbrev pub is_fresh : Entry → Bool
-is_fresh (Fresh first) = true
-is_fresh _ = false
 
 -- the page was sent by the source
 abbrev pub is_sent : Entry → Bool

@@ -38,9 +38,9 @@ IsOtherIn s page content held =
 abbrev pub IsLookBeforeTouch : Recorded → ℕ → Option Look → Type 0
 IsLookBeforeTouch s page look = (first : ℕ) → first_before (is_late_touch s page) s.guest (length s.guest) ≡ Some first → IsFurthestLook s first look
 
--- What is told besides: of a wrong read what one machine gives, of an early access the look that reached furthest before
--- it, of contents that are not the page's the first cell that is not, of a placement over a release the look that reached
--- furthest before this release.
+-- What is told besides: of a wrong read what one machine gives, of an early access the look that reached furthest
+-- before it, of contents that are not the page's the first cell that is not, of a placement over a release the look
+-- that reached furthest before this release.
 abbrev pub IsDetail : Recorded → PageReason → LogName → ℕ → ℕ → Detail → Type 0
 IsDetail s WrongRead log n page (Instead held) = (vcpu cell value : ℕ) → slice_get s.guest n ≡ Some (Read vcpu page cell value) → MatchOption held ⊥ (IsInstead s n page cell)
 IsDetail s Early log n page (Seen look) = IsFurthestLook s n look

@@ -42,8 +42,9 @@ pub record IsHandover (s : Recorded) (h : Handover) : Type 0 where
   pub halt : h.halt ≡ first_before (λ m. is_halt) s.guest (length s.guest)
   pub resume : h.resume ≡ first_before (λ m. is_resume) s.guest (length s.guest)
 
--- The last change of the page before the halt, its `send`, the first delivery of that packet by the link and by the lane,
--- the first record of the pager that takes one, and what the logs say of the page's placements, of its uses and of the looks at it.
+-- The last change of the page before the halt, its `send`, the first delivery of that packet by the link and by the
+-- lane, the first record of the pager that takes one, and what the logs say of the page's placements, of its uses and
+-- of the looks at it.
 pub record IsPageStory (s : Recorded) (page : ℕ) (t : PageStory) : Type 0 where
   pub page_is : t.page ≡ page
   pub changed : t.changed ≡ last_before (λ m. changes page) s.guest (at_halt s)

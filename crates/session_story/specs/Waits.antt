@@ -14,8 +14,8 @@ pub record WaitsFor (w other : Waiting) : Type 0 where
   pub log : other.log ≡ w.sent_log
   pub place : other.place ≤ w.sent_place
 
--- Records of which each is a receipt for one that comes no earlier than the next of them. The first stands at the line of
--- the knot. The last waits for one of them, and from that one on they go round in a circle.
+-- Records of which each is a receipt for one that comes no earlier than the next of them. The first stands at the line
+-- of the knot. The last waits for one of them, and from that one on they go round in a circle.
 pub record IsCircle (s : Recorded) (k : Knot) : Type 0 where
   pub some : 0 < length k.waits.items
   pub starts : (w : Waiting) → slice_get k.waits.items 0 ≡ Some w → IsKnot s (line_of s (w.log, w.place))

@@ -35,8 +35,8 @@ pub struct Counts {
     pub by_lane: u32,
 }
 
-/// How many pages came in which way, by the entries of a certificate, and how many records there are of some kinds. Takes
-/// a few passes over the logs, and no memory.
+/// How many pages came in which way, by the entries of a certificate, and how many records there are of some kinds.
+/// Takes a few passes over the logs, and no memory.
 pub fn counts_of(session: &Session, entries: &[Entry]) -> Counts
     requires { length entries.now ≤ most_pages }
     ensures { IsCounts session.now entries.now result }

@@ -34,8 +34,8 @@ fn clean_counts(session: &Session, cert: &Cert) -> Counts
     counts_of(session, cert.entries())
 }
 
-/// What happened in a session, by the report on it. Takes a few passes over each log, and as much memory as an audit does
-/// and one machine more, which is the only error.
+/// What happened in a session, by the report on it. Takes a few passes over each log, and as much memory as an audit
+/// does and one machine more, which is the only error.
 pub fn explain(alloc: Global, session: &Session, report: &Report) -> Result<Explanation, AllocError>
     requires { IsReport session.now report.now }
     ensures { IfOk result (IsExplanation session.now report.now) }

@@ -133,8 +133,8 @@ fn detail_of(
     }
 }
 
-/// The first fault of a session, which stands at this line, with the story of its page. Takes a few passes over each log,
-/// and as much memory as judging does and one machine more, which is the only error.
+/// The first fault of a session, which stands at this line, with the story of its page. Takes a few passes over each
+/// log, and as much memory as judging does and one machine more, which is the only error.
 pub(crate) fn fault_at(
     alloc: Global,
     session: &Session,

@@ -57,8 +57,8 @@ pub fn record_at(session: &Session, line: u32) -> Option<(LogName, u32)>
     }
 }
 
-/// The line at which a session's text has the record of this number in a log; none where the log has no such record. Takes
-/// no memory.
+/// The line at which a session's text has the record of this number in a log; none where the log has no such record.
+/// Takes no memory.
 pub fn line_at(session: &Session, log: LogName, place: u32) -> Option<u32>
     ensures { MatchOption result (log_length session.now log ≤ place) (λ line. IsAtLineOf session.now log line place) }
 {

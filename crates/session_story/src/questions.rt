@@ -2,12 +2,12 @@
 
 ghost use Rattle.std.specs.Prelude.{◌≡◌};
 ghost use Rattle.session_story.specs.Values.{sets};
-ghost use Rattle.session_story.specs.Pages.{changes, sends, carries, lane_carries};
+ghost use Rattle.session_story.specs.Pages.{changes, carries, lane_carries};
 ghost use Rattle.session_story.specs.Counted.{is_want_of, brings_want, takes_want, is_push};
 ghost use Rattle.session_story.specs.inner.Questions.{asks_guest, asks_source, asks_link, asks_lane, asks_pager, asks_entry};
 
 use crate::scans::Question;
-use audit_model::{delivers_send, is_halt, is_miss, is_resume, is_send_of};
+use audit_model::{delivers_send, is_halt, is_miss, is_resume, is_send_of, sends};
 use migration_types::{Entry, GuestRec, LaneRec, LinkRec, PageNo, PagerRec, Session, SourceRec};
 
 /// What is asked of a record of the guest.
@@ -89,22 +89,6 @@ fn sets(rec: &GuestRec, page: PageNo, cell: u16) -> bool
         } => written.number() == page.number() && at == cell,
         GuestRec::Release { page: released, .. } => released.number() == page.number(),
         _ => false,
-    }
-}
-
-/// Whether the source's record of this number is the page's `send`, or a repeat of it.
-fn sends(session: &Session, page: PageNo, n: u32) -> bool
-    ensures { result ≡ sends session.now page n }
-{
-    let source = session.source();
-    match source.get(n as usize) {
-        Some(SourceRec::Again { sending }) => {
-            source
-                .get(*sending as usize)
-                .is_some_and(|rec| is_send_of(rec, page))
-        }
-        Some(rec) => is_send_of(rec, page),
-        None => false,
     }
 }
 

@@ -94,8 +94,8 @@ fn circle_from(
     Ok(Knot { waits, back })
 }
 
-/// The records of a knot that wait for one another, from the one at the knot's line on. Takes each record once, and memory
-/// for the runs of the found order, which is the only error.
+/// The records of a knot that wait for one another, from the one at the knot's line on. Takes each record once, and
+/// memory for the runs of the found order, which is the only error.
 pub fn circle_of(alloc: Global, session: &Session) -> Result<Option<Knot>, AllocError>
     requires { IsRightShape session.now }
     ensures { IfOk result (λ knot. MatchOption knot (TakesAll session.now) (IsCircle session.now)) }

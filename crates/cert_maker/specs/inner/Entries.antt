@@ -13,7 +13,7 @@ use Rattle.migration_types.specs.declared.version.Version.TheVariants.{Two}
 use Rattle.migration_types.specs.Sessions.{Recorded}
 use Rattle.audit_model.specs.Names.{if_there}
 use Rattle.audit_model.specs.Shape.{delivery}
-use Rattle.audit_model.specs.Certificates.{IsRightEntry}
+use Rattle.audit_model.specs.Certificates.{is_fresh, IsRightEntry}
 use Rattle.page_facts.specs.declared.facts.PageFacts.{PageFacts}
 use Rattle.cert_maker.specs.Made.{NamesEarliest}
 
@@ -68,11 +68,6 @@ pub record HasBarePage (s : Recorded) : Type 0 where
 pub record AreMade (s : Recorded) (entries : List Entry) : Type 0 where
   pub pages : length entries ≡ s.geometry.pages
   pub each : (page : ℕ) (entry : Entry) → slice_get entries page ≡ Some entry → IsMadeEntry s page entry
-
--- whether a page is fresh
-abbrev pub is_fresh : Entry → Bool
-is_fresh (Fresh first) = true
-is_fresh _ = false
 
 -- the version of a certificate with these entries: this one, or the second where a page is fresh
 abbrev pub version_for : Version → List Entry → Version

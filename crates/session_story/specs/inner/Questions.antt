@@ -8,10 +8,11 @@ use Rattle.migration_types.specs.declared.records.LinkRec.{LinkRec}
 use Rattle.migration_types.specs.declared.records.LaneRec.{LaneRec}
 use Rattle.migration_types.specs.declared.records.PagerRec.{PagerRec}
 use Rattle.migration_types.specs.Sessions.{Recorded}
+use Rattle.audit_model.specs.Certificates.{is_fresh}
 use Rattle.audit_model.specs.Shape.{is_halt, is_resume, is_miss, is_send_of, delivers}
 use Rattle.session_story.specs.Pages.{changes, carries, lane_carries}
 use Rattle.session_story.specs.Values.{sets}
-use Rattle.session_story.specs.Counted.{is_unmoved, is_fresh, is_sent, is_zeroed, is_send, is_again, is_push, is_join, is_skip}
+use Rattle.session_story.specs.Counted.{is_unmoved, is_sent, is_zeroed, is_send, is_again, is_push, is_join, is_skip}
 use Rattle.session_story.specs.declared.looks.Look.{Look}
 use Rattle.session_story.specs.declared.questions.GuestQuestion.{GuestQuestion}
 use Rattle.session_story.specs.declared.questions.GuestQuestion.TheVariants as guest

@@ -15,8 +15,8 @@ pub fn log_word(log: LogName) -> &'static str {
     }
 }
 
-/// Adds where a record stands, as in "line 13 (guest 6)"; of one that is not there its log and its number alone. An error:
-/// there is no memory for it.
+/// Adds where a record stands, as in "line 13 (guest 6)"; of one that is not there its log and its number alone. An
+/// error: there is no memory for it.
 pub fn push_place(
     out: &mut String,
     session: &Session,
@@ -158,8 +158,8 @@ fn push_pager(out: &mut String, rec: &PagerRec) -> Result<(), AllocError> {
     }
 }
 
-/// Adds where a record stands and what it says, as in "line 8 (guest 1): the guest is halted at the source". Contents are
-/// left out. The words have no letter that XML escapes. An error: there is no memory for them.
+/// Adds where a record stands and what it says, as in "line 8 (guest 1): the guest is halted at the source". Contents
+/// are left out. The words have no letter that XML escapes. An error: there is no memory for them.
 pub fn push_record(
     out: &mut String,
     session: &Session,

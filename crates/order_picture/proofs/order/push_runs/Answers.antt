@@ -1,9 +1,8 @@
-use Rattle.std.proofs.Common.{◌≡◌, ◌≤◌, ◌∙◌, List, ◌++◌, sym, ap, arith, get_or, take}
+use Rattle.std.proofs.Common.{◌≡◌, ◌∙◌, List, ◌++◌, sym, ap, arith, get_or, take}
 use Rattle.std.proofs.lemmas.List.{append_assoc, append-nil}
 use Rattle.migration_types.specs.declared.records.LogName.TheVariants.{Guest}
 use Rattle.migration_types.specs.declared.cert.Run.{Run}
 use Rattle.migration_types.specs.Receipts.{Name}
-use Rattle.audit_model.specs.Names.{log_length}
 use Rattle.audit_model.specs.Mergings.{Cursors, run_names, spelled, moved}
 use Rattle.merge_runs.specs.Taken.{cursors_of}
 use Rattle.merge_runs.proofs.Walking.{cursors_on, nothing_within, own_moved, with_it, within_after}

@@ -1,4 +1,4 @@
-use Rattle.std.proofs.Common.{ℕ, ◌+◌, ◌*◌, ◌≤◌, length, take}
+use Rattle.std.proofs.Common.{◌+◌, ◌*◌, ◌≤◌, length, take}
 use Rattle.order_picture.specs.Subjects.{mark_of}
 use Rattle.order_picture.specs.inner.Built.{IsBuilt}
 use Rattle.order_picture.proofs.rows.take_all.Given as goal

@@ -1,4 +1,4 @@
-use Rattle.std.proofs.Common.{◌∙◌, sym, inl, inr}
+use Rattle.std.proofs.Common.{inl}
 use Rattle.order_picture.proofs.Built.{kept}
 use Rattle.order_picture.proofs.rows.Building.keep_fault.Goals as goal
 

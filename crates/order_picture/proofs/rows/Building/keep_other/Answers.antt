@@ -1,4 +1,4 @@
-use Rattle.std.proofs.Common.{◌∙◌, sym, inl, inr}
+use Rattle.std.proofs.Common.{◌∙◌, sym, inr}
 use Rattle.order_picture.proofs.Built.{kept}
 use Rattle.order_picture.proofs.rows.Building.keep_other.Goals as goal
 
