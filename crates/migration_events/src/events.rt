@@ -1,12 +1,14 @@
 //! The events of a migration.
 
-/// A way over the link.
+/// A way over a link.
 #[derive(Clone, Copy, Debug, PartialEq, Eq)]
 pub enum Direction {
     /// From the source to the target.
     Down,
     /// From the target to the source.
     Up,
+    /// From the source to the target over the lane, a second link, which carries pushed pages alone.
+    Lane,
 }
 
 /// What becomes of the packet at the head of a line.
@@ -39,6 +41,8 @@ pub enum Event {
     LinkTurn { direction: Direction, fate: Fate },
     /// The pager takes what has arrived.
     PagerPop,
+    /// The pager takes what has arrived over the lane.
+    PagerPull,
     /// The pager settles the pages that the guest released at the target before they came, and learns of a miss.
     PagerFault,
     /// The pager offers what it wants to the link.
