@@ -12,7 +12,7 @@ use Rattle.migration_events.specs.Ops.{OpFits, LateOpFits}
 use Rattle.session_log.specs.inner.InitPages.{Rise, rise_of}
 use Rattle.guest_script.specs.declared.vcpus.Vcpu.{Vcpu as Processor}
 use Rattle.guest_script.specs.declared.script_fault.ScriptFault.{ScriptFault}
-use Rattle.guest_script.specs.declared.script_fault.ScriptFault.TheVariants.{Init, Pivots, Window, Down, Up, Vcpus, Vcpu}
+use Rattle.guest_script.specs.declared.script_fault.ScriptFault.TheVariants.{Init, Pivots, Window, Down, Up, Lane, Vcpus, Vcpu}
 use Rattle.guest_script.specs.declared.script_fault.VcpuFault.{VcpuFault}
 use Rattle.guest_script.specs.declared.script_fault.VcpuFault.TheVariants.{ManyBefore, ManyAfter, Before, After}
 use Rattle.guest_script.specs.Scenarios.{Scenario, IsScenario, VcpuFits}
@@ -60,5 +60,6 @@ none_with_fault s Pivots h fits = h.1 (fits.some_pivots, fits.few_pivots)
 none_with_fault s Window h fits = h.1 (fits.some_window, fits.few_window)
 none_with_fault s Down h fits = h.1 fits.few_down
 none_with_fault s Up h fits = h.1 fits.few_up
+none_with_fault s Lane h fits = h.1 fits.lane
 none_with_fault s Vcpus h fits = h.1 (fits.some_vcpus, fits.few_vcpus)
 none_with_fault s (Vcpu n fault) h fits = found_none s.version s.geometry fault (slice_get s.vcpus n) (λ vcpu is. all_get (VcpuFits s.version s.geometry) n s.vcpus vcpu fits.vcpus is) h.1.1

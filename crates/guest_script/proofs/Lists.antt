@@ -1,10 +1,16 @@
--- Lists of which some items came.
+-- Lines, and lists of which some items came.
 use Rattle.std.proofs.Common.{◌≡◌, ℕ, zero, suc, List, [], ◌∷◌, ◌++◌, length, replicate, refl, ap, length-append, arith}
 use Rattle.std.specs.List.{AllByRecursion}
 use Rattle.std.specs.Fmt.{decimal}
 use Rattle.std.proofs.lemmas.List.{append_cancel_left}
 use Rattle.std.proofs.lemmas.Fmt.{decimal_injective}
 use Rattle.std.specs.Prelude.{◌<◌, ◌^◌}
+
+pub cons_parts : (a b : List ℕ) (xs ys : List (List ℕ)) → a ∷ xs ≡ b ∷ ys → (a ≡ b) × (xs ≡ ys)
+cons_parts a b xs ys e = (cc, cc)
+
+pub cons_same : (a b : List ℕ) (xs ys : List (List ℕ)) → a ≡ b → xs ≡ ys → a ∷ xs ≡ b ∷ ys
+cons_same a b xs ys p q = cc
 
 pub keyed_same : (key : List ℕ) (m n : ℕ) → m < 2 ^ 64 → n < 2 ^ 64 → key ++ decimal m ≡ key ++ decimal n → m ≡ n
 keyed_same key m n p q e = decimal_injective m n p q (append_cancel_left key (decimal m) (decimal n) e)

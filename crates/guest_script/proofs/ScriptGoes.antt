@@ -8,6 +8,8 @@ use Rattle.migration_types.specs.declared.pages.InitPage.{InitPage}
 use Rattle.migration_types.specs.declared.version.Version.{Version}
 use Rattle.migration_types.specs.Extents.{Extent, IsExtent}
 use Rattle.migration_types.specs.Pages.{AreInitPages}
+use Rattle.migration_types.specs.Sessions.{HasLane}
+use Rattle.migration_events.specs.declared.events.Fate.{Fate}
 use Rattle.migration_events.specs.declared.ops.Op.{Op}
 use Rattle.migration_events.specs.declared.ops.Op.TheVariants.{Read}
 use Rattle.migration_events.specs.Ops.{OpFits, LateOpFits}
@@ -16,14 +18,14 @@ use Rattle.session_log.specs.inner.InitPages.{next_from, rise_increases}
 use Rattle.session_log.proofs.Goes.{init_filled}
 use Rattle.guest_script.specs.declared.vcpus.Vcpu.{Vcpu}
 use Rattle.guest_script.specs.declared.stages.ScriptStage.{ScriptStage}
-use Rattle.guest_script.specs.declared.stages.ScriptStage.TheVariants.{Header, Pages, Cells, InitCount, Init, Window, Down, Up, Lanes, Count, First, Ops, Done}
-use Rattle.guest_script.specs.Scenarios.{Scenario, VcpuFits, IsScenario}
-use Rattle.guest_script.specs.Scripts.{op_line, vcpus_onto, vcpus_lines, lanes_lines, up_lines, down_lines, window_lines, pivots_lines, init_lines, cells_lines, pages_lines, script_lines, SpellsScript}
-use Rattle.guest_script.specs.inner.ScriptHeld.{Draft, scenario_of, script_held, vcpu_of, ScriptRest, ScriptFits, ScriptLive, FitsPivots, FitsWindow, FitsDown, FitsUp}
+use Rattle.guest_script.specs.declared.stages.ScriptStage.TheVariants.{Header, Pages, Cells, InitCount, Init, Window, Down, Up, Lanes, Lane, Count, First, Ops, Done}
+use Rattle.guest_script.specs.Scenarios.{Scenario, LaneFits, VcpuFits, IsScenario}
+use Rattle.guest_script.specs.Scripts.{lane_key, fates_text, op_line, vcpus_onto, vcpus_lines, lanes_lines, up_lines, down_lines, window_lines, pivots_lines, init_lines, cells_lines, pages_lines, script_lines, SpellsScript}
+use Rattle.guest_script.specs.inner.ScriptHeld.{Draft, scenario_of, script_held, vcpu_of, ScriptRest, ScriptFits, ScriptLive, FitsPivots, FitsLane}
 use Rattle.guest_script.proofs.ByVersion.{lanes_long, lanes_short}
 use Rattle.guest_script.proofs.Exactly.{exact_refuses, exact_begins, exact_whole, exact_left}
 use Rattle.guest_script.proofs.Lists.{all_append, all_replicate}
-use Rattle.guest_script.proofs.ScriptSteps.{few_init}
+use Rattle.guest_script.proofs.ScriptSteps.{few_init, lane_fits, with_lane}
 
 -- ---- a script that the lines so far may become
 
@@ -32,7 +34,7 @@ no_init e = record { each = tt; rising = λ k lt. absurd (omega (arith, lt)) }
 
 first_scenario : (version : Version) (e : Extent) (init : List InitPage) → IsExtent e → AreInitPages e init → (v : Scenario) × IsScenario v × (v.version ≡ version) × (v.geometry ≡ e) × (v.init ≡ init)
 first_scenario version e init h pages = (
-  record { version = version; geometry = e; init = init; pivots = 1; window = 1; down = []; up = []; vcpus = vcpu_of [] [] ∷ [] },
+  record { version = version; geometry = e; init = init; pivots = 1; window = 1; down = []; up = []; lane = None; vcpus = vcpu_of [] [] ∷ [] },
   record {
     geometry = h;
     init = pages;
@@ -42,6 +44,7 @@ first_scenario version e init h pages = (
     few_window = omega arith;
     few_down = omega arith;
     few_up = omega arith;
+    lane = tt;
     some_vcpus = omega arith;
     few_vcpus = omega arith;
     vcpus = (record { few_before = omega arith; few_after = omega arith; before_move = tt; after_move = tt }, tt);
@@ -51,37 +54,23 @@ first_scenario version e init h pages = (
   refl,
 )
 
+abbrev with_vcpus : Draft → List Vcpu → Scenario
+with_vcpus d vcpus = record (scenario_of d) { vcpus = vcpus }
+
 -- any pivots, window and fates, and any virtual processors
-scenario_fits : (d : Draft) (vcpus : List Vcpu) → FitsUp d → 1 ≤ length vcpus → length vcpus ≤ 64 → AllByRecursion (VcpuFits d.version d.geometry) vcpus → IsScenario (record { version = d.version; geometry = d.geometry; init = d.init.items; pivots = d.pivots; window = d.window; down = d.down; up = d.up; vcpus = vcpus })
-scenario_fits d vcpus u some few each =
+scenario_fits : (d : Draft) (vcpus : List Vcpu) → FitsLane d → 1 ≤ length vcpus → length vcpus ≤ 64 → AllByRecursion (VcpuFits d.version d.geometry) vcpus → IsScenario (with_vcpus d vcpus)
+scenario_fits d vcpus f some few each =
+    let u = f.before in
     let w = u.before.before in
     let p = w.before in
-    record { geometry = p.geometry; init = p.init; some_pivots = p.some; few_pivots = p.few; some_window = w.some; few_window = w.few; few_down = u.before.few; few_up = u.few; some_vcpus = some; few_vcpus = few; vcpus = each }
+    record { geometry = p.geometry; init = p.init; some_pivots = p.some; few_pivots = p.few; some_window = w.some; few_window = w.few; few_down = u.before.few; few_up = u.few; lane = f.lane; some_vcpus = some; few_vcpus = few; vcpus = each }
 
--- the fields that did not come yet
-abbrev small_window : Draft → Draft
-small_window d = record d { window = 1; down = []; up = [] }
+-- with fields that did not come yet, and no lane
+abbrev small : ℕ → List Fate → List Fate → Draft → Draft
+small window down up d = record d { window = window; down = down; up = up; lane = None }
 
-abbrev small_down : Draft → Draft
-small_down d = record d { down = []; up = [] }
-
-abbrev small_up : Draft → Draft
-small_up d = record d { up = [] }
-
-one_idle : (version : Version) (e : Extent) → AllByRecursion (VcpuFits version e) (vcpu_of [] [] ∷ [])
-one_idle version e = (record { few_before = omega arith; few_after = omega arith; before_move = tt; after_move = tt }, tt)
-
-fits_small_window : (d : Draft) → FitsPivots d → FitsUp (small_window d)
-fits_small_window d p = record { before = record { before = record { before = record { geometry = p.geometry; init = p.init; some = p.some; few = p.few }; some = omega arith; few = omega arith }; few = omega arith }; few = omega arith }
-
-fits_small_down : (d : Draft) → FitsWindow d → FitsUp (small_down d)
-fits_small_down d w = let p = w.before in record { before = record { before = record { before = record { geometry = p.geometry; init = p.init; some = p.some; few = p.few }; some = w.some; few = w.few }; few = omega arith }; few = omega arith }
-
-fits_small_up : (d : Draft) → FitsDown d → FitsUp (small_up d)
-fits_small_up d f = let w = f.before in let p = w.before in record { before = record { before = record { before = record { geometry = p.geometry; init = p.init; some = p.some; few = p.few }; some = w.some; few = w.few }; few = f.few }; few = omega arith }
-
-abbrev with_vcpus : Draft → List Vcpu → Scenario
-with_vcpus d vcpus = record { version = d.version; geometry = d.geometry; init = d.init.items; pivots = d.pivots; window = d.window; down = d.down; up = d.up; vcpus = vcpus }
+fits_small : (d : Draft) (window : ℕ) (down up : List Fate) → FitsPivots d → 1 ≤ window → window ≤ 65536 → length down ≤ 4096 → length up ≤ 4096 → FitsLane (small window down up d)
+fits_small d window down up p some few few_down few_up = record { before = record { before = record { before = record { before = record { geometry = p.geometry; init = p.init; some = p.some; few = p.few }; some = some; few = few }; few = few_down }; few = few_up }; lane = tt }
 
 -- virtual processors that do nothing
 abbrev idles : ℕ → List Vcpu
@@ -89,6 +78,13 @@ idles n = replicate n (vcpu_of [] [])
 
 idles_fit : (version : Version) (e : Extent) (n : ℕ) → AllByRecursion (VcpuFits version e) (idles n)
 idles_fit version e n = all_replicate (VcpuFits version e) n (vcpu_of [] []) (record { few_before = omega arith; few_after = omega arith; before_move = tt; after_move = tt })
+
+-- with one of these
+abbrev idle : Draft → Scenario
+idle d = with_vcpus d (idles 1)
+
+idle_fits : (d : Draft) → FitsLane d → IsScenario (idle d)
+idle_fits d f = scenario_fits d (idles 1) f (omega arith) (omega arith) (idles_fit d.version d.geometry 1)
 
 rest_of : (stage : ScriptStage) (d : Draft) → ScriptFits stage d → (v : Scenario) × (more : List (List ℕ)) × ScriptRest stage d v more
 rest_of Header d fits = let s = first_scenario d.version (record { pages = 1; cells = 1 }) [] (record { some_pages = omega arith; few_pages = omega arith; some_cells = omega arith; few_cells = omega arith; few_in_all = omega arith }) (no_init _) in (s.0, script_lines s.0, (s.1, refl))
@@ -103,20 +99,35 @@ rest_of Init d fits =
     let more = filled.0 in
     let s = first_scenario d.version d.geometry (d.init.items ++ more) fits.geometry (record { each = filled.2.each; rising = rise_increases 0 filled.1 (d.init.items ++ more) filled.2.rising }) in
     (s.0, map page_line more ++ pivots_lines s.0, record { fits = s.1; version = s.2; geometry = s.3; count = ap (λ (t : List InitPage). length t) s.4 ∙ filled.3; back = more; whole = s.4; lines = refl })
-rest_of Window d fits = (with_vcpus (small_window d) (idles 1), window_lines (with_vcpus (small_window d) (idles 1)), (scenario_fits (small_window d) (vcpu_of [] [] ∷ []) (fits_small_window d fits) (omega arith) (omega arith) (one_idle d.version d.geometry), ((refl, refl, refl), refl), refl))
-rest_of Down d fits = (with_vcpus (small_down d) (idles 1), down_lines (with_vcpus (small_down d) (idles 1)), (scenario_fits (small_down d) (vcpu_of [] [] ∷ []) (fits_small_down d fits) (omega arith) (omega arith) (one_idle d.version d.geometry), (((refl, refl, refl), refl), refl), refl))
-rest_of Up d fits = (with_vcpus (small_up d) (idles 1), up_lines (with_vcpus (small_up d) (idles 1)), (scenario_fits (small_up d) (vcpu_of [] [] ∷ []) (fits_small_up d fits) (omega arith) (omega arith) (one_idle d.version d.geometry), ((((refl, refl, refl), refl), refl), refl), refl))
-rest_of Lanes d fits = (with_vcpus d (idles 1), lanes_lines (with_vcpus d (idles 1)), (scenario_fits d (vcpu_of [] [] ∷ []) fits.0 (omega arith) (omega arith) (one_idle d.version d.geometry), (((((refl, refl, refl), refl), refl), refl), refl), refl))
-rest_of Count d fits = (with_vcpus d (idles 1), vcpus_lines (with_vcpus d (idles 1)), (scenario_fits d (vcpu_of [] [] ∷ []) fits (omega arith) (omega arith) (one_idle d.version d.geometry), (((((refl, refl, refl), refl), refl), refl), refl), refl))
+rest_of Window d fits =
+    let s = small 1 [] [] d in
+    (idle s, window_lines (idle s), (idle_fits s (fits_small d 1 [] [] fits (omega arith) (omega arith) (omega arith) (omega arith)), ((refl, refl, refl), refl), refl))
+rest_of Down d fits =
+    let s = small d.window [] [] d in
+    (idle s, down_lines (idle s), (idle_fits s (fits_small d d.window [] [] fits.before fits.some fits.few (omega arith) (omega arith)), (((refl, refl, refl), refl), refl), refl))
+rest_of Up d fits =
+    let w = fits.before in
+    let s = small d.window d.down [] d in
+    (idle s, up_lines (idle s), (idle_fits s (fits_small d d.window d.down [] w.before w.some w.few fits.few (omega arith)), ((((refl, refl, refl), refl), refl), refl), refl))
+rest_of Lanes d fits =
+    let u = fits.0 in
+    let w = u.before.before in
+    let s = small d.window d.down d.up d in
+    (idle s, lanes_lines (idle s), (idle_fits s (fits_small d d.window d.down d.up w.before w.some w.few u.before.few u.few), (((((refl, refl, refl), refl), refl), refl), refl), refl))
+rest_of Lane d fits =
+    let s = with_lane [] d in
+    let lane : LaneFits d.version (Some []) = (subst HasLane (sym fits.1) tt, omega arith) in
+    (idle s, (lane_key ++ fates_text []) ∷ vcpus_lines (idle s), record { fits = idle_fits s (lane_fits d [] fits.0 lane); agrees = (((((refl, refl, refl), refl), refl), refl), refl); fates = []; lane = refl; lines = refl })
+rest_of Count d fits = (idle d, vcpus_lines (idle d), (idle_fits d fits, ((((((refl, refl, refl), refl), refl), refl), refl), refl), refl))
 rest_of First d fits =
     let f = fits.0 in
     let some = f.some in
     let few = f.few in
     let long = length-replicate d.count (vcpu_of [] []) in
-    (with_vcpus d (idles d.count), vcpus_onto (idles d.count) (closing ∷ []), (scenario_fits d (idles d.count) f.before (omega arith) (omega arith) (idles_fit d.version d.geometry d.count), (((((refl, refl, refl), refl), refl), refl), refl), long, refl))
+    (with_vcpus d (idles d.count), vcpus_onto (idles d.count) (closing ∷ []), (scenario_fits d (idles d.count) f.before (omega arith) (omega arith) (idles_fit d.version d.geometry d.count), ((((((refl, refl, refl), refl), refl), refl), refl), refl), long, refl))
 rest_of Ops d fits =
     let c = fits.before in
-    let h = c.before.before.before.before.geometry in
+    let h = c.before.before.before.before.before.geometry in
     let some_pages = h.some_pages in
     let some_cells = h.some_cells in
     let some = c.some in
@@ -150,7 +161,7 @@ rest_of Ops d fits =
       map op_line befores ++ (map op_line afters ++ vcpus_onto (idles m) (closing ∷ [])),
       record {
         fits = scenario_fits d vcpus c.before (omega arith) (omega arith) each;
-        agrees = (((((refl, refl, refl), refl), refl), refl), refl);
+        agrees = ((((((refl, refl, refl), refl), refl), refl), refl), refl);
         count = count;
         befores = befores;
         afters = afters;
@@ -165,7 +176,7 @@ rest_of Done d fits =
     let f = fits.0 in
     let some = f.some in
     let few = f.few in
-    (with_vcpus d d.vcpus, [], (scenario_fits d d.vcpus f.before (omega (arith, fits.1)) (omega (arith, fits.1)) f.vcpus, (((((refl, refl, refl), refl), refl), refl), refl), refl, refl))
+    (with_vcpus d d.vcpus, [], (scenario_fits d d.vcpus f.before (omega (arith, fits.1)) (omega (arith, fits.1)) f.vcpus, ((((((refl, refl, refl), refl), refl), refl), refl), refl), refl, refl))
 
 pub live_begins : (stage : ScriptStage) (d : Draft) → ScriptLive stage d → Begins SpellsScript (script_held stage d)
 live_begins stage d live = let r = rest_of stage d live.fits in exact_begins SpellsScript (ScriptRest stage d) (script_held stage d) live.exact r.0 r.1 r.2
@@ -186,7 +197,7 @@ script_few v fits =
     let pages = fits.geometry.few_pages in
     let few = fits.few_vcpus in
     let vcpus = vcpus_few v.version v.geometry v.vcpus (closing ∷ []) fits.vcpus in
-    let lanes = lanes_short v.version (vcpus_lines v) in
+    let lanes = lanes_short v.version v.lane (vcpus_lines v) in
     omega (arith, length-append (map page_line v.init) (pivots_lines v), length-map v.init page_line)
 
 pub live_few : (stage : ScriptStage) (d : Draft) → ScriptLive stage d → length (script_held stage d) + 1 < 2 ^ 32
@@ -203,7 +214,7 @@ done_spells d live =
     let f = live.fits.0 in
     let some = f.some in
     let few = f.few in
-    exact_whole SpellsScript (ScriptRest Done d) (script_held Done d) live.exact (scenario_of d) (scenario_fits d d.vcpus f.before (omega (arith, live.fits.1)) (omega (arith, live.fits.1)) f.vcpus, (((((refl, refl, refl), refl), refl), refl), refl), refl, refl)
+    exact_whole SpellsScript (ScriptRest Done d) (script_held Done d) live.exact (scenario_of d) (scenario_fits d d.vcpus f.before (omega (arith, live.fits.1)) (omega (arith, live.fits.1)) f.vcpus, ((((((refl, refl, refl), refl), refl), refl), refl), refl), refl, refl)
 
 live_at : (stage at : ScriptStage) (d : Draft) → stage ≡ at → ScriptLive stage d → ScriptLive at d
 live_at stage at d is live = subst (λ (s : ScriptStage). ScriptLive s d) is live
@@ -228,7 +239,8 @@ rest_not_none Init d other v r = let n = ap (λ (t : List (List ℕ)). length t)
 rest_not_none Window d other v r = let e = r.2 in absurd cc
 rest_not_none Down d other v r = let e = r.2 in absurd cc
 rest_not_none Up d other v r = let e = r.2 in absurd cc
-rest_not_none Lanes d other v r = let n = ap (λ (t : List (List ℕ)). length t) r.2 in absurd (omega (arith, n, lanes_long v.version (vcpus_lines v)))
+rest_not_none Lanes d other v r = let n = ap (λ (t : List (List ℕ)). length t) r.2 in absurd (omega (arith, n, lanes_long v.version v.lane (vcpus_lines v)))
+rest_not_none Lane d other v r = let e = r.lines in absurd cc
 rest_not_none Count d other v r = let e = r.2 in absurd cc
 rest_not_none First d other v r = let n = ap (λ (t : List (List ℕ)). length t) r.3 in absurd (omega (arith, n, some_lines v.vcpus))
 rest_not_none Ops d other v r = let n = ap (λ (t : List (List ℕ)). length t) r.lines in absurd (omega (arith, n, length-append (map op_line r.befores) (map op_line r.afters ++ vcpus_onto r.back (closing ∷ [])), length-append (map op_line r.afters) (vcpus_onto r.back (closing ∷ [])), some_lines r.back))

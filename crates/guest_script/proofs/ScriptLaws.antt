@@ -1,7 +1,7 @@
 -- A script's lines tell the script, and what is written is its text.
 use Rattle.std.proofs.Common.{◌≡◌, ℕ, ◌+◌, ◌<◌, List, [], ◌∷◌, ◌++◌, length, map, take, get_or, refl, sym, ap, subst, ◌∙◌, append_assoc, arith}
 use Rattle.std.specs.List.{AllByRecursion}
-use Rattle.std.specs.Prelude.{Result, Ok, Err, OnOk}
+use Rattle.std.specs.Prelude.{Option, Result, Ok, Err, OnOk}
 use Rattle.std.specs.Fmt.{decimal}
 use Rattle.std.proofs.lemmas.List.{append-nil, append_cancel_left, map-append, take_more}
 use Rattle.text_lines.specs.Text.{ended, IsUnambiguous}
@@ -25,11 +25,11 @@ use Rattle.guest_script.specs.Scenarios.{Scenario, VcpuFits, IsScenario}
 use Rattle.guest_script.specs.Scripts.{script_header, pivots_key, window_key, down_key, up_key, vcpus_key, fates_text, op_line, counts_line, vcpu_onto, vcpus_onto, vcpus_lines, with_lanes, lanes_lines, up_lines, down_lines, window_lines, pivots_lines, cells_lines, pages_lines, script_lines, SpellsScript}
 use Rattle.guest_script.specs.inner.ScriptHeld.{vcpu_of}
 use Rattle.guest_script.specs.inner.ScriptPlain.{plain_script}
-use Rattle.guest_script.proofs.ByVersion.{behind_lanes_same, header_tells, lanes_append}
-use Rattle.guest_script.proofs.Lists.{keyed_same}
+use Rattle.guest_script.proofs.ByVersion.{header_tells, lanes_append, lanes_tell}
+use Rattle.guest_script.proofs.Lists.{cons_parts, keyed_same}
 use Rattle.guest_script.proofs.LateOps.{late_op}
 use Rattle.guest_script.proofs.ScriptTells.{counts_tell, fates_tell, op_tells}
-use Rattle.guest_script.proofs.ScriptSteps.{cons_parts, few_init}
+use Rattle.guest_script.proofs.ScriptSteps.{few_init}
 use Rattle.guest_script.proofs.ScriptVcpus.{vcpus_append, vcpus_push}
 
 -- ---- no script's lines begin another's
@@ -52,10 +52,10 @@ vcpus_tell version e h (x ∷ xs) (y ∷ ys) a b p q l same =
     let rest = vcpus_tell version e h xs ys a b p.1 q.1 (omega arith) late.1 in
     (ap (λ (t : Vcpu). t ∷ xs) one ∙ ap (λ (t : List Vcpu). y ∷ t) rest.0, rest.1)
 
-scenario_same : (v w : Scenario) → v.version ≡ w.version → v.geometry ≡ w.geometry → v.init ≡ w.init → v.pivots ≡ w.pivots → v.window ≡ w.window → v.down ≡ w.down → v.up ≡ w.up → v.vcpus ≡ w.vcpus → v ≡ w
-scenario_same v w k g i p n d u c =
-    let made : Version → Extent → List InitPage → ℕ → ℕ → List Fate → List Fate → List Vcpu → Scenario = λ o a b x y z t s. record { version = o; geometry = a; init = b; pivots = x; window = y; down = z; up = t; vcpus = s } in
-    let same : made v.version v.geometry v.init v.pivots v.window v.down v.up v.vcpus ≡ made w.version w.geometry w.init w.pivots w.window w.down w.up w.vcpus = rw (k, g, i, p, n, d, u, c) refl in
+scenario_same : (v w : Scenario) → v.version ≡ w.version → v.geometry ≡ w.geometry → v.init ≡ w.init → v.pivots ≡ w.pivots → v.window ≡ w.window → v.down ≡ w.down → v.up ≡ w.up → v.lane ≡ w.lane → v.vcpus ≡ w.vcpus → v ≡ w
+scenario_same v w k g i p n d u l c =
+    let made : Version → Extent → List InitPage → ℕ → ℕ → List Fate → List Fate → Option (List Fate) → List Vcpu → Scenario = λ o a b x y z t l s. record { version = o; geometry = a; init = b; pivots = x; window = y; down = z; up = t; lane = l; vcpus = s } in
+    let same : made v.version v.geometry v.init v.pivots v.window v.down v.up v.lane v.vcpus ≡ made w.version w.geometry w.init w.pivots w.window w.down w.up w.lane w.vcpus = rw (k, g, i, p, n, d, u, l, c) refl in
     same
 
 lines_tell : (v w : Scenario) (more : List (List ℕ)) → IsScenario v → IsScenario w → script_lines v ++ more ≡ script_lines w → (v ≡ w) × (more ≡ [])
@@ -85,8 +85,8 @@ lines_tell v w more p q e =
     let from_window = cons_parts (window_key ++ decimal v.window) (window_key ++ decimal w.window) (down_lines v ++ more) (down_lines w) from_pivots.1 in
     let from_down = cons_parts (down_key ++ fates_text v.down) (down_key ++ fates_text w.down) (up_lines v ++ more) (up_lines w) from_window.1 in
     let from_up = cons_parts (up_key ++ fates_text v.up) (up_key ++ fates_text w.up) (lanes_lines v ++ more) (lanes_lines w) from_down.1 in
-    let from_lanes : vcpus_lines v ++ more ≡ vcpus_lines w = behind_lanes_same v.version w.version (vcpus_lines v ++ more) (vcpus_lines w) version (sym (lanes_append v.version (vcpus_lines v) more) ∙ from_up.1) in
-    let from_vcpus = cons_parts (vcpus_key ++ decimal (length v.vcpus)) (vcpus_key ++ decimal (length w.vcpus)) (vcpus_onto v.vcpus (closing ∷ []) ++ more) (vcpus_onto w.vcpus (closing ∷ [])) from_lanes in
+    let from_lanes = lanes_tell v.version w.version v.lane w.lane (vcpus_lines v ++ more) (vcpus_lines w) version p.lane q.lane (sym (lanes_append v.version v.lane (vcpus_lines v) more) ∙ from_up.1) in
+    let from_vcpus = cons_parts (vcpus_key ++ decimal (length v.vcpus)) (vcpus_key ++ decimal (length w.vcpus)) (vcpus_onto v.vcpus (closing ∷ []) ++ more) (vcpus_onto w.vcpus (closing ∷ [])) from_lanes.1 in
     let pivots = keyed_same pivots_key v.pivots w.pivots (omega arith) (omega arith) from_pivots.0 in
     let window = keyed_same window_key v.window w.window (omega arith) (omega arith) from_window.0 in
     let down = fates_tell v.down w.down (append_cancel_left down_key (fates_text v.down) (fates_text w.down) from_down.0) in
@@ -95,7 +95,7 @@ lines_tell v w more p q e =
     let own = subst (λ (x : Version). AllByRecursion (VcpuFits x w.geometry) v.vcpus) version (subst (λ (x : Extent). AllByRecursion (VcpuFits v.version x) v.vcpus) geometry p.vcpus) in
     let vcpus = vcpus_tell w.version w.geometry q.geometry v.vcpus w.vcpus (closing ∷ more) (closing ∷ []) own q.vcpus many (sym (vcpus_append v.vcpus (closing ∷ []) more) ∙ from_vcpus.1) in
     let end = cons_parts closing closing more [] vcpus.1 in
-    (scenario_same v w version geometry init pivots window down up vcpus.0, end.1)
+    (scenario_same v w version geometry init pivots window down up from_lanes.0 vcpus.0, end.1)
 
 pub scripts_unambiguous : IsUnambiguous SpellsScript
 scripts_unambiguous = unambiguous SpellsScript plain_script
@@ -128,7 +128,7 @@ pub own_if : {E : Type 0} (old a b c : List ℕ) (vcpu : Vcpu) (result : Result 
 own_if old a b c vcpu (Ok done) pa pb pc = own_written old a b c vcpu pa pb pc
 own_if old a b c vcpu (Err fault) pa pb pc = tt
 
-pub script_written : (s : Scenario) (a b c d e f g h l i j k : List ℕ) → a ≡ script_header s.version ++ 10 ∷ [] → b ≡ a ++ (pages_key ++ decimal s.geometry.pages ++ 10 ∷ []) → c ≡ b ++ (cells_key ++ decimal s.geometry.cells ++ 10 ∷ []) → d ≡ c ++ ended (counted init_key page_line s.init []) → e ≡ d ++ (pivots_key ++ decimal s.pivots ++ 10 ∷ []) → f ≡ e ++ (window_key ++ decimal s.window ++ 10 ∷ []) → g ≡ f ++ (down_key ++ fates_text s.down ++ 10 ∷ []) → h ≡ g ++ (up_key ++ fates_text s.up ++ 10 ∷ []) → l ≡ h ++ ended (with_lanes s.version []) → i ≡ l ++ (vcpus_key ++ decimal (length s.vcpus) ++ 10 ∷ []) → j ≡ i ++ ended (vcpus_onto s.vcpus []) → k ≡ j ++ (closing ++ 10 ∷ []) → k ≡ ended (script_lines s)
+pub script_written : (s : Scenario) (a b c d e f g h l i j k : List ℕ) → a ≡ script_header s.version ++ 10 ∷ [] → b ≡ a ++ (pages_key ++ decimal s.geometry.pages ++ 10 ∷ []) → c ≡ b ++ (cells_key ++ decimal s.geometry.cells ++ 10 ∷ []) → d ≡ c ++ ended (counted init_key page_line s.init []) → e ≡ d ++ (pivots_key ++ decimal s.pivots ++ 10 ∷ []) → f ≡ e ++ (window_key ++ decimal s.window ++ 10 ∷ []) → g ≡ f ++ (down_key ++ fates_text s.down ++ 10 ∷ []) → h ≡ g ++ (up_key ++ fates_text s.up ++ 10 ∷ []) → l ≡ h ++ ended (with_lanes s.version s.lane []) → i ≡ l ++ (vcpus_key ++ decimal (length s.vcpus) ++ 10 ∷ []) → j ≡ i ++ ended (vcpus_onto s.vcpus []) → k ≡ j ++ (closing ++ 10 ∷ []) → k ≡ ended (script_lines s)
 script_written s a b c d e f g h l i j k pa pb pc pd pe pf pg ph pl pi pj pk =
     let p = pages_key ++ decimal s.geometry.pages in
     let q = cells_key ++ decimal s.geometry.cells in
@@ -146,7 +146,7 @@ script_written s a b c d e f g h l i j k pa pb pc pd pe pf pg ph pl pi pj pk =
     let wf = ended_then d e f (pivots ∷ []) (window ∷ []) pe pf in
     let wg = ended_then d f g (pivots ∷ window ∷ []) (down ∷ []) wf pg in
     let wh = ended_then d g h (pivots ∷ window ∷ down ∷ []) (up ∷ []) wg ph in
-    let lanes = with_lanes s.version [] in
+    let lanes = with_lanes s.version s.lane [] in
     let wl = ended_then d h l (pivots ∷ window ∷ down ∷ up ∷ []) lanes wh pl in
     let wj = ended_then l i j (many ∷ []) (vcpus_onto s.vcpus []) pi pj in
     let rest = many ∷ (vcpus_onto s.vcpus [] ++ closing ∷ []) in
@@ -155,5 +155,5 @@ script_written s a b c d e f g h l i j k pa pb pc pd pe pf pg ph pl pi pj pk =
     let tail = pivots ∷ window ∷ down ∷ up ∷ (lanes ++ rest) in
     let whole = ended_then [] d k (three ++ counted init_key page_line s.init []) tail wd wk in
     let front = script_header s.version ∷ p ∷ q ∷ (init_key ++ decimal (length s.init)) ∷ [] in
-    let behind : lanes ++ rest ≡ lanes_lines s = lanes_append s.version [] rest ∙ ap (λ (t : List (List ℕ)). with_lanes s.version (many ∷ t)) (vcpus_append s.vcpus [] (closing ∷ [])) in
+    let behind : lanes ++ rest ≡ lanes_lines s = lanes_append s.version s.lane [] rest ∙ ap (λ (t : List (List ℕ)). with_lanes s.version s.lane (many ∷ t)) (vcpus_append s.vcpus [] (closing ∷ [])) in
     whole ∙ ap (λ (t : List (List ℕ)). ended (front ++ t)) (append_assoc (map page_line s.init) [] tail ∙ ap (λ (t : List (List ℕ)). map page_line s.init ++ (pivots ∷ window ∷ down ∷ up ∷ t)) behind)

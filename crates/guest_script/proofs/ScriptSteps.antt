@@ -1,7 +1,7 @@
 -- A reader of scripts takes the lines that may come before the virtual processors, and no others.
 use Rattle.std.proofs.Common.{◌≡◌, ◌≢◌, ℕ, ◌-◌, ◌<◌, ◌≤◌, ◌^◌, List, [], ◌∷◌, ◌++◌, length, map, refl, sym, ap, subst, ◌∙◌, append_assoc, length-append, arith}
 use Rattle.std.specs.List.{AllByRecursion}
-use Rattle.std.specs.Prelude.{codes}
+use Rattle.std.specs.Prelude.{codes, Some, None}
 use Rattle.std.specs.Fmt.{decimal}
 use Rattle.std.proofs.lemmas.List.{append-nil, append_cancel_left}
 use Rattle.text_lines.specs.Counted.{Part, IsWhole}
@@ -11,28 +11,23 @@ use Rattle.migration_types.specs.declared.version.Version.{Version}
 use Rattle.migration_types.specs.declared.version.Version.TheVariants.{One, Two}
 use Rattle.migration_types.specs.Extents.{Extent, IsExtent}
 use Rattle.migration_types.specs.Pages.{InitPageFits}
+use Rattle.migration_types.specs.Sessions.{HasLane}
 use Rattle.migration_events.specs.declared.events.Fate.{Fate}
 use Rattle.session_log.specs.Grammar.{pages_key, cells_key, init_key, page_line}
 use Rattle.session_log.specs.inner.InitPages.{IsInitContent, Rise, next_from, next_push, rise_of, rise_long, rise_increases}
 use Rattle.session_log.proofs.Laws.{extent_same, page_push, rise_at}
 use Rattle.session_log.proofs.Values.{init_page_tells}
 use Rattle.guest_script.specs.declared.stages.ScriptStage.{ScriptStage}
-use Rattle.guest_script.specs.declared.stages.ScriptStage.TheVariants.{Header, Pages, Cells, InitCount, Init, Window, Down, Up, Lanes, Count}
-use Rattle.guest_script.specs.Scenarios.{Scenario, IsScenario}
-use Rattle.guest_script.specs.Scripts.{script_header, pivots_key, window_key, down_key, up_key, fates_text, vcpus_lines, with_lanes, lanes_lines, up_lines, down_lines, window_lines, pivots_lines, init_lines, cells_lines, pages_lines, SpellsScript}
-use Rattle.guest_script.specs.inner.ScriptHeld.{Draft, held_down, held_up, script_held, InitLeft, ScriptRest, InitPart, FitsDown, FitsUp, ScriptFits, ScriptLive}
-use Rattle.guest_script.proofs.ByVersion.{header_tells, no_header}
+use Rattle.guest_script.specs.declared.stages.ScriptStage.TheVariants.{Header, Pages, Cells, InitCount, Init, Window, Down, Up, Lanes, Lane, Count}
+use Rattle.guest_script.specs.Scenarios.{Scenario, LaneFits, IsScenario}
+use Rattle.guest_script.specs.Scripts.{script_header, pivots_key, window_key, down_key, up_key, lane_key, fates_text, vcpus_lines, with_lanes, lanes_lines, up_lines, down_lines, window_lines, pivots_lines, init_lines, cells_lines, pages_lines, SpellsScript}
+use Rattle.guest_script.specs.inner.ScriptHeld.{Draft, held_down, held_up, script_held, InitLeft, ScriptRest, InitPart, FitsDown, FitsUp, FitsLane, ScriptFits, ScriptLive}
+use Rattle.guest_script.proofs.ByVersion.{header_tells, no_header, no_lane, no_lanes, one_lane, two_lanes, with_lanes_same}
 use Rattle.guest_script.proofs.Exactly.{exact_step}
-use Rattle.guest_script.proofs.Lists.{keyed_same, all_at, none_left}
+use Rattle.guest_script.proofs.Lists.{cons_parts, cons_same, keyed_same, all_at, none_left}
 use Rattle.guest_script.proofs.ScriptTells.{fates_tell}
 
 -- ---- lines
-
-pub cons_parts : (a b : List ℕ) (xs ys : List (List ℕ)) → a ∷ xs ≡ b ∷ ys → (a ≡ b) × (xs ≡ ys)
-cons_parts a b xs ys e = (cc, cc)
-
-pub cons_same : (a b : List ℕ) (xs ys : List (List ℕ)) → a ≡ b → xs ≡ ys → a ∷ xs ≡ b ∷ ys
-cons_same a b xs ys p q = cc
 
 -- a key with its number
 keyed_on : (key : List ℕ) (n m : ℕ) (line : List ℕ) (more tail : List (List ℕ)) → n < 2 ^ 64 → m < 2 ^ 64 → line ≡ key ++ decimal n → line ∷ more ≡ (key ++ decimal m) ∷ tail → (m ≡ n) × (more ≡ tail)
@@ -219,24 +214,28 @@ down_taken d fates line live few is =
 pub down_refused : (d : Draft) (line : List ℕ) → ((fates : List Fate) → length fates ≤ 4096 → line ≢ down_key ++ fates_text fates) → RefusesAt Down d line
 down_refused d line none v more r = none v.down r.0.few_down (cons_parts line (down_key ++ fates_text v.down) more (up_lines v) r.2).0
 
+-- there is no lane until its line comes
 abbrev pub with_up : List Fate → Draft → Draft
-with_up fates d = record d { up = fates }
+with_up fates d = record d { up = fates; lane = None }
 
 up_fits : (d : Draft) (fates : List Fate) → FitsDown d → length fates ≤ 4096 → FitsUp (with_up fates d)
 up_fits d fates f few = let p = f.before.before in record { before = record { before = record { before = record { geometry = p.geometry; init = p.init; some = p.some; few = p.few }; some = f.before.some; few = f.before.few }; few = f.few }; few = few }
 
 -- a scenario of this version has these lines from here on
-lanes_at : (version : Version) (v : Scenario) → v.version ≡ version → lanes_lines v ≡ with_lanes version (vcpus_lines v)
-lanes_at version v is = ap (λ (x : Version). with_lanes x (vcpus_lines v)) is
+lanes_at : (version : Version) (v : Scenario) → v.version ≡ version → lanes_lines v ≡ with_lanes version v.lane (vcpus_lines v)
+lanes_at version v is = with_lanes_same v.version version v.lane v.lane (vcpus_lines v) is refl
 
 pub first_up_taken : (d : Draft) (fates : List Fate) (line : List ℕ) → ScriptLive Up d → d.version ≡ One → length fates ≤ 4096 → line ≡ up_key ++ fates_text fates → Taken Up Count d (with_up fates d) line
-first_up_taken d fates line live one few is = step Up Count d (with_up fates d) line live (up_fits d fates live.fits few)
-    (ap (λ (x : Version). held_up (with_up fates d) ++ with_lanes x []) one ∙ append-nil (held_up (with_up fates d)) ∙ ap (λ (l : List ℕ). held_down d ++ l ∷ []) (sym is))
-    (λ v more r. let k = fates_on up_key fates v.up line more (lanes_lines v) is r.2 in (r.0, (r.1, k.0), k.1 ∙ lanes_at One v (r.1.0.0.0.0 ∙ one)))
-    (λ v more r. (r.0, r.1.0, fates_back up_key fates v.up line more (lanes_lines v) is r.1.1 (r.2 ∙ sym (lanes_at One v (r.1.0.0.0.0.0 ∙ one)))))
+first_up_taken d fates line live one few is = step Up Count d (with_up fates d) line live (record { before = up_fits d fates live.fits few; lane = tt })
+    (ap (λ (x : Version). held_up (with_up fates d) ++ with_lanes x None []) one ∙ append-nil (held_up (with_up fates d)) ∙ ap (λ (l : List ℕ). held_down d ++ l ∷ []) (sym is))
+    (λ v more r.
+    let k = fates_on up_key fates v.up line more (lanes_lines v) is r.2 in
+    let is_one = r.1.0.0.0.0 ∙ one in
+    (r.0, ((r.1, k.0), no_lane v.lane (subst (λ (x : Version). LaneFits x v.lane) is_one r.0.lane)), k.1 ∙ lanes_at One v is_one))
+    (λ v more r. (r.0, r.1.0.0, fates_back up_key fates v.up line more (lanes_lines v) is r.1.0.1 (r.2 ∙ sym (lanes_at One v (r.1.0.0.0.0.0.0 ∙ one)))))
 
 pub second_up_taken : (d : Draft) (fates : List Fate) (line : List ℕ) → ScriptLive Up d → d.version ≡ Two → length fates ≤ 4096 → line ≡ up_key ++ fates_text fates → Taken Up Lanes d (with_up fates d) line
-second_up_taken d fates line live two few is = step Up Lanes d (with_up fates d) line live (up_fits d fates live.fits few, two)
+second_up_taken d fates line live two few is = step Up Lanes d (with_up fates d) line live (up_fits d fates live.fits few, two, refl)
     (rw is refl)
     (λ v more r. let k = fates_on up_key fates v.up line more (lanes_lines v) is r.2 in (r.0, (r.1, k.0), k.1))
     (λ v more r. (r.0, r.1.0, fates_back up_key fates v.up line more (lanes_lines v) is r.1.1 r.2))
@@ -244,16 +243,48 @@ second_up_taken d fates line live two few is = step Up Lanes d (with_up fates d)
 pub up_refused : (d : Draft) (line : List ℕ) → ((fates : List Fate) → length fates ≤ 4096 → line ≢ up_key ++ fates_text fates) → RefusesAt Up d line
 up_refused d line none v more r = none v.up r.0.few_up (cons_parts line (up_key ++ fates_text v.up) more (lanes_lines v) r.2).0
 
--- ---- the number of links that carry packets down
+-- ---- the number of links that carry packets down, and the lane
 
-lanes_come : (d : Draft) (line : List ℕ) → ScriptLive Lanes d → (v : Scenario) (more : List (List ℕ)) → ScriptRest Lanes d v (line ∷ more) → line ∷ more ≡ codes "lanes 1" ∷ vcpus_lines v
+lanes_come : (d : Draft) (line : List ℕ) → ScriptLive Lanes d → (v : Scenario) (more : List (List ℕ)) → ScriptRest Lanes d v (line ∷ more) → line ∷ more ≡ with_lanes Two v.lane (vcpus_lines v)
 lanes_come d line live v more r = r.2 ∙ lanes_at Two v (r.1.0.0.0.0.0 ∙ live.fits.1)
 
-pub lanes_taken : (d : Draft) (line : List ℕ) → ScriptLive Lanes d → line ≡ codes "lanes 1" → Taken Lanes Count d d line
-lanes_taken d line live is = step Lanes Count d d line live live.fits.0
-    (ap (λ (x : Version). held_up d ++ with_lanes x []) live.fits.1 ∙ ap (λ (l : List ℕ). held_up d ++ l ∷ []) (sym is))
-    (λ v more r. (r.0, r.1, (cons_parts line (codes "lanes 1") more (vcpus_lines v) (lanes_come d line live v more r)).1))
-    (λ v more r. (r.0, r.1, cons_same line (codes "lanes 1") more (vcpus_lines v) is r.2 ∙ sym (lanes_at Two v (r.1.0.0.0.0.0 ∙ live.fits.1))))
+pub one_lane_taken : (d : Draft) (line : List ℕ) → ScriptLive Lanes d → line ≡ codes "lanes 1" → Taken Lanes Count d d line
+one_lane_taken d line live is =
+    let two = live.fits.1 in
+    let none = live.fits.2 in
+    step Lanes Count d d line live
+    (record { before = live.fits.0; lane = subst (LaneFits d.version) (sym none) tt })
+    (ap (λ (t : List (List ℕ)). held_up d ++ t) (with_lanes_same d.version Two d.lane None [] two none) ∙ ap (λ (l : List ℕ). held_up d ++ l ∷ []) (sym is))
+    (λ v more r. let come = one_lane v.lane line more (vcpus_lines v) is (lanes_come d line live v more r) in (r.0, (r.1, come.0 ∙ sym none), come.1))
+    (λ v more r. (r.0, r.1.0, cons_same line (codes "lanes 1") more (vcpus_lines v) is r.2 ∙ sym (with_lanes_same v.version Two v.lane None (vcpus_lines v) (r.1.0.0.0.0.0.0 ∙ two) (r.1.1 ∙ none))))
 
-pub lanes_refused : (d : Draft) (line : List ℕ) → ScriptLive Lanes d → line ≢ codes "lanes 1" → RefusesAt Lanes d line
-lanes_refused d line live other v more r = other (cons_parts line (codes "lanes 1") more (vcpus_lines v) (lanes_come d line live v more r)).0
+pub two_lanes_taken : (d : Draft) (line : List ℕ) → ScriptLive Lanes d → line ≡ codes "lanes 2" → Taken Lanes Lane d d line
+two_lanes_taken d line live is =
+    let two = live.fits.1 in
+    step Lanes Lane d d line live (live.fits.0, two)
+    (ap (λ (l : List ℕ). held_up d ++ l ∷ []) (sym is))
+    (λ v more r. let come = two_lanes v.lane line more (vcpus_lines v) is (lanes_come d line live v more r) in record { fits = r.0; agrees = r.1; fates = come.0; lane = come.1; lines = come.2 })
+    (λ v more r. (r.fits, r.agrees, cons_same line (codes "lanes 2") more ((lane_key ++ fates_text r.fates) ∷ vcpus_lines v) is r.lines ∙ sym (with_lanes_same v.version Two v.lane (Some r.fates) (vcpus_lines v) (r.agrees.0.0.0.0.0 ∙ two) r.lane)))
+
+pub lanes_refused : (d : Draft) (line : List ℕ) → ScriptLive Lanes d → line ≢ codes "lanes 1" → line ≢ codes "lanes 2" → RefusesAt Lanes d line
+lanes_refused d line live one two v more r = no_lanes v.lane line more (vcpus_lines v) one two (lanes_come d line live v more r)
+
+abbrev pub with_lane : List Fate → Draft → Draft
+with_lane fates d = record d { lane = Some fates }
+
+pub lane_fits : (d : Draft) (fates : List Fate) → FitsUp d → LaneFits d.version (Some fates) → FitsLane (with_lane fates d)
+lane_fits d fates u fits =
+    let w = u.before.before in
+    let p = w.before in
+    record { before = record { before = record { before = record { before = record { geometry = p.geometry; init = p.init; some = p.some; few = p.few }; some = w.some; few = w.few }; few = u.before.few }; few = u.few }; lane = fits }
+
+pub lane_taken : (d : Draft) (fates : List Fate) (line : List ℕ) → ScriptLive Lane d → length fates ≤ 4096 → line ≡ lane_key ++ fates_text fates → Taken Lane Count d (with_lane fates d) line
+lane_taken d fates line live few is =
+    let two = live.fits.1 in
+    step Lane Count d (with_lane fates d) line live (lane_fits d fates live.fits.0 (subst HasLane (sym two) tt, few))
+    (ap (λ (x : Version). held_up d ++ with_lanes x (Some fates) []) two ∙ ap (λ (l : List ℕ). held_up d ++ codes "lanes 2" ∷ l ∷ []) (sym is) ∙ sym (append_assoc (held_up d) (codes "lanes 2" ∷ []) (line ∷ [])))
+    (λ v more r. let k = fates_on lane_key fates r.fates line more (vcpus_lines v) is r.lines in (r.fits, (r.agrees, r.lane ∙ ap Some k.0), k.1))
+    (λ v more r. record { fits = r.0; agrees = r.1.0; fates = fates; lane = r.1.1; lines = fates_back lane_key fates fates line more (vcpus_lines v) is refl r.2 })
+
+pub lane_refused : (d : Draft) (line : List ℕ) → ((fates : List Fate) → length fates ≤ 4096 → line ≢ lane_key ++ fates_text fates) → RefusesAt Lane d line
+lane_refused d line none v more r = none r.fates (subst (LaneFits v.version) r.lane r.fits.lane).1 (cons_parts line (lane_key ++ fates_text r.fates) more (vcpus_lines v) r.lines).0

@@ -3,9 +3,10 @@ use Rattle.std.proofs.Common.{◌≡◌, ◌≢◌, ℕ, ◌+◌, ◌<◌, ◌�
 use Rattle.std.specs.List.{AllByRecursion}
 use Rattle.std.specs.Fmt.{decimal}
 use Rattle.std.proofs.lemmas.List.{append-nil}
+use Rattle.text_lines.specs.Counted.{Part}
 use Rattle.text_lines.proofs.Sections.{section_push}
 use Rattle.migration_types.specs.declared.version.Version.{Version}
-use Rattle.migration_types.specs.Extents.{Extent}
+use Rattle.migration_types.specs.Extents.{Extent, IsExtent}
 use Rattle.migration_events.specs.declared.ops.Op.{Op}
 use Rattle.migration_events.specs.Ops.{OpFits, LateOpFits}
 use Rattle.session_log.specs.Grammar.{closing}
@@ -13,12 +14,12 @@ use Rattle.guest_script.specs.declared.vcpus.Vcpu.{Vcpu}
 use Rattle.guest_script.specs.declared.stages.ScriptStage.TheVariants.{Count, First, Ops, Done}
 use Rattle.guest_script.specs.Scenarios.{Scenario, VcpuFits, IsScenario}
 use Rattle.guest_script.specs.Scripts.{vcpus_key, op_line, counts_line, vcpu_onto, vcpus_onto}
-use Rattle.guest_script.specs.inner.ScriptHeld.{Draft, held_lanes, held_vcpus, held_ops, vcpu_of, AgreesUp, OpsLeft, FitsCount, FitsOps, ScriptLive}
+use Rattle.guest_script.specs.inner.ScriptHeld.{Draft, held_lanes, held_vcpus, held_ops, vcpu_of, AgreesLane, OpsLeft, FitsLane, FitsCount, FitsOps, ScriptLive}
 use Rattle.guest_script.specs.inner.ScriptDraft.{HasAllOps, begun, ended}
-use Rattle.guest_script.proofs.Lists.{keyed_same, all_at, all_append, none_left}
+use Rattle.guest_script.proofs.Lists.{cons_parts, cons_same, keyed_same, all_at, all_append, none_left}
 use Rattle.guest_script.proofs.LateOps.{late_op}
 use Rattle.guest_script.proofs.ScriptTells.{counts_tell, op_tells}
-use Rattle.guest_script.proofs.ScriptSteps.{cons_parts, cons_same, Taken, RefusesAt, step}
+use Rattle.guest_script.proofs.ScriptSteps.{Taken, RefusesAt, step}
 
 -- ---- lines of virtual processors
 
@@ -53,18 +54,22 @@ all_behind : {X : Type 0} (P : X → Type 0) (front back : List X) → AllByRecu
 all_behind P [] back h = h
 all_behind P (x ∷ front) back h = all_behind P front back h.1
 
+-- what came before the virtual processors, whatever came of these
+front_fits : (d : Draft) (count : ℕ) (vcpus : List Vcpu) (before after : Part Op) → FitsLane d → FitsLane (record d { count = count; vcpus = vcpus; before = before; after = after })
+front_fits d count vcpus before after f =
+    let u = f.before in
+    let w = u.before.before in
+    let p = w.before in
+    record { before = record { before = record { before = record { before = record { geometry = p.geometry; init = p.init; some = p.some; few = p.few }; some = w.some; few = w.few }; few = u.before.few }; few = u.few }; lane = f.lane }
+
 -- ---- the number of virtual processors
 
 abbrev pub with_count : ℕ → Draft → Draft
 with_count n d = record d { count = n; vcpus = [] }
 
 pub count_taken : (d : Draft) (n : ℕ) (line : List ℕ) → ScriptLive Count d → 1 ≤ n → n ≤ 64 → line ≡ vcpus_key ++ decimal n → Taken Count First d (with_count n d) line
-count_taken d n line live some few is =
-    let f = live.fits in
-    let w = f.before.before in
-    let p = w.before in
-    step Count First d (with_count n d) line live
-    (record { before = record { before = record { before = record { before = record { geometry = p.geometry; init = p.init; some = p.some; few = p.few }; some = w.some; few = w.few }; few = f.before.few }; few = f.few }; some = some; few = few; vcpus = tt }, refl)
+count_taken d n line live some few is = step Count First d (with_count n d) line live
+    (record { before = front_fits d n [] d.before d.after live.fits; some = some; few = few; vcpus = tt }, refl)
     (append-nil (held_lanes d ++ (vcpus_key ++ decimal n) ∷ []) ∙ ap (λ (l : List ℕ). held_lanes d ++ l ∷ []) (sym is))
     (λ v more r.
     let top = r.0.few_vcpus in
@@ -75,21 +80,17 @@ count_taken d n line live some few is =
 -- ---- the first virtual processor
 
 begun_fits : (d : Draft) (b a : ℕ) → FitsCount d → length d.vcpus < d.count → b ≤ 65536 → a ≤ 65536 → FitsOps (begun b a d)
-begun_fits d b a f room few_before few_after =
-    let u = f.before in
-    let w = u.before.before in
-    let p = w.before in
-    record {
-      before = record { before = record { before = record { before = record { before = record { geometry = p.geometry; init = p.init; some = p.some; few = p.few }; some = w.some; few = w.few }; few = u.before.few }; few = u.few }; some = f.some; few = f.few; vcpus = f.vcpus };
-      room = room;
-      few_before = few_before;
-      few_after = few_after;
-      within_before = omega arith;
-      within_after = omega arith;
-      before_move = tt;
-      after_move = tt;
-      in_turn = λ _. refl;
-    }
+begun_fits d b a f room few_before few_after = record {
+  before = record { before = front_fits d d.count d.vcpus (record { count = b; items = [] }) (record { count = a; items = [] }) f.before; some = f.some; few = f.few; vcpus = f.vcpus };
+  room = room;
+  few_before = few_before;
+  few_after = few_after;
+  within_before = omega arith;
+  within_after = omega arith;
+  before_move = tt;
+  after_move = tt;
+  in_turn = λ _. refl;
+}
 
 pub first_taken : (d new : Draft) (b a : ℕ) (line : List ℕ) → new ≡ begun b a d → ScriptLive First d → b ≤ 65536 → a ≤ 65536 → line ≡ counts_line b a → Taken First Ops d new line
 first_taken d new b a line made live few_before few_after is =
@@ -123,7 +124,7 @@ this_vcpu : (d : Draft) (v : Scenario) (lines : List (List ℕ)) (r : OpsLeft d 
 this_vcpu d v lines r =
     let w = vcpu_of (d.before.items ++ r.befores) (d.after.items ++ r.afters) in
     let own = all_at (VcpuFits v.version v.geometry) d.vcpus w r.back (subst (AllByRecursion (VcpuFits v.version v.geometry)) r.whole r.fits.vcpus) in
-    let agrees = r.agrees.0.0.0.0 in
+    let agrees = r.agrees.0.0.0.0.0 in
     subst (λ (e : Extent). VcpuFits d.version e w) agrees.1 (subst (λ (x : Version). VcpuFits x v.geometry w) agrees.0 own)
 
 -- an operation that may come before the move
@@ -158,6 +159,9 @@ late_grown before after op line is =
 held_grown : (d : Draft) (ops new : List (List ℕ)) (line : List ℕ) → new ≡ ops ++ line ∷ [] → held_vcpus d ++ counts_line d.before.count d.after.count ∷ new ≡ (held_vcpus d ++ counts_line d.before.count d.after.count ∷ ops) ++ line ∷ []
 held_grown d ops new line e = ap (λ (t : List (List ℕ)). held_vcpus d ++ counts_line d.before.count d.after.count ∷ t) e ∙ sym (append_assoc (held_vcpus d) (counts_line d.before.count d.after.count ∷ ops) (line ∷ []))
 
+geometry_of : (d : Draft) → FitsOps d → IsExtent d.geometry
+geometry_of d f = f.before.before.before.before.before.before.geometry
+
 abbrev pub with_before : List Op → Draft → Draft
 with_before ops d = record d { before = record { count = d.before.count; items = ops } }
 
@@ -165,13 +169,10 @@ pub early_taken : (d : Draft) (op : Op) (ops : List Op) (line : List ℕ) → Sc
 early_taken d op ops line live less is fits spelled =
     let f = live.fits in
     let c = f.before in
-    let u = c.before in
-    let w = u.before.before in
-    let p = w.before in
     let none = f.in_turn less in
     rw is (step Ops Ops d (with_before (d.before.items ++ op ∷ []) d) line live
     (record {
-      before = record { before = record { before = record { before = record { before = record { geometry = p.geometry; init = p.init; some = p.some; few = p.few }; some = w.some; few = w.few }; few = u.before.few }; few = u.few }; some = c.some; few = c.few; vcpus = c.vcpus };
+      before = record { before = front_fits d d.count d.vcpus (record { count = d.before.count; items = d.before.items ++ op ∷ [] }) d.after c.before; some = c.some; few = c.few; vcpus = c.vcpus };
       room = f.room;
       few_before = f.few_before;
       few_after = f.few_after;
@@ -184,7 +185,7 @@ early_taken d op ops line live less is fits spelled =
     (held_grown d (map op_line d.before.items ++ map op_line d.after.items) (map op_line (d.before.items ++ op ∷ []) ++ map op_line d.after.items) line (early_grown d.before.items d.after.items op line none spelled))
     (λ v more r.
     let n = next_early d line v more r less in
-    let same = op_tells d.geometry p.geometry op n.op fits (early_fits d line v more r n.op n.others n.whole) (sym spelled ∙ n.spelled) in
+    let same = op_tells d.geometry (geometry_of d f) op n.op fits (early_fits d line v more r n.op n.others n.whole) (sym spelled ∙ n.spelled) in
     let befores : d.before.items ++ r.befores ≡ (d.before.items ++ op ∷ []) ++ n.others = ap (λ (t : List Op). d.before.items ++ t) (n.whole ∙ ap (λ (x : Op). x ∷ n.others) (sym same)) ∙ sym (append_assoc d.before.items (op ∷ []) n.others) in
     record { fits = r.fits; agrees = r.agrees; count = r.count; befores = n.others; afters = r.afters; back = r.back; whole = r.whole ∙ ap (λ (t : List Op). d.vcpus ++ vcpu_of t (d.after.items ++ r.afters) ∷ r.back) befores; all_before = ap (λ (t : List Op). length t) (sym befores) ∙ r.all_before; all_after = r.all_after; lines = n.lines })
     (λ v more r.
@@ -211,12 +212,9 @@ pub late_taken : (d : Draft) (op : Op) (ops : List Op) (line : List ℕ) → Scr
 late_taken d op ops line live all less is fits spelled =
     let f = live.fits in
     let c = f.before in
-    let u = c.before in
-    let w = u.before.before in
-    let p = w.before in
     rw is (step Ops Ops d (with_after (d.after.items ++ op ∷ []) d) line live
     (record {
-      before = record { before = record { before = record { before = record { before = record { geometry = p.geometry; init = p.init; some = p.some; few = p.few }; some = w.some; few = w.few }; few = u.before.few }; few = u.few }; some = c.some; few = c.few; vcpus = c.vcpus };
+      before = record { before = front_fits d d.count d.vcpus d.before (record { count = d.after.count; items = d.after.items ++ op ∷ [] }) c.before; some = c.some; few = c.few; vcpus = c.vcpus };
       room = f.room;
       few_before = f.few_before;
       few_after = f.few_after;
@@ -229,7 +227,7 @@ late_taken d op ops line live all less is fits spelled =
     (held_grown d (map op_line d.before.items ++ map op_line d.after.items) (map op_line d.before.items ++ map op_line (d.after.items ++ op ∷ [])) line (late_grown d.before.items d.after.items op line spelled))
     (λ v more r.
     let n = next_late d line v more r all less in
-    let same = op_tells d.geometry p.geometry op n.op (late_op d.version d.geometry op fits) (late_op d.version d.geometry n.op (late_fits d line v more r n.op n.others n.whole)) (sym spelled ∙ n.spelled) in
+    let same = op_tells d.geometry (geometry_of d f) op n.op (late_op d.version d.geometry op fits) (late_op d.version d.geometry n.op (late_fits d line v more r n.op n.others n.whole)) (sym spelled ∙ n.spelled) in
     let afters : d.after.items ++ r.afters ≡ (d.after.items ++ op ∷ []) ++ n.others = ap (λ (t : List Op). d.after.items ++ t) (n.whole ∙ ap (λ (x : Op). x ∷ n.others) (sym same)) ∙ sym (append_assoc d.after.items (op ∷ []) n.others) in
     let none = no_early d v (line ∷ more) r all in
     record { fits = r.fits; agrees = r.agrees; count = r.count; befores = []; afters = n.others; back = r.back; whole = r.whole ∙ ap (λ (t : List Op). d.vcpus ++ vcpu_of (d.before.items ++ t) (d.after.items ++ r.afters) ∷ r.back) none ∙ ap (λ (t : List Op). d.vcpus ++ vcpu_of (d.before.items ++ []) t ∷ r.back) afters; all_before = ap (λ (t : List Op). length (d.before.items ++ t)) (sym none) ∙ r.all_before; all_after = ap (λ (t : List Op). length t) (sym afters) ∙ r.all_after; lines = n.lines })
@@ -260,7 +258,7 @@ no_op d v lines r all =
     }
 
 -- and so it is where these are the lines
-with_no_op : (d : Draft) (v : Scenario) (lines : List (List ℕ)) (back : List Vcpu) → IsScenario v → AgreesUp d v → length v.vcpus ≡ d.count → HasAllOps d → NoOps d v lines back → OpsLeft d v lines
+with_no_op : (d : Draft) (v : Scenario) (lines : List (List ℕ)) (back : List Vcpu) → IsScenario v → AgreesLane d v → length v.vcpus ≡ d.count → HasAllOps d → NoOps d v lines back → OpsLeft d v lines
 with_no_op d v lines back fits agrees count all n = record {
   fits = fits;
   agrees = agrees;
@@ -287,15 +285,12 @@ ended_held d all =
 ended_fits : (d : Draft) → FitsOps d → FitsCount (ended d)
 ended_fits d f =
     let c = f.before in
-    let u = c.before in
-    let w = u.before.before in
-    let p = w.before in
     let few_before = f.few_before in
     let few_after = f.few_after in
     let within_before = f.within_before in
     let within_after = f.within_after in
     record {
-      before = record { before = record { before = record { before = record { geometry = p.geometry; init = p.init; some = p.some; few = p.few }; some = w.some; few = w.few }; few = u.before.few }; few = u.few };
+      before = front_fits d d.count (d.vcpus ++ vcpu_of d.before.items d.after.items ∷ []) (record { count = d.before.count; items = [] }) (record { count = d.after.count; items = [] }) c.before;
       some = c.some;
       few = c.few;
       vcpus = all_append (VcpuFits d.version d.geometry) d.vcpus (vcpu_of d.before.items d.after.items ∷ []) c.vcpus (record { few_before = omega arith; few_after = omega arith; before_move = f.before_move; after_move = f.after_move }, tt);

@@ -3,8 +3,8 @@
 --     events N            0 to 1,048,576, and then a line for each event
 --     end
 -- The lines of the events, with FATE one of deliver, lose, repeat and back, and VCPU a number from 0 to 63:
---     guest VCPU     halt     push     serve     source-tick     link down FATE     link up FATE
---     pop     fault     flush     deliver     pager-tick
+--     guest VCPU     halt     push     serve     source-tick     link down FATE     link up FATE     link lane FATE
+--     pop     pop-lane     fault     flush     deliver     pager-tick
 -- Numbers are in decimal form, with no leading zero.
 use Rattle.std.specs.Prelude.{◌≡◌, ℕ, ◌<◌, ◌≤◌, List, [], ◌∷◌, ◌++◌, length, codes}
 use Rattle.std.specs.List.{AllByRecursion}
@@ -12,11 +12,11 @@ use Rattle.std.specs.Fmt.{decimal}
 use Rattle.text_lines.specs.Counted.{counted}
 use Rattle.migration_types.specs.Limits.{vcpus, most_records}
 use Rattle.migration_events.specs.declared.events.Direction.{Direction}
-use Rattle.migration_events.specs.declared.events.Direction.TheVariants.{Down, Up}
+use Rattle.migration_events.specs.declared.events.Direction.TheVariants.{Down, Up, Lane}
 use Rattle.migration_events.specs.declared.events.Fate.{Fate}
 use Rattle.migration_events.specs.declared.events.Fate.TheVariants.{Deliver, Lose, Repeat, Back}
 use Rattle.migration_events.specs.declared.events.Event.{Event}
-use Rattle.migration_events.specs.declared.events.Event.TheVariants.{GuestStep, Halt, Push, Serve, SourceTick, LinkTurn, PagerPop, PagerFault, PagerFlush, PagerDeliver, PagerTick}
+use Rattle.migration_events.specs.declared.events.Event.TheVariants.{GuestStep, Halt, Push, Serve, SourceTick, LinkTurn, PagerPop, PagerPull, PagerFault, PagerFlush, PagerDeliver, PagerTick}
 
 abbrev pub events_header : List ℕ
 events_header = codes "postcopy-events 1"
@@ -37,6 +37,7 @@ fate_word Back = codes "back"
 abbrev pub link_key : Direction → List ℕ
 link_key Down = codes "link down "
 link_key Up = codes "link up "
+link_key Lane = codes "link lane "
 
 abbrev pub guest_key : List ℕ
 guest_key = codes "guest "
@@ -49,6 +50,7 @@ event_line Serve = codes "serve"
 event_line SourceTick = codes "source-tick"
 event_line (LinkTurn direction fate) = link_key direction ++ fate_word fate
 event_line PagerPop = codes "pop"
+event_line PagerPull = codes "pop-lane"
 event_line PagerFault = codes "fault"
 event_line PagerFlush = codes "flush"
 event_line PagerDeliver = codes "deliver"
@@ -63,6 +65,7 @@ EventFits Serve = Unit {0}
 EventFits SourceTick = Unit {0}
 EventFits (LinkTurn direction fate) = Unit {0}
 EventFits PagerPop = Unit {0}
+EventFits PagerPull = Unit {0}
 EventFits PagerFault = Unit {0}
 EventFits PagerFlush = Unit {0}
 EventFits PagerDeliver = Unit {0}

@@ -8,10 +8,10 @@ use Rattle.migration_events.specs.declared.events.Fate.{Fate}
 use Rattle.migration_events.specs.Ops.{OpFits, LateOpFits}
 use Rattle.guest_script.specs.declared.vcpus.Vcpu.{Vcpu as Processor}
 use Rattle.guest_script.specs.declared.script_fault.ScriptFault.{ScriptFault}
-use Rattle.guest_script.specs.declared.script_fault.ScriptFault.TheVariants.{Init, Pivots, Window, Down, Up, Vcpus, Vcpu}
+use Rattle.guest_script.specs.declared.script_fault.ScriptFault.TheVariants.{Init, Pivots, Window, Down, Up, Lane, Vcpus, Vcpu}
 use Rattle.guest_script.specs.declared.script_fault.VcpuFault.{VcpuFault}
 use Rattle.guest_script.specs.declared.script_fault.VcpuFault.TheVariants.{ManyBefore, ManyAfter, Before, After}
-use Rattle.guest_script.specs.Scenarios.{Scenario, VcpuFits}
+use Rattle.guest_script.specs.Scenarios.{Scenario, VcpuFits, LaneFits}
 
 -- the first so many items are right, and with the next they are not
 abbrev pub IsFirstWrong : {A : Type 0} → (List A → Type 0) → List A → ℕ → Type 0
@@ -55,8 +55,11 @@ ToDown s = ToWindow s × AreFates s.down
 abbrev pub ToUp : Scenario → Type 0
 ToUp s = ToDown s × AreFates s.up
 
+abbrev pub ToLane : Scenario → Type 0
+ToLane s = ToUp s × LaneFits s.version s.lane
+
 abbrev pub ToCount : Scenario → Type 0
-ToCount s = ToUp s × AreAsMany s.vcpus
+ToCount s = ToLane s × AreAsMany s.vcpus
 
 abbrev pub IsScriptFault : Scenario → ScriptFault → Type 0
 IsScriptFault s (Init n) = IsFirstWrong (AreInitPages s.geometry) s.init n
@@ -64,5 +67,6 @@ IsScriptFault s Pivots = AreInitPages s.geometry s.init × (ArePivots s.pivots �
 IsScriptFault s Window = ToPivots s × (IsWindow s.window → ⊥)
 IsScriptFault s Down = ToWindow s × (AreFates s.down → ⊥)
 IsScriptFault s Up = ToDown s × (AreFates s.up → ⊥)
-IsScriptFault s Vcpus = ToUp s × (AreAsMany s.vcpus → ⊥)
+IsScriptFault s Lane = ToUp s × (LaneFits s.version s.lane → ⊥)
+IsScriptFault s Vcpus = ToLane s × (AreAsMany s.vcpus → ⊥)
 IsScriptFault s (Vcpu n fault) = ToCount s × IsFirstVcpuFault s.version s.geometry s.vcpus n fault

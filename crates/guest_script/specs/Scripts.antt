@@ -7,14 +7,15 @@
 --     window W            1 to 65,536
 --     down FATES          what becomes of the packets on their way down, one after another: a dash for none, or 1 to
 --     up FATES            4,096 letters, d to deliver, l to lose, r to repeat, b for back; and so on their way up
---     lanes 1             in the second version alone
+--     lanes 1             in the second version alone, or: lanes 2, for a lane beside the link, and then
+--     lane FATES          what becomes of the packets on their way over the lane
 --     vcpus M             1 to 64
 --     vcpu B A            M times: the operations before and after a move, each 0 to 65,536, and then a line for each
 --     end
 -- The lines of operations, of which the last stands after a move in the second version alone:
 --     r PAGE CELL     w PAGE CELL VALUE     z PAGE
 -- Numbers are in decimal form, with no leading zero.
-use Rattle.std.specs.Prelude.{◌≡◌, ℕ, List, [], ◌∷◌, ◌++◌, map, length, codes}
+use Rattle.std.specs.Prelude.{◌≡◌, ℕ, List, [], ◌∷◌, ◌++◌, map, length, codes, Option, Some, None}
 use Rattle.std.specs.Fmt.{decimal}
 use Rattle.text_lines.specs.Counted.{counted}
 use Rattle.migration_types.specs.declared.version.Version.{Version}
@@ -42,6 +43,9 @@ down_key = codes "down "
 
 abbrev pub up_key : List ℕ
 up_key = codes "up "
+
+abbrev pub lane_key : List ℕ
+lane_key = codes "lane "
 
 abbrev pub vcpus_key : List ℕ
 vcpus_key = codes "vcpus "
@@ -87,13 +91,14 @@ vcpus_onto (vcpu ∷ vcpus) more = vcpu_onto vcpu (vcpus_onto vcpus more)
 abbrev pub vcpus_lines : Scenario → List (List ℕ)
 vcpus_lines s = (vcpus_key ++ decimal (length s.vcpus)) ∷ vcpus_onto s.vcpus (closing ∷ [])
 
--- how many links carry packets down, which scripts of the second version tell
-abbrev pub with_lanes : Version → List (List ℕ) → List (List ℕ)
-with_lanes One more = more
-with_lanes Two more = codes "lanes 1" ∷ more
+-- how many links carry packets down, which scripts of the second version tell: one, or two with the lane
+abbrev pub with_lanes : Version → Option (List Fate) → List (List ℕ) → List (List ℕ)
+with_lanes One lane more = more
+with_lanes Two None more = codes "lanes 1" ∷ more
+with_lanes Two (Some fates) more = codes "lanes 2" ∷ (lane_key ++ fates_text fates) ∷ more
 
 abbrev pub lanes_lines : Scenario → List (List ℕ)
-lanes_lines s = with_lanes s.version (vcpus_lines s)
+lanes_lines s = with_lanes s.version s.lane (vcpus_lines s)
 
 abbrev pub up_lines : Scenario → List (List ℕ)
 up_lines s = (up_key ++ fates_text s.up) ∷ lanes_lines s

@@ -50,6 +50,9 @@ fn read_word(line: &[u8]) -> Option<Event>
     if is_line(line, b"pop") {
         return Some(Event::PagerPop);
     }
+    if is_line(line, b"pop-lane") {
+        return Some(Event::PagerPull);
+    }
     if is_line(line, b"fault") {
         return Some(Event::PagerFault);
     }
@@ -88,6 +91,9 @@ fn read_event(line: &[u8]) -> Result<Event, FaultKind>
     if let Some(event) = read_turn(line, Direction::Up) {
         return Ok(event);
     }
+    if let Some(event) = read_turn(line, Direction::Lane) {
+        return Ok(event);
+    }
     let vcpu = read_keyed(line, GUEST_KEY, u32::from(LAST_VCPU))?;
     Ok(Event::GuestStep { vcpu: vcpu as u8 })
 }
@@ -107,6 +113,7 @@ fn push_event(out: &mut Vec<u8>, event: Event) -> Result<(), AllocError>
             push_line(out, fate_word_of(fate))
         }
         Event::PagerPop => push_line(out, b"pop"),
+        Event::PagerPull => push_line(out, b"pop-lane"),
         Event::PagerFault => push_line(out, b"fault"),
         Event::PagerFlush => push_line(out, b"flush"),
         Event::PagerDeliver => push_line(out, b"deliver"),

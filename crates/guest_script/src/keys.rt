@@ -24,6 +24,7 @@ pub fn link_key_of(direction: Direction) -> &'static [u8]
     match direction {
         Direction::Down => b"link down ",
         Direction::Up => b"link up ",
+        Direction::Lane => b"link lane ",
     }
 }
 
@@ -59,6 +60,12 @@ pub const UP_KEY: &[u8] = b"up ";
 
 /// The line that says that one link carries packets down.
 pub const ONE_LANE: &[u8] = b"lanes 1";
+
+/// The line that says that there is a lane beside it.
+pub const TWO_LANES: &[u8] = b"lanes 2";
+
+/// How the line with the fates on the way over the lane begins.
+pub const LANE_KEY: &[u8] = b"lane ";
 
 /// How the line with the number of virtual processors begins.
 pub const VCPUS_KEY: &[u8] = b"vcpus ";

@@ -101,7 +101,7 @@ pub fn write_script(alloc: Global, script: &Script) -> Result<Vec<u8>, AllocErro
     push_keyed(&mut out, WINDOW_KEY, script.window())?;
     push_fates(&mut out, DOWN_KEY, script.down())?;
     push_fates(&mut out, UP_KEY, script.up())?;
-    push_lanes(&mut out, script.version())?;
+    push_lanes(&mut out, script.version(), script.lane())?;
     push_keyed(&mut out, VCPUS_KEY, vcpus.len())?;
     push_vcpus(&mut out, vcpus)?;
     push_line(&mut out, CLOSING)?;

@@ -1,7 +1,8 @@
 //! Scripts.
 
-ghost use Rattle.std.specs.Prelude.{◌≡◌, IfOk, MatchOption, MatchResult, OnErr};
-ghost use Rattle.guest_script.specs.Scenarios.{IsScenario, Scenario};
+ghost use Rattle.std.specs.Prelude.{◌≡◌, IfOk, MatchBool, MatchOption, MatchResult, OnErr};
+ghost use Rattle.std.specs.Option.{option_map};
+ghost use Rattle.guest_script.specs.Scenarios.{IsScenario, LaneFits, Scenario};
 ghost use Rattle.guest_script.specs.ScriptFaults.{IsScriptFault};
 
 use crate::script_fault::{ScriptFault, first_vcpu_fault, first_wrong_page};
@@ -12,8 +13,8 @@ use std::alloc::{AllocError, Global};
 use std::marker::Model;
 
 /// What a guest does and how its migration goes, within all limits: a machine and its first memory, how many pivots are
-/// kept at most, how many packets may be under way when a page is pushed, what becomes of the packets in each direction,
-/// and what each virtual processor does.
+/// kept at most, how many packets may be under way where pages are pushed, what becomes of the packets in each direction
+/// and over the lane, if there is one, and what each virtual processor does.
 #[derive(Drop)]
 pub struct Script {
     version: Version,
@@ -23,6 +24,7 @@ pub struct Script {
     window: u32,
     down: Seq<Fate>,
     up: Seq<Fate>,
+    lane: Option<Seq<Fate>>,
     vcpus: Seq<Vcpu>,
 }
 
@@ -31,9 +33,28 @@ impl Model for Script {
 
     ghost Value = { Scenario };
 
-    ghost view = { λ a. record { version = a.version; geometry = a.geometry; init = a.init; pivots = a.pivots; window = a.window; down = a.down; up = a.up; vcpus = a.vcpus } };
+    ghost view = { λ a. record { version = a.version; geometry = a.geometry; init = a.init; pivots = a.pivots; window = a.window; down = a.down; up = a.up; lane = a.lane; vcpus = a.vcpus } };
 
-    ghost invariant = { λ a. IsScenario (record { version = a.version; geometry = a.geometry; init = a.init; pivots = a.pivots; window = a.window; down = a.down; up = a.up; vcpus = a.vcpus }) };
+    ghost invariant = { λ a. IsScenario (record { version = a.version; geometry = a.geometry; init = a.init; pivots = a.pivots; window = a.window; down = a.down; up = a.up; lane = a.lane; vcpus = a.vcpus }) };
+}
+
+/// The fates on the way over a lane, if there is one.
+fn lane_slice(lane: &Option<Seq<Fate>>) -> Option<&[Fate]>
+    ensures { option_map (λ l. l.now) result ≡ lane.now }
+{
+    let fates = lane.as_ref()?;
+    Some(fates.as_slice())
+}
+
+/// Whether scripts of the version may have a lane, if there is one, with at most 4,096 fates.
+fn lane_fits(version: Version, lane: Option<&[Fate]>) -> bool
+    ensures { MatchBool result (LaneFits version (option_map (λ l. l.now) lane.entry)) (LaneFits version (option_map (λ l. l.now) lane.entry) → ⊥) }
+{
+    match (version, lane) {
+        (_, None) => true,
+        (Version::One, Some(_)) => false,
+        (Version::Two, Some(fates)) => fates.len() <= MOST_FATES as usize,
+    }
 }
 
 /// The first fault of parts that are no script.
@@ -45,9 +66,10 @@ fn fault_in(
     window: u32,
     down: &[Fate],
     up: &[Fate],
+    lane: Option<&[Fate]>,
     vcpus: &[Vcpu],
 ) -> Option<ScriptFault>
-    ensures { let parts : Scenario = record { version = version; geometry = geometry; init = init.now; pivots = pivots; window = window; down = down.now; up = up.now; vcpus = vcpus.now } in MatchOption result (IsScenario parts) (IsScriptFault parts) }
+    ensures { let parts : Scenario = record { version = version; geometry = geometry; init = init.now; pivots = pivots; window = window; down = down.now; up = up.now; lane = option_map (λ l. l.now) lane.entry; vcpus = vcpus.now } in MatchOption result (IsScenario parts) (IsScriptFault parts) }
 {
     if let Some(place) = first_wrong_page(geometry, init) {
         return Some(ScriptFault::Init(place));
@@ -64,6 +86,9 @@ fn fault_in(
     if up.len() > MOST_FATES as usize {
         return Some(ScriptFault::Up);
     }
+    if !lane_fits(version, lane) {
+        return Some(ScriptFault::Lane);
+    }
     if vcpus.is_empty() || vcpus.len() > MOST_VCPUS as usize {
         return Some(ScriptFault::Vcpus);
     }
@@ -76,10 +101,11 @@ impl Script {
     ///
     /// # Errors
     ///
-    /// The first fault, in the order of `ScriptFault`: that of the initial pages, which rise, are the machine's and have a
-    /// value for each cell, not all of them zero; 1 to 16 pivots; a window of 1 to 65,536; at most 4,096 fates on each
-    /// way; 1 to 64 virtual processors, of which each has at most 65,536 operations before its move and after it, on pages
-    /// and cells of the machine, and in a script of the first version no release after it. The parts are then let go.
+    /// The first fault, in the order of `ScriptFault`: that of the initial pages, which rise, are the machine's and have
+    /// a value for each cell, not all of them zero; 1 to 16 pivots; a window of 1 to 65,536; at most 4,096 fates on each
+    /// way, and a lane in a script of the second version alone; 1 to 64 virtual processors, of which each has at most
+    /// 65,536 operations before its move and after it, on pages and cells of the machine, and in a script of the first
+    /// version no release after it. The parts are then let go.
     pub fn new(
         version: Version,
         geometry: Geometry,
@@ -88,10 +114,11 @@ impl Script {
         window: u32,
         down: Seq<Fate>,
         up: Seq<Fate>,
+        lane: Option<Seq<Fate>>,
         vcpus: Seq<Vcpu>,
     ) -> Result<Self, ScriptFault>
-        ensures value { let parts : Scenario = record { version = version; geometry = geometry; init = init; pivots = pivots; window = window; down = down; up = up; vcpus = vcpus } in MatchResult result (λ script. (script ≡ parts) × IsScenario parts) (IsScriptFault parts) }
-        ensures refused { let parts : Scenario = record { version = version; geometry = geometry; init = init; pivots = pivots; window = window; down = down; up = up; vcpus = vcpus } in OnErr result (IsScenario parts → ⊥) }
+        ensures value { let parts : Scenario = record { version = version; geometry = geometry; init = init; pivots = pivots; window = window; down = down; up = up; lane = lane; vcpus = vcpus } in MatchResult result (λ script. (script ≡ parts) × IsScenario parts) (IsScriptFault parts) }
+        ensures refused { let parts : Scenario = record { version = version; geometry = geometry; init = init; pivots = pivots; window = window; down = down; up = up; lane = lane; vcpus = vcpus } in OnErr result (IsScenario parts → ⊥) }
     {
         match fault_in(
             version,
@@ -101,10 +128,13 @@ impl Script {
             window,
             down.as_slice(),
             up.as_slice(),
+            lane_slice(&lane),
             vcpus.as_slice(),
         ) {
             Some(fault) => Err(fault),
-            None => Ok(Script::of_parts(version, geometry, init, pivots, window, down, up, vcpus)),
+            None => Ok(Script::of_parts(
+                version, geometry, init, pivots, window, down, up, lane, vcpus,
+            )),
         }
     }
 
@@ -117,10 +147,11 @@ impl Script {
         window: u32,
         down: Seq<Fate>,
         up: Seq<Fate>,
+        lane: Option<Seq<Fate>>,
         vcpus: Seq<Vcpu>,
     ) -> Self
-        requires { IsScenario (record { version = version; geometry = geometry; init = init; pivots = pivots; window = window; down = down; up = up; vcpus = vcpus }) }
-        ensures { result ≡ record { version = version; geometry = geometry; init = init; pivots = pivots; window = window; down = down; up = up; vcpus = vcpus } }
+        requires { IsScenario (record { version = version; geometry = geometry; init = init; pivots = pivots; window = window; down = down; up = up; lane = lane; vcpus = vcpus }) }
+        ensures { result ≡ record { version = version; geometry = geometry; init = init; pivots = pivots; window = window; down = down; up = up; lane = lane; vcpus = vcpus } }
     {
         Script {
             version,
@@ -130,11 +161,13 @@ impl Script {
             window,
             down,
             up,
+            lane,
             vcpus,
         }
     }
 
-    /// The version of its text. In the second a virtual processor may release pages after its move.
+    /// The version of its text. In the second a virtual processor may release pages after its move, and there may be a
+    /// lane.
     pub fn version(&self) -> Version
         ensures { result ≡ self.now.version }
     {
@@ -178,7 +211,8 @@ impl Script {
         self.pivots
     }
 
-    /// How many packets may be under way on the way down when a page is pushed, the pushed one with them, 1 to 65,536.
+    /// How many packets may be under way where pages are pushed, the pushed one with them, 1 to 65,536: over the lane, or
+    /// else on the way down.
     pub fn window(&self) -> u32
         ensures { result ≡ self.now.window }
     {
@@ -197,6 +231,14 @@ impl Script {
         ensures { result.now ≡ self.now.up }
     {
         self.up.as_slice()
+    }
+
+    /// What becomes of the packets on their way over the lane, one after another, at most 4,096. `None`: there is no
+    /// lane, and pages are pushed on the link.
+    pub fn lane(&self) -> Option<&[Fate]>
+        ensures { option_map (λ l. l.now) result ≡ self.now.lane }
+    {
+        lane_slice(&self.lane)
     }
 
     /// What each virtual processor does, 1 to 64 of them.

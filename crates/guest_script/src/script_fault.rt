@@ -53,6 +53,9 @@ pub enum ScriptFault {
     /// More than 4,096 fates on the way up.
     #[error("there are at most 4,096 fates on the way up")]
     Up,
+    /// A lane in a script of the first version, or more than 4,096 fates on the way over it.
+    #[error("a script of the second version alone has a lane, with at most 4,096 fates")]
+    Lane,
     /// Not 1 to 64 virtual processors.
     #[error("there are 1 to 64 virtual processors")]
     Vcpus,

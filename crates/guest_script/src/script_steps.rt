@@ -5,7 +5,9 @@ ghost use Rattle.guest_script.specs.inner.ScriptDraft.{draft_of, ScriptStep, Has
 ghost use Rattle.guest_script.specs.inner.ScriptHeld.{ScriptFits, ScriptLive, scenario_of};
 
 use crate::fates::read_fates;
-use crate::keys::{DOWN_KEY, ONE_LANE, PIVOTS_KEY, UP_KEY, VCPUS_KEY, WINDOW_KEY};
+use crate::keys::{
+    DOWN_KEY, LANE_KEY, ONE_LANE, PIVOTS_KEY, TWO_LANES, UP_KEY, VCPUS_KEY, WINDOW_KEY,
+};
 use crate::op_form::{read_counts, take_op};
 use crate::script::Script;
 use crate::stages::ScriptStage;
@@ -28,6 +30,8 @@ pub struct ScriptParts {
     pub window: u32,
     pub down: Seq<Fate>,
     pub up: Seq<Fate>,
+    /// None where there is no lane, and until its fates came.
+    pub lane: Option<Seq<Fate>>,
     /// How many virtual processors there are.
     pub count: u32,
     /// Those of which all came.
@@ -57,6 +61,7 @@ impl ScriptParts {
             window: 0,
             down: Seq::from_vec(Vec::new(alloc)),
             up: Seq::from_vec(Vec::new(alloc)),
+            lane: None,
             count: 0,
             vcpus: Vec::new(alloc),
             before_count: 0,
@@ -80,6 +85,7 @@ impl ScriptParts {
                 self.window,
                 self.down,
                 self.up,
+                self.lane,
                 Seq::from_vec(self.vcpus),
             )),
             Err(_) => None,
@@ -101,6 +107,7 @@ impl ScriptParts {
             ScriptStage::Down => self.at_down(line),
             ScriptStage::Up => self.at_up(line),
             ScriptStage::Lanes => self.at_lanes(line),
+            ScriptStage::Lane => self.at_lane(line),
             ScriptStage::Count => self.at_count(line),
             ScriptStage::First => self.at_first(line),
             ScriptStage::Ops => self.at_ops(line),
@@ -192,27 +199,41 @@ impl ScriptParts {
         Ok(ScriptStage::Up)
     }
 
-    /// Takes the fates on the way up.
+    /// Takes the fates on the way up. There is no lane until its line comes.
     fn at_up(&mut self, line: &[u8]) -> Result<ScriptStage, FaultKind>
         requires { ScriptLive ScriptStage.Up (draft_of self.old) }
         ensures { ScriptStep ScriptStage.Up (draft_of self.old) line.now (draft_of self.new) result }
     {
         let up = read_fates(self.machine.alloc, line, UP_KEY)?;
         self.up = up;
+        self.lane = None;
         match self.version {
             Version::One => Ok(ScriptStage::Count),
             Version::Two => Ok(ScriptStage::Lanes),
         }
     }
 
-    /// Takes the number of links that carry packets down, which is one.
+    /// Takes the number of links that carry packets down: one, or two with the lane.
     fn at_lanes(&self, line: &[u8]) -> Result<ScriptStage, FaultKind>
         requires { ScriptLive ScriptStage.Lanes (draft_of self.now) }
         ensures { ScriptStep ScriptStage.Lanes (draft_of self.now) line.now (draft_of self.now) result }
     {
-        if !is_line(line, ONE_LANE) {
-            return Err(FaultKind::Form);
+        if is_line(line, ONE_LANE) {
+            return Ok(ScriptStage::Count);
         }
+        if is_line(line, TWO_LANES) {
+            return Ok(ScriptStage::Lane);
+        }
+        Err(FaultKind::Form)
+    }
+
+    /// Takes the fates on the way over the lane.
+    fn at_lane(&mut self, line: &[u8]) -> Result<ScriptStage, FaultKind>
+        requires { ScriptLive ScriptStage.Lane (draft_of self.old) }
+        ensures { ScriptStep ScriptStage.Lane (draft_of self.old) line.now (draft_of self.new) result }
+    {
+        let lane = read_fates(self.machine.alloc, line, LANE_KEY)?;
+        self.lane = Some(lane);
         Ok(ScriptStage::Count)
     }
 

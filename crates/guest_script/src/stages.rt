@@ -21,6 +21,8 @@ pub enum ScriptStage {
     Up,
     /// The number of links that carry packets down, in the second version.
     Lanes,
+    /// The fates on the way over the lane, where there is one.
+    Lane,
     /// The number of virtual processors.
     Count,
     /// The first virtual processor.

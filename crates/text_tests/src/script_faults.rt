@@ -7,8 +7,8 @@ use std::alloc::{AllocError, Global};
 use std::test::Fail;
 
 /// What a script of two pages of one cell is made of: its version, an initial page with its value, the pivots, the window,
-/// so many lost packets each way, so many virtual processors, the page that each reads before its move, and whether it
-/// releases page 0 after it or reads it.
+/// so many lost packets each way, and over the lane, if there is one, so many virtual processors, the page that each reads
+/// before its move, and whether it releases page 0 after it or reads it.
 struct Parts {
     version: Version,
     page: u16,
@@ -16,6 +16,7 @@ struct Parts {
     pivots: u32,
     window: u32,
     lost: usize,
+    lane: Option<usize>,
     vcpus: usize,
     read: u16,
     releases: bool,
@@ -28,6 +29,7 @@ const RIGHT: Parts = Parts {
     pivots: 16,
     window: 65_536,
     lost: 2,
+    lane: None,
     vcpus: 1,
     read: 1,
     releases: false,
@@ -48,8 +50,19 @@ const LATE: Parts = Parts {
 const LATE_TEXT: &[u8] =
     b"postcopy-script 2\npages 2\ncells 1\ninit 1\npage 1 0000000000000007\npivots 16\nwindow 65536\ndown ll\nup ll\nlanes 1\nvcpus 1\nvcpu 1 1\nr 1 0\nz 0\nend\n";
 
+/// Those with a lane, as only a script of the second version may have one.
+const WITH_LANE: Parts = Parts {
+    version: Version::Two,
+    lane: Some(3),
+    ..RIGHT
+};
+
+/// The text of these.
+const LANE_TEXT: &[u8] =
+    b"postcopy-script 2\npages 2\ncells 1\ninit 1\npage 1 0000000000000007\npivots 16\nwindow 65536\ndown ll\nup ll\nlanes 2\nlane lll\nvcpus 1\nvcpu 1 1\nr 1 0\nr 0 0\nend\n";
+
 /// Parts that differ from the first, and their fault.
-static FAULTS: [(Parts, ScriptFault); 10] = [
+static FAULTS: [(Parts, ScriptFault); 12] = [
     (Parts { page: 2, ..RIGHT }, ScriptFault::Init(0)),
     (Parts { value: 0, ..RIGHT }, ScriptFault::Init(0)),
     (
@@ -73,6 +86,20 @@ static FAULTS: [(Parts, ScriptFault); 10] = [
             ..RIGHT
         },
         ScriptFault::Down,
+    ),
+    (
+        Parts {
+            lane: Some(0),
+            ..RIGHT
+        },
+        ScriptFault::Lane,
+    ),
+    (
+        Parts {
+            lane: Some(4_097),
+            ..WITH_LANE
+        },
+        ScriptFault::Lane,
     ),
     (Parts { vcpus: 0, ..RIGHT }, ScriptFault::Vcpus),
     (
@@ -141,6 +168,13 @@ fn lost(alloc: Global, count: usize) -> Result<Seq<Fate>, AllocError> {
     Ok(Seq::from_vec(vec![in alloc; Fate::Lose; count]?))
 }
 
+fn lane_of(alloc: Global, parts: &Parts) -> Result<Option<Seq<Fate>>, AllocError> {
+    match parts.lane {
+        Some(count) => Ok(Some(lost(alloc, count)?)),
+        None => Ok(None),
+    }
+}
+
 fn init_of(alloc: Global, parts: &Parts) -> Result<Seq<InitPage>, AllocError> {
     let mut init = Vec::new(alloc);
     init.push(InitPage {
@@ -159,6 +193,7 @@ fn made_of(
     let init = init_of(alloc, parts)?;
     let down = lost(alloc, parts.lost)?;
     let up = lost(alloc, parts.lost)?;
+    let lane = lane_of(alloc, parts)?;
     let vcpus = vcpus_of(alloc, parts)?;
     Ok(Script::new(
         parts.version,
@@ -168,6 +203,7 @@ fn made_of(
         parts.window,
         down,
         up,
+        lane,
         vcpus,
     ))
 }
@@ -215,6 +251,7 @@ fn wrong_fault(alloc: Global) -> Option<usize> {
 fn scripts_are_made_by_hand(rt: HostRuntime) -> Result<(), Fail> {
     assert!(rt; has_text(rt.alloc(), &RIGHT, TEXT));
     assert!(rt; has_text(rt.alloc(), &LATE, LATE_TEXT));
+    assert!(rt; has_text(rt.alloc(), &WITH_LANE, LANE_TEXT));
     Ok(())
 }
 

@@ -3,7 +3,7 @@
 use guest_script::{Script, read_events, read_script, write_events, write_script};
 use migration_events::{Direction, Event, Fate, Op};
 use migration_types::{PageNo, TextFault, Version};
-use std::alloc::Global;
+use std::alloc::{AllocError, Global};
 use std::test::Fail;
 
 /// Two virtual processors that read one page.
@@ -21,6 +21,21 @@ const OF_FATES: &[u8] =
 /// One of the second version, that releases a page after its move and reads it then.
 const OF_LATE: &[u8] =
     b"postcopy-script 2\npages 1\ncells 1\ninit 1\npage 0 0000000000000006\npivots 1\nwindow 4\ndown -\nup -\nlanes 1\nvcpus 1\nvcpu 0 2\nz 0\nr 0 0\nend\n";
+
+/// One with a lane.
+const OF_LANE: &[u8] =
+    b"postcopy-script 2\npages 1\ncells 1\ninit 0\npivots 1\nwindow 1\ndown b\nup -\nlanes 2\nlane dlrb\nvcpus 1\nvcpu 0 0\nend\n";
+
+/// One with a lane over which all packets are delivered.
+const OF_QUIET_LANE: &[u8] =
+    b"postcopy-script 2\npages 1\ncells 1\ninit 0\npivots 1\nwindow 1\ndown b\nup -\nlanes 2\nlane -\nvcpus 1\nvcpu 0 0\nend\n";
+
+/// What stands before the number of links in a script of the second version: eight lines.
+const TO_LANES: &[u8] =
+    b"postcopy-script 2\npages 1\ncells 1\ninit 0\npivots 1\nwindow 1\ndown -\nup -\n";
+
+const EVENTS_OF_LANE: &[u8] =
+    b"postcopy-events 1\nevents 5\npush\nlink lane deliver\npop-lane\nlink lane back\npop\nend\n";
 
 const EVENTS_OF_TWO: &[u8] =
     b"postcopy-events 1\nevents 20\nhalt\nlink down deliver\npop\ndeliver\nguest 0\nguest 1\nfault\nfault\nflush\nlink up deliver\nserve\nlink down lose\npager-tick\nlink up deliver\nserve\nlink down deliver\npop\ndeliver\nguest 0\nguest 1\nend\n";
@@ -72,6 +87,8 @@ fn scripts_come_back(rt: HostRuntime) -> Result<(), Fail> {
     assert!(rt; script_comes_back(rt.alloc(), OF_ONE));
     assert!(rt; script_comes_back(rt.alloc(), OF_FATES));
     assert!(rt; script_comes_back(rt.alloc(), OF_LATE));
+    assert!(rt; script_comes_back(rt.alloc(), OF_LANE));
+    assert!(rt; script_comes_back(rt.alloc(), OF_QUIET_LANE));
     Ok(())
 }
 
@@ -110,18 +127,30 @@ fn a_script_of_the_second_version_releases_a_page_late(rt: HostRuntime) -> Resul
 fn events_are_read_and_written(rt: HostRuntime) -> Result<(), Fail> {
     assert!(rt; events_come_back(rt.alloc(), EVENTS_OF_TWO));
     assert!(rt; events_come_back(rt.alloc(), EVENTS_OF_ONE));
+    assert!(rt; events_come_back(rt.alloc(), EVENTS_OF_LANE));
     Ok(())
 }
 
 #[test]
 fn an_event_is_what_its_line_says(rt: HostRuntime) -> Result<(), Fail> {
-    let text = b"postcopy-events 1\nevents 2\nguest 63\nlink up back\nend\n";
+    let text =
+        b"postcopy-events 1\nevents 4\nguest 63\nlink up back\nlink lane lose\npop-lane\nend\n";
     let events = read_events(rt.alloc(), text).expect(&rt, "a text of events");
     let turn = Event::LinkTurn {
         direction: Direction::Up,
         fate: Fate::Back,
     };
-    assert!(rt; events.as_slice() == [Event::GuestStep { vcpu: 63 }, turn].as_slice());
+    let over_lane = Event::LinkTurn {
+        direction: Direction::Lane,
+        fate: Fate::Lose,
+    };
+    let said = [
+        Event::GuestStep { vcpu: 63 },
+        turn,
+        over_lane,
+        Event::PagerPull,
+    ];
+    assert!(rt; events.as_slice() == said.as_slice());
     Ok(())
 }
 
@@ -149,17 +178,81 @@ fn a_late_release_is_refused_in_the_first_version(rt: HostRuntime) -> Result<(),
     Ok(())
 }
 
+/// The fates on the way over the lane that a script's text tells.
+fn has_lane(alloc: Global, text: &[u8], fates: Option<&[Fate]>) -> bool {
+    match read_script(alloc, text) {
+        Ok(script) => script.lane() == fates,
+        Err(_) => false,
+    }
+}
+
 #[test]
-fn other_lanes_than_the_version_has_are_refused(rt: HostRuntime) -> Result<(), Fail> {
+fn a_script_says_whether_it_has_a_lane(rt: HostRuntime) -> Result<(), Fail> {
     let alloc = rt.alloc();
-    let two =
-        b"postcopy-script 2\npages 1\ncells 1\ninit 0\npivots 1\nwindow 1\ndown -\nup -\nlanes 2\nvcpus 1\nvcpu 0 0\nend\n";
-    assert_eq!(rt; line_of(read_script(alloc, two)), 9);
-    let none =
-        b"postcopy-script 2\npages 1\ncells 1\ninit 0\npivots 1\nwindow 1\ndown -\nup -\nvcpus 1\nvcpu 0 0\nend\n";
-    assert_eq!(rt; line_of(read_script(alloc, none)), 9);
-    let first =
-        b"postcopy-script 1\npages 1\ncells 1\ninit 0\npivots 1\nwindow 1\ndown -\nup -\nlanes 1\nvcpus 1\nvcpu 0 0\nend\n";
-    assert_eq!(rt; line_of(read_script(alloc, first)), 9);
+    let fates = [Fate::Deliver, Fate::Lose, Fate::Repeat, Fate::Back];
+    assert!(rt; has_lane(alloc, OF_LANE, Some(fates.as_slice())));
+    assert!(rt; has_lane(alloc, OF_QUIET_LANE, Some(&[])));
+    assert!(rt; has_lane(alloc, OF_LATE, None));
+    assert!(rt; has_lane(alloc, OF_ONE, None));
+    Ok(())
+}
+
+/// The line at which a script of the second version is refused that goes on so behind its eight lines.
+fn line_behind(alloc: Global, rest: &[u8]) -> Result<u32, AllocError> {
+    let mut text = Vec::from_slice(alloc, TO_LANES)?;
+    text.extend_from_slice(rest)?;
+    Ok(line_of(read_script(alloc, text.as_slice())))
+}
+
+/// Two links and a lane with so many fates, and a virtual processor.
+fn lane_of(alloc: Global, count: usize) -> Result<Vec<u8>, AllocError> {
+    let mut rest = Vec::from_slice(alloc, b"lanes 2\nlane ")?;
+    let letters = vec![in alloc; b'd'; count]?;
+    rest.extend_from_slice(letters.as_slice())?;
+    rest.extend_from_slice(b"\nvcpus 1\nvcpu 0 0\nend\n")?;
+    Ok(rest)
+}
+
+#[test]
+fn other_lanes_than_were_announced_are_refused(rt: HostRuntime) -> Result<(), Fail> {
+    let alloc = rt.alloc();
+    assert_eq!(rt; line_behind(alloc, b"vcpus 1\nvcpu 0 0\nend\n")?, 9);
+    assert_eq!(rt;
+        line_behind(alloc, b"lanes 3\nvcpus 1\nvcpu 0 0\nend\n")?,
+        9
+    );
+    assert_eq!(rt; line_behind(alloc, b"lane -\nvcpus 1\nvcpu 0 0\nend\n")?, 9);
+    assert_eq!(rt;
+        line_behind(alloc, b"lanes 2\nvcpus 1\nvcpu 0 0\nend\n")?,
+        10
+    );
+    assert_eq!(rt;
+        line_behind(alloc, b"lanes 2\nlane \nvcpus 1\nvcpu 0 0\nend\n")?,
+        10
+    );
+    assert_eq!(rt;
+        line_behind(alloc, b"lanes 1\nlane -\nvcpus 1\nvcpu 0 0\nend\n")?,
+        10
+    );
+    Ok(())
+}
+
+#[test]
+fn a_lane_has_at_most_4096_fates(rt: HostRuntime) -> Result<(), Fail> {
+    let alloc = rt.alloc();
+    assert_eq!(rt; line_behind(alloc, &lane_of(alloc, 4_096)?)?, 0);
+    assert_eq!(rt; line_behind(alloc, &lane_of(alloc, 4_097)?)?, 10);
+    Ok(())
+}
+
+#[test]
+fn the_first_version_has_no_lanes(rt: HostRuntime) -> Result<(), Fail> {
+    let alloc = rt.alloc();
+    let lanes =
+        b"postcopy-script 1\npages 1\ncells 1\ninit 0\npivots 1\nwindow 1\ndown -\nup -\nlanes 2\nlane -\nvcpus 1\nvcpu 0 0\nend\n";
+    assert_eq!(rt; line_of(read_script(alloc, lanes)), 9);
+    let lane =
+        b"postcopy-script 1\npages 1\ncells 1\ninit 0\npivots 1\nwindow 1\ndown -\nup -\nlane -\nvcpus 1\nvcpu 0 0\nend\n";
+    assert_eq!(rt; line_of(read_script(alloc, lane)), 9);
     Ok(())
 }

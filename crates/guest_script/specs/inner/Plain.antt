@@ -6,11 +6,11 @@ use Rattle.std.specs.Fmt.{decimal}
 use Rattle.text_lines.specs.Text.{IsLine}
 use Rattle.text_lines.proofs.Plain.{plain_append, plain_decimal, plain_section, plain_codes}
 use Rattle.migration_events.specs.declared.events.Direction.{Direction}
-use Rattle.migration_events.specs.declared.events.Direction.TheVariants.{Down, Up}
+use Rattle.migration_events.specs.declared.events.Direction.TheVariants.{Down, Up, Lane}
 use Rattle.migration_events.specs.declared.events.Fate.{Fate}
 use Rattle.migration_events.specs.declared.events.Fate.TheVariants.{Deliver, Lose, Repeat, Back}
 use Rattle.migration_events.specs.declared.events.Event.{Event}
-use Rattle.migration_events.specs.declared.events.Event.TheVariants.{GuestStep, Halt, Push, Serve, SourceTick, LinkTurn, PagerPop, PagerFault, PagerFlush, PagerDeliver, PagerTick}
+use Rattle.migration_events.specs.declared.events.Event.TheVariants.{GuestStep, Halt, Push, Serve, SourceTick, LinkTurn, PagerPop, PagerPull, PagerFault, PagerFlush, PagerDeliver, PagerTick}
 use Rattle.guest_script.specs.Events.{events_header, events_key, closing, fate_word, link_key, guest_key, event_line, EventFits, SpellsEvents}
 
 plain_fate : (fate : Fate) → IsLine (fate_word fate)
@@ -22,6 +22,7 @@ plain_fate Back = plain_codes (fate_word Back) refl
 plain_link : (direction : Direction) → IsLine (link_key direction)
 plain_link Down = plain_codes (link_key Down) refl
 plain_link Up = plain_codes (link_key Up) refl
+plain_link Lane = plain_codes (link_key Lane) refl
 
 plain_event : (e : Event) → EventFits e → IsLine (event_line e)
 plain_event (GuestStep v) fits = plain_append guest_key (decimal v) (plain_codes guest_key refl) (plain_decimal v (omega (arith, fits)))
@@ -31,6 +32,7 @@ plain_event Serve fits = plain_codes (event_line Serve) refl
 plain_event SourceTick fits = plain_codes (event_line SourceTick) refl
 plain_event (LinkTurn direction fate) fits = plain_append (link_key direction) (fate_word fate) (plain_link direction) (plain_fate fate)
 plain_event PagerPop fits = plain_codes (event_line PagerPop) refl
+plain_event PagerPull fits = plain_codes (event_line PagerPull) refl
 plain_event PagerFault fits = plain_codes (event_line PagerFault) refl
 plain_event PagerFlush fits = plain_codes (event_line PagerFlush) refl
 plain_event PagerDeliver fits = plain_codes (event_line PagerDeliver) refl

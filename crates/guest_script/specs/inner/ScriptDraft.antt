@@ -17,6 +17,7 @@ draft_of p = record {
   window = p.window;
   down = p.down;
   up = p.up;
+  lane = p.lane;
   count = p.count;
   vcpus = p.vcpus.items;
   before = record { count = p.before_count; items = p.before.items };

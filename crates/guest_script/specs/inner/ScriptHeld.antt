@@ -1,5 +1,5 @@
 -- The lines that a reader of scripts holds, and those that may still come.
-use Rattle.std.specs.Prelude.{◌≡◌, ℕ, ◌<◌, ◌≤◌, List, [], ◌∷◌, ◌++◌, length, map}
+use Rattle.std.specs.Prelude.{◌≡◌, ℕ, ◌<◌, ◌≤◌, List, [], ◌∷◌, ◌++◌, codes, length, map, Option, None, Some}
 use Rattle.std.specs.List.{AllByRecursion}
 use Rattle.std.specs.Fmt.{decimal}
 use Rattle.text_lines.specs.Counted.{Part}
@@ -16,9 +16,9 @@ use Rattle.session_log.specs.inner.Held.{InitFits}
 use Rattle.session_log.specs.inner.InitPages.{next_from}
 use Rattle.guest_script.specs.declared.vcpus.Vcpu.{Vcpu}
 use Rattle.guest_script.specs.declared.stages.ScriptStage.{ScriptStage}
-use Rattle.guest_script.specs.declared.stages.ScriptStage.TheVariants.{Header, Pages, Cells, InitCount, Init, Window, Down, Up, Lanes, Count, First, Ops, Done}
-use Rattle.guest_script.specs.Scenarios.{Scenario, VcpuFits, IsScenario}
-use Rattle.guest_script.specs.Scripts.{script_header, pivots_key, window_key, down_key, up_key, vcpus_key, fates_text, op_line, counts_line, vcpus_onto, vcpus_lines, with_lanes, lanes_lines, up_lines, down_lines, window_lines, pivots_lines, init_lines, cells_lines, pages_lines, SpellsScript}
+use Rattle.guest_script.specs.declared.stages.ScriptStage.TheVariants.{Header, Pages, Cells, InitCount, Init, Window, Down, Up, Lanes, Lane, Count, First, Ops, Done}
+use Rattle.guest_script.specs.Scenarios.{Scenario, LaneFits, VcpuFits, IsScenario}
+use Rattle.guest_script.specs.Scripts.{script_header, pivots_key, window_key, down_key, up_key, vcpus_key, fates_text, op_line, counts_line, vcpus_onto, vcpus_lines, lane_key, with_lanes, lanes_lines, up_lines, down_lines, window_lines, pivots_lines, init_lines, cells_lines, pages_lines, SpellsScript}
 use Rattle.guest_script.specs.inner.Exact.{Exact}
 
 -- what came so far
@@ -30,6 +30,7 @@ pub record Draft : Type 0 where
   pub window : ℕ
   pub down : List Fate
   pub up : List Fate
+  pub lane : Option (List Fate)
   pub count : ℕ
   pub vcpus : List Vcpu
   pub before : Part Op
@@ -37,7 +38,7 @@ pub record Draft : Type 0 where
 
 -- the script, where all of it came
 abbrev pub scenario_of : Draft → Scenario
-scenario_of d = record { version = d.version; geometry = d.geometry; init = d.init.items; pivots = d.pivots; window = d.window; down = d.down; up = d.up; vcpus = d.vcpus }
+scenario_of d = record { version = d.version; geometry = d.geometry; init = d.init.items; pivots = d.pivots; window = d.window; down = d.down; up = d.up; lane = d.lane; vcpus = d.vcpus }
 
 -- ---- the lines so far
 
@@ -57,7 +58,7 @@ abbrev pub held_up : Draft → List (List ℕ)
 held_up d = held_down d ++ (up_key ++ fates_text d.up) ∷ []
 
 abbrev pub held_lanes : Draft → List (List ℕ)
-held_lanes d = held_up d ++ with_lanes d.version []
+held_lanes d = held_up d ++ with_lanes d.version d.lane []
 
 abbrev pub held_vcpus : Draft → List (List ℕ)
 held_vcpus d = (held_lanes d ++ (vcpus_key ++ decimal d.count) ∷ []) ++ vcpus_onto d.vcpus []
@@ -75,6 +76,7 @@ script_held Window d = held_pivots d
 script_held Down d = held_window d
 script_held Up d = held_down d
 script_held Lanes d = held_up d
+script_held Lane d = held_up d ++ codes "lanes 2" ∷ []
 script_held Count d = held_lanes d
 script_held First d = held_vcpus d
 script_held Ops d = held_ops d
@@ -97,6 +99,17 @@ AgreesDown d v = AgreesWindow d v × (v.down ≡ d.down)
 abbrev pub AgreesUp : Draft → Scenario → Type 0
 AgreesUp d v = AgreesDown d v × (v.up ≡ d.up)
 
+abbrev pub AgreesLane : Draft → Scenario → Type 0
+AgreesLane d v = AgreesUp d v × (v.lane ≡ d.lane)
+
+-- there is a lane, whose fates are still to come, and these lines with them
+pub record LaneLeft (d : Draft) (v : Scenario) (more : List (List ℕ)) : Type 0 where
+  pub fits : IsScenario v
+  pub agrees : AgreesUp d v
+  pub fates : List Fate
+  pub lane : v.lane ≡ Some fates
+  pub lines : more ≡ (lane_key ++ fates_text fates) ∷ vcpus_lines v
+
 -- the initial pages so far go on to these, and these lines with them
 pub record InitLeft (d : Draft) (v : Scenario) (more : List (List ℕ)) : Type 0 where
   pub fits : IsScenario v
@@ -114,7 +127,7 @@ vcpu_of before after = record { before_move = before; after_move = after }
 -- the operations so far go on to these, and these lines with them
 pub record OpsLeft (d : Draft) (v : Scenario) (more : List (List ℕ)) : Type 0 where
   pub fits : IsScenario v
-  pub agrees : AgreesUp d v
+  pub agrees : AgreesLane d v
   pub count : length v.vcpus ≡ d.count
   pub befores : List Op
   pub afters : List Op
@@ -134,10 +147,11 @@ ScriptRest Window d v more = IsScenario v × AgreesPivots d v × (more ≡ windo
 ScriptRest Down d v more = IsScenario v × AgreesWindow d v × (more ≡ down_lines v)
 ScriptRest Up d v more = IsScenario v × AgreesDown d v × (more ≡ up_lines v)
 ScriptRest Lanes d v more = IsScenario v × AgreesUp d v × (more ≡ lanes_lines v)
-ScriptRest Count d v more = IsScenario v × AgreesUp d v × (more ≡ vcpus_lines v)
-ScriptRest First d v more = IsScenario v × AgreesUp d v × (length v.vcpus ≡ d.count) × (more ≡ vcpus_onto v.vcpus (closing ∷ []))
+ScriptRest Lane d v more = LaneLeft d v more
+ScriptRest Count d v more = IsScenario v × AgreesLane d v × (more ≡ vcpus_lines v)
+ScriptRest First d v more = IsScenario v × AgreesLane d v × (length v.vcpus ≡ d.count) × (more ≡ vcpus_onto v.vcpus (closing ∷ []))
 ScriptRest Ops d v more = OpsLeft d v more
-ScriptRest Done d v more = IsScenario v × AgreesUp d v × (v.vcpus ≡ d.vcpus) × (more ≡ [])
+ScriptRest Done d v more = IsScenario v × AgreesLane d v × (v.vcpus ≡ d.vcpus) × (more ≡ [])
 
 -- ---- what holds of what came
 
@@ -163,8 +177,12 @@ pub record FitsUp (d : Draft) : Type 0 where
   pub before : FitsDown d
   pub few : length d.up ≤ 4096
 
-pub record FitsCount (d : Draft) : Type 0 where
+pub record FitsLane (d : Draft) : Type 0 where
   pub before : FitsUp d
+  pub lane : LaneFits d.version d.lane
+
+pub record FitsCount (d : Draft) : Type 0 where
+  pub before : FitsLane d
   pub some : 1 ≤ d.count
   pub few : d.count ≤ 64
   pub vcpus : AllByRecursion (VcpuFits d.version d.geometry) d.vcpus
@@ -189,8 +207,9 @@ ScriptFits Init d = InitPart d
 ScriptFits Window d = FitsPivots d
 ScriptFits Down d = FitsWindow d
 ScriptFits Up d = FitsDown d
-ScriptFits Lanes d = FitsUp d × (d.version ≡ Two)
-ScriptFits Count d = FitsUp d
+ScriptFits Lanes d = FitsUp d × (d.version ≡ Two) × (d.lane ≡ None)
+ScriptFits Lane d = FitsUp d × (d.version ≡ Two)
+ScriptFits Count d = FitsLane d
 ScriptFits First d = FitsCount d × (d.vcpus ≡ [])
 ScriptFits Ops d = FitsOps d
 ScriptFits Done d = FitsCount d × (length d.vcpus ≡ d.count)

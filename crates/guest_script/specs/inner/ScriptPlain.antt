@@ -1,5 +1,5 @@
 -- No line of a script's text has a line feed.
-use Rattle.std.specs.Prelude.{ℕ, List, [], ◌∷◌, ◌++◌, length, map, refl, codes}
+use Rattle.std.specs.Prelude.{ℕ, List, [], ◌∷◌, ◌++◌, length, map, refl, codes, Option, Some, None}
 use Rattle.std.proofs.Common.{arith, subst, sym}
 use Rattle.std.specs.List.{AllByRecursion}
 use Rattle.std.specs.Fmt.{decimal}
@@ -20,15 +20,11 @@ use Rattle.session_log.specs.inner.Plain.{plain_page}
 use Rattle.session_log.specs.inner.RecordPlain.{plain_keyed, plain_number}
 use Rattle.guest_script.specs.declared.vcpus.Vcpu.{Vcpu}
 use Rattle.guest_script.specs.Scenarios.{Scenario, VcpuFits}
-use Rattle.guest_script.specs.Scripts.{script_header, pivots_key, window_key, down_key, up_key, vcpus_key, vcpu_key, fate_letter, fates_text, place_text, value_text, op_line, vcpus_onto, vcpus_lines, with_lanes, lanes_lines, up_lines, down_lines, window_lines, pivots_lines, init_lines, SpellsScript}
+use Rattle.guest_script.specs.Scripts.{script_header, pivots_key, window_key, down_key, up_key, lane_key, vcpus_key, vcpu_key, fate_letter, fates_text, place_text, value_text, op_line, vcpus_onto, vcpus_lines, with_lanes, lanes_lines, up_lines, down_lines, window_lines, pivots_lines, init_lines, SpellsScript}
 
 plain_header : (version : Version) → IsLine (script_header version)
 plain_header One = plain_codes (script_header One) refl
 plain_header Two = plain_codes (script_header Two) refl
-
-plain_lanes : (version : Version) (more : List (List ℕ)) → AllByRecursion IsLine more → AllByRecursion IsLine (with_lanes version more)
-plain_lanes One more rest = rest
-plain_lanes Two more rest = (plain_codes (codes "lanes 1") refl, rest)
 
 plain_letters : (fates : List Fate) → IsLine (map fate_letter fates)
 plain_letters [] = tt
@@ -40,6 +36,11 @@ plain_letters (Back ∷ fates) = ((λ e. absurd (omega arith)), plain_letters fa
 plain_fates : (fates : List Fate) → IsLine (fates_text fates)
 plain_fates [] = plain_codes (fates_text []) refl
 plain_fates (fate ∷ fates) = plain_letters (fate ∷ fates)
+
+plain_lanes : (version : Version) (lane : Option (List Fate)) (more : List (List ℕ)) → AllByRecursion IsLine more → AllByRecursion IsLine (with_lanes version lane more)
+plain_lanes One lane more rest = rest
+plain_lanes Two None more rest = (plain_codes (codes "lanes 1") refl, rest)
+plain_lanes Two (Some fates) more rest = (plain_codes (codes "lanes 2") refl, (plain_append lane_key (fates_text fates) (plain_codes lane_key refl) (plain_fates fates), rest))
 
 module _ (e : Extent) (h : IsExtent e) where
   plain_op : (op : Op) → OpFits e op → IsLine (op_line op)
@@ -75,7 +76,7 @@ plain_script v lines s =
     let high = rises.1 in
     let long = rise_long 0 rises.0 v.init rises.2 in
     let vcpus : AllByRecursion IsLine (vcpus_lines v) = (plain_keyed vcpus_key (length v.vcpus) (plain_codes vcpus_key refl) (omega arith), plain_vcpus e f.geometry v.version v.vcpus (closing ∷ []) f.vcpus (plain_codes closing refl, tt)) in
-    let lanes : AllByRecursion IsLine (lanes_lines v) = plain_lanes v.version (vcpus_lines v) vcpus in
+    let lanes : AllByRecursion IsLine (lanes_lines v) = plain_lanes v.version v.lane (vcpus_lines v) vcpus in
     let up : AllByRecursion IsLine (up_lines v) = (plain_append up_key (fates_text v.up) (plain_codes up_key refl) (plain_fates v.up), lanes) in
     let down : AllByRecursion IsLine (down_lines v) = (plain_append down_key (fates_text v.down) (plain_codes down_key refl) (plain_fates v.down), up) in
     let window : AllByRecursion IsLine (window_lines v) = (plain_keyed window_key v.window (plain_codes window_key refl) (omega arith), down) in
