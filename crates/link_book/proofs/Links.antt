@@ -1,83 +1,94 @@
 -- Each arrival has its record, after each call.
-use Rattle.std.proofs.Common.{◌≡◌, Bool, true, false, cond, Some, ◌<◌, ◌≤◌, List, [], ◌∷◌, ◌++◌, length, Result, Ok, Err, OnOk, OnErr, refl, sym, ap, ◌∙◌, subst}
+use Rattle.std.proofs.Common.{◌≡◌, ℕ, Bool, true, false, cond, Option, Some, None, ◌<◌, ◌≤◌, List, [], ◌∷◌, ◌++◌, length, sym, ap, ◌∙◌, subst, length-append, arith}
 use Rattle.std.specs.Prelude.{slice_get}
 use Rattle.std.specs.List.{AllByRecursion}
 use Rattle.std.proofs.lemmas.Option.{slice_get_within}
 use Rattle.migration_types.specs.Limits.{most_records}
-use Rattle.migration_types.specs.declared.records.LinkRec.{LinkRec}
+use Rattle.migration_types.specs.declared.records.LinkRec.TheVariants.{Down, Up}
+use Rattle.migration_types.specs.declared.records.LaneRec.TheVariants.{Down as LaneDown}
 use Rattle.migration_events.specs.declared.events.Fate.{Fate}
 use Rattle.migration_events.specs.declared.events.Fate.TheVariants.{Deliver, Lose, Repeat, Back}
 use Rattle.migration_events.specs.declared.events.Direction.{Direction}
-use Rattle.migration_events.specs.declared.events.Direction.TheVariants.{Down as Downward, Up as Upward}
+use Rattle.migration_events.specs.declared.events.Direction.TheVariants.{Down as Downward, Up as Upward, Lane as OverLane}
 use Rattle.page_stream.specs.declared.Packet.{Packet}
 use Rattle.page_stream.specs.Packets.{number_of}
 use Rattle.link_book.specs.declared.Arrival.{Arrival}
-use Rattle.link_book.specs.LinkPart.{LinkPart, Lane, lane_of, with_lane, goes, record_of, fate_of, lane_turned, turned}
-use Rattle.link_book.specs.Links.{IsRecorded, IsLink, arrival}
+use Rattle.link_book.specs.LinkPart.{LinkPart, Way, Outcome, goes, fate_of, way_turned, with_arrival, turned, log_length}
+use Rattle.link_book.specs.Links.{IsRecorded, IsLink, arrival, way}
 use Rattle.link_book.proofs.Lists.{get_old, get_new}
 
--- the records stay where they are
-still : (d : Direction) (log more : List LinkRec) (xs : List Arrival) → AllByRecursion (IsRecorded d log) xs → AllByRecursion (IsRecorded d (log ++ more)) xs
-still d log more [] h = tt
-still d log more (x ∷ xs) h = (get_old log more x.number (record_of d (number_of x.packet)) h.0, still d log more xs h.1)
+-- the records of a way's arrivals stay where they are when the log gains another
+still : {R : Type 0} (names new : ℕ → R) (came : Option ℕ) (log : List R) (xs : List Arrival) → AllByRecursion (IsRecorded names log) xs → AllByRecursion (IsRecorded names (with_arrival new came log)) xs
+still names new None log xs h = h
+still names new (Some n) log [] h = tt
+still names new (Some n) log (x ∷ xs) h = (get_old log (new n ∷ []) x.number (names (number_of x.packet)) h.0, still names new (Some n) log xs h.1)
 
-with_new : (d : Direction) (log : List LinkRec) (p : Packet) (xs : List Arrival) → AllByRecursion (IsRecorded d log) xs → AllByRecursion (IsRecorded d (log ++ record_of d (number_of p) ∷ [])) (xs ++ arrival (length log) p ∷ [])
-with_new d log p [] h = (get_new log (record_of d (number_of p)), tt)
-with_new d log p (x ∷ xs) h = (get_old log (record_of d (number_of p) ∷ []) x.number (record_of d (number_of x.packet)) h.0, with_new d log p xs h.1)
+-- a packet that comes has its record
+with_new : {R : Type 0} (names : ℕ → R) (log : List R) (p : Packet) (xs : List Arrival) → AllByRecursion (IsRecorded names log) xs → AllByRecursion (IsRecorded names (log ++ names (number_of p) ∷ [])) (xs ++ arrival (length log) p ∷ [])
+with_new names log p [] h = (get_new log (names (number_of p)), tt)
+with_new names log p (x ∷ xs) h = (get_old log (names (number_of p) ∷ []) x.number (names (number_of x.packet)) h.0, with_new names log p xs h.1)
 
--- the arrivals of the lane that is turned, and of the other
-lane_keeps : (d : Direction) (fate : Fate) (line : List Packet) (l : Lane) → AllByRecursion (IsRecorded d l.log) l.arrivals → AllByRecursion (IsRecorded d (lane_turned d fate line l).log) (lane_turned d fate line l).arrivals
-lane_keeps d fate [] l h = h
-lane_keeps d fate (p ∷ rest) l h = go (goes d p) fate
+-- the arrivals of the way that is turned
+keeps : {R : Type 0} (names : ℕ → R) (right : Packet → Bool) (fate : Fate) (log : List R) (line : List Packet) (xs : List Arrival) → AllByRecursion (IsRecorded names log) xs
+    → AllByRecursion (IsRecorded names (with_arrival names (way_turned right fate (length log) line xs).came log)) (way_turned right fate (length log) line xs).way.arrivals
+keeps names right fate log [] xs h = h
+keeps {R} names right fate log (p ∷ rest) xs h = go (right p) fate
   where
-    go : (b : Bool) (fate : Fate) → AllByRecursion (IsRecorded d (cond b (fate_of fate d p (record l { line = rest })) (record l { line = rest })).log) (cond b (fate_of fate d p (record l { line = rest })) (record l { line = rest })).arrivals
+    outcome : Bool → Fate → Outcome
+    outcome b fate = cond b (fate_of fate (length log) p (way rest xs)) (record { way = way rest xs; came = None })
+
+    go : (b : Bool) (fate : Fate) → AllByRecursion (IsRecorded names (with_arrival names (outcome b fate).came log)) (outcome b fate).way.arrivals
     go false fate = h
-    go true Deliver = with_new d l.log p l.arrivals h
+    go true Deliver = with_new names log p xs h
     go true Lose = h
-    go true Repeat = with_new d l.log p l.arrivals h
+    go true Repeat = with_new names log p xs h
     go true Back = h
 
-others_keep : (e d : Direction) (fate : Fate) (line : List Packet) (l : Lane) (xs : List Arrival) → AllByRecursion (IsRecorded e l.log) xs → AllByRecursion (IsRecorded e (lane_turned d fate line l).log) xs
-others_keep e d fate [] l xs h = h
-others_keep e d fate (p ∷ rest) l xs h = go (goes d p) fate
-  where
-    go : (b : Bool) (fate : Fate) → AllByRecursion (IsRecorded e (cond b (fate_of fate d p (record l { line = rest })) (record l { line = rest })).log) xs
-    go false fate = h
-    go true Deliver = still e l.log (record_of d (number_of p) ∷ []) xs h
-    go true Lose = h
-    go true Repeat = still e l.log (record_of d (number_of p) ∷ []) xs h
-    go true Back = h
-
-turned_keeps : (d : Direction) (fate : Fate) (b : LinkPart) → IsLink b → length (lane_turned d fate (lane_of d b).line (lane_of d b)).log ≤ most_records → IsLink (turned d fate b)
+turned_keeps : (d : Direction) (fate : Fate) (b : LinkPart) → IsLink b → log_length d (turned d fate b) ≤ most_records → IsLink (turned d fate b)
 turned_keeps Downward fate b h short = record {
   short = short;
-  down = lane_keeps Downward fate b.down (lane_of Downward b) h.down;
-  up = others_keep Upward Downward fate b.down (lane_of Downward b) b.up_arrivals h.up;
+  short_lane = h.short_lane;
+  down = keeps Down (goes Downward) fate b.log b.down b.down_arrivals h.down;
+  up = still Up Down (way_turned (goes Downward) fate (length b.log) b.down b.down_arrivals).came b.log b.up_arrivals h.up;
+  lane = h.lane;
 }
 turned_keeps Upward fate b h short = record {
   short = short;
-  down = others_keep Downward Upward fate b.up (lane_of Upward b) b.down_arrivals h.down;
-  up = lane_keeps Upward fate b.up (lane_of Upward b) h.up;
+  short_lane = h.short_lane;
+  down = still Down Up (way_turned (goes Upward) fate (length b.log) b.up b.up_arrivals).came b.log b.down_arrivals h.down;
+  up = keeps Up (goes Upward) fate b.log b.up b.up_arrivals h.up;
+  lane = h.lane;
+}
+turned_keeps OverLane fate b h short = record {
+  short = h.short;
+  short_lane = short;
+  down = h.down;
+  up = h.up;
+  lane = keeps LaneDown (goes OverLane) fate b.lane_log b.lane b.lane_arrivals h.lane;
 }
 
-same_lane : (d : Direction) (b : LinkPart) → with_lane d (lane_of d b) b ≡ b
-same_lane Downward b = refl
-same_lane Upward b = refl
+grows : {R : Type 0} (names : ℕ → R) (came : Option ℕ) (log : List R) → length log < most_records → length (with_arrival names came log) ≤ most_records
+grows names None log h = omega arith
+grows names (Some n) log h = simp length-append (omega arith)
 
--- a lane after a turn that was taken or refused
-pub turn_keeps : {A E : Type 0} (r : Result A E) (d : Direction) (fate : Fate) (b : LinkPart) (after : Lane) → IsLink b → length after.log ≤ most_records
-    → OnOk r (after ≡ lane_turned d fate (lane_of d b).line (lane_of d b))
-    → OnErr r ((after.log ≡ (lane_of d b).log) × (after.line ≡ (lane_of d b).line) × (after.arrivals ≡ (lane_of d b).arrivals))
-    → IsLink (with_lane d after b)
-turn_keeps (Ok x) d fate b after h short taken refused =
-    subst (λ l. IsLink (with_lane d l b)) (sym taken) (turned_keeps d fate b h (subst (λ (l : Lane). length l.log ≤ most_records) taken short))
-turn_keeps (Err e) d fate b after h short taken refused =
-    let same : after ≡ lane_of d b = λ i. record { log = refused.0 i; line = refused.1 i; arrivals = refused.2 i } in
-    subst IsLink (sym (ap (λ l. with_lane d l b) same ∙ same_lane d b)) h
+has_place : (d : Direction) (fate : Fate) (b : LinkPart) → log_length d b < most_records → log_length d (turned d fate b) ≤ most_records
+has_place Downward fate b h = grows Down _ b.log h
+has_place Upward fate b h = grows Up _ b.log h
+has_place OverLane fate b h = grows LaneDown _ b.lane_log h
+
+-- the book after a turn, where the log had a place
+pub turn_keeps : (d : Direction) (fate : Fate) (b after : LinkPart) → IsLink b → log_length d b < most_records → after ≡ turned d fate b → IsLink after
+turn_keeps d fate b after h place same = subst IsLink (sym same) (turned_keeps d fate b h (has_place d fate b place))
+
+-- the log has gained the record of the packet that came
+pub gained : {R : Type 0} (names : ℕ → R) (log same now : List R) (number : ℕ) (came : Option ℕ) (w : Way) (o : Outcome) → record { way = w; came = came } ≡ o → came ≡ Some number → same ≡ log
+    → now ≡ same ++ names number ∷ [] → now ≡ with_arrival names o.came log
+gained names log same now number came w o ok is still grown =
+    grown ∙ ap (λ l. l ++ names number ∷ []) still ∙ ap (λ c. with_arrival names c log) (sym is ∙ ap (λ (p : Outcome). p.came) ok)
 
 -- the oldest arrival's number is within the log
-pub oldest_within : (d : Direction) (log : List LinkRec) (xs : List Arrival) (x : Arrival) → AllByRecursion (IsRecorded d log) xs → slice_get xs 0 ≡ Some x → x.number < length log
-oldest_within d log [] x h is = absurd (cc)
-oldest_within d log (y ∷ xs) x h is =
+pub oldest_within : {R : Type 0} (names : ℕ → R) (log : List R) (xs : List Arrival) (x : Arrival) → AllByRecursion (IsRecorded names log) xs → slice_get xs 0 ≡ Some x → x.number < length log
+oldest_within names log [] x h is = absurd (cc)
+oldest_within names log (y ∷ xs) x h is =
     let same : y ≡ x = cc in
-    subst (λ (z : Arrival). z.number < length log) same (slice_get_within log y.number (record_of d (number_of y.packet)) h.0)
+    subst (λ (z : Arrival). z.number < length log) same (slice_get_within log y.number (names (number_of y.packet)) h.0)

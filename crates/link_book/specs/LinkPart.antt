@@ -1,26 +1,31 @@
--- The link's book, and its part of each event.
+-- The links' book, and its part of each event.
 use Rattle.std.specs.Prelude.{ℕ, List, [], ◌∷◌, ◌++◌, length, Bool, Option, Some, None, if◌then◌else◌}
 use Rattle.migration_types.specs.declared.records.LinkRec.{LinkRec}
 use Rattle.migration_types.specs.declared.records.LinkRec.TheVariants.{Down, Up}
+use Rattle.migration_types.specs.declared.records.LaneRec.{LaneRec}
+use Rattle.migration_types.specs.declared.records.LaneRec.TheVariants.{Down as LaneDown}
 use Rattle.link_book.specs.declared.Arrival.{Arrival}
 use Rattle.migration_events.specs.declared.events.Fate.{Fate}
 use Rattle.migration_events.specs.declared.events.Fate.TheVariants.{Deliver, Lose, Repeat, Back}
 use Rattle.migration_events.specs.declared.events.Direction.{Direction}
-use Rattle.migration_events.specs.declared.events.Direction.TheVariants.{Down as Downward, Up as Upward}
+use Rattle.migration_events.specs.declared.events.Direction.TheVariants.{Down as Downward, Up as Upward, Lane as OverLane}
 use Rattle.page_stream.specs.declared.Packet.{Packet}
 use Rattle.page_stream.specs.Packets.{number_of, is_of_source, is_of_pager}
 
--- the link's log, the packets under way in each direction, and those that have arrived
+-- the logs of the link and of the lane, the packets under way each way, and those that have arrived
 pub record LinkPart : Type 0 where
   pub log : List LinkRec
+  pub lane_log : List LaneRec
   pub down : List Packet
   pub up : List Packet
+  pub lane : List Packet
   pub down_arrivals : List Arrival
   pub up_arrivals : List Arrival
+  pub lane_arrivals : List Arrival
 
 -- nothing was sent
 abbrev pub new_link : LinkPart
-new_link = record { log = []; down = []; up = []; down_arrivals = []; up_arrivals = [] }
+new_link = record { log = []; lane_log = []; down = []; up = []; lane = []; down_arrivals = []; up_arrivals = []; lane_arrivals = [] }
 
 -- a packet is offered behind the others of its line, or before them
 abbrev pub with_back : Packet → LinkPart → LinkPart
@@ -32,57 +37,84 @@ with_front packet b = record b { down = packet ∷ b.down }
 abbrev pub with_up : Packet → LinkPart → LinkPart
 with_up packet b = record b { up = b.up ++ packet ∷ [] }
 
+abbrev pub with_lane : Packet → LinkPart → LinkPart
+with_lane packet b = record b { lane = b.lane ++ packet ∷ [] }
+
 -- the same, if there is a packet
 abbrev pub if_packet : (Packet → LinkPart → LinkPart) → Option Packet → LinkPart → LinkPart
 if_packet offer None b = b
 if_packet offer (Some packet) b = offer packet b
 
--- one direction of the link: its log, the packets under way, and those that have arrived
-pub record Lane : Type 0 where
-  pub log : List LinkRec
+-- what pushed pages are offered on: the lane, where there is one, or else the link
+abbrev pub pushed_line : Bool → LinkPart → List Packet
+pushed_line has_lane b = if has_lane then b.lane else b.down
+
+abbrev pub with_pushed : Bool → Packet → LinkPart → LinkPart
+with_pushed has_lane packet b = if has_lane then with_lane packet b else with_back packet b
+
+-- a way over a link: the packets under way, and those that have arrived
+pub record Way : Type 0 where
   pub line : List Packet
   pub arrivals : List Arrival
 
-abbrev pub lane_of : Direction → LinkPart → Lane
-lane_of Downward b = record { log = b.log; line = b.down; arrivals = b.down_arrivals }
-lane_of Upward b = record { log = b.log; line = b.up; arrivals = b.up_arrivals }
+-- what a turn makes of a way, and the number of the packet that arrives, if one does
+pub record Outcome : Type 0 where
+  pub way : Way
+  pub came : Option ℕ
 
-abbrev pub with_lane : Direction → Lane → LinkPart → LinkPart
-with_lane Downward lane b = record b { log = lane.log; down = lane.line; down_arrivals = lane.arrivals }
-with_lane Upward lane b = record b { log = lane.log; up = lane.line; up_arrivals = lane.arrivals }
-
--- whether a packet goes this way
-abbrev pub goes : Direction → Packet → Bool
-goes Downward packet = is_of_source packet
-goes Upward packet = is_of_pager packet
-
--- the link's record that a packet with this number has arrived
-abbrev pub record_of : Direction → ℕ → LinkRec
-record_of Downward number = Down number
-record_of Upward number = Up number
-
--- a packet arrives, and the next record says so
-abbrev pub arrived : Direction → Packet → Lane → Lane
-arrived direction packet lane = record lane {
-  log = lane.log ++ record_of direction (number_of packet) ∷ [];
-  arrivals = lane.arrivals ++ (record { number = length lane.log; packet = packet }) ∷ [];
-}
+-- a packet arrives, and the log's record with this number says so
+abbrev pub arrived : ℕ → Packet → Way → Way
+arrived number packet way = record way { arrivals = way.arrivals ++ (record { number = number; packet = packet }) ∷ [] }
 
 -- it is put behind the others of the line
-abbrev pub behind : Packet → Lane → Lane
-behind packet lane = record lane { line = lane.line ++ packet ∷ [] }
+abbrev pub behind : Packet → Way → Way
+behind packet way = record way { line = way.line ++ packet ∷ [] }
 
-abbrev pub fate_of : Fate → Direction → Packet → Lane → Lane
-fate_of Deliver direction packet lane = arrived direction packet lane
-fate_of Lose direction packet lane = lane
-fate_of Repeat direction packet lane = behind packet (arrived direction packet lane)
-fate_of Back direction packet lane = behind packet lane
+abbrev pub fate_of : Fate → ℕ → Packet → Way → Outcome
+fate_of Deliver number packet way = record { way = arrived number packet way; came = Some (number_of packet) }
+fate_of Lose number packet way = record { way = way; came = None }
+fate_of Repeat number packet way = record { way = behind packet (arrived number packet way); came = Some (number_of packet) }
+fate_of Back number packet way = record { way = behind packet way; came = None }
+
+-- which packets go a way
+abbrev pub goes : Direction → Packet → Bool
+goes Downward = is_of_source
+goes Upward = is_of_pager
+goes OverLane = is_of_source
 
 -- a turn of a line: its head is taken; one that does not go this way is dropped
-abbrev pub lane_turned : Direction → Fate → List Packet → Lane → Lane
-lane_turned direction fate [] lane = lane
-lane_turned direction fate (packet ∷ rest) lane =
-    if goes direction packet then fate_of fate direction packet (record lane { line = rest }) else record lane { line = rest }
+abbrev pub way_turned : (Packet → Bool) → Fate → ℕ → List Packet → List Arrival → Outcome
+way_turned is_right fate number [] arrivals = record { way = record { line = []; arrivals = arrivals }; came = None }
+way_turned is_right fate number (packet ∷ rest) arrivals =
+    if is_right packet then fate_of fate number packet (record { line = rest; arrivals = arrivals })
+    else record { way = record { line = rest; arrivals = arrivals }; came = None }
+
+-- the log says of the packet with this number that it has arrived
+abbrev pub with_arrival : {R : Type 0} → (ℕ → R) → Option ℕ → List R → List R
+with_arrival names None log = log
+with_arrival names (Some number) log = log ++ names number ∷ []
+
+abbrev pub went_down : Outcome → LinkPart → LinkPart
+went_down o b = record b { log = with_arrival Down o.came b.log; down = o.way.line; down_arrivals = o.way.arrivals }
+
+abbrev pub went_up : Outcome → LinkPart → LinkPart
+went_up o b = record b { log = with_arrival Up o.came b.log; up = o.way.line; up_arrivals = o.way.arrivals }
+
+abbrev pub went_over_lane : Outcome → LinkPart → LinkPart
+went_over_lane o b = record b { lane_log = with_arrival LaneDown o.came b.lane_log; lane = o.way.line; lane_arrivals = o.way.arrivals }
 
 abbrev pub turned : Direction → Fate → LinkPart → LinkPart
-turned direction fate b = with_lane direction (lane_turned direction fate (lane_of direction b).line (lane_of direction b)) b
+turned Downward fate b = went_down (way_turned (goes Downward) fate (length b.log) b.down b.down_arrivals) b
+turned Upward fate b = went_up (way_turned (goes Upward) fate (length b.log) b.up b.up_arrivals) b
+turned OverLane fate b = went_over_lane (way_turned (goes OverLane) fate (length b.lane_log) b.lane b.lane_arrivals) b
+
+-- the packets under way in a direction, and the length of the log that says of them that they have arrived
+abbrev pub line_of : Direction → LinkPart → List Packet
+line_of Downward b = b.down
+line_of Upward b = b.up
+line_of OverLane b = b.lane
+
+abbrev pub log_length : Direction → LinkPart → ℕ
+log_length Downward b = length b.log
+log_length Upward b = length b.log
+log_length OverLane b = length b.lane_log

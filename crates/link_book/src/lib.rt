@@ -1,4 +1,4 @@
-//! The lines of packets under way, those that have arrived, and the link's log.
+//! The lines of packets under way, those that have arrived, and the logs of the link and of the lane.
 #![tactic(auto)]
 
 ghost use Rattle.std.specs.Prelude.{◌≡◌, ◌<◌, true, false, None, length, slice_get, drop, if◌then◌else◌, IfSome, IsTrue, OnOk, OnErr, IsErrOf};
@@ -8,43 +8,49 @@ mod arrivals;
 mod turns;
 
 use migration_events::{Direction, Fate};
-use migration_types::LinkRec;
+use migration_types::{LaneRec, LinkRec};
 use page_stream::Packet;
 use std::alloc::{AllocError, Global};
 use std::collections::VecDeque;
 use std::marker::Model;
 use thiserror::Error;
+use turns::turn_line;
 
-/// A packet that has arrived, with the number of the link's record that says so.
+/// A packet that has arrived, with the number of the record that says so, of the lane's log where it came over the lane
+/// and else of the link's.
 #[derive(Drop)]
 pub struct Arrival {
     pub number: u32,
     pub packet: Packet,
 }
 
-/// Why the link refused a turn. The book is then as it was.
+/// Why a turn was refused. The book is then as it was.
 #[derive(Clone, Copy, Debug, PartialEq, Eq, Error)]
 pub enum LinkFault {
     /// The log has no room for the record that the packet has arrived.
-    #[error("the link's log is full")]
+    #[error("the log of a link is full")]
     LogFull,
     /// Memory was refused.
     #[error("out of memory")]
     Memory,
 }
 
-/// The link's book: for each direction a line of packets under way, oldest first, and those that have arrived, oldest
-/// first; and the log of arrivals, of at most 1,048,576 records.
-/// The number of each arrival is that of the record that it came. An offer needs room that was made for it before, and
-/// uses it up. Contracts see the lists, and whether there is such room.
+/// The book of the link, which carries packets down and up, and of the lane, a second link down: for each way a line of
+/// packets under way, oldest first, and those that have arrived, oldest first; and for the link and for the lane a log
+/// of arrivals, of at most 1,048,576 records each. The number of each arrival is that of the record that it came. An
+/// offer needs room that was made for it before, and uses it up. Contracts see the lists, and whether there is such
+/// room.
 #[derive(Drop)]
 pub struct LinkBook {
     alloc: Global,
     log: Vec<LinkRec>,
+    lane_log: Vec<LaneRec>,
     down: VecDeque<Packet>,
     up: VecDeque<Packet>,
+    lane: VecDeque<Packet>,
     down_arrivals: VecDeque<Arrival>,
     up_arrivals: VecDeque<Arrival>,
+    lane_arrivals: VecDeque<Arrival>,
     /// Whether each line has a place to spare, which no offer has used.
     has_room: bool,
 }
@@ -56,14 +62,14 @@ impl Model for LinkBook {
 
     ghost Value = { Linked };
 
-    ghost view = { λ b. record { part = record { log = b.log.items; down = b.down.items; up = b.up.items; down_arrivals = b.down_arrivals.items; up_arrivals = b.up_arrivals.items }; has_room = b.has_room } };
+    ghost view = { λ b. record { part = record { log = b.log.items; lane_log = b.lane_log.items; down = b.down.items; up = b.up.items; lane = b.lane.items; down_arrivals = b.down_arrivals.items; up_arrivals = b.up_arrivals.items; lane_arrivals = b.lane_arrivals.items }; has_room = b.has_room } };
 
-    ghost invariant = { λ b. IsLink (record { log = b.log.items; down = b.down.items; up = b.up.items; down_arrivals = b.down_arrivals.items; up_arrivals = b.up_arrivals.items })
-        × (IsTrue b.has_room → (deque_len b.down < deque_capacity b.down) × (deque_len b.up < deque_capacity b.up)) };
+    ghost invariant = { λ b. IsLink (record { log = b.log.items; lane_log = b.lane_log.items; down = b.down.items; up = b.up.items; lane = b.lane.items; down_arrivals = b.down_arrivals.items; up_arrivals = b.up_arrivals.items; lane_arrivals = b.lane_arrivals.items })
+        × (IsTrue b.has_room → (deque_len b.down < deque_capacity b.down) × (deque_len b.up < deque_capacity b.up) × (deque_len b.lane < deque_capacity b.lane)) };
 }
 
 impl LinkBook {
-    ghost use Rattle.link_book.specs.LinkPart.{new_link, with_back, with_front, with_up, lane_of, turned};
+    ghost use Rattle.link_book.specs.LinkPart.{new_link, with_back, with_front, with_up, with_lane, line_of, log_length, turned};
     ghost use Rattle.link_book.specs.Links.{IsLink, arrival, is_quiet};
 
     /// Nothing was sent, and no room was made. Takes no memory.
@@ -73,10 +79,13 @@ impl LinkBook {
         LinkBook {
             alloc,
             log: Vec::new(alloc),
+            lane_log: Vec::new(alloc),
             down: VecDeque::new(alloc),
             up: VecDeque::new(alloc),
+            lane: VecDeque::new(alloc),
             down_arrivals: VecDeque::new(alloc),
             up_arrivals: VecDeque::new(alloc),
+            lane_arrivals: VecDeque::new(alloc),
             has_room: false,
         }
     }
@@ -88,6 +97,7 @@ impl LinkBook {
     {
         self.down.reserve(1)?;
         self.up.reserve(1)?;
+        self.lane.reserve(1)?;
         self.has_room = true;
         Ok(())
     }
@@ -115,41 +125,99 @@ impl LinkBook {
         self.has_room = false;
     }
 
+    /// Puts a packet behind the others that are under way over the lane. The room is used up; all else stays. Takes no
+    /// memory.
+    pub fn offer_lane(&mut self, packet: Packet)
+        requires { IsTrue self.old.has_room }
+        ensures { self.new ≡ record { part = with_lane packet self.old.part; has_room = false } }
+    {
+        self.lane.push_back_reserved(packet);
+        self.has_room = false;
+    }
+
     /// The packet at the head of a line meets its fate; one that does not go this way is dropped, and where the line is
-    /// empty nothing changes. Room that was made stays. `LogFull` where it arrives and the log has 1,048,576 records,
-    /// which is looked at before memory is asked for. On an error nothing changes.
+    /// empty nothing changes. Room that was made stays. `LogFull` where it arrives and the log of its link has
+    /// 1,048,576 records, which is looked at before memory is asked for. On an error nothing changes.
     pub fn turn(&mut self, direction: Direction, fate: Fate) -> Result<(), LinkFault>
         ensures ok { OnOk result (self.new ≡ record self.old { part = turned direction fate self.old.part }) }
-        ensures full { IsErrOf result LinkFault.LogFull → 1048576 < length (turned direction fate self.old.part).log }
+        ensures full { IsErrOf result LinkFault.LogFull → 1048576 < log_length direction (turned direction fate self.old.part) }
         ensures err { OnErr result (self.new ≡ self.old) }
     {
         match direction {
-            Direction::Down => turns::turn_line(
-                self.alloc,
-                &mut self.log,
-                &mut self.down,
-                &mut self.down_arrivals,
-                Direction::Down,
-                fate,
-            ),
-            Direction::Up => turns::turn_line(
-                self.alloc,
-                &mut self.log,
-                &mut self.up,
-                &mut self.up_arrivals,
-                Direction::Up,
-                fate,
-            ),
+            Direction::Down => self.turn_down(fate),
+            Direction::Up => self.turn_up(fate),
+            Direction::Lane => self.turn_lane(fate),
         }
+    }
+
+    /// A turn of the line down.
+    fn turn_down(&mut self, fate: Fate) -> Result<(), LinkFault>
+        ensures ok { OnOk result (self.new ≡ record self.old { part = turned Direction.Down fate self.old.part }) }
+        ensures full { IsErrOf result LinkFault.LogFull → 1048576 < log_length Direction.Down (turned Direction.Down fate self.old.part) }
+        ensures err { OnErr result (self.new ≡ self.old) }
+    {
+        let came = turn_line(
+            self.alloc,
+            &mut self.log,
+            &mut self.down,
+            &mut self.down_arrivals,
+            Direction::Down,
+            fate,
+        )?;
+        if let Some(sending) = came {
+            self.log.push_reserved(LinkRec::Down { sending });
+        }
+        Ok(())
+    }
+
+    /// A turn of the line up.
+    fn turn_up(&mut self, fate: Fate) -> Result<(), LinkFault>
+        ensures ok { OnOk result (self.new ≡ record self.old { part = turned Direction.Up fate self.old.part }) }
+        ensures full { IsErrOf result LinkFault.LogFull → 1048576 < log_length Direction.Up (turned Direction.Up fate self.old.part) }
+        ensures err { OnErr result (self.new ≡ self.old) }
+    {
+        let came = turn_line(
+            self.alloc,
+            &mut self.log,
+            &mut self.up,
+            &mut self.up_arrivals,
+            Direction::Up,
+            fate,
+        )?;
+        if let Some(asking) = came {
+            self.log.push_reserved(LinkRec::Up { asking });
+        }
+        Ok(())
+    }
+
+    /// A turn of the lane's line.
+    fn turn_lane(&mut self, fate: Fate) -> Result<(), LinkFault>
+        ensures ok { OnOk result (self.new ≡ record self.old { part = turned Direction.Lane fate self.old.part }) }
+        ensures full { IsErrOf result LinkFault.LogFull → 1048576 < log_length Direction.Lane (turned Direction.Lane fate self.old.part) }
+        ensures err { OnErr result (self.new ≡ self.old) }
+    {
+        let came = turn_line(
+            self.alloc,
+            &mut self.lane_log,
+            &mut self.lane,
+            &mut self.lane_arrivals,
+            Direction::Lane,
+            fate,
+        )?;
+        if let Some(sending) = came {
+            self.lane_log.push_reserved(LaneRec::Down { sending });
+        }
+        Ok(())
     }
 
     /// The packet at the head of a line, whose turn is next. `None`: none is under way there.
     pub fn head(&self, direction: Direction) -> Option<&Packet>
-        ensures { option_map (λ p. p.now) result ≡ slice_get (lane_of direction self.now.part).line 0 }
+        ensures { option_map (λ p. p.now) result ≡ slice_get (line_of direction self.now.part) 0 }
     {
         match direction {
             Direction::Down => self.down.front(),
             Direction::Up => self.up.front(),
+            Direction::Lane => self.lane.front(),
         }
     }
 
@@ -171,6 +239,15 @@ impl LinkBook {
         arrivals::oldest(&self.up_arrivals)
     }
 
+    /// The oldest arrival over the lane, with the number of the lane's record. `None`: there is none.
+    #[tactic(auto, using(crate::proofs::Links::oldest_within))]
+    pub fn peek_lane(&self) -> Option<(u32, &Packet)>
+        ensures oldest { option_map (λ a. arrival a.0 a.1.now) result ≡ slice_get self.now.part.lane_arrivals 0 }
+        ensures within { IfSome result (λ a. a.0 < length self.now.part.lane_log) }
+    {
+        arrivals::oldest(&self.lane_arrivals)
+    }
+
     /// Takes out the oldest arrival at the target. `None`: there is none, and nothing changes. Takes no memory.
     pub fn pop_down(&mut self) -> Option<(u32, Packet)>
         ensures oldest { option_map (λ a. arrival a.0 a.1) result ≡ slice_get self.old.part.down_arrivals 0 }
@@ -187,6 +264,14 @@ impl LinkBook {
         arrivals::take(&mut self.up_arrivals)
     }
 
+    /// Takes out the oldest arrival over the lane. `None`: there is none, and nothing changes. Takes no memory.
+    pub fn pop_lane(&mut self) -> Option<(u32, Packet)>
+        ensures oldest { option_map (λ a. arrival a.0 a.1) result ≡ slice_get self.old.part.lane_arrivals 0 }
+        ensures rest { self.new ≡ record self.old { part = record self.old.part { lane_arrivals = drop 1 self.old.part.lane_arrivals } } }
+    {
+        arrivals::take(&mut self.lane_arrivals)
+    }
+
     /// How many packets are under way down.
     pub fn down_len(&self) -> usize
         ensures { result ≡ length self.now.part.down }
@@ -194,14 +279,23 @@ impl LinkBook {
         self.down.len()
     }
 
-    /// Whether nothing is under way and no arrival waits.
+    /// How many packets are under way over the lane. Takes no memory.
+    pub fn lane_len(&self) -> usize
+        ensures { result ≡ length self.now.part.lane }
+    {
+        self.lane.len()
+    }
+
+    /// Whether nothing is under way and no arrival waits, over the lane neither.
     pub fn quiet(&self) -> bool
         ensures { result ≡ is_quiet self.now.part }
     {
         self.down.is_empty()
             && self.up.is_empty()
+            && self.lane.is_empty()
             && self.down_arrivals.is_empty()
             && self.up_arrivals.is_empty()
+            && self.lane_arrivals.is_empty()
     }
 
     /// The link's log.
@@ -211,14 +305,22 @@ impl LinkBook {
         self.log.as_slice()
     }
 
-    /// Gives up the link's log.
-    pub fn into_log(self) -> Vec<LinkRec>
-        ensures { result.items ≡ self.part.log }
+    /// The lane's log.
+    pub fn lane_log(&self) -> &[LaneRec]
+        ensures { result.now ≡ self.now.part.lane_log }
     {
-        self.log
+        self.lane_log.as_slice()
     }
 
-    /// Tells callers that the log has at most 1,048,576 records, and that each arrival's number is that of the record
+    /// Gives up the link's log and the lane's.
+    pub fn into_logs(self) -> (Vec<LinkRec>, Vec<LaneRec>)
+        ensures link { result.0.items ≡ self.part.log }
+        ensures lane { result.1.items ≡ self.part.lane_log }
+    {
+        (self.log, self.lane_log)
+    }
+
+    /// Tells callers that each log has at most 1,048,576 records, and that each arrival's number is that of the record
     /// that it came.
     pub fn keeps_limits(&self)
         ensures { IsLink self.now.part }

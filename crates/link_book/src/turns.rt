@@ -1,76 +1,79 @@
 //! A turn of one line.
 
-ghost use Rattle.std.specs.Prelude.{◌≡◌, ◌<◌, ◌≤◌, [], ◌∷◌, ◌++◌, length, OnOk, OnErr, IsErrOf, vec_len, vec_capacity};
+ghost use Rattle.std.specs.Prelude.{◌≡◌, ◌<◌, ◌≤◌, [], ◌∷◌, ◌++◌, true, length, is_some, IfOk, OnOk, OnErr, IsErrOf, vec_len, vec_capacity};
 ghost use Rattle.std.specs.VecDeque.{deque_len, deque_capacity};
 ghost use Rattle.page_stream.specs.Packets.{number_of};
-ghost use Rattle.link_book.specs.LinkPart.{goes, record_of, lane_turned};
-ghost use Rattle.link_book.specs.Links.{arrival, lane};
+ghost use Rattle.link_book.specs.LinkPart.{goes, way_turned};
+ghost use Rattle.link_book.specs.Links.{arrival, way};
 
 use crate::{Arrival, LinkFault};
 use migration_events::{Direction, Fate};
-use migration_types::{LinkRec, MOST_RECORDS};
+use migration_types::MOST_RECORDS;
 use page_stream::Packet;
 use std::alloc::Global;
 use std::collections::VecDeque;
 
-/// The head of a line meets its fate. On an error nothing changes. A place to spare in the line stays.
-pub fn turn_line(
+/// The head of a line meets its fate. Where it arrives, its number is answered, and the log, which does not change, has
+/// a place for the record of it. On an error nothing changes. A place to spare in the line stays.
+pub fn turn_line<R>(
     alloc: Global,
-    log: &mut Vec<LinkRec>,
+    log: &mut Vec<R>,
     line: &mut VecDeque<Packet>,
     arrivals: &mut VecDeque<Arrival>,
     direction: Direction,
     fate: Fate,
-) -> Result<(), LinkFault>
+) -> Result<Option<u32>, LinkFault>
     requires { length log.old.items ≤ 1048576 }
-    ensures ok { OnOk result (lane log.new.items line.new.items arrivals.new.items
-        ≡ lane_turned direction fate line.old.items (lane log.old.items line.old.items arrivals.old.items)) }
-    ensures full { IsErrOf result LinkFault.LogFull → 1048576 < length (lane_turned direction fate line.old.items (lane log.old.items line.old.items arrivals.old.items)).log }
-    ensures err { OnErr result ((log.new.items ≡ log.old.items) × (line.new.items ≡ line.old.items) × (arrivals.new.items ≡ arrivals.old.items)) }
-    ensures short { length log.new.items ≤ 1048576 }
+    ensures ok { IfOk result (λ came. record { way = way line.new.items arrivals.new.items; came = came }
+        ≡ way_turned (goes direction) fate (length log.old.items) line.old.items arrivals.old.items) }
+    ensures place { IfOk result (λ came. is_some came ≡ true → (length log.old.items < 1048576) × (vec_len log.new < vec_capacity log.new)) }
+    ensures full { IsErrOf result LinkFault.LogFull → (1048576 ≤ length log.old.items)
+        × (is_some (way_turned (goes direction) fate (length log.old.items) line.old.items arrivals.old.items).came ≡ true) }
+    ensures log { log.new.items ≡ log.old.items }
+    ensures err { OnErr result ((line.new.items ≡ line.old.items) × (arrivals.new.items ≡ arrivals.old.items)) }
     ensures room { deque_len line.old < deque_capacity line.old → deque_len line.new < deque_capacity line.new }
 {
     let Some(head) = line.front() else {
-        return Ok(());
+        return Ok(None);
     };
     if !belongs(direction, head) {
         line.pop_front();
-        return Ok(());
+        return Ok(None);
     }
     match fate {
         Fate::Lose => {
             line.pop_front();
-            Ok(())
+            Ok(None)
         }
         Fate::Back => {
             if let Some(packet) = line.pop_front() {
                 line.push_back_reserved(packet);
             }
-            Ok(())
+            Ok(None)
         }
         Fate::Deliver => {
             make_places(log, arrivals)?;
-            if let Some(packet) = line.pop_front() {
-                arrive(log, arrivals, direction, packet);
-            }
-            Ok(())
+            let Some(packet) = line.pop_front() else {
+                return Ok(None);
+            };
+            Ok(Some(arrive(log.len(), arrivals, packet)))
         }
         Fate::Repeat => {
             make_places(log, arrivals)?;
             let Ok(copy) = head.copied(alloc) else {
                 return Err(LinkFault::Memory);
             };
-            if let Some(packet) = line.pop_front() {
-                arrive(log, arrivals, direction, packet);
-                line.push_back_reserved(copy);
-            }
-            Ok(())
+            let Some(packet) = line.pop_front() else {
+                return Ok(None);
+            };
+            line.push_back_reserved(copy);
+            Ok(Some(arrive(log.len(), arrivals, packet)))
         }
     }
 }
 
 /// Makes a place for one record and one arrival.
-fn make_places(log: &mut Vec<LinkRec>, arrivals: &mut VecDeque<Arrival>) -> Result<(), LinkFault>
+fn make_places<R>(log: &mut Vec<R>, arrivals: &mut VecDeque<Arrival>) -> Result<(), LinkFault>
     ensures same { (log.new.items ≡ log.old.items) × (arrivals.new.items ≡ arrivals.old.items) }
     ensures ok { OnOk result ((length log.old.items < 1048576) × (vec_len log.new < vec_capacity log.new) × (deque_len arrivals.new < deque_capacity arrivals.new)) }
     ensures full { IsErrOf result LinkFault.LogFull → 1048576 ≤ length log.old.items }
@@ -84,32 +87,19 @@ fn make_places(log: &mut Vec<LinkRec>, arrivals: &mut VecDeque<Arrival>) -> Resu
     Ok(())
 }
 
-/// A packet arrives.
-fn arrive(
-    log: &mut Vec<LinkRec>,
-    arrivals: &mut VecDeque<Arrival>,
-    direction: Direction,
-    packet: Packet,
-)
-    requires log { vec_len log.old < vec_capacity log.old }
+/// A packet arrives, of which the record with this number is to say so. Its own number is answered.
+fn arrive(place: usize, arrivals: &mut VecDeque<Arrival>, packet: Packet) -> u32
     requires arrivals { deque_len arrivals.old < deque_capacity arrivals.old }
-    requires short { length log.old.items < 1048576 }
-    ensures log { log.new.items ≡ log.old.items ++ record_of direction (number_of packet) ∷ [] }
-    ensures arrivals { arrivals.new.items ≡ arrivals.old.items ++ arrival (length log.old.items) packet ∷ [] }
+    requires short { place < 1048576 }
+    ensures number { result ≡ number_of packet }
+    ensures arrivals { arrivals.new.items ≡ arrivals.old.items ++ arrival place packet ∷ [] }
 {
-    let number = log.len() as u32;
-    log.push_reserved(record(direction, packet.number()));
-    arrivals.push_back_reserved(Arrival { number, packet });
-}
-
-/// The record that a packet with this number has arrived.
-fn record(direction: Direction, number: u32) -> LinkRec
-    ensures { result ≡ record_of direction number }
-{
-    match direction {
-        Direction::Down => LinkRec::Down { sending: number },
-        Direction::Up => LinkRec::Up { asking: number },
-    }
+    let came = packet.number();
+    arrivals.push_back_reserved(Arrival {
+        number: place as u32,
+        packet,
+    });
+    came
 }
 
 /// Whether a packet goes this way.
@@ -117,7 +107,9 @@ fn belongs(direction: Direction, packet: &Packet) -> bool
     ensures { result ≡ goes direction packet.now }
 {
     match direction {
-        Direction::Down => matches!(packet, Packet::State { .. } | Packet::Page { .. }),
+        Direction::Down | Direction::Lane => {
+            matches!(packet, Packet::State { .. } | Packet::Page { .. })
+        }
         Direction::Up => matches!(packet, Packet::Want { .. } | Packet::All { .. }),
     }
 }
