@@ -9,7 +9,7 @@ use Rattle.migration_types.specs.declared.records.PagerRec.TheVariants.{Got, Rea
 use Rattle.migration_types.specs.Extents.{Extent}
 use Rattle.migration_types.specs.Limits.{most_records}
 use Rattle.migration_types.specs.PageSets.{with_page}
-use Rattle.audit_model.specs.Shape.{is_placement_of}
+use Rattle.audit_model.specs.Shape.{is_placement_of, is_taking}
 use Rattle.page_tables.specs.Tables.{with_value}
 use Rattle.fault_queue.specs.Waiting.{Waiting, entry, joined, with_waiter, without}
 use Rattle.page_stream.specs.declared.Packet.{Packet}
@@ -17,14 +17,14 @@ use Rattle.page_stream.specs.declared.Packet.TheVariants.{State as StatePacket, 
 use Rattle.target_side.specs.declared.Incoming.{Incoming}
 use Rattle.target_side.specs.PagerPart.{PagerPart, wants_page, oldest}
 use Rattle.target_side.specs.PagerLists.{HasBegun, HasCome, IsSaid, IsWanted, IsTied, IsKept}
-use Rattle.target_side.proofs.Lists.{get_old, get_new, each_push, each_weaker, each_filtered, each_mapped}
+use Rattle.target_side.proofs.Lists.{get_old, get_new, passes_old, each_push, each_weaker, each_filtered, each_mapped}
 
 -- a record more in the log
 abbrev pub with_record : PagerRec → PagerPart → PagerPart
 with_record r b = record b { log = b.log ++ r ∷ [] }
 
 come_more : (e : Extent) (log : List PagerRec) (r : PagerRec) (x : Incoming) → HasCome e log x → HasCome e (log ++ r ∷ []) x
-come_more e log r x h = record { page = h.page; cells = h.cells; down = h.down; got = get_old log r x.got (Got h.down) h.got }
+come_more e log r x h = record { page = h.page; cells = h.cells; got = passes_old is_taking log r x.got h.got }
 
 said_more : (e : Extent) (log : List PagerRec) (r : PagerRec) (p : Packet) → IsSaid e log p → IsSaid e (log ++ r ∷ []) p
 said_more e log r (StatePacket n released) h = h

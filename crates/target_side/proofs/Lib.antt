@@ -5,4 +5,4 @@ mod Sounds
 mod Ticking
 mod Paging
 mod Branches
-mod Settling
+pub mod Settling

@@ -2,6 +2,7 @@
 use Rattle.std.proofs.Common.{◌≡◌, ℕ, zero, suc, Bool, true, false, cond, List, [], ◌∷◌, ◌++◌, length, Some, refl, ap}
 use Rattle.std.specs.Prelude.{slice_get, map}
 use Rattle.std.specs.List.{AllByRecursion, filter}
+use Rattle.audit_model.specs.Shape.{passes}
 
 pub length_more : {A : Type 0} (xs : List A) (x : A) → length (xs ++ x ∷ []) ≡ suc (length xs)
 length_more [] x = refl
@@ -11,6 +12,11 @@ pub get_old : {A : Type 0} (xs : List A) (x : A) (n : ℕ) (y : A) → slice_get
 get_old [] x n y e = absurd (cc)
 get_old (z ∷ xs) x zero y e = e
 get_old (z ∷ xs) x (suc n) y e = get_old xs x n y e
+
+pub passes_old : {A : Type 0} (test : A → Bool) (xs : List A) (x : A) (n : ℕ) → passes test (slice_get xs n) ≡ true → passes test (slice_get (xs ++ x ∷ []) n) ≡ true
+passes_old test [] x n e = absurd (cc)
+passes_old test (y ∷ xs) x zero e = e
+passes_old test (y ∷ xs) x (suc n) e = passes_old test xs x n e
 
 pub get_new : {A : Type 0} (xs : List A) (x : A) → slice_get (xs ++ x ∷ []) (length xs) ≡ Some x
 get_new [] x = refl

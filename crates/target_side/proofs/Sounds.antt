@@ -2,10 +2,10 @@
 use Rattle.std.proofs.Common.{◌≡◌, ℕ, ◌+◌, ◌<◌, ◌≤◌, Bool, true, false, ◌||◌, List, [], ◌∷◌, ◌++◌, length, Option, Some, None, refl, sym, ap, ◌∙◌, subst, arith}
 use Rattle.std.specs.Prelude.{is_some, slice_get}
 use Rattle.migration_types.specs.declared.records.PagerRec.{PagerRec}
-use Rattle.migration_types.specs.declared.records.PagerRec.TheVariants.{Got, Ready, Skip}
+use Rattle.migration_types.specs.declared.records.PagerRec.TheVariants.{Got, Pull, Ready, Fault, Join, Want, Place, Zero, Skip, All}
 use Rattle.migration_types.specs.Extents.{Extent}
 use Rattle.migration_types.specs.Limits.{most_records}
-use Rattle.audit_model.specs.Shape.{is_placement_of}
+use Rattle.audit_model.specs.Shape.{is_placement_of, is_taking, passes}
 use Rattle.page_tables.specs.Tables.{Values, all_at, values}
 use Rattle.fault_queue.specs.Waiting.{Waiting}
 use Rattle.page_stream.specs.declared.Packet.{Packet}
@@ -48,25 +48,38 @@ few_more log r few = omega (arith, length_more log r)
 pub kept_one : (b : PagerPart) (r : PagerRec) (log : List PagerRec) → is_some b.released ≡ true → log ≡ b.log ++ r ∷ [] → ((p : ℕ) → is_placement_of p r ≡ false) → length b.log + 1 ≤ most_records → IsKept b → IsKept (record b { log = log })
 kept_one b r log is more other few k = rw more (kept_more r b is other (few_more b.log r few) k)
 
+-- what says that something was taken places nothing
+takes_alone : (r : PagerRec) → is_taking r ≡ true → (p : ℕ) → is_placement_of p r ≡ false
+takes_alone (Got down) is p = refl
+takes_alone (Pull down) is p = refl
+takes_alone (Place page got content) is p = absurd (cc)
+takes_alone (Zero page) is p = absurd (cc)
+takes_alone Ready is p = refl
+takes_alone (Fault miss) is p = refl
+takes_alone (Join want) is p = refl
+takes_alone (Want page) is p = refl
+takes_alone (Skip got) is p = refl
+takes_alone All is p = refl
+
 -- a page has come
-pub popped_page : (b : PagerPart) (down got page : ℕ) (contents : List ℕ) (log : List PagerRec) (inbox : List Incoming) → is_some b.released ≡ true → log ≡ b.log ++ Got down ∷ [] → got ≡ length b.log → inbox ≡ b.inbox ++ (record { got = got; page = page; contents = contents }) ∷ [] → page < b.geometry.pages → length contents ≡ b.geometry.cells → length b.log + 1 ≤ most_records → IsKept b → IsKept (record b { log = log; inbox = inbox })
-popped_page b down got page contents log inbox is grown at more fits cells few k =
+pub taken_page : (b : PagerPart) (r : PagerRec) (got page : ℕ) (contents : List ℕ) (log : List PagerRec) (inbox : List Incoming) → is_some b.released ≡ true → is_taking r ≡ true → log ≡ b.log ++ r ∷ [] → got ≡ length b.log → inbox ≡ b.inbox ++ (record { got = got; page = page; contents = contents }) ∷ [] → page < b.geometry.pages → length contents ≡ b.geometry.cells → length b.log + 1 ≤ most_records → IsKept b → IsKept (record b { log = log; inbox = inbox })
+taken_page b r got page contents log inbox is taking grown at more fits cells few k =
     let x : Incoming = record { got = got; page = page; contents = contents } in
-    let k1 : IsKept (with_record (Got down) b) = kept_more (Got down) b is (λ p. refl) (few_more b.log (Got down) few) k in
-    let here : HasCome b.geometry (b.log ++ Got down ∷ []) x = record { page = fits; cells = cells; down = down; got = subst (λ n. slice_get (b.log ++ Got down ∷ []) n ≡ Some (Got down)) (sym at) (get_new b.log (Got down)) } in
-    let k2 : IsKept (record b { log = b.log ++ Got down ∷ []; inbox = b.inbox ++ x ∷ [] }) = kept_incoming x (with_record (Got down) b) here k1 in
+    let k1 : IsKept (with_record r b) = kept_more r b is (takes_alone r taking) (few_more b.log r few) k in
+    let here : HasCome b.geometry (b.log ++ r ∷ []) x = record { page = fits; cells = cells; got = subst (λ n. passes is_taking (slice_get (b.log ++ r ∷ []) n) ≡ true) (sym at) (ap (passes is_taking) (get_new b.log r) ∙ taking) } in
+    let k2 : IsKept (record b { log = b.log ++ r ∷ []; inbox = b.inbox ++ x ∷ [] }) = kept_incoming x (with_record r b) here k1 in
     rw (grown, more) k2
 
 -- the state has come once more
-pub popped_again : (b : PagerPart) (down got : ℕ) (log : List PagerRec) → is_some b.released ≡ true → log ≡ (b.log ++ Got down ∷ []) ++ Skip got ∷ [] → length b.log + 2 ≤ most_records → IsKept b → IsKept (record b { log = log })
-popped_again b down got log is grown few k =
-    let k1 : IsKept (with_record (Got down) b) = kept_more (Got down) b is (λ p. refl) (few_more b.log (Got down) (omega arith)) k in
-    let k2 : IsKept (with_record (Skip got) (with_record (Got down) b)) = kept_more (Skip got) (with_record (Got down) b) is (λ p. refl) (omega (arith, length_more b.log (Got down), length_more (b.log ++ Got down ∷ []) (Skip got))) k1 in
+pub dropped_state : (b : PagerPart) (r : PagerRec) (got : ℕ) (log : List PagerRec) → is_some b.released ≡ true → is_taking r ≡ true → log ≡ (b.log ++ r ∷ []) ++ Skip got ∷ [] → length b.log + 2 ≤ most_records → IsKept b → IsKept (record b { log = log })
+dropped_state b r got log is taking grown few k =
+    let k1 : IsKept (with_record r b) = kept_more r b is (takes_alone r taking) (few_more b.log r (omega arith)) k in
+    let k2 : IsKept (with_record (Skip got) (with_record r b)) = kept_more (Skip got) (with_record r b) is (λ p. refl) (omega (arith, length_more b.log r, length_more (b.log ++ r ∷ []) (Skip got))) k1 in
     rw grown k2
 
 -- the state has come
-pub popped_first : (b : PagerPart) (down : ℕ) (list : List ℕ) (log : List PagerRec) → is_some b.released ≡ false → log ≡ (b.log ++ Got down ∷ []) ++ Ready ∷ [] → IsKept b → IsKept (record b { log = log; released = Some list })
-popped_first b down list log is grown k = rw grown (kept_first down list b is k)
+pub begun_first : (b : PagerPart) (down : ℕ) (list : List ℕ) (log : List PagerRec) → is_some b.released ≡ false → log ≡ (b.log ++ Got down ∷ []) ++ Ready ∷ [] → IsKept b → IsKept (record b { log = log; released = Some list })
+begun_first b down list log is grown k = rw grown (kept_first down list b is k)
 
 -- before the state no page is marked, and what is below the bound is placed
 pub unmarked : (o : Option (List ℕ)) (m : Values Bool) → is_some o ≡ false → values m ≡ is_released o → values m ≡ all_at false

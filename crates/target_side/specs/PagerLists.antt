@@ -1,12 +1,12 @@
 -- The pager's book as its contracts see it, and what it keeps of its own log.
-use Rattle.std.specs.Prelude.{◌≡◌, ℕ, ◌<◌, ◌≤◌, Bool, List, [], length, Option, Some, None, slice_get}
+use Rattle.std.specs.Prelude.{◌≡◌, ℕ, ◌<◌, ◌≤◌, Bool, true, List, [], length, Option, Some, None, slice_get}
 use Rattle.std.specs.List.{AllByRecursion, list_any}
 use Rattle.migration_types.specs.declared.records.PagerRec.{PagerRec}
 use Rattle.migration_types.specs.declared.records.PagerRec.TheVariants.{Got, Ready, Want, All}
 use Rattle.migration_types.specs.Extents.{Extent}
 use Rattle.migration_types.specs.Limits.{most_records}
 use Rattle.page_tables.specs.Tables.{Values, values}
-use Rattle.audit_model.specs.Shape.{is_placement_of}
+use Rattle.audit_model.specs.Shape.{is_placement_of, is_taking, passes}
 use Rattle.fault_queue.specs.Waiting.{Waiting}
 use Rattle.page_stream.specs.declared.Packet.{Packet}
 use Rattle.page_stream.specs.declared.Packet.TheVariants.{State as StatePacket, Page as PagePacket, Want as WantPacket, All as AllPacket}
@@ -55,8 +55,7 @@ HasBegun (Some released) log = ((down : ℕ) × (slice_get log 0 ≡ Some (Got d
 pub record HasCome (e : Extent) (log : List PagerRec) (x : Incoming) : Type 0 where
   pub page : x.page < e.pages
   pub cells : length x.contents ≡ e.cells
-  pub down : ℕ
-  pub got : slice_get log x.got ≡ Some (Got down)
+  pub got : passes is_taking (slice_get log x.got) ≡ true
 
 -- a packet of the record that it names
 abbrev pub IsSaid : Extent → List PagerRec → Packet → Type 0

@@ -2,7 +2,7 @@
 use Rattle.std.specs.Prelude.{ℕ, ◌==◌, Bool, false, ◌||◌, List, [], ◌∷◌, ◌++◌, length, Option, Some, None, if◌then◌else◌}
 use Rattle.std.specs.List.{range_with_len, list_any}
 use Rattle.migration_types.specs.declared.records.PagerRec.{PagerRec}
-use Rattle.migration_types.specs.declared.records.PagerRec.TheVariants.{Got, Ready, Fault, Join, Want, Place, Zero, Skip, All}
+use Rattle.migration_types.specs.declared.records.PagerRec.TheVariants.{Got, Pull, Ready, Fault, Join, Want, Place, Zero, Skip, All}
 use Rattle.migration_types.specs.Extents.{Extent}
 use Rattle.migration_types.specs.PageSets.{Pages, no_page, with_page}
 use Rattle.page_tables.specs.Tables.{all_at, with_value}
@@ -59,21 +59,30 @@ pops_first down (PagePacket n p content) b = b
 pops_first down (WantPacket n p) b = b
 pops_first down (AllPacket n) b = b
 
-abbrev pub pops_later : ℕ → Packet → PagerPart → PagerPart
-pops_later down (StatePacket n released) b = record b { log = (b.log ++ Got down ∷ []) ++ Skip (length b.log) ∷ [] }
-pops_later down (PagePacket n p content) b = record b {
-  log = b.log ++ Got down ∷ [];
+-- once the state has come, this record says what is taken: a page, or another state, which is dropped
+abbrev pub takes : PagerRec → Packet → PagerPart → PagerPart
+takes r (StatePacket n released) b = record b { log = (b.log ++ r ∷ []) ++ Skip (length b.log) ∷ [] }
+takes r (PagePacket n p content) b = record b {
+  log = b.log ++ r ∷ [];
   inbox = b.inbox ++ (record { got = length b.log; page = p; contents = content }) ∷ [];
 }
-pops_later down (WantPacket n p) b = b
-pops_later down (AllPacket n) b = b
+takes r (WantPacket n p) b = b
+takes r (AllPacket n) b = b
 
 abbrev pub pops_by : Option (List ℕ) → ℕ → Packet → PagerPart → PagerPart
 pops_by None down packet b = pops_first down packet b
-pops_by (Some released) down packet b = pops_later down packet b
+pops_by (Some released) down packet b = takes (Got down) packet b
 
 abbrev pub pager_pop : ℕ → Packet → PagerPart → PagerPart
 pager_pop down packet b = pops_by b.released down packet b
+
+-- PagerPull: what comes over the lane before the state is dropped
+abbrev pub pulls_by : Option (List ℕ) → ℕ → Packet → PagerPart → PagerPart
+pulls_by None down packet b = b
+pulls_by (Some released) down packet b = takes (Pull down) packet b
+
+abbrev pub pager_pull : ℕ → Packet → PagerPart → PagerPart
+pager_pull down packet b = pulls_by b.released down packet b
 
 -- pages that the guest released at the target before they came: nobody waits for them any more
 abbrev pub settles : List ℕ → PagerPart → PagerPart

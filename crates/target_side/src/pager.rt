@@ -28,8 +28,8 @@ mod ticks;
 /// which page, and the number of the last `want` of each page.
 ///
 /// Its log has at most 1,048,576 records. It is empty until the state has come, and begins with its `got` and `ready`
-/// from then on. A page is marked as placed just where the log places it. Each page that has come names its `got`,
-/// each packet its own record, and each page that is waited for was wanted.
+/// from then on. A page is marked as placed just where the log places it. Each page that has come names its `got` or
+/// `pull`, each packet its own record, and each page that is waited for was wanted.
 #[derive(Drop)]
 pub struct PagerBook {
     alloc: Global,

@@ -1,9 +1,10 @@
 //! The pager takes what has arrived.
 
-ghost use Rattle.std.specs.Prelude.{◌≡◌, ℕ, ◌<◌, length, OnOk, OnErr, IsErrOf};
+ghost use Rattle.std.specs.Prelude.{◌≡◌, ◌<◌, [], length, is_some, true, false, OnOk, OnErr, IsErrOf};
 ghost use Rattle.std.specs.List.{AllByRecursion};
 ghost use Rattle.migration_types.specs.Limits.{most_records};
-ghost use Rattle.target_side.specs.PagerPart.{pager_pop};
+ghost use Rattle.audit_model.specs.Shape.{is_taking};
+ghost use Rattle.target_side.specs.PagerPart.{pager_pop, pager_pull, pops_first, takes};
 ghost use Rattle.target_side.specs.PagerLists.{part_of, IsPacketOf};
 
 use super::PagerBook;
@@ -24,33 +25,39 @@ impl PagerBook {
         ensures full { IsErrOf result TargetFault.LogFull → most_records < length (pager_pop link_number packet.now (part_of self.old)).log }
         ensures err { OnErr result (self.new ≡ self.old) }
     {
+        if self.released.is_some() {
+            return self.take(PagerRec::Got { down: link_number }, packet);
+        }
         match packet {
-            Packet::State {
-                number: _,
-                released,
-            } => self.pop_state(link_number, released),
-            Packet::Page {
-                number: _,
-                page,
-                contents,
-            } => self.pop_page(link_number, *page, contents),
-            Packet::Want { .. } | Packet::All { .. } => Ok(()),
+            Packet::State { released, .. } => self.begin(link_number, released),
+            Packet::Page { .. } | Packet::Want { .. } | Packet::All { .. } => Ok(()),
         }
     }
 
-    /// Takes the state, or drops it where it has come already.
-    fn pop_state(&mut self, link_number: u32, released: &Shared<PageNo>) -> Result<(), TargetFault>
-        requires { AllByRecursion (λ p. p < self.old.geometry.pages) released.now }
-        ensures ok { (n : ℕ) → OnOk result (part_of self.new ≡ pager_pop link_number (Packet.State n released.now) (part_of self.old)) }
-        ensures full { (n : ℕ) → IsErrOf result TargetFault.LogFull → most_records < length (pager_pop link_number (Packet.State n released.now) (part_of self.old)).log }
+    /// Takes what the lane's record of this number delivered: a page, which waits to be placed. A state is recorded and
+    /// dropped. What comes before the state, and what the source does not send, is dropped without a record. On an
+    /// error nothing changes.
+    pub fn pull(&mut self, lane_number: u32, packet: &Packet) -> Result<(), TargetFault>
+        requires { IsPacketOf self.old.geometry packet.now }
+        ensures ok { OnOk result (part_of self.new ≡ pager_pull lane_number packet.now (part_of self.old)) }
+        ensures full { IsErrOf result TargetFault.LogFull → most_records < length (pager_pull lane_number packet.now (part_of self.old)).log }
+        ensures err { OnErr result (self.new ≡ self.old) }
+    {
+        if self.released.is_none() {
+            return Ok(());
+        }
+        self.take(PagerRec::Pull { down: lane_number }, packet)
+    }
+
+    /// Takes the state, of which the link's record has this number.
+    fn begin(&mut self, link_number: u32, released: &Shared<PageNo>) -> Result<(), TargetFault>
+        requires unready { is_some self.old.released ≡ false }
+        requires pages { AllByRecursion (λ p. p < self.old.geometry.pages) released.now }
+        ensures ok { OnOk result (part_of self.new ≡ pops_first link_number (Packet.State 0 released.now) (part_of self.old)) }
+        ensures full { IsErrOf result TargetFault.LogFull → most_records < length (pops_first link_number (Packet.State 0 released.now) (part_of self.old)).log }
         ensures err { OnErr result (self.new ≡ self.old) }
     {
         make_room(&mut self.log, 2)?;
-        if self.released.is_some() {
-            let got = append(&mut self.log, PagerRec::Got { down: link_number });
-            append(&mut self.log, PagerRec::Skip { got });
-            return Ok(());
-        }
         let Ok(pages) = released.another() else {
             return Err(TargetFault::Memory);
         };
@@ -61,22 +68,51 @@ impl PagerBook {
         Ok(())
     }
 
-    /// Takes a page, or drops it where the state has not come.
-    fn pop_page(
+    /// Once the state has come, takes a packet, of which this record says so.
+    fn take(&mut self, receipt: PagerRec, packet: &Packet) -> Result<(), TargetFault>
+        requires ready { is_some self.old.released ≡ true }
+        requires taking { is_taking receipt ≡ true }
+        requires packet { IsPacketOf self.old.geometry packet.now }
+        ensures ok { OnOk result (part_of self.new ≡ takes receipt packet.now (part_of self.old)) }
+        ensures full { IsErrOf result TargetFault.LogFull → most_records < length (takes receipt packet.now (part_of self.old)).log }
+        ensures err { OnErr result (self.new ≡ self.old) }
+    {
+        match packet {
+            Packet::State { .. } => self.drop_state(receipt),
+            Packet::Page { page, contents, .. } => self.take_page(receipt, *page, contents),
+            Packet::Want { .. } | Packet::All { .. } => Ok(()),
+        }
+    }
+
+    /// Records another state, and drops it.
+    fn drop_state(&mut self, receipt: PagerRec) -> Result<(), TargetFault>
+        requires ready { is_some self.old.released ≡ true }
+        requires taking { is_taking receipt ≡ true }
+        ensures ok { OnOk result (part_of self.new ≡ takes receipt (Packet.State 0 []) (part_of self.old)) }
+        ensures full { IsErrOf result TargetFault.LogFull → most_records < length (takes receipt (Packet.State 0 []) (part_of self.old)).log }
+        ensures err { OnErr result (self.new ≡ self.old) }
+    {
+        make_room(&mut self.log, 2)?;
+        let got = append(&mut self.log, receipt);
+        append(&mut self.log, PagerRec::Skip { got });
+        Ok(())
+    }
+
+    /// Records a page, which waits to be placed.
+    fn take_page(
         &mut self,
-        link_number: u32,
+        receipt: PagerRec,
         page: PageNo,
         contents: &Contents,
     ) -> Result<(), TargetFault>
+        requires ready { is_some self.old.released ≡ true }
+        requires taking { is_taking receipt ≡ true }
         requires page { page < self.old.geometry.pages }
         requires cells { length contents.now ≡ self.old.geometry.cells }
-        ensures ok { (n : ℕ) → OnOk result (part_of self.new ≡ pager_pop link_number (Packet.Page n page contents.now) (part_of self.old)) }
-        ensures full { (n : ℕ) → IsErrOf result TargetFault.LogFull → most_records < length (pager_pop link_number (Packet.Page n page contents.now) (part_of self.old)).log }
+        ensures ok { OnOk result (part_of self.new ≡ takes receipt (Packet.Page 0 page contents.now) (part_of self.old)) }
+        ensures full { IsErrOf result TargetFault.LogFull → most_records < length (takes receipt (Packet.Page 0 page contents.now) (part_of self.old)).log }
         ensures err { OnErr result (self.new ≡ self.old) }
     {
-        if self.released.is_none() {
-            return Ok(());
-        }
         make_room(&mut self.log, 1)?;
         if self.inbox.reserve(1).is_err() {
             return Err(TargetFault::Memory);
@@ -84,7 +120,7 @@ impl PagerBook {
         let Ok(contents) = contents.another(self.alloc) else {
             return Err(TargetFault::Memory);
         };
-        let got = append(&mut self.log, PagerRec::Got { down: link_number });
+        let got = append(&mut self.log, receipt);
         self.inbox.push_back_reserved(Incoming {
             got,
             page,

@@ -1,42 +1,29 @@
-use Rattle.std.proofs.Common.{◌≡◌, ℕ, ◌+◌, ◌<◌, ◌≤◌, ◌||◌, ◌++◌, ◌∷◌, [], true, false, List, length, sym, ap, ◌∙◌, subst, arith}
+use Rattle.std.proofs.Common.{◌≡◌, ℕ, ◌<◌, ◌||◌, ◌++◌, ◌∷◌, [], false, List, sym, ap, ◌∙◌, subst}
 use Rattle.std.specs.Prelude.{is_some}
 use Rattle.std.specs.List.{AllByRecursion}
-use Rattle.std.proofs.lemmas.Grind.{common_steps}
-use Rattle.migration_types.specs.Limits.{most_records}
 use Rattle.migration_types.specs.declared.records.PagerRec.{PagerRec}
-use Rattle.migration_types.specs.declared.records.PagerRec.TheVariants.{Got, Ready, Skip}
+use Rattle.migration_types.specs.declared.records.PagerRec.TheVariants.{Got, Ready}
 use Rattle.page_tables.specs.Tables.{values}
 use Rattle.target_side.specs.PagerPart.{is_listed}
 use Rattle.target_side.specs.PagerLists.{PagerLists}
 use Rattle.target_side.proofs.Listed.{marked_alone}
-use Rattle.target_side.proofs.Sounds.{sound_with, popped_again, popped_first, unmarked, still_settled}
-use Rattle.target_side.proofs.pager.PagerBook.pop_state.Goals as goal
-
-pub invariant_of-self-then-is_some : goal.invariant_of-self-then-is_some
-invariant_of-self-then-is_some c =
-    let there : is_some c.self.inside.released ≡ true = grind (arith, common_steps) in
-    let room : length c.self.inside.log.items + 2 ≤ most_records = c.in_ok-make_room.ensures.fits in
-    sound_with _ _ _ _ c.self.invariant
-    (popped_again _ c.args.link_number c.append-got.result c.append.new.log.items there
-    (c.append.ensures.items
-    ∙ ap (λ l. l ++ Skip c.append-got.result ∷ []) c.append-got.ensures.items
-    ∙ ap (λ (l : List PagerRec). (l ++ Got c.args.link_number ∷ []) ++ Skip c.append-got.result ∷ []) c.make_room.ensures.same)
-    room c.self.invariant.kept)
+use Rattle.target_side.proofs.Sounds.{begun_first, unmarked, still_settled}
+use Rattle.target_side.proofs.pager.PagerBook.begin.Goals as goal
 
 pub mark_all-requires : goal.mark_all-requires
 mark_all-requires c =
     rw c.as_slice.ensures (subst (λ (n : ℕ). AllByRecursion (λ p. p < n) c.args.released.now)
     (sym (ap (λ (v : PagerLists). v.geometry.pages) c.self.view_is) ∙ sym c.self.invariant.marked_pages)
-    c.requires)
+    c.requires.pages)
 
 pub invariant_of-self-2 : goal.invariant_of-self-2
 invariant_of-self-2 c =
-    let away : is_some c.self.inside.released ≡ false = grind (arith, common_steps) in
+    let away : is_some c.self.inside.released ≡ false = ap (λ (v : PagerLists). is_some v.released) c.self.view_is ∙ c.requires.unready in
     let list : c.in-Ok.pages ≡ c.as_slice.result.now = c.in-Ok.ensures ∙ sym c.as_slice.ensures in
     record {
-      kept = popped_first _ c.args.link_number c.in-Ok.pages c.append-3.new.log.items away
-          (c.append-3.ensures.items
-          ∙ ap (λ l. l ++ Ready ∷ []) c.append-2.ensures.items
+      kept = begun_first _ c.args.link_number c.in-Ok.pages c.append-2.new.log.items away
+          (c.append-2.ensures.items
+          ∙ ap (λ l. l ++ Ready ∷ []) c.append.ensures.items
           ∙ ap (λ (l : List PagerRec). (l ++ Got c.args.link_number ∷ []) ++ Ready ∷ []) c.make_room.ensures.same)
           c.self.invariant.kept;
       placed_pages = c.self.invariant.placed_pages;
