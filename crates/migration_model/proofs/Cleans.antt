@@ -1,10 +1,10 @@
 -- The contents of a session that grows: no wrong read, no early access, and so on.
 use Rattle.audit_model.proofs.Clean.{clash, false_if_not_true}
-use Rattle.audit_model.proofs.Touched.{freed_by}
+use Rattle.audit_model.proofs.Touched.{freed_by, mark_stays}
 use Rattle.audit_model.specs.Certificates.{IsLateTouch}
 use Rattle.audit_model.specs.Faults.{GuestFault, HasNoPageFault, IsEarly, IsOver, PagerFault, SourceFault, has_looked, if_fault, looks_at}
-use Rattle.audit_model.specs.Flat.{at_halt, cell_after, changed, flat, freed, freed_after, freed_page, halt_place, home, home_after, in_ledger, released_after}
-use Rattle.audit_model.specs.Shape.{earlier, is_placement_of}
+use Rattle.audit_model.specs.Flat.{at_halt, cell_after, changed, flat, freed, freed_after, halt_place, home, home_after, in_ledger, marked_late, released_after}
+use Rattle.audit_model.specs.Shape.{earlier, is_placement_of, is_release}
 use Rattle.audit_model.specs.declared.home.Home.{Home as Seat}
 use Rattle.audit_model.specs.declared.home.Home.TheVariants.{AtSource, AtTarget, Nowhere}
 use Rattle.audit_model.specs.declared.reasons.PageReason.{PageReason}
@@ -14,13 +14,14 @@ use Rattle.migration_types.specs.PageSets.{Pages}
 use Rattle.migration_types.specs.Sessions.{Recorded}
 use Rattle.migration_types.specs.declared.records.GuestRec.{GuestRec}
 use Rattle.migration_types.specs.declared.records.GuestRec.TheVariants.{Halt, Miss, Read, Release, Resume, See, Write}
+use Rattle.migration_types.specs.declared.records.LaneRec.{LaneRec}
 use Rattle.migration_types.specs.declared.records.LinkRec.{LinkRec}
 use Rattle.migration_types.specs.declared.records.LogName.TheVariants.{Guest, Lane, Link, Pager, Source as FromSource}
 use Rattle.migration_types.specs.declared.records.PagerRec.{PagerRec}
 use Rattle.migration_types.specs.declared.records.PagerRec.TheVariants.{All, Fault, Got, Join, Place, Pull, Ready, Skip, Want, Zero}
 use Rattle.migration_types.specs.declared.records.SourceRec.{SourceRec}
 use Rattle.migration_types.specs.declared.records.SourceRec.TheVariants.{Send}
-use Rattle.migration_model.proofs.Grows.{freed_before, guest_more, link_more, pager_more, source_more}
+use Rattle.migration_model.proofs.Grows.{guest_more, links_as, pager_more, source_more}
 use Rattle.migration_model.proofs.Lists.{AllAt, all_push, before_push, earlier_stays, get_new, get_old, get_push, length_suc}
 use Rattle.std.proofs.Common.{Bool, List, None, Option, Some, [], ap, arith, cond, eq-eqb, false, inl, inr, length, refl, subst, suc, sym, true, zero, ℕ, ◌++◌, ◌<◌, ◌||◌, ◌∙◌, ◌∷◌, ◌≡◌, ◌≤◌, ◌⊎◌}
 use Rattle.std.proofs.lemmas.Bool.{eqb-true}
@@ -146,14 +147,8 @@ freed_end r s p =
     ∙ ap (λ o. changed (freed_after (home s n) p) o (freed t n p)) (get_new s.guest r)
     ∙ ap (λ b. freed_after (home s n) p r b) (freed_push r s n p (omega arith))
 
-freed_page_stays : (h : Seat) (releases : Bool) → freed_page h releases true ≡ true
-freed_page_stays AtSource releases = refl
-freed_page_stays Nowhere releases = refl
-freed_page_stays AtTarget true = refl
-freed_page_stays AtTarget false = refl
-
 freed_after_stays : (h : Seat) (p : ℕ) (r : GuestRec) → freed_after h p r true ≡ true
-freed_after_stays h p (Release v q) = freed_page_stays h (q == p)
+freed_after_stays h p (Release v q) = mark_stays h (q == p) refl
 freed_after_stays h p (Read v q c x) = refl
 freed_after_stays h p (Write v q c x) = refl
 freed_after_stays h p (Miss v q) = refl
@@ -169,7 +164,7 @@ freed_stays r s p e = let h = home s (length s.guest) in freed_end r s p ∙ ap 
 pub freed_here : (v p : ℕ) (s : Recorded) → home s (length s.guest) ≡ AtTarget → freed (guest_more (Release v p) s) (length (guest_more (Release v p) s).guest) p ≡ true
 freed_here v p s late =
     let old = freed s (length s.guest) p in
-    freed_end (Release v p) s p ∙ ap (λ h. freed_page h (p == p) old) late ∙ ap (λ b. cond b true old) (itself p)
+    freed_end (Release v p) s p ∙ ap (λ h. marked_late h (p == p) old) late ∙ ap (λ b. cond b true old) (itself p)
 
 covered_push : (r : GuestRec) (s : Recorded) (n p : ℕ) → n ≤ length s.guest → IsCovered s n p → IsCovered (guest_more r s) n p
 covered_push r s n p le h late =
@@ -201,8 +196,9 @@ source_cleans r s memory ledger here k = record {
   pager = k.pager;
 }
 
-pub link_cleans : (r : LinkRec) (s : Recorded) (memory : Memory) (ledger : Pages) → IsClean s memory ledger → IsClean (link_more r s) memory ledger
-link_cleans r s memory ledger k = record { guest = k.guest; source = k.source; pager = k.pager }
+-- whatever the link's and the lane's logs say
+pub links_cleans : (link : List LinkRec) (lane : List LaneRec) (s : Recorded) (memory : Memory) (ledger : Pages) → IsClean s memory ledger → IsClean (links_as link lane s) memory ledger
+links_cleans link lane s memory ledger k = record { guest = k.guest; source = k.source; pager = k.pager }
 
 looks_grow : (r : PagerRec) (s : Recorded) (p : ℕ) (y : GuestRec) → looks_at s p y ≡ true → looks_at (pager_more r s) p y ≡ true
 looks_grow r s p (See k) e = earlier_stays (is_placement_of p) (is_placement_of p) s.pager (pager_more r s).pager (suc k) (λ m x is. get_old _ _ m x is) (λ x e. e) e
@@ -223,7 +219,7 @@ or_grows false b c kept e = kept e
 covered_grows : (r : PagerRec) (s : Recorded) (n p : ℕ) → IsCovered s n p → IsCovered (pager_more r s) n p
 covered_grows r s n p h late =
     let t = pager_more r s in
-    ap (λ b. b || has_looked t p n) (freed_before t s refl n p) ∙ or_grows (freed s n p) (has_looked s p n) (has_looked t p n) (looked_grows r s n p) (h late)
+    or_grows (freed s n p) (has_looked s p n) (has_looked t p n) (looked_grows r s n p) (h late)
 
 clean_grows : (r : PagerRec) (s : Recorded) (n : ℕ) (y : GuestRec) → GuestClean s n y → GuestClean (pager_more r s) n y
 clean_grows r s n (Read v p c x) h = (h.0, covered_grows r s n p h.1)
@@ -293,8 +289,8 @@ over_source r s p o = record {
   is_uncovered = o.is_uncovered;
 }
 
-pub over_link : (r : LinkRec) (s : Recorded) (p : ℕ) → IsOver (link_more r s) p → IsOver s p
-over_link r s p o = record {
+pub over_links : (link : List LinkRec) (lane : List LaneRec) (s : Recorded) (p : ℕ) → IsOver (links_as link lane s) p → IsOver s p
+over_links link lane s p o = record {
   release = o.release;
   vcpu = o.vcpu;
   stands = o.stands;
@@ -340,11 +336,6 @@ over_guest r s p o = go (get_push s.guest r o.release (Release o.vcpu p) o.stand
         let n = length s.guest in
         let unfreed : freed s n p ≡ false = false_if_not_true (freed s n p) (λ e. let w = freed_by s n p e in absurd (omega (arith, w.1, h.0, o.is_first w.0 (touch_push r s p w.0 w.2)))) in
         inr (o.vcpu, h.1, ap (λ b. b || has_looked s p n) unfreed ∙ sym (looked_push r s n p (omega arith)) ∙ ap (λ m. has_looked (guest_more r s) p m) (sym h.0) ∙ o.is_uncovered)
-
--- whether it releases a page
-abbrev pub is_release : GuestRec → Bool
-is_release (Release v p) = true
-is_release _ = false
 
 -- a record that releases no page
 pub over_other : (r : GuestRec) (s : Recorded) (p : ℕ) → is_release r ≡ false → IsOver (guest_more r s) p → IsOver s p

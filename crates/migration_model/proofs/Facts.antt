@@ -4,38 +4,40 @@ use Rattle.audit_model.proofs.Consistent.{there}
 use Rattle.audit_model.specs.Faults.{IsOver}
 use Rattle.audit_model.specs.Flat.{flat, freed as was_freed, home}
 use Rattle.audit_model.specs.Mergings.{IsMerging}
-use Rattle.audit_model.specs.Shape.{earlier, is_first_send, is_halt, is_placement_of, is_resume, is_send_of, link_named, pager_named, source_named}
+use Rattle.audit_model.specs.Shape.{earlier, is_first_send, is_halt, is_placement_of, is_resume, is_send_of, is_taking, lane_named, link_named, pager_named, source_named, taken_sending}
 use Rattle.audit_model.specs.declared.home.Home.{Home as Seat}
 use Rattle.audit_model.specs.declared.home.Home.TheVariants.{AtTarget, Nowhere}
 use Rattle.balloon_ledger.specs.Released.{pages_below, released}
 use Rattle.bubbling.specs.Bubbling.{Ring}
 use Rattle.fault_queue.specs.Waiting.{Waiting, without}
-use Rattle.link_book.specs.LinkPart.{LinkPart, with_back, with_front, with_up}
+use Rattle.link_book.specs.LinkPart.{LinkPart, with_back, with_front, with_lane, with_up}
 use Rattle.link_book.specs.declared.Arrival.{Arrival}
 use Rattle.migration_types.specs.Extents.{Extent}
 use Rattle.migration_types.specs.Memory.{Memory}
 use Rattle.migration_types.specs.PageSets.{Pages, with_page}
-use Rattle.migration_types.specs.Receipts.{Name, link_receipt, pager_receipt, source_receipt}
-use Rattle.migration_types.specs.Sessions.{Recorded}
+use Rattle.migration_types.specs.Receipts.{Name, lane_receipt, link_receipt, pager_receipt, source_receipt}
+use Rattle.migration_types.specs.Sessions.{HasLane, Recorded}
 use Rattle.migration_types.specs.declared.records.GuestRec.{GuestRec}
 use Rattle.migration_types.specs.declared.records.GuestRec.TheVariants.{Miss, See}
+use Rattle.migration_types.specs.declared.records.LaneRec.{LaneRec}
+use Rattle.migration_types.specs.declared.records.LaneRec.TheVariants.{Down as LaneDown}
 use Rattle.migration_types.specs.declared.records.LinkRec.{LinkRec}
 use Rattle.migration_types.specs.declared.records.LinkRec.TheVariants.{Down, Up}
-use Rattle.migration_types.specs.declared.records.LogName.TheVariants.{Guest, Link, Pager, Source as FromSource}
+use Rattle.migration_types.specs.declared.records.LogName.TheVariants.{Guest, Lane, Link, Pager, Source as FromSource}
 use Rattle.migration_types.specs.declared.records.PagerRec.{PagerRec}
-use Rattle.migration_types.specs.declared.records.PagerRec.TheVariants.{All, Got, Ready, Want}
+use Rattle.migration_types.specs.declared.records.PagerRec.TheVariants.{All, Ready, Want}
 use Rattle.migration_types.specs.declared.records.SourceRec.{SourceRec}
 use Rattle.migration_types.specs.declared.records.SourceRec.TheVariants.{Again, Done, Send, State}
 use Rattle.migration_types.specs.declared.version.Version.{Version}
 use Rattle.page_stream.specs.Packets.{number_of}
 use Rattle.page_stream.specs.declared.Packet.{Packet}
 use Rattle.page_stream.specs.declared.Packet.TheVariants.{All as AllPacket, Page as PagePacket, State as StatePacket, Want as WantPacket}
-use Rattle.migration_model.proofs.Cleans.{IsClean, IsFrozen, PagerClean, SourceClean, link_cleans, over_link, over_pager, over_source, pager_cleans, source_cleans}
-use Rattle.migration_model.proofs.Grows.{Extends, IsThere, guest_more, link_extends, link_merges, link_more, pager_extends, pager_merges, pager_more, source_extends, source_merges, source_more}
-use Rattle.migration_model.proofs.Limits.{IsLimited, IsWide, PagerWithin, SourceWithin, link_limits, pager_limits, source_limits}
-use Rattle.migration_model.proofs.Lists.{Index, all_push, each_kept, each_push, each_weaker, index_other}
-use Rattle.migration_model.proofs.Orders.{order_guest, order_guest_two, order_link, order_none, order_pager, order_pager_two, order_source, order_source_two}
-use Rattle.migration_model.proofs.Shapes.{IsNamed, IsStarted, goes_on, link_shapes, link_starts, pager_goes_on, pager_shapes, pager_starts, source_shapes, source_starts}
+use Rattle.migration_model.proofs.Cleans.{IsClean, IsFrozen, PagerClean, SourceClean, links_cleans, over_links, over_pager, over_source, pager_cleans, source_cleans}
+use Rattle.migration_model.proofs.Grows.{Extends, IsThere, guest_more, lane_extends, lane_merges, lane_more, link_extends, link_merges, link_more, pager_extends, pager_merges, pager_more, source_extends, source_merges, source_more, taken_stays}
+use Rattle.migration_model.proofs.Limits.{IsLimited, IsWide, PagerWithin, SourceWithin, links_limits, pager_limits, source_limits}
+use Rattle.migration_model.proofs.Lists.{AllAt, Index, all_push, each_kept, each_push, each_weaker, index_other}
+use Rattle.migration_model.proofs.Orders.{order_guest, order_guest_two, order_lane, order_link, order_none, order_pager, order_pager_two, order_source, order_source_two}
+use Rattle.migration_model.proofs.Shapes.{IsNamed, IsStarted, goes_on, links_shapes, links_starts, pager_goes_on, pager_shapes, pager_starts, source_shapes, source_starts}
 use Rattle.migration_model.specs.Machine.{Away, Vcpu, VcpuFits, away_session, new_names}
 use Rattle.residency.specs.Placements.{is_resident}
 use Rattle.std.proofs.Common.{Bool, List, None, Option, Some, [], ap, cond, false, inl, inr, length, not, refl, subst, sym, true, ℕ, ◌++◌, ◌<◌, ◌∙◌, ◌∷◌, ◌≡◌, ◌≤◌, ◌⊎◌}
@@ -70,18 +72,35 @@ UpFact s (PagePacket n page content) = ⊥
 UpFact s (WantPacket n page) = slice_get s.pager n ≡ Some (Want page)
 UpFact s (AllPacket n) = slice_get s.pager n ≡ Some All
 
+-- a packet of the lane, which the second version alone has
+abbrev pub LaneFact : Recorded → List ℕ → Packet → Type 0
+LaneFact s released packet = HasLane s.version × DownFact s released packet
+
+-- an arrival, by the record with its number of this log
+abbrev pub HasArrived : {R : Type 0} → (ℕ → R) → List R → (Packet → Type 0) → Arrival → Type 0
+HasArrived names log P x = (slice_get log x.number ≡ Some (names (number_of x.packet))) × P x.packet
+
+-- the packets that are under way, and those that have arrived
+pub record WayKept {R : Type 0} (names : ℕ → R) (log : List R) (P : Packet → Type 0) (line : List Packet) (arrivals : List Arrival) : Type 0 where
+  pub under_way : AllByRecursion P line
+  pub come : AllByRecursion (HasArrived names log P) arrivals
+
 abbrev pub DownArrived : Recorded → List ℕ → Arrival → Type 0
-DownArrived s released x = (slice_get s.link x.number ≡ Some (Down (number_of x.packet))) × DownFact s released x.packet
+DownArrived s released = HasArrived Down s.link (DownFact s released)
 
 abbrev pub UpArrived : Recorded → Arrival → Type 0
-UpArrived s x = (slice_get s.link x.number ≡ Some (Up (number_of x.packet))) × UpFact s x.packet
+UpArrived s = HasArrived Up s.link (UpFact s)
 
--- a page of the inbox: its `got`, the `down` that this names, and what that one names
+abbrev pub LaneArrived : Recorded → List ℕ → Arrival → Type 0
+LaneArrived s released = HasArrived LaneDown s.lane (LaneFact s released)
+
+-- a page of the inbox: the record by which it was taken, the source's record that this delivers, and what that one names
 pub record HasCome (s : Recorded) (x : Incoming) : Type 0 where
-  pub down : ℕ
+  pub taking : PagerRec
   pub number : ℕ
-  pub got : slice_get s.pager x.got ≡ Some (Got down)
-  pub came : slice_get s.link down ≡ Some (Down number)
+  pub got : slice_get s.pager x.got ≡ Some taking
+  pub takes : is_taking taking ≡ true
+  pub came : taken_sending s taking ≡ Some number
   pub is_page : IsPageNumber s number x.page x.contents
 
 abbrev pub IsReady : Recorded → Type 0
@@ -95,10 +114,9 @@ abbrev pub IsWaitedFor : Recorded → Waiting → Type 0
 IsWaitedFor s x = x.page < s.geometry.pages
 
 pub record LinkKept (s : Recorded) (released : List ℕ) (link : LinkPart) : Type 0 where
-  pub down : AllByRecursion (DownFact s released) link.down
-  pub up : AllByRecursion (UpFact s) link.up
-  pub down_arrivals : AllByRecursion (DownArrived s released) link.down_arrivals
-  pub up_arrivals : AllByRecursion (UpArrived s) link.up_arrivals
+  pub down : WayKept Down s.link (DownFact s released) link.down link.down_arrivals
+  pub up : WayKept Up s.link (UpFact s) link.up link.up_arrivals
+  pub lane : WayKept LaneDown s.lane (LaneFact s released) link.lane link.lane_arrivals
 
 pub record PagerKept (s : Recorded) (released : List ℕ) (pager : PagerPart) : Type 0 where
   pub geometry : pager.geometry ≡ s.geometry
@@ -170,12 +188,21 @@ pub record AwayKept (o : List Name) (a : Away) : Type 0 where
   pub target : TargetKept (away_session a) a.source.memory a.target
   pub ends : EndKept (away_session a) a.source.ledger (is_there a.target)
   pub vcpus : VcpusKept a.version a.source.geometry a.vcpus
+  pub lanes : a.has_lane ≡ true → HasLane a.version
 
 -- the books after an event, with the order that it leaves
 abbrev pub Arrives : List Name → Away → Away → Type 0
 Arrives o a b = AwayKept (o ++ new_names (away_session a) (away_session b)) b
 
 -- what rests on records stays where records are added
+pub way_stays : {R : Type 0} (names : ℕ → R) (old new : List R) (P Q : Packet → Type 0) (line : List Packet) (arrivals : List Arrival) →
+    ((n : ℕ) (r : R) → slice_get old n ≡ Some r → slice_get new n ≡ Some r) → ((packet : Packet) → P packet → Q packet) →
+    WayKept names old P line arrivals → WayKept names new Q line arrivals
+way_stays names old new P Q line arrivals stays weaker k = record {
+  under_way = each_weaker P Q weaker line k.under_way;
+  come = each_weaker (HasArrived names old P) (HasArrived names new Q) (λ y h. (stays y.number _ h.0, weaker y.packet h.1)) arrivals k.come;
+}
+
 module _ (s t : Recorded) (x : Extends s t) where
   page_number_stays : (n p : ℕ) (content : List ℕ) → IsPageNumber s n p content → IsPageNumber t n p content
   page_number_stays n p content h = record { send = h.send; sent = x.source h.send _ h.sent; is_it = is_it h.is_it }
@@ -200,15 +227,24 @@ module _ (s t : Recorded) (x : Extends s t) where
   up_fact_stays (WantPacket n p) h = x.pager n _ h
   up_fact_stays (AllPacket n) h = x.pager n _ h
 
+  pub lane_fact_stays : (released : List ℕ) (packet : Packet) → LaneFact s released packet → LaneFact t released packet
+  lane_fact_stays released packet h = (subst HasLane x.version h.0, down_fact_stays released packet h.1)
+
   pub has_come_stays : (y : Incoming) → HasCome s y → HasCome t y
-  has_come_stays y h = record { down = h.down; number = h.number; got = x.pager y.got _ h.got; came = x.link h.down _ h.came; is_page = page_number_stays h.number y.page y.contents h.is_page }
+  has_come_stays y h = record {
+    taking = h.taking;
+    number = h.number;
+    got = x.pager y.got _ h.got;
+    takes = h.takes;
+    came = taken_stays s t x h.taking h.number h.came;
+    is_page = page_number_stays h.number y.page y.contents h.is_page;
+  }
 
   pub link_stays : (released : List ℕ) (link : LinkPart) → LinkKept s released link → LinkKept t released link
   link_stays released link k = record {
-    down = each_weaker (DownFact s released) (DownFact t released) (down_fact_stays released) link.down k.down;
-    up = each_weaker (UpFact s) (UpFact t) up_fact_stays link.up k.up;
-    down_arrivals = each_weaker (DownArrived s released) (DownArrived t released) (λ y h. (x.link y.number _ h.0, down_fact_stays released y.packet h.1)) link.down_arrivals k.down_arrivals;
-    up_arrivals = each_weaker (UpArrived s) (UpArrived t) (λ y h. (x.link y.number _ h.0, up_fact_stays y.packet h.1)) link.up_arrivals k.up_arrivals;
+    down = way_stays Down s.link t.link (DownFact s released) (DownFact t released) link.down link.down_arrivals x.link (down_fact_stays released) k.down;
+    up = way_stays Up s.link t.link (UpFact s) (UpFact t) link.up link.up_arrivals x.link up_fact_stays k.up;
+    lane = way_stays LaneDown s.lane t.lane (LaneFact s released) (LaneFact t released) link.lane link.lane_arrivals x.lane (lane_fact_stays released) k.lane;
   }
 
   pub ready_stays : IsReady s → IsReady t
@@ -276,28 +312,30 @@ source_pushed {o} r sent ring was_asked is_done a k named first there on clean w
       };
       ends = record { all = k.ends.all; done = not_new s.source r Done k.ends.done done };
       vcpus = k.vcpus;
+      lanes = k.lanes;
     }
 
--- a record of the link, and the lines that it leaves
-pub link_pushed : {o : List Name} (r : LinkRec) (link : LinkPart) (a : Away) → AwayKept o a →
-    link_named (away_session a) r ≡ true → IsThere (away_session a) (link_receipt r) →
-    LinkKept (link_more r (away_session a)) (released_of a) link →
-    AwayKept (o ++ (Link, length a.link.log) ∷ []) (record a { link = record link { log = a.link.log ++ r ∷ [] } })
-link_pushed {o} r link a k named there new =
+-- what the links' book keeps, with the records that it makes
+pub link_kept : {o past : List Name} (link : LinkPart) (a : Away) → AwayKept past a →
+    Extends (away_session a) (away_session (record a { link = link })) →
+    AllAt (λ n r. link_named (away_session a) r ≡ true) link.log → AllAt (λ n r. lane_named (away_session a) r ≡ true) link.lane_log →
+    AllAt (λ n r. HasLane a.version) link.lane_log →
+    IsMerging (away_session (record a { link = link })) o → LinkKept (away_session (record a { link = link })) (released_of a) link →
+    AwayKept o (record a { link = link })
+link_kept link a k x named over_lane within merges new =
     let s = away_session a in
-    let t = link_more r s in
-    let x = link_extends r s in
+    let t = away_session (record a { link = link }) in
     record {
-      named = link_shapes r s k.named named;
-      started = link_starts r s k.started;
-      merges = link_merges r s o there k.merges;
-      clean = link_cleans r s a.source.memory a.source.ledger k.clean;
+      named = links_shapes link.log link.lane_log s x k.named named over_lane;
+      started = links_starts link.log link.lane_log s x k.started;
+      merges = merges;
+      clean = links_cleans link.log link.lane_log s a.source.memory a.source.ledger k.clean;
       frozen = record { memory_is = k.frozen.memory_is; ledger_is = k.frozen.ledger_is; halt_stands = k.frozen.halt_stands };
-      limits = link_limits r s k.limits;
+      limits = links_limits link.log link.lane_log s within k.limits;
       phase = record { halted = k.phase.halted; resumes = k.phase.resumes; home_is = k.phase.home_is };
       resumed_ready = k.resumed_ready;
       source = record { sends = k.source.sends; state = k.source.state; wide = k.source.wide };
-      link = record { down = new.down; up = new.up; down_arrivals = new.down_arrivals; up_arrivals = new.up_arrivals };
+      link = new;
       pager = pager_stays s t x (released_of a) a.pager k.pager.unready refl k.pager;
       placed = k.placed;
       settled = k.settled;
@@ -307,14 +345,37 @@ link_pushed {o} r link a k named there new =
         frames = k.target.frames;
         untouched = k.target.untouched;
         released = k.target.released;
-        over = λ p h. k.target.over p (over_link r s p h);
+        over = λ p h. k.target.over p (over_links link.log link.lane_log s p h);
         unsettled = k.target.unsettled;
         misses = misses_stay s t x a.target.misses k.target.misses;
         wide = k.target.wide;
       };
       ends = record { all = k.ends.all; done = k.ends.done };
       vcpus = k.vcpus;
+      lanes = k.lanes;
     }
+
+-- a record of the link, or of the lane, and the lines that it leaves
+pub link_pushed : {o : List Name} (r : LinkRec) (link : LinkPart) (a : Away) → AwayKept o a →
+    link_named (away_session a) r ≡ true → IsThere (away_session a) (link_receipt r) →
+    LinkKept (link_more r (away_session a)) (released_of a) link →
+    AwayKept (o ++ (Link, length a.link.log) ∷ []) (record a { link = record link { log = a.link.log ++ r ∷ []; lane_log = a.link.lane_log } })
+link_pushed {o} r link a k named there new =
+    let s = away_session a in
+    link_kept (record link { log = a.link.log ++ r ∷ []; lane_log = a.link.lane_log }) a k (link_extends r s)
+    (all_push (λ n y. link_named s y ≡ true) (λ n y. link_named s y ≡ true) s.link r k.named.link (λ n y is e. e) named) k.named.lane k.limits.lane
+    (link_merges r s o there k.merges) (record { down = new.down; up = new.up; lane = new.lane })
+
+pub lane_pushed : {o : List Name} (r : LaneRec) (link : LinkPart) (a : Away) → AwayKept o a →
+    lane_named (away_session a) r ≡ true → HasLane a.version → IsThere (away_session a) (lane_receipt r) →
+    LinkKept (lane_more r (away_session a)) (released_of a) link →
+    AwayKept (o ++ (Lane, length a.link.lane_log) ∷ []) (record a { link = record link { log = a.link.log; lane_log = a.link.lane_log ++ r ∷ [] } })
+lane_pushed {o} r link a k named within there new =
+    let s = away_session a in
+    link_kept (record link { log = a.link.log; lane_log = a.link.lane_log ++ r ∷ [] }) a k (lane_extends r s)
+    k.named.link (all_push (λ n y. lane_named s y ≡ true) (λ n y. lane_named s y ≡ true) s.lane r k.named.lane (λ n y is e. e) named)
+    (all_push (λ n y. HasLane s.version) (λ n y. HasLane s.version) s.lane r k.limits.lane (λ n y is h. h) within)
+    (lane_merges r s o there k.merges) (record { down = new.down; up = new.up; lane = new.lane })
 
 no_ready : (log : List PagerRec) → log ≡ [] → slice_get log 1 ≡ Some Ready → {B : Type 0} → B
 no_ready log e h = absurd (let f : slice_get log 1 ≡ None = ap (λ l. slice_get l 1) e in cc)
@@ -364,28 +425,15 @@ pager_pushed {o} r a k ready named there on other clean within all =
       };
       ends = record { all = not_new s.pager r All k.ends.all all; done = k.ends.done };
       vcpus = k.vcpus;
+      lanes = k.lanes;
     }
 
 -- changes of one book with no record
-pub with_link : {o : List Name} (link : LinkPart) (a : Away) → AwayKept o a → LinkKept (away_session a) (released_of a) link → AwayKept o (record a { link = record link { log = a.link.log } })
-with_link link a k new = record {
-  named = k.named;
-  started = k.started;
-  merges = k.merges;
-  clean = k.clean;
-  frozen = k.frozen;
-  limits = k.limits;
-  phase = k.phase;
-  resumed_ready = k.resumed_ready;
-  source = k.source;
-  link = record { down = new.down; up = new.up; down_arrivals = new.down_arrivals; up_arrivals = new.up_arrivals };
-  pager = k.pager;
-  placed = k.placed;
-  settled = k.settled;
-  target = k.target;
-  ends = k.ends;
-  vcpus = k.vcpus;
-}
+pub with_link : {o : List Name} (link : LinkPart) (a : Away) → AwayKept o a → LinkKept (away_session a) (released_of a) link → AwayKept o (record a { link = record link { log = a.link.log; lane_log = a.link.lane_log } })
+with_link link a k new =
+    link_kept (record link { log = a.link.log; lane_log = a.link.lane_log }) a k
+    (record { version = refl; guest = λ n x e. e; source = λ n x e. e; link = λ n x e. e; lane = λ n x e. e; pager = λ n x e. e })
+    k.named.link k.named.lane k.limits.lane k.merges (record { down = new.down; up = new.up; lane = new.lane })
 
 pub with_pager : {o : List Name} (pager : PagerPart) (a : Away) → AwayKept o a → PagerKept (away_session a) (released_of a) pager → ((p : ℕ) → pager.placed p ≡ is_some (a.target.placed p)) → ((p : ℕ) → pager.settled p ≡ true → a.target.freed p ≡ true) → AwayKept o (record a { pager = record pager { log = a.pager.log } })
 with_pager pager a k new same settled = record {
@@ -405,6 +453,7 @@ with_pager pager a k new same settled = record {
   target = k.target;
   ends = k.ends;
   vcpus = k.vcpus;
+  lanes = k.lanes;
 }
 
 -- pages that the guest released where they were absent are settled
@@ -464,6 +513,7 @@ settled_keeps a k =
       };
       ends = new.ends;
       vcpus = new.vcpus;
+      lanes = new.lanes;
     }
 
 -- settling records nothing
@@ -497,31 +547,39 @@ with_ring ring a k = record {
   target = k.target;
   ends = k.ends;
   vcpus = k.vcpus;
+  lanes = k.lanes;
 }
 
 -- the lines
+pub way_more : {R : Type 0} (names : ℕ → R) (log : List R) (P : Packet → Type 0) (line : List Packet) (arrivals : List Arrival) (packet : Packet) → P packet → WayKept names log P line arrivals → WayKept names log P (line ++ packet ∷ []) arrivals
+way_more names log P line arrivals packet fact k = record { under_way = each_push P line packet k.under_way fact; come = k.come }
+
 pub back_keeps : {o : List Name} (packet : Packet) (a : Away) → AwayKept o a → DownFact (away_session a) (released_of a) packet → AwayKept o (record a { link = with_back packet a.link })
 back_keeps packet a k fact = with_link (with_back packet a.link) a k (record {
-  down = each_push (DownFact (away_session a) (released_of a)) a.link.down packet k.link.down fact;
+  down = way_more Down a.link.log (DownFact (away_session a) (released_of a)) a.link.down a.link.down_arrivals packet fact k.link.down;
   up = k.link.up;
-  down_arrivals = k.link.down_arrivals;
-  up_arrivals = k.link.up_arrivals;
+  lane = k.link.lane;
 })
 
 pub front_keeps : {o : List Name} (packet : Packet) (a : Away) → AwayKept o a → DownFact (away_session a) (released_of a) packet → AwayKept o (record a { link = with_front packet a.link })
 front_keeps packet a k fact = with_link (with_front packet a.link) a k (record {
-  down = (fact, k.link.down);
+  down = record { under_way = (fact, k.link.down.under_way); come = k.link.down.come };
   up = k.link.up;
-  down_arrivals = k.link.down_arrivals;
-  up_arrivals = k.link.up_arrivals;
+  lane = k.link.lane;
 })
 
 pub up_keeps : {o : List Name} (packet : Packet) (a : Away) → AwayKept o a → UpFact (away_session a) packet → AwayKept o (record a { link = with_up packet a.link })
 up_keeps packet a k fact = with_link (with_up packet a.link) a k (record {
   down = k.link.down;
-  up = each_push (UpFact (away_session a)) a.link.up packet k.link.up fact;
-  down_arrivals = k.link.down_arrivals;
-  up_arrivals = k.link.up_arrivals;
+  up = way_more Up a.link.log (UpFact (away_session a)) a.link.up a.link.up_arrivals packet fact k.link.up;
+  lane = k.link.lane;
+})
+
+pub lane_keeps : {o : List Name} (packet : Packet) (a : Away) → AwayKept o a → LaneFact (away_session a) (released_of a) packet → AwayKept o (record a { link = with_lane packet a.link })
+lane_keeps packet a k fact = with_link (with_lane packet a.link) a k (record {
+  down = k.link.down;
+  up = k.link.up;
+  lane = way_more LaneDown a.link.lane_log (LaneFact (away_session a) (released_of a)) a.link.lane a.link.lane_arrivals packet fact k.link.lane;
 })
 
 -- the order at the end of an event
@@ -542,6 +600,9 @@ close_source_two o s r t b k = subst (λ x. AwayKept x b) (sym (order_source_two
 
 pub close_link : (o : List Name) (s : Recorded) (r : LinkRec) (b : Away) → AwayKept (o ++ (Link, length s.link) ∷ []) b → AwayKept (o ++ new_names s (link_more r s)) b
 close_link o s r b k = subst (λ x. AwayKept x b) (sym (order_link o s r)) k
+
+pub close_lane : (o : List Name) (s : Recorded) (r : LaneRec) (b : Away) → AwayKept (o ++ (Lane, length s.lane) ∷ []) b → AwayKept (o ++ new_names s (lane_more r s)) b
+close_lane o s r b k = subst (λ x. AwayKept x b) (sym (order_lane o s r)) k
 
 pub close_pager : (o : List Name) (s : Recorded) (r : PagerRec) (b : Away) → AwayKept (o ++ (Pager, length s.pager) ∷ []) b → AwayKept (o ++ new_names s (pager_more r s)) b
 close_pager o s r b k = subst (λ x. AwayKept x b) (sym (order_pager o s r)) k

@@ -1,13 +1,11 @@
 -- A session that has grown: what its records rest on stays.
 use Rattle.audit_model.proofs.Consistent.{there}
 use Rattle.audit_model.proofs.Grown.{grown_merges}
-use Rattle.audit_model.specs.Flat.{before, changed, freed, freed_after, home_after}
 use Rattle.audit_model.specs.Mergings.{IsMerging}
 use Rattle.audit_model.specs.Names.{if_there, receipt, same_log}
 use Rattle.audit_model.specs.Shape.{delivers, delivery, down_sending, guest_named, is_or_repeats, is_send_of, is_state, lane_named, lane_sending, link_named, pager_named, pager_start, passes, source_named, taken_sending}
 use Rattle.audit_model.specs.Walks.{IsGrown}
-use Rattle.audit_model.specs.declared.home.Home.TheVariants.{AtSource}
-use Rattle.migration_types.specs.Receipts.{Name, guest_receipt, link_receipt, pager_receipt, source_receipt}
+use Rattle.migration_types.specs.Receipts.{Name, guest_receipt, lane_receipt, link_receipt, pager_receipt, source_receipt}
 use Rattle.migration_types.specs.Sessions.{Recorded, log_length}
 use Rattle.migration_types.specs.declared.records.GuestRec.{GuestRec}
 use Rattle.migration_types.specs.declared.records.GuestRec.TheVariants.{Halt, Miss, Read, Release, Resume, See, Write}
@@ -36,11 +34,19 @@ source_more r s = record s { source = s.source ++ r ∷ [] }
 abbrev pub link_more : LinkRec → Recorded → Recorded
 link_more r s = record s { link = s.link ++ r ∷ [] }
 
+abbrev pub lane_more : LaneRec → Recorded → Recorded
+lane_more r s = record s { lane = s.lane ++ r ∷ [] }
+
 abbrev pub pager_more : PagerRec → Recorded → Recorded
 pager_more r s = record s { pager = s.pager ++ r ∷ [] }
 
+-- other logs of the link and of the lane
+abbrev pub links_as : List LinkRec → List LaneRec → Recorded → Recorded
+links_as link lane s = record s { link = link; lane = lane }
+
 -- t has the records of s, and perhaps more
 pub record Extends (s t : Recorded) : Type 0 where
+  pub version : s.version ≡ t.version
   pub guest : (n : ℕ) (r : GuestRec) → slice_get s.guest n ≡ Some r → slice_get t.guest n ≡ Some r
   pub source : (n : ℕ) (r : SourceRec) → slice_get s.source n ≡ Some r → slice_get t.source n ≡ Some r
   pub link : (n : ℕ) (r : LinkRec) → slice_get s.link n ≡ Some r → slice_get t.link n ≡ Some r
@@ -48,16 +54,19 @@ pub record Extends (s t : Recorded) : Type 0 where
   pub pager : (n : ℕ) (r : PagerRec) → slice_get s.pager n ≡ Some r → slice_get t.pager n ≡ Some r
 
 pub guest_extends : (r : GuestRec) (s : Recorded) → Extends s (guest_more r s)
-guest_extends r s = record { guest = λ n x e. get_old _ _ n x e; source = λ n x e. e; link = λ n x e. e; lane = λ n x e. e; pager = λ n x e. e }
+guest_extends r s = record { version = refl; guest = λ n x e. get_old _ _ n x e; source = λ n x e. e; link = λ n x e. e; lane = λ n x e. e; pager = λ n x e. e }
 
 pub source_extends : (r : SourceRec) (s : Recorded) → Extends s (source_more r s)
-source_extends r s = record { guest = λ n x e. e; source = λ n x e. get_old _ _ n x e; link = λ n x e. e; lane = λ n x e. e; pager = λ n x e. e }
+source_extends r s = record { version = refl; guest = λ n x e. e; source = λ n x e. get_old _ _ n x e; link = λ n x e. e; lane = λ n x e. e; pager = λ n x e. e }
 
 pub link_extends : (r : LinkRec) (s : Recorded) → Extends s (link_more r s)
-link_extends r s = record { guest = λ n x e. e; source = λ n x e. e; link = λ n x e. get_old _ _ n x e; lane = λ n x e. e; pager = λ n x e. e }
+link_extends r s = record { version = refl; guest = λ n x e. e; source = λ n x e. e; link = λ n x e. get_old _ _ n x e; lane = λ n x e. e; pager = λ n x e. e }
+
+pub lane_extends : (r : LaneRec) (s : Recorded) → Extends s (lane_more r s)
+lane_extends r s = record { version = refl; guest = λ n x e. e; source = λ n x e. e; link = λ n x e. e; lane = λ n x e. get_old _ _ n x e; pager = λ n x e. e }
 
 pub pager_extends : (r : PagerRec) (s : Recorded) → Extends s (pager_more r s)
-pager_extends r s = record { guest = λ n x e. e; source = λ n x e. e; link = λ n x e. e; lane = λ n x e. e; pager = λ n x e. get_old _ _ n x e }
+pager_extends r s = record { version = refl; guest = λ n x e. e; source = λ n x e. e; link = λ n x e. e; lane = λ n x e. e; pager = λ n x e. get_old _ _ n x e }
 
 -- the receipts of a log that has grown by one
 old_receipts : {A : Type 0} (f : A → Option Name) (xs : List A) (x : A) (n : ℕ) → n < length xs → if_there f (slice_get (xs ++ x ∷ []) n) ≡ if_there f (slice_get xs n)
@@ -138,6 +147,28 @@ link_grown r s there = record {
     receipts (Lane, n) lt = refl
     receipts (Pager, n) lt = refl
 
+lane_grown : (r : LaneRec) (s : Recorded) → IsThere s (lane_receipt r) → IsGrown s (lane_more r s) (Lane, length s.lane)
+lane_grown r s there = record {
+  is_next = refl;
+  lengths = lengths;
+  receipts = receipts;
+  sent_there = λ sent e. there sent (sym (new_receipt lane_receipt s.lane r) ∙ e);
+}
+  where
+    lengths : (l : LogName) → log_length (lane_more r s) l ≡ cond (same_log Lane l) (suc (log_length s l)) (log_length s l)
+    lengths Guest = refl
+    lengths FromSource = refl
+    lengths Link = refl
+    lengths Lane = length_suc s.lane r
+    lengths Pager = refl
+
+    receipts : (other : Name) → other.1 < log_length s other.0 → receipt (lane_more r s) other ≡ receipt s other
+    receipts (Guest, n) lt = refl
+    receipts (FromSource, n) lt = refl
+    receipts (Link, n) lt = refl
+    receipts (Lane, n) lt = old_receipts lane_receipt s.lane r n lt
+    receipts (Pager, n) lt = refl
+
 pager_grown : (r : PagerRec) (s : Recorded) → IsThere s (pager_receipt r) → IsGrown s (pager_more r s) (Pager, length s.pager)
 pager_grown r s there = record {
   is_next = refl;
@@ -170,16 +201,11 @@ source_merges r s order there m = grown_merges s (source_more r s) (FromSource, 
 pub link_merges : (r : LinkRec) (s : Recorded) (order : List Name) → IsThere s (link_receipt r) → IsMerging s order → IsMerging (link_more r s) (order ++ (Link, length s.link) ∷ [])
 link_merges r s order there m = grown_merges s (link_more r s) (Link, length s.link) order (link_grown r s there) m
 
+pub lane_merges : (r : LaneRec) (s : Recorded) (order : List Name) → IsThere s (lane_receipt r) → IsMerging s order → IsMerging (lane_more r s) (order ++ (Lane, length s.lane) ∷ [])
+lane_merges r s order there m = grown_merges s (lane_more r s) (Lane, length s.lane) order (lane_grown r s there) m
+
 pub pager_merges : (r : PagerRec) (s : Recorded) (order : List Name) → IsThere s (pager_receipt r) → IsMerging s order → IsMerging (pager_more r s) (order ++ (Pager, length s.pager) ∷ [])
 pager_merges r s order there m = grown_merges s (pager_more r s) (Pager, length s.pager) order (pager_grown r s there) m
-
--- where the guest's log is the same, the same pages were released at the target
-pub freed_before : (s t : Recorded) → s.guest ≡ t.guest → (n p : ℕ) → freed s n p ≡ freed t n p
-freed_before s t same zero p = refl
-freed_before s t same (suc n) p = λ i. changed (freed_after (before home_after AtSource (same i) n) p) (slice_get (same i) n) (freed_before s t same n p i)
-
-pub freed_same : (s t : Recorded) → s.guest ≡ t.guest → (p : ℕ) → freed s (length s.guest) p ≡ freed t (length t.guest) p
-freed_same s t same p = freed_before s t same (length s.guest) p ∙ ap (λ log. freed t (length log) p) same
 
 -- a record that names nothing, and one that names a record that is there
 pub names_none : (s : Recorded) → IsThere s None
@@ -190,7 +216,7 @@ names s name lt sent e = let same : name ≡ sent = cc in subst (λ k. k.1 < log
 
 module _ (s t : Recorded) (x : Extends s t) where
   -- what a record takes the delivery of stays
-  taken_stays : (r : PagerRec) (n : ℕ) → taken_sending s r ≡ Some n → taken_sending t r ≡ Some n
+  pub taken_stays : (r : PagerRec) (n : ℕ) → taken_sending s r ≡ Some n → taken_sending t r ≡ Some n
   taken_stays (Got down) n e = go (slice_get s.link down) refl e
     where
       go : (o : Option LinkRec) → slice_get s.link down ≡ o → if_there down_sending o ≡ Some n → if_there down_sending (slice_get t.link down) ≡ Some n

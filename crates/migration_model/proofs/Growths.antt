@@ -1,28 +1,29 @@
 -- No event appends more than two records to a log.
-use Rattle.active_push.specs.SourcePart.{SourcePart, asks, nearest, owes, pushes, serves_all, serves_owed, serves_want, silent, source_push, source_serve, source_tick, state_packet, unsent, with_pivot}
+use Rattle.active_push.specs.SourcePart.{Offer, SourcePart, asks, nearest, owes, pushes, serves_all, serves_owed, serves_want, silent, source_push, source_serve, source_tick, state_packet, unsent, with_pivot}
 use Rattle.bubbling.specs.Bubbling.{in_turn}
 use Rattle.fault_queue.specs.Waiting.{is_asked, is_waiting}
 use Rattle.guest_book.specs.GuestPart.{GuestPart, guest_access}
-use Rattle.link_book.specs.LinkPart.{Lane, LinkPart, fate_of, goes, if_packet, lane_of, lane_turned, turned, with_back, with_front, with_up}
+use Rattle.link_book.specs.LinkPart.{LinkPart, goes, if_packet, pushed_line, turned, way_turned, with_arrival, with_back, with_front, with_pushed, with_up}
 use Rattle.link_book.specs.declared.Arrival.{Arrival}
 use Rattle.migration_events.specs.Ops.{page_in}
 use Rattle.migration_events.specs.declared.events.Direction.{Direction}
-use Rattle.migration_events.specs.declared.events.Direction.TheVariants.{Down as Downward, Up as Upward}
+use Rattle.migration_events.specs.declared.events.Direction.TheVariants.{Down as Downward, Lane as OverLane, Up as Upward}
 use Rattle.migration_events.specs.declared.events.Event.{Event}
-use Rattle.migration_events.specs.declared.events.Event.TheVariants.{GuestStep, Halt as HaltGuest, LinkTurn, PagerDeliver, PagerFault, PagerFlush, PagerPop, PagerTick, Push, Serve, SourceTick}
+use Rattle.migration_events.specs.declared.events.Event.TheVariants.{GuestStep, Halt as HaltGuest, LinkTurn, PagerDeliver, PagerFault, PagerFlush, PagerPop, PagerPull, PagerTick, Push, Serve, SourceTick}
 use Rattle.migration_events.specs.declared.events.Fate.{Fate}
-use Rattle.migration_events.specs.declared.events.Fate.TheVariants.{Back, Deliver, Lose, Repeat}
 use Rattle.migration_events.specs.declared.ops.Op.{Op}
 use Rattle.migration_events.specs.declared.ops.Op.TheVariants.{Read as ReadCell, Release as ReleasePage, Write as WriteCell}
 use Rattle.migration_model.proofs.Facts.{settles_log}
 use Rattle.migration_model.proofs.Lists.{length_suc}
-use Rattle.migration_model.specs.Events.{all_at_move, away_event, away_ops, away_step, books_event, halted, home_event, home_ops, home_step, offered, paged, popped, pushed, sent_up, served}
+use Rattle.migration_model.specs.Events.{all_at_move, away_event, away_ops, away_step, books_event, halted, home_event, home_ops, home_step, offered, paged, popped, pulled, pushed, sent_up, served}
 use Rattle.migration_model.specs.Machine.{After, Away, Before, Books, Home, Vcpu, away_session, home_session, session_of}
 use Rattle.migration_types.specs.PageSets.{with_page, without_page}
 use Rattle.migration_types.specs.Sessions.{Recorded}
 use Rattle.migration_types.specs.declared.records.GuestRec.TheVariants.{Halt, Miss, See}
-use Rattle.migration_types.specs.declared.records.LaneRec.{LaneRec}
-use Rattle.migration_types.specs.declared.records.PagerRec.TheVariants.{Fault, Skip}
+use Rattle.migration_types.specs.declared.records.LaneRec.TheVariants.{Down as LaneDown}
+use Rattle.migration_types.specs.declared.records.LinkRec.TheVariants.{Down, Up}
+use Rattle.migration_types.specs.declared.records.PagerRec.{PagerRec}
+use Rattle.migration_types.specs.declared.records.PagerRec.TheVariants.{Fault, Got, Pull, Skip}
 use Rattle.migration_types.specs.declared.records.SourceRec.TheVariants.{Again, Done}
 use Rattle.page_stream.specs.declared.Packet.{Packet}
 use Rattle.page_stream.specs.declared.Packet.TheVariants.{All as AllPacket, Page as PagePacket, State as StatePacket, Want as WantPacket}
@@ -33,7 +34,7 @@ use Rattle.std.specs.Prelude.{nat_lt, slice_get}
 use Rattle.target_book.specs.TargetPart.{Accessed, TargetPart, accesses, does, done_over, frees, lacks, looks, misses_page, resumes, settled as with_settled, target_access, with_misses}
 use Rattle.target_book.specs.declared.Access.TheVariants.{Missed, Waiting}
 use Rattle.target_book.specs.declared.Missing.{Missing}
-use Rattle.target_side.specs.PagerPart.{Paged, PagerPart, Sent, deliver, delivers_by, delivers_next, fault_absent, fault_join, fault_new, faults, first_absent, flushes, is_released, next_fault, pager_flush, pager_pop, pager_tick, places, pops_by, settles, ticks, ticks_at, zeroes}
+use Rattle.target_side.specs.PagerPart.{Paged, PagerPart, Sent, deliver, delivers_by, delivers_next, fault_absent, fault_join, fault_new, faults, first_absent, flushes, is_released, next_fault, pager_flush, pager_pop, pager_pull, pager_tick, places, pops_by, pulls_by, settles, takes, ticks, ticks_at, zeroes}
 use Rattle.target_side.specs.declared.Incoming.{Incoming}
 
 -- at most two longer
@@ -98,38 +99,48 @@ source_tick_more b = go b.was_asked
     go true = none_more b.log
     go false = one_more b.log _
 
--- the link
-back_more : (packet : Option Packet) (b : LinkPart) → IsLittleMore b.log (if_packet with_back packet b).log
-back_more None b = none_more b.log
-back_more (Some packet) b = none_more b.log
+-- the links
+record LinkMore (old new : LinkPart) : Type 0 where
+  link : IsLittleMore old.log new.log
+  lane : IsLittleMore old.lane_log new.lane_log
 
-front_more : (packet : Option Packet) (b : LinkPart) → IsLittleMore b.log (if_packet with_front packet b).log
-front_more None b = none_more b.log
-front_more (Some packet) b = none_more b.log
+link_none : (b : LinkPart) → LinkMore b b
+link_none b = record { link = none_more b.log; lane = none_more b.lane_log }
 
-up_more : (packet : Option Packet) (b : LinkPart) → IsLittleMore b.log (if_packet with_up packet b).log
-up_more None b = none_more b.log
-up_more (Some packet) b = none_more b.log
+-- what is offered is no record
+offer_more : (offer : Packet → LinkPart → LinkPart) → ((packet : Packet) (b : LinkPart) → LinkMore b (offer packet b)) → (packet : Option Packet) (b : LinkPart) → LinkMore b (if_packet offer packet b)
+offer_more offer each None b = link_none b
+offer_more offer each (Some packet) b = each packet b
 
-fate_more : (fate : Fate) (direction : Direction) (packet : Packet) (lane : Lane) → IsLittleMore lane.log (fate_of fate direction packet lane).log
-fate_more Deliver direction packet lane = one_more lane.log _
-fate_more Lose direction packet lane = none_more lane.log
-fate_more Repeat direction packet lane = one_more lane.log _
-fate_more Back direction packet lane = none_more lane.log
+back_more : (packet : Packet) (b : LinkPart) → LinkMore b (with_back packet b)
+back_more packet b = record { link = none_more b.log; lane = none_more b.lane_log }
 
-lane_more : (direction : Direction) (fate : Fate) (line : List Packet) (lane : Lane) → IsLittleMore lane.log (lane_turned direction fate line lane).log
-lane_more direction fate [] lane = none_more lane.log
-lane_more direction fate (packet ∷ rest) lane = go (goes direction packet)
-  where
-    go : (is_own : Bool) → IsLittleMore lane.log (cond is_own (fate_of fate direction packet (record lane { line = rest })) (record lane { line = rest })).log
-    go true = fate_more fate direction packet (record lane { line = rest })
-    go false = none_more lane.log
+front_more : (packet : Packet) (b : LinkPart) → LinkMore b (with_front packet b)
+front_more packet b = record { link = none_more b.log; lane = none_more b.lane_log }
 
-turn_more : (direction : Direction) (fate : Fate) (b : LinkPart) → IsLittleMore b.log (turned direction fate b).log
-turn_more Downward fate b = lane_more Downward fate b.down (lane_of Downward b)
-turn_more Upward fate b = lane_more Upward fate b.up (lane_of Upward b)
+up_more : (packet : Packet) (b : LinkPart) → LinkMore b (with_up packet b)
+up_more packet b = record { link = none_more b.log; lane = none_more b.lane_log }
+
+offer_pushed_more : (has_lane : Bool) (packet : Packet) (b : LinkPart) → LinkMore b (with_pushed has_lane packet b)
+offer_pushed_more true packet b = record { link = none_more b.log; lane = none_more b.lane_log }
+offer_pushed_more false packet b = back_more packet b
+
+arrival_more : {R : Type 0} (names : ℕ → R) (came : Option ℕ) (log : List R) → IsLittleMore log (with_arrival names came log)
+arrival_more names None log = none_more log
+arrival_more names (Some number) log = one_more log _
+
+turn_more : (direction : Direction) (fate : Fate) (b : LinkPart) → LinkMore b (turned direction fate b)
+turn_more Downward fate b = record { link = arrival_more Down (way_turned (goes Downward) fate (length b.log) b.down b.down_arrivals).came b.log; lane = none_more b.lane_log }
+turn_more Upward fate b = record { link = arrival_more Up (way_turned (goes Upward) fate (length b.log) b.up b.up_arrivals).came b.log; lane = none_more b.lane_log }
+turn_more OverLane fate b = record { link = none_more b.log; lane = arrival_more LaneDown (way_turned (goes OverLane) fate (length b.lane_log) b.lane b.lane_arrivals).came b.lane_log }
 
 -- the pager
+taken_more : (r : PagerRec) (packet : Packet) (b : PagerPart) → IsLittleMore b.log (takes r packet b).log
+taken_more r (StatePacket n released) b = two_more b.log _ _
+taken_more r (PagePacket n p content) b = one_more b.log _
+taken_more r (WantPacket n p) b = none_more b.log
+taken_more r (AllPacket n) b = none_more b.log
+
 pop_more : (down : ℕ) (packet : Packet) (b : PagerPart) → IsLittleMore b.log (pager_pop down packet b).log
 pop_more down packet b = go b.released packet
   where
@@ -138,10 +149,14 @@ pop_more down packet b = go b.released packet
     go None (PagePacket n p content) = none_more b.log
     go None (WantPacket n p) = none_more b.log
     go None (AllPacket n) = none_more b.log
-    go (Some set) (StatePacket n released) = two_more b.log _ _
-    go (Some set) (PagePacket n p content) = one_more b.log _
-    go (Some set) (WantPacket n p) = none_more b.log
-    go (Some set) (AllPacket n) = none_more b.log
+    go (Some set) packet = taken_more (Got down) packet b
+
+pull_more : (down : ℕ) (packet : Packet) (b : PagerPart) → IsLittleMore b.log (pager_pull down packet b).log
+pull_more down packet b = go b.released
+  where
+    go : (released : Option (List ℕ)) → IsLittleMore b.log (pulls_by released down packet b).log
+    go None = none_more b.log
+    go (Some set) = taken_more (Pull down) packet b
 
 flush_more : (b : PagerPart) → IsLittleMore b.log (pager_flush b).book.log
 flush_more b = go b.outbox
@@ -309,6 +324,7 @@ home_more Serve h = stays_short (home_session h)
 home_more SourceTick h = stays_short (home_session h)
 home_more (LinkTurn direction fate) h = stays_short (home_session h)
 home_more PagerPop h = stays_short (home_session h)
+home_more PagerPull h = stays_short (home_session h)
 home_more PagerFault h = stays_short (home_session h)
 home_more PagerFlush h = stays_short (home_session h)
 home_more PagerDeliver h = stays_short (home_session h)
@@ -316,47 +332,61 @@ home_more PagerTick h = stays_short (home_session h)
 
 away_ops_more : (v : ℕ) (vcpu : Vcpu) (ops : List Op) (a : Away) → GrowsByTwo (away_session a) (away_session (away_ops v vcpu ops a))
 away_ops_more v vcpu [] a = stays_short (away_session a)
-away_ops_more v vcpu (op ∷ ops) a = record { guest = access_more v op a.target; source = none_more a.source.log; link = none_more a.link.log; lane = none_more {A = LaneRec} []; pager = none_more a.pager.log }
+away_ops_more v vcpu (op ∷ ops) a = record { guest = access_more v op a.target; source = none_more a.source.log; link = none_more a.link.log; lane = none_more a.link.lane_log; pager = none_more a.pager.log }
 
 away_step_more : (v : ℕ) (vcpu : Option Vcpu) (a : Away) → GrowsByTwo (away_session a) (away_session (away_step v vcpu a))
 away_step_more v None a = stays_short (away_session a)
 away_step_more v (Some vcpu) a = away_ops_more v vcpu vcpu.after_move a
 
+-- the source and the links, after a call on both
+offered_more : (offer : Packet → LinkPart → LinkPart) → ((packet : Packet) (b : LinkPart) → LinkMore b (offer packet b)) → (o : Offer) (a : Away) → IsLittleMore a.source.log o.book.log → GrowsByTwo (away_session a) (away_session (offered offer o a))
+offered_more offer each o a source =
+    let k = offer_more offer each o.packet a.link in
+    record { guest = none_more a.target.log; source = source; link = k.link; lane = k.lane; pager = none_more a.pager.log }
+
 pushed_more : (a : Away) → GrowsByTwo (away_session a) (away_session (pushed a))
-pushed_more a = go (nat_lt (length a.link.down) a.window)
+pushed_more a = go (nat_lt (length (pushed_line a.has_lane a.link)) a.window)
   where
-    go : (fits : Bool) → GrowsByTwo (away_session a) (away_session (cond fits (offered with_back (source_push a.source) a) a))
-    go true = record { guest = none_more a.target.log; source = push_more a.source; link = back_more (source_push a.source).packet a.link; lane = none_more {A = LaneRec} []; pager = none_more a.pager.log }
+    go : (fits : Bool) → GrowsByTwo (away_session a) (away_session (cond fits (offered (with_pushed a.has_lane) (source_push a.source) a) a))
+    go true = offered_more (with_pushed a.has_lane) (offer_pushed_more a.has_lane) (source_push a.source) a (push_more a.source)
     go false = stays_short (away_session a)
 
 served_more : (arrivals : List Arrival) (a : Away) → GrowsByTwo (away_session a) (away_session (served arrivals a))
 served_more [] a = stays_short (away_session a)
-served_more (x ∷ rest) a = record {
-  guest = none_more a.target.log;
-  source = serve_more x.number x.packet a.source;
-  link = front_more (source_serve x.number x.packet a.source).packet (record a.link { up_arrivals = rest });
-  lane = none_more {A = LaneRec} [];
-  pager = none_more a.pager.log;
-}
+served_more (x ∷ rest) a =
+    let k = offered_more with_front front_more (source_serve x.number x.packet a.source) (record a { link = record a.link { up_arrivals = rest } }) (serve_more x.number x.packet a.source) in
+    record { guest = k.guest; source = k.source; link = k.link; lane = k.lane; pager = k.pager }
 
 popped_more : (arrivals : List Arrival) (a : Away) → GrowsByTwo (away_session a) (away_session (popped arrivals a))
 popped_more [] a = stays_short (away_session a)
-popped_more (x ∷ rest) a = record { guest = none_more a.target.log; source = none_more a.source.log; link = none_more a.link.log; lane = none_more {A = LaneRec} []; pager = pop_more x.number x.packet a.pager }
+popped_more (x ∷ rest) a = record { guest = none_more a.target.log; source = none_more a.source.log; link = none_more a.link.log; lane = none_more a.link.lane_log; pager = pop_more x.number x.packet a.pager }
+
+pulled_more : (arrivals : List Arrival) (a : Away) → GrowsByTwo (away_session a) (away_session (pulled arrivals a))
+pulled_more [] a = stays_short (away_session a)
+pulled_more (x ∷ rest) a = record { guest = none_more a.target.log; source = none_more a.source.log; link = none_more a.link.log; lane = none_more a.link.lane_log; pager = pull_more x.number x.packet a.pager }
 
 paged_more : (r : Paged) (a : Away) → PagedMore a.pager a.target r → GrowsByTwo (away_session a) (away_session (paged r a))
-paged_more r a k = record { guest = k.target; source = none_more a.source.log; link = none_more a.link.log; lane = none_more {A = LaneRec} []; pager = k.pager }
+paged_more r a k = record { guest = k.target; source = none_more a.source.log; link = none_more a.link.log; lane = none_more a.link.lane_log; pager = k.pager }
 
 sent_more : (r : Sent) (a : Away) → IsLittleMore a.pager.log r.book.log → GrowsByTwo (away_session a) (away_session (sent_up r a))
-sent_more r a k = record { guest = none_more a.target.log; source = none_more a.source.log; link = up_more r.packet a.link; lane = none_more {A = LaneRec} []; pager = k }
+sent_more r a pager =
+    let k = offer_more with_up up_more r.packet a.link in
+    record { guest = none_more a.target.log; source = none_more a.source.log; link = k.link; lane = k.lane; pager = pager }
+
+turned_more : (direction : Direction) (fate : Fate) (a : Away) → GrowsByTwo (away_session a) (away_session (record a { link = turned direction fate a.link }))
+turned_more direction fate a =
+    let k = turn_more direction fate a.link in
+    record { guest = none_more a.target.log; source = none_more a.source.log; link = k.link; lane = k.lane; pager = none_more a.pager.log }
 
 away_more : (e : Event) (a : Away) → GrowsByTwo (away_session a) (away_session (away_event e a))
 away_more (GuestStep v) a = away_step_more v (slice_get a.vcpus v) a
 away_more HaltGuest a = stays_short (away_session a)
 away_more Push a = pushed_more a
 away_more Serve a = served_more a.link.up_arrivals a
-away_more SourceTick a = record { guest = none_more a.target.log; source = source_tick_more a.source; link = back_more (source_tick a.source).packet a.link; lane = none_more {A = LaneRec} []; pager = none_more a.pager.log }
-away_more (LinkTurn direction fate) a = record { guest = none_more a.target.log; source = none_more a.source.log; link = turn_more direction fate a.link; lane = none_more {A = LaneRec} []; pager = none_more a.pager.log }
+away_more SourceTick a = offered_more with_back back_more (source_tick a.source) a (source_tick_more a.source)
+away_more (LinkTurn direction fate) a = turned_more direction fate a
 away_more PagerPop a = popped_more a.link.down_arrivals a
+away_more PagerPull a = pulled_more a.link.lane_arrivals a
 away_more PagerFault a = paged_more (next_fault a.pager a.target) a (next_fault_more a.pager a.target)
 away_more PagerFlush a = sent_more (pager_flush a.pager) a (flush_more a.pager)
 away_more PagerDeliver a = paged_more (deliver a.pager a.target) a (deliver_more a.pager a.target)

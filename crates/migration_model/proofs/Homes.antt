@@ -8,7 +8,7 @@ use Rattle.migration_types.specs.Extents.{Extent}
 use Rattle.migration_types.specs.Memory.{Memory, with_cell, with_zeros}
 use Rattle.migration_types.specs.PageSets.{Pages, with_page, without_page}
 use Rattle.migration_types.specs.Receipts.{Name, guest_receipt}
-use Rattle.migration_types.specs.Sessions.{GuestRecFits, Recorded, log_length}
+use Rattle.migration_types.specs.Sessions.{GuestRecFits, HasLane, Recorded, log_length}
 use Rattle.migration_types.specs.declared.version.Version.{Version}
 use Rattle.migration_types.specs.declared.version.Version.TheVariants.{One, Two}
 use Rattle.migration_types.specs.declared.records.GuestRec.{GuestRec}
@@ -58,6 +58,7 @@ pub record HomeKept (o : List Name) (h : Home) : Type 0 where
   pub unresumed : earlier is_resume h.guest.log (length h.guest.log) ≡ false
   pub is_home : home (home_session h) (length h.guest.log) ≡ AtSource
   pub vcpus : VcpusKept h.version h.guest.geometry h.vcpus
+  pub lanes : h.has_lane ≡ true → HasLane h.version
 
 -- the books after an event, with the order that it leaves
 abbrev pub Stays : List Name → Home → Home → Type 0
@@ -157,6 +158,7 @@ home_pushed {o} r memory ledger h k op clean fits cells pages wide =
       unresumed = before_end (λ y found. is_resume y || found) false h.guest.log r ∙ ap (λ b. b || earlier is_resume h.guest.log (length h.guest.log)) (no_resume r op) ∙ k.unresumed;
       is_home = before_end home_after AtSource h.guest.log r ∙ ap (λ x. home_after r x) k.is_home ∙ stays_home r op;
       vcpus = k.vcpus;
+      lanes = k.lanes;
     }
 
 not_late : {o : List Name} (h : Home) → HomeKept o h → {A : Type 0} → home (home_session h) (length h.guest.log) ≡ AtTarget → A
@@ -181,7 +183,7 @@ home_op_keeps o v (ReleasePage p) h k low fits =
     stay_one o (home_session h) r _ (home_pushed r (with_zeros p h.guest.memory) (with_page p h.guest.ledger) h k refl tt (low, fits) (λ q d. refl) (λ q. refl) (wide_zeros p h.guest.memory k.wide))
 
 home_vcpus : {o : List Name} (vcpus : List Vcpu) (h : Home) → HomeKept o h → VcpusKept h.version h.guest.geometry vcpus → HomeKept o (record h { vcpus = vcpus })
-home_vcpus vcpus h k new = record { ops = k.ops; named = k.named; merges = k.merges; limits = k.limits; reads = k.reads; memory_is = k.memory_is; wide = k.wide; ledger_is = k.ledger_is; unhalted = k.unhalted; unresumed = k.unresumed; is_home = k.is_home; vcpus = new }
+home_vcpus vcpus h k new = record { ops = k.ops; named = k.named; merges = k.merges; limits = k.limits; reads = k.reads; memory_is = k.memory_is; wide = k.wide; ledger_is = k.ledger_is; unhalted = k.unhalted; unresumed = k.unresumed; is_home = k.is_home; vcpus = new; lanes = k.lanes }
 
 home_ops_keep : (o : List Name) (v : ℕ) (vcpu : Vcpu) (ops : List Op) (h : Home) → HomeKept o h → v < 64 → AllByRecursion (OpFits h.guest.geometry) ops → VcpuFits h.version h.guest.geometry vcpu → Stays o h (home_ops v vcpu ops h)
 home_ops_keep o v vcpu [] h k low fits whole = stay_none o h k
@@ -263,7 +265,7 @@ halted_kept o h k = record {
     state = refl;
     wide = k.wide;
   };
-  link = record { down = ((refl, inl refl), tt); up = tt; down_arrivals = tt; up_arrivals = tt };
+  link = record { down = record { under_way = ((refl, inl refl), tt); come = tt }; up = record { under_way = tt; come = tt }; lane = record { under_way = tt; come = tt } };
   pager = record { geometry = refl; unready = λ e. refl; ready = λ rel e. absurd (cc); inbox = tt; outbox = tt; waiting = tt; wants = λ p n e. absurd (cc) };
   placed = λ p. refl;
   settled = λ p e. absurd (cc);
@@ -280,6 +282,7 @@ halted_kept o h k = record {
   };
   ends = record { all = λ n e. nothing n All e; done = λ n e. not_done n (two_records (Halted (length h.guest.log)) State n Done e) };
   vcpus = k.vcpus;
+  lanes = k.lanes;
 }
   where
     at : ℕ
@@ -315,6 +318,7 @@ first_home script = record {
   init = script.init;
   pivots = script.pivots;
   window = script.window;
+  has_lane = script.has_lane;
   vcpus = script.vcpus;
   guest = new_guest script.geometry script.init;
 }
@@ -344,4 +348,5 @@ start_keeps script fits = record {
   unresumed = refl;
   is_home = refl;
   vcpus = record { few = fits.few_vcpus; each = fits.vcpus };
+  lanes = fits.lane;
 }

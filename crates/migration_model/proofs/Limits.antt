@@ -19,7 +19,7 @@ use Rattle.migration_types.specs.declared.records.SourceRec.{SourceRec}
 use Rattle.migration_types.specs.declared.records.SourceRec.TheVariants.{Again, Ask, Done, Halted, Send, State}
 use Rattle.migration_types.specs.declared.version.Version.{Version}
 use Rattle.migration_model.proofs.Cleans.{IsClean}
-use Rattle.migration_model.proofs.Grows.{guest_more, link_more, pager_more, source_more}
+use Rattle.migration_model.proofs.Grows.{guest_more, links_as, pager_more, source_more}
 use Rattle.migration_model.proofs.Lists.{AllAt, all_each, all_push, and_left}
 use Rattle.migration_model.proofs.Shapes.{IsNamed}
 use Rattle.std.proofs.Common.{Bool, List, None, Option, Some, [], arith, cond, false, length, refl, subst, suc, sym, true, zero, ℕ, ◌&&◌, ◌<◌, ◌∷◌, ◌≡◌, ◌≤◌}
@@ -78,8 +78,8 @@ source_limits r s here k = record {
   pager = k.pager;
 }
 
-pub link_limits : (r : LinkRec) (s : Recorded) → IsLimited s → IsLimited (link_more r s)
-link_limits r s k = record { extent = k.extent; init = k.init; guest = k.guest; source = k.source; lane = k.lane; pager = k.pager }
+pub links_limits : (link : List LinkRec) (lane : List LaneRec) (s : Recorded) → AllAt (λ n r. HasLane s.version) lane → IsLimited s → IsLimited (links_as link lane s)
+links_limits link lane s here k = record { extent = k.extent; init = k.init; guest = k.guest; source = k.source; lane = here; pager = k.pager }
 
 pub pager_limits : (r : PagerRec) (s : Recorded) → PagerWithin s.version s.geometry r → IsLimited s → IsLimited (pager_more r s)
 pager_limits r s here k = record {

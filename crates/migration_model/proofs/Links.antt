@@ -1,147 +1,171 @@
--- The events of the link, and PagerFlush.
+-- The events of the links, and PagerFlush.
 use Rattle.audit_model.specs.Shape.{goes_down, goes_up, passes}
-use Rattle.balloon_ledger.specs.Released.{released}
-use Rattle.link_book.specs.LinkPart.{LinkPart, arrived, fate_of, lane_of, lane_turned, turned as link_turned, with_lane}
+use Rattle.link_book.specs.LinkPart.{Outcome, fate_of, goes, turned as link_turned, way_turned, went_down, went_over_lane, went_up, with_arrival}
 use Rattle.link_book.specs.declared.Arrival.{Arrival}
 use Rattle.migration_events.specs.declared.events.Direction.{Direction}
-use Rattle.migration_events.specs.declared.events.Direction.TheVariants.{Down as Downward, Up as Upward}
+use Rattle.migration_events.specs.declared.events.Direction.TheVariants.{Down as Downward, Lane as OverLane, Up as Upward}
 use Rattle.migration_events.specs.declared.events.Fate.{Fate}
 use Rattle.migration_events.specs.declared.events.Fate.TheVariants.{Back, Deliver, Lose, Repeat}
 use Rattle.migration_types.specs.Receipts.{Name}
-use Rattle.migration_types.specs.Sessions.{Recorded}
+use Rattle.migration_types.specs.Sessions.{HasLane, Recorded}
+use Rattle.migration_types.specs.declared.records.LaneRec.TheVariants.{Down as LaneDown}
 use Rattle.migration_types.specs.declared.records.LinkRec.TheVariants.{Down, Up}
-use Rattle.migration_types.specs.declared.records.LogName.TheVariants.{Link, Pager, Source as FromSource}
+use Rattle.migration_types.specs.declared.records.LogName.TheVariants.{Pager, Source as FromSource}
 use Rattle.migration_types.specs.declared.records.PagerRec.TheVariants.{All, Want}
 use Rattle.migration_types.specs.declared.records.SourceRec.TheVariants.{Again, Send, State}
-use Rattle.page_stream.specs.Packets.{is_of_pager, is_of_source, number_of}
+use Rattle.page_stream.specs.Packets.{number_of}
 use Rattle.page_stream.specs.declared.Packet.{Packet}
 use Rattle.page_stream.specs.declared.Packet.TheVariants.{All as AllPacket, Page as PagePacket, State as StatePacket, Want as WantPacket}
-use Rattle.migration_model.proofs.Facts.{Arrives, AwayKept, DownArrived, DownFact, IsStateNumber, UpArrived, UpFact, back_keeps, close_link, close_none, down_fact_stays, link_pushed, link_stays, released_of, up_fact_stays, up_keeps, with_link, with_pager}
-use Rattle.migration_model.proofs.Grows.{link_extends, link_more, names}
-use Rattle.migration_model.proofs.Lists.{each_push, get_new, passes_at}
+use Rattle.migration_model.proofs.Facts.{Arrives, AwayKept, DownFact, HasArrived, IsStateNumber, LaneFact, UpFact, WayKept, close_lane, close_link, close_none, down_fact_stays, lane_fact_stays, lane_pushed, link_pushed, link_stays, released_of, up_fact_stays, up_keeps, way_more, way_stays, with_link, with_pager}
+use Rattle.migration_model.proofs.Grows.{lane_extends, lane_more, link_extends, link_more, names}
+use Rattle.migration_model.proofs.Lists.{each_push, get_new, get_old, passes_at}
 use Rattle.migration_model.specs.Events.{sent_up}
 use Rattle.migration_model.specs.Machine.{Away, away_session}
-use Rattle.std.proofs.Common.{Bool, List, Some, [], ap, cond, false, inl, inr, length, refl, subst, true, ℕ, ◌++◌, ◌<◌, ◌∙◌, ◌∷◌, ◌≡◌, ◌⊎◌}
+use Rattle.std.proofs.Common.{Bool, List, None, Option, Some, [], ap, cond, false, inl, inr, length, refl, subst, true, ℕ, ◌++◌, ◌<◌, ◌∙◌, ◌∷◌, ◌≡◌, ◌⊎◌}
 use Rattle.std.proofs.lemmas.Option.{slice_get_within}
 use Rattle.std.specs.List.{AllByRecursion}
 use Rattle.std.specs.Prelude.{slice_get}
 use Rattle.target_side.specs.PagerPart.{flushes}
 
 -- the record that a packet's number names
-state_goes_down : (s : Recorded) (n : ℕ) → IsStateNumber s n → (passes goes_down (slice_get s.source n) ≡ true) × (n < length s.source)
+abbrev GoesDown : Recorded → ℕ → Type 0
+GoesDown s n = (passes goes_down (slice_get s.source n) ≡ true) × (n < length s.source)
+
+abbrev GoesUp : Recorded → ℕ → Type 0
+GoesUp s n = (passes goes_up (slice_get s.pager n) ≡ true) × (n < length s.pager)
+
+abbrev GoesOverLane : Recorded → ℕ → Type 0
+GoesOverLane s n = HasLane s.version × GoesDown s n
+
+state_goes_down : (s : Recorded) (n : ℕ) → IsStateNumber s n → GoesDown s n
 state_goes_down s n (inl e) = (passes_at goes_down s.source n State e refl, slice_get_within s.source n State e)
 state_goes_down s n (inr h) = (passes_at goes_down s.source n (Again h.0) h.1 refl, slice_get_within s.source n (Again h.0) h.1)
 
-page_goes_down : (s : Recorded) (n p send : ℕ) (content : List ℕ) → slice_get s.source send ≡ Some (Send p content) → (n ≡ send) ⊎ (slice_get s.source n ≡ Some (Again send)) → (passes goes_down (slice_get s.source n) ≡ true) × (n < length s.source)
+page_goes_down : (s : Recorded) (n p send : ℕ) (content : List ℕ) → slice_get s.source send ≡ Some (Send p content) → (n ≡ send) ⊎ (slice_get s.source n ≡ Some (Again send)) → GoesDown s n
 page_goes_down s n p send content sent (inl e) =
     let is : slice_get s.source n ≡ Some (Send p content) = ap (λ k. slice_get s.source k) e ∙ sent in
     (passes_at goes_down s.source n (Send p content) is refl, slice_get_within s.source n (Send p content) is)
 page_goes_down s n p send content sent (inr e) = (passes_at goes_down s.source n (Again send) e refl, slice_get_within s.source n (Again send) e)
 
-packet_goes_down : (s : Recorded) (released : List ℕ) (packet : Packet) → DownFact s released packet → (passes goes_down (slice_get s.source (number_of packet)) ≡ true) × (number_of packet < length s.source)
+packet_goes_down : (s : Recorded) (released : List ℕ) (packet : Packet) → DownFact s released packet → GoesDown s (number_of packet)
 packet_goes_down s released (StatePacket n rel) h = state_goes_down s n h.1
 packet_goes_down s released (PagePacket n p content) h = page_goes_down s n p h.send content h.sent h.is_it
 packet_goes_down s released (WantPacket n p) h = absurd h
 packet_goes_down s released (AllPacket n) h = absurd h
 
-packet_goes_up : (s : Recorded) (packet : Packet) → UpFact s packet → (passes goes_up (slice_get s.pager (number_of packet)) ≡ true) × (number_of packet < length s.pager)
+packet_goes_up : (s : Recorded) (packet : Packet) → UpFact s packet → GoesUp s (number_of packet)
 packet_goes_up s (StatePacket n rel) h = absurd h
 packet_goes_up s (PagePacket n p content) h = absurd h
 packet_goes_up s (WantPacket n p) h = (passes_at goes_up s.pager n (Want p) h refl, slice_get_within s.pager n (Want p) h)
 packet_goes_up s (AllPacket n) h = (passes_at goes_up s.pager n All h refl, slice_get_within s.pager n All h)
 
--- the book after an arrival
-abbrev down_arrived : Packet → LinkPart → LinkPart
-down_arrived packet b = with_lane Downward (arrived Downward packet (lane_of Downward b)) b
+-- what a turn leaves of a way, and what is known of the number of the packet that has arrived, if one has
+record OutcomeKept {R : Type 0} (names : ℕ → R) (log : List R) (P : Packet → Type 0) (Q : ℕ → Type 0) (turn : Outcome) : Type 0 where
+  way : WayKept names (with_arrival names turn.came log) P turn.way.line turn.way.arrivals
+  came : (n : ℕ) → turn.came ≡ Some n → Q n
 
-abbrev up_arrived : Packet → LinkPart → LinkPart
-up_arrived packet b = with_lane Upward (arrived Upward packet (lane_of Upward b)) b
+module _ {R : Type 0} (names : ℕ → R) (log : List R) (P : Packet → Type 0) (Q : ℕ → Type 0) (says : (packet : Packet) → P packet → Q (number_of packet)) where
+  arrival_keeps : (packet : Packet) (line : List Packet) (arrivals : List Arrival) → P packet → WayKept names log P line arrivals →
+      WayKept names (log ++ names (number_of packet) ∷ []) P line (arrivals ++ (record { number = length log; packet = packet }) ∷ [])
+  arrival_keeps packet line arrivals fact k =
+      let more = log ++ names (number_of packet) ∷ [] in
+      let old = way_stays names log more P P line arrivals (λ n r e. get_old log (names (number_of packet) ∷ []) n r e) (λ x h. h) k in
+      record { under_way = old.under_way; come = each_push (HasArrived names more P) arrivals (record { number = length log; packet = packet }) old.come (get_new log (names (number_of packet)), fact) }
 
-down_arrived_keeps : {o : List Name} (packet : Packet) (a : Away) → AwayKept o a → DownFact (away_session a) (released_of a) packet →
-    AwayKept (o ++ (Link, length a.link.log) ∷ []) (record a { link = down_arrived packet a.link })
-down_arrived_keeps packet a k fact =
-    let s = away_session a in
-    let r = Down (number_of packet) in
-    let t = link_more r s in
-    let x = link_extends r s in
-    let w = packet_goes_down s (released_of a) packet fact in
-    let old = link_stays s t x (released_of a) a.link k.link in
-    let new : Arrival = record { number = length s.link; packet = packet } in
-    link_pushed r (down_arrived packet a.link) a k w.0 (names s (FromSource, number_of packet) w.1)
-    (record {
-      down = old.down;
-      up = old.up;
-      down_arrivals = each_push (DownArrived t (released_of a)) a.link.down_arrivals new old.down_arrivals (get_new s.link r, down_fact_stays s t x (released_of a) packet fact);
-      up_arrivals = old.up_arrivals;
-    })
+  fate_keeps : (fate : Fate) (packet : Packet) (line : List Packet) (arrivals : List Arrival) → P packet → WayKept names log P line arrivals → OutcomeKept names log P Q (fate_of fate (length log) packet (record { line = line; arrivals = arrivals }))
+  fate_keeps fate packet line arrivals fact k = go fate
+    where
+      comes : (n : ℕ) → Some (number_of packet) ≡ Some n → Q n
+      comes n e = subst Q (let same : number_of packet ≡ n = cc in same) (says packet fact)
 
-up_arrived_keeps : {o : List Name} (packet : Packet) (a : Away) → AwayKept o a → UpFact (away_session a) packet →
-    AwayKept (o ++ (Link, length a.link.log) ∷ []) (record a { link = up_arrived packet a.link })
-up_arrived_keeps packet a k fact =
-    let s = away_session a in
-    let r = Up (number_of packet) in
-    let t = link_more r s in
-    let x = link_extends r s in
-    let w = packet_goes_up s packet fact in
-    let old = link_stays s t x (released_of a) a.link k.link in
-    let new : Arrival = record { number = length s.link; packet = packet } in
-    link_pushed r (up_arrived packet a.link) a k w.0 (names s (Pager, number_of packet) w.1)
-    (record {
-      down = old.down;
-      up = old.up;
-      down_arrivals = old.down_arrivals;
-      up_arrivals = each_push (UpArrived t) a.link.up_arrivals new old.up_arrivals (get_new s.link r, up_fact_stays s t x packet fact);
-    })
+      go : (fate : Fate) → OutcomeKept names log P Q (fate_of fate (length log) packet (record { line = line; arrivals = arrivals }))
+      go Deliver = record { way = arrival_keeps packet line arrivals fact k; came = comes }
+      go Lose = record { way = k; came = λ n e. absurd (cc) }
+      go Repeat = record { way = way_more names (log ++ names (number_of packet) ∷ []) P line _ packet fact (arrival_keeps packet line arrivals fact k); came = comes }
+      go Back = record { way = way_more names log P line arrivals packet fact k; came = λ n e. absurd (cc) }
 
-down_fate_keeps : (o : List Name) (fate : Fate) (packet : Packet) (a : Away) → AwayKept o a → DownFact (away_session a) (released_of a) packet → Arrives o a (record a { link = with_lane Downward (fate_of fate Downward packet (lane_of Downward a.link)) a.link })
-down_fate_keeps o Deliver packet a k fact = close_link o (away_session a) (Down (number_of packet)) _ (down_arrived_keeps packet a k fact)
-down_fate_keeps o Lose packet a k fact = close_none o (away_session a) a k
-down_fate_keeps o Repeat packet a k fact =
-    let b = record a { link = down_arrived packet a.link } in
-    close_link o (away_session a) (Down (number_of packet)) _
-    (back_keeps packet b (down_arrived_keeps packet a k fact) (down_fact_stays (away_session a) (away_session b) (link_extends (Down (number_of packet)) (away_session a)) (released_of a) packet fact))
-down_fate_keeps o Back packet a k fact = close_none o (away_session a) _ (back_keeps packet a k fact)
+  turn_keeps : (is_right : Packet → Bool) (fate : Fate) (line : List Packet) (arrivals : List Arrival) → WayKept names log P line arrivals → OutcomeKept names log P Q (way_turned is_right fate (length log) line arrivals)
+  turn_keeps is_right fate [] arrivals k = record { way = k; came = λ n e. absurd (cc) }
+  turn_keeps is_right fate (packet ∷ rest) arrivals k = go (is_right packet)
+    where
+      go : (b : Bool) → OutcomeKept names log P Q (cond b (fate_of fate (length log) packet (record { line = rest; arrivals = arrivals })) (record { way = record { line = rest; arrivals = arrivals }; came = None }))
+      go true = fate_keeps fate packet rest arrivals k.under_way.0 (record { under_way = k.under_way.1; come = k.come })
+      go false = record { way = record { under_way = k.under_way.1; come = k.come }; came = λ n e. absurd (cc) }
 
-up_fate_keeps : (o : List Name) (fate : Fate) (packet : Packet) (a : Away) → AwayKept o a → UpFact (away_session a) packet → Arrives o a (record a { link = with_lane Upward (fate_of fate Upward packet (lane_of Upward a.link)) a.link })
-up_fate_keeps o Deliver packet a k fact = close_link o (away_session a) (Up (number_of packet)) _ (up_arrived_keeps packet a k fact)
-up_fate_keeps o Lose packet a k fact = close_none o (away_session a) a k
-up_fate_keeps o Repeat packet a k fact =
-    let b = record a { link = up_arrived packet a.link } in
-    close_link o (away_session a) (Up (number_of packet)) _
-    (up_keeps packet b (up_arrived_keeps packet a k fact) (up_fact_stays (away_session a) (away_session b) (link_extends (Up (number_of packet)) (away_session a)) packet fact))
-up_fate_keeps o Back packet a k fact = close_none o (away_session a) _ (up_keeps packet a k fact)
+module _ (o : List Name) (turn : Outcome) (a : Away) (k : AwayKept o a) where
+  went_down_keeps : OutcomeKept Down a.link.log (DownFact (away_session a) (released_of a)) (GoesDown (away_session a)) turn → Arrives o a (record a { link = went_down turn a.link })
+  went_down_keeps kept = go turn.came refl kept.way
+    where
+      go : (came : Option ℕ) → turn.came ≡ came → WayKept Down (with_arrival Down came a.link.log) (DownFact (away_session a) (released_of a)) turn.way.line turn.way.arrivals →
+          Arrives o a (record a { link = record a.link { log = with_arrival Down came a.link.log; down = turn.way.line; down_arrivals = turn.way.arrivals } })
+      go None is way = close_none o (away_session a) _ (with_link (record a.link { down = turn.way.line; down_arrivals = turn.way.arrivals }) a k (record { down = way; up = k.link.up; lane = k.link.lane }))
+      go (Some n) is way =
+          let s = away_session a in
+          let t = link_more (Down n) s in
+          let x = link_extends (Down n) s in
+          let old = link_stays s t x (released_of a) a.link k.link in
+          let w = kept.came n is in
+          close_link o s (Down n) _
+          (link_pushed (Down n) (record a.link { down = turn.way.line; down_arrivals = turn.way.arrivals }) a k w.0 (names s (FromSource, n) w.1)
+          (record {
+            down = way_stays Down t.link t.link (DownFact s (released_of a)) (DownFact t (released_of a)) turn.way.line turn.way.arrivals (λ m r e. e) (down_fact_stays s t x (released_of a)) way;
+            up = old.up;
+            lane = old.lane;
+          }))
 
-down_turned_keeps : (o : List Name) (fate : Fate) (xs : List Packet) (a : Away) → AwayKept o a → a.link.down ≡ xs → Arrives o a (record a { link = with_lane Downward (lane_turned Downward fate xs (lane_of Downward a.link)) a.link })
-down_turned_keeps o fate [] a k e = close_none o (away_session a) a k
-down_turned_keeps o fate (packet ∷ rest) a k e = go (is_of_source packet)
-  where
-    facts : AllByRecursion (DownFact (away_session a) (released_of a)) (packet ∷ rest)
-    facts = subst (λ ys. AllByRecursion (DownFact (away_session a) (released_of a)) ys) e k.link.down
+  went_up_keeps : OutcomeKept Up a.link.log (UpFact (away_session a)) (GoesUp (away_session a)) turn → Arrives o a (record a { link = went_up turn a.link })
+  went_up_keeps kept = go turn.came refl kept.way
+    where
+      go : (came : Option ℕ) → turn.came ≡ came → WayKept Up (with_arrival Up came a.link.log) (UpFact (away_session a)) turn.way.line turn.way.arrivals →
+          Arrives o a (record a { link = record a.link { log = with_arrival Up came a.link.log; up = turn.way.line; up_arrivals = turn.way.arrivals } })
+      go None is way = close_none o (away_session a) _ (with_link (record a.link { up = turn.way.line; up_arrivals = turn.way.arrivals }) a k (record { down = k.link.down; up = way; lane = k.link.lane }))
+      go (Some n) is way =
+          let s = away_session a in
+          let t = link_more (Up n) s in
+          let x = link_extends (Up n) s in
+          let old = link_stays s t x (released_of a) a.link k.link in
+          let w = kept.came n is in
+          close_link o s (Up n) _
+          (link_pushed (Up n) (record a.link { up = turn.way.line; up_arrivals = turn.way.arrivals }) a k w.0 (names s (Pager, n) w.1)
+          (record {
+            down = old.down;
+            up = way_stays Up t.link t.link (UpFact s) (UpFact t) turn.way.line turn.way.arrivals (λ m r e. e) (up_fact_stays s t x) way;
+            lane = old.lane;
+          }))
 
-    base : AwayKept o (record a { link = record a.link { down = rest } })
-    base = with_link (record a.link { down = rest }) a k (record { down = facts.1; up = k.link.up; down_arrivals = k.link.down_arrivals; up_arrivals = k.link.up_arrivals })
-
-    go : (b : Bool) → Arrives o a (record a { link = with_lane Downward (cond b (fate_of fate Downward packet (record (lane_of Downward a.link) { line = rest })) (record (lane_of Downward a.link) { line = rest })) a.link })
-    go true = down_fate_keeps o fate packet (record a { link = record a.link { down = rest } }) base facts.0
-    go false = close_none o (away_session a) _ base
-
-up_turned_keeps : (o : List Name) (fate : Fate) (xs : List Packet) (a : Away) → AwayKept o a → a.link.up ≡ xs → Arrives o a (record a { link = with_lane Upward (lane_turned Upward fate xs (lane_of Upward a.link)) a.link })
-up_turned_keeps o fate [] a k e = close_none o (away_session a) a k
-up_turned_keeps o fate (packet ∷ rest) a k e = go (is_of_pager packet)
-  where
-    facts : AllByRecursion (UpFact (away_session a)) (packet ∷ rest)
-    facts = subst (λ ys. AllByRecursion (UpFact (away_session a)) ys) e k.link.up
-
-    base : AwayKept o (record a { link = record a.link { up = rest } })
-    base = with_link (record a.link { up = rest }) a k (record { down = k.link.down; up = facts.1; down_arrivals = k.link.down_arrivals; up_arrivals = k.link.up_arrivals })
-
-    go : (b : Bool) → Arrives o a (record a { link = with_lane Upward (cond b (fate_of fate Upward packet (record (lane_of Upward a.link) { line = rest })) (record (lane_of Upward a.link) { line = rest })) a.link })
-    go true = up_fate_keeps o fate packet (record a { link = record a.link { up = rest } }) base facts.0
-    go false = close_none o (away_session a) _ base
+  went_over_lane_keeps : OutcomeKept LaneDown a.link.lane_log (LaneFact (away_session a) (released_of a)) (GoesOverLane (away_session a)) turn → Arrives o a (record a { link = went_over_lane turn a.link })
+  went_over_lane_keeps kept = go turn.came refl kept.way
+    where
+      go : (came : Option ℕ) → turn.came ≡ came → WayKept LaneDown (with_arrival LaneDown came a.link.lane_log) (LaneFact (away_session a) (released_of a)) turn.way.line turn.way.arrivals →
+          Arrives o a (record a { link = record a.link { lane_log = with_arrival LaneDown came a.link.lane_log; lane = turn.way.line; lane_arrivals = turn.way.arrivals } })
+      go None is way = close_none o (away_session a) _ (with_link (record a.link { lane = turn.way.line; lane_arrivals = turn.way.arrivals }) a k (record { down = k.link.down; up = k.link.up; lane = way }))
+      go (Some n) is way =
+          let s = away_session a in
+          let t = lane_more (LaneDown n) s in
+          let x = lane_extends (LaneDown n) s in
+          let old = link_stays s t x (released_of a) a.link k.link in
+          let w = kept.came n is in
+          close_lane o s (LaneDown n) _
+          (lane_pushed (LaneDown n) (record a.link { lane = turn.way.line; lane_arrivals = turn.way.arrivals }) a k w.1.0 w.0 (names s (FromSource, n) w.1.1)
+          (record {
+            down = old.down;
+            up = old.up;
+            lane = way_stays LaneDown t.lane t.lane (LaneFact s (released_of a)) (LaneFact t (released_of a)) turn.way.line turn.way.arrivals (λ m r e. e) (lane_fact_stays s t x (released_of a)) way;
+          }))
 
 pub turned_keeps : (o : List Name) (direction : Direction) (fate : Fate) (a : Away) → AwayKept o a → Arrives o a (record a { link = link_turned direction fate a.link })
-turned_keeps o Downward fate a k = down_turned_keeps o fate a.link.down a k refl
-turned_keeps o Upward fate a k = up_turned_keeps o fate a.link.up a k refl
+turned_keeps o Downward fate a k =
+    let s = away_session a in
+    went_down_keeps o (way_turned (goes Downward) fate (length a.link.log) a.link.down a.link.down_arrivals) a k
+    (turn_keeps Down a.link.log (DownFact s (released_of a)) (GoesDown s) (packet_goes_down s (released_of a)) (goes Downward) fate a.link.down a.link.down_arrivals k.link.down)
+turned_keeps o Upward fate a k =
+    let s = away_session a in
+    went_up_keeps o (way_turned (goes Upward) fate (length a.link.log) a.link.up a.link.up_arrivals) a k
+    (turn_keeps Up a.link.log (UpFact s) (GoesUp s) (packet_goes_up s) (goes Upward) fate a.link.up a.link.up_arrivals k.link.up)
+turned_keeps o OverLane fate a k =
+    let s = away_session a in
+    went_over_lane_keeps o (way_turned (goes OverLane) fate (length a.link.lane_log) a.link.lane a.link.lane_arrivals) a k
+    (turn_keeps LaneDown a.link.lane_log (LaneFact s (released_of a)) (GoesOverLane s) (λ packet h. (h.0, packet_goes_down s (released_of a) packet h.1)) (goes OverLane) fate a.link.lane a.link.lane_arrivals k.link.lane)
 
 -- PagerFlush
 pub flushed_keeps : (o : List Name) (xs : List Packet) (a : Away) → AwayKept o a → a.pager.outbox ≡ xs → Arrives o a (sent_up (flushes xs a.pager) a)

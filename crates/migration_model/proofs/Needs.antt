@@ -1,6 +1,6 @@
 -- What the calls on the books ask for, in a core that is reached.
 use Rattle.migration_types.specs.Receipts.{Name}
-use Rattle.migration_model.proofs.Facts.{AwayKept, DownArrived, DownFact, HasMissed, released_of, unready_goes}
+use Rattle.migration_model.proofs.Facts.{AwayKept, DownArrived, DownFact, HasMissed, LaneArrived, released_of, unready_goes}
 use Rattle.migration_model.proofs.Guests.{each_get}
 use Rattle.migration_model.proofs.Lists.{each_kept}
 use Rattle.migration_model.proofs.Whole.{BooksKept}
@@ -48,7 +48,9 @@ no_miss o a k (x ∷ rest) e unready =
 away_orderly : (o : List Name) (a : Away) → AwayKept o a → IsOrderly a
 away_orderly o a k = record {
   arrival = λ x is. subst (λ (e : Extent). IsPacketOf e x.packet) (sym k.pager.geometry)
-      (packet_is_of o a k x.packet (each_get (DownArrived (away_session a) (released_of a)) a.link.down_arrivals 0 x k.link.down_arrivals is).1);
+      (packet_is_of o a k x.packet (each_get (DownArrived (away_session a) (released_of a)) a.link.down_arrivals 0 x k.link.down.come is).1);
+  over_lane = λ x is. subst (λ (e : Extent). IsPacketOf e x.packet) (sym k.pager.geometry)
+      (packet_is_of o a k x.packet (each_get (LaneArrived (away_session a) (released_of a)) a.link.lane_arrivals 0 x k.link.lane.come is).1.1);
   misses = no_miss o a k a.target.misses refl;
 }
 

@@ -3,12 +3,13 @@ use Rattle.audit_model.specs.Mergings.{run_names}
 use Rattle.migration_types.specs.Receipts.{Name}
 use Rattle.migration_types.specs.Sessions.{Recorded}
 use Rattle.migration_types.specs.declared.records.GuestRec.{GuestRec}
+use Rattle.migration_types.specs.declared.records.LaneRec.{LaneRec}
 use Rattle.migration_types.specs.declared.records.LinkRec.{LinkRec}
 use Rattle.migration_types.specs.declared.records.LogName.{LogName}
 use Rattle.migration_types.specs.declared.records.LogName.TheVariants.{Guest, Lane, Link, Pager, Source as FromSource}
 use Rattle.migration_types.specs.declared.records.PagerRec.{PagerRec}
 use Rattle.migration_types.specs.declared.records.SourceRec.{SourceRec}
-use Rattle.migration_model.proofs.Grows.{guest_more, link_more, pager_more, source_more}
+use Rattle.migration_model.proofs.Grows.{guest_more, lane_more, link_more, pager_more, source_more}
 use Rattle.migration_model.proofs.Lists.{append_nil, append_two, length_suc}
 use Rattle.migration_model.specs.Machine.{grown, new_names}
 use Rattle.std.proofs.Common.{List, [], ap, arith, length, refl, sym, ◌++◌, ◌∙◌, ◌∷◌, ◌≡◌}
@@ -51,6 +52,9 @@ module _ (o : List Name) (s : Recorded) where
 
   pub order_link : (r : LinkRec) → o ++ new_names s (link_more r s) ≡ o ++ (Link, length s.link) ∷ []
   order_link r = ap (λ xs. o ++ xs) (five _ _ _ _ _ [] [] ((Link, length s.link) ∷ []) [] [] (grown_none Guest s.guest) (grown_none FromSource s.source) (grown_one Link s.link r) (grown_none Lane s.lane) (grown_none Pager s.pager))
+
+  pub order_lane : (r : LaneRec) → o ++ new_names s (lane_more r s) ≡ o ++ (Lane, length s.lane) ∷ []
+  order_lane r = ap (λ xs. o ++ xs) (five _ _ _ _ _ [] [] [] ((Lane, length s.lane) ∷ []) [] (grown_none Guest s.guest) (grown_none FromSource s.source) (grown_none Link s.link) (grown_one Lane s.lane r) (grown_none Pager s.pager))
 
   pub order_pager : (r : PagerRec) → o ++ new_names s (pager_more r s) ≡ o ++ (Pager, length s.pager) ∷ []
   order_pager r = ap (λ xs. o ++ xs) (five _ _ _ _ _ [] [] [] [] ((Pager, length s.pager) ∷ []) (grown_none Guest s.guest) (grown_none FromSource s.source) (grown_none Link s.link) (grown_none Lane s.lane) (grown_one Pager s.pager r))

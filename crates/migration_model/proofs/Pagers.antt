@@ -4,39 +4,42 @@ use Rattle.audit_model.proofs.Touched.{released_zero}
 use Rattle.audit_model.proofs.Worlds.{content_at}
 use Rattle.audit_model.specs.Flat.{at_halt, in_ledger}
 use Rattle.audit_model.specs.Names.{if_there}
-use Rattle.audit_model.specs.Shape.{delivers, delivery, down_sending, is_down, is_miss, is_or_repeats, is_placement_of, is_send_of, is_state, is_taking, is_want, pager_start, passes, taken_sending}
+use Rattle.audit_model.specs.Shape.{delivers, delivery, down_sending, is_down, is_miss, is_or_repeats, is_placement_of, is_send_of, is_state, is_taking, is_want, lane_sending, pager_named, pager_start, passes, taken_sending}
 use Rattle.balloon_ledger.specs.Released.{released}
 use Rattle.fault_queue.specs.Waiting.{Waiting, entry, is_asked, is_waiting, joined, with_waiter, without}
 use Rattle.link_book.specs.declared.Arrival.{Arrival}
 use Rattle.migration_types.specs.Extents.{Extent}
-use Rattle.migration_types.specs.Memory.{page_of, with_content, with_zeros}
+use Rattle.migration_types.specs.Memory.{Memory, page_of, with_content, with_zeros}
 use Rattle.migration_types.specs.PageSets.{Pages}
-use Rattle.migration_types.specs.Receipts.{Name}
-use Rattle.migration_types.specs.Sessions.{Recorded}
+use Rattle.migration_types.specs.Receipts.{Name, pager_receipt}
+use Rattle.migration_types.specs.Sessions.{HasLane, Recorded}
 use Rattle.migration_types.specs.declared.records.GuestRec.TheVariants.{Miss, Resume}
+use Rattle.migration_types.specs.declared.records.LaneRec.TheVariants.{Down as LaneDown}
 use Rattle.migration_types.specs.declared.records.LinkRec.TheVariants.{Down}
-use Rattle.migration_types.specs.declared.records.LogName.TheVariants.{Guest, Link, Pager}
+use Rattle.migration_types.specs.declared.records.LogName.TheVariants.{Guest, Lane, Link, Pager}
 use Rattle.migration_types.specs.declared.records.PagerRec.{PagerRec}
-use Rattle.migration_types.specs.declared.records.PagerRec.TheVariants.{All, Fault, Got, Join, Place, Ready, Skip, Want, Zero}
+use Rattle.migration_types.specs.declared.records.PagerRec.TheVariants.{All, Fault, Got, Join, Place, Pull, Ready, Skip, Want, Zero}
 use Rattle.migration_types.specs.declared.records.SourceRec.TheVariants.{Again, Send, State}
+use Rattle.page_stream.specs.Packets.{number_of}
 use Rattle.page_stream.specs.declared.Packet.{Packet}
 use Rattle.page_stream.specs.declared.Packet.TheVariants.{All as AllPacket, Page as PagePacket, State as StatePacket, Want as WantPacket}
-use Rattle.migration_model.proofs.Cleans.{over_pager, pager_cleans}
-use Rattle.migration_model.proofs.Facts.{Arrives, AwayKept, DownArrived, HasCome, HasMissed, IsReady, IsStateNumber, IsWaitedFor, UpFact, close_guest, close_none, close_pager, close_pager_two, down_fact_stays, has_come_stays, is_there, link_stays, misses_stay, not_new, pager_pushed, released_of, settled_arrives, settled_books, settled_keeps, settles_released, up_fact_stays, up_keeps, with_link, with_pager}
-use Rattle.migration_model.proofs.Grows.{Extends, names, names_none, pager_extends, pager_merges, pager_more}
-use Rattle.migration_model.proofs.Limits.{content_fits, pager_limits, wide_content, wide_zeros}
+use Rattle.migration_model.proofs.Cleans.{PagerClean, over_pager, pager_cleans}
+use Rattle.migration_model.proofs.Facts.{Arrives, AwayKept, DownArrived, DownFact, HasCome, HasMissed, IsReady, IsStateNumber, IsWaitedFor, LaneArrived, UpFact, close_guest, close_none, close_pager, close_pager_two, down_fact_stays, has_come_stays, is_there, link_stays, misses_stay, not_new, pager_pushed, released_of, settled_arrives, settled_books, settled_keeps, settles_released, up_fact_stays, up_keeps, with_link, with_pager}
+use Rattle.migration_model.proofs.Grows.{Extends, IsThere, names, names_none, pager_extends, pager_merges, pager_more, taken_stays}
+use Rattle.migration_model.proofs.Limits.{PagerWithin, content_fits, pager_limits, wide_content, wide_zeros}
 use Rattle.migration_model.proofs.Lists.{all_push, and_both, each_kept, each_mapped, each_push, each_weaker, get_new, get_old, index_other, length_suc, passes_at}
 use Rattle.migration_model.proofs.Pushes.{put_pushed, resume_pushed}
-use Rattle.migration_model.proofs.Shapes.{pager_shapes}
-use Rattle.migration_model.specs.Events.{paged, popped, sent_up}
+use Rattle.migration_model.proofs.Shapes.{pager_goes_on, pager_shapes}
+use Rattle.migration_model.specs.Events.{paged, popped, pulled, sent_up}
 use Rattle.migration_model.specs.Machine.{Away, away_session}
 use Rattle.residency.specs.Placements.{is_resident}
 use Rattle.std.proofs.Common.{Bool, List, None, Option, Some, [], ap, arith, cond, false, inl, inr, length, not, refl, subst, suc, sym, true, zero, ℕ, ◌++◌, ◌<◌, ◌||◌, ◌∙◌, ◌∷◌, ◌≡◌, ◌≤◌, ◌⊎◌}
 use Rattle.std.proofs.lemmas.Bool.{cases_lt, eq-eqb, eqb-true, lt-ltb}
 use Rattle.std.proofs.lemmas.Option.{slice_get_within}
 use Rattle.std.specs.List.{AllByRecursion, filter, range_with_len}
+use Rattle.std.specs.Option.{option_map}
 use Rattle.std.specs.Prelude.{is_some, slice_get, slice_index, ◌+◌, ◌==◌}
-use Rattle.target_side.specs.PagerPart.{PagerPart, deliver, delivers_at, delivers_by, delivers_next, fault_absent, fault_at, fault_join, fault_new, faults, first_absent, is_listed, is_released, next_fault, oldest, places, pops_by, pops_first, pops_later, ticks, ticks_at, wants_page, zeroes}
+use Rattle.target_side.specs.PagerPart.{PagerPart, deliver, delivers_at, delivers_by, delivers_next, fault_absent, fault_at, fault_join, fault_new, faults, first_absent, is_listed, is_released, next_fault, oldest, places, pops_by, pops_first, pulls_by, takes, ticks, ticks_at, wants_page, zeroes}
 use Rattle.target_book.specs.TargetPart.{resumes}
 use Rattle.target_side.specs.declared.Incoming.{Incoming}
 use Rattle.target_book.specs.declared.Missing.{Missing}
@@ -145,48 +148,88 @@ pager_ticked_keeps o (Some rel) a k e = go (first_absent (range_with_len 0 a.pag
         let lt : p < a.source.geometry.pages = omega (arith, absent_there a.pager.geometry.pages 0 rel (come a.pager) p is, ap (λ (e : Extent). e.pages) k.pager.geometry) in
         asked_again_keeps o (oldest a.pager.waiting p) a k (k.pager.ready rel e).1 (oldest_there a.pager.waiting (away_session a) p k.pager.waiting lt)
 
--- PagerPop
-got_keeps : {o : List Name} (i n : ℕ) (a : Away) → AwayKept o a → IsReady (away_session a) → slice_get a.link.log i ≡ Some (Down n) →
-    AwayKept (o ++ (Pager, length a.pager.log) ∷ []) (record a { pager = record a.pager { log = a.pager.log ++ Got i ∷ [] } })
-got_keeps i n a k ready is =
-    let s = away_session a in
-    pager_pushed (Got i) a k ready (passes_at is_down s.link i (Down n) is refl) (names s (Link, i) (slice_get_within s.link i (Down n) is)) refl (λ q. refl) tt tt (λ e. absurd (cc))
+-- the pager may take a delivery by this record: of the source's record with this number
+record MayTake (s : Recorded) (r : PagerRec) (number : ℕ) : Type 0 where
+  takes : is_taking r ≡ true
+  came : taken_sending s r ≡ Some number
+  named : pager_named s (length s.pager) r ≡ true
+  there : IsThere s (pager_receipt r)
+  within : PagerWithin s.version s.geometry r
+  goes_on : pager_goes_on r ≡ true
+  places_none : (p : ℕ) → is_placement_of p r ≡ false
+  clean : (cells : ℕ) (memory : Memory) (ledger : Pages) (log : List PagerRec) (n : ℕ) → PagerClean cells memory ledger log n r
+  not_all : r ≡ All → ⊥
 
-skip_keeps : {o : List Name} (g i : ℕ) (a : Away) → AwayKept o a → IsReady (away_session a) → slice_get a.pager.log g ≡ Some (Got i) →
-    AwayKept (o ++ (Pager, length a.pager.log) ∷ []) (record a { pager = record a.pager { log = a.pager.log ++ Skip g ∷ [] } })
-skip_keeps g i a k ready is =
+may_get : (s : Recorded) (i n : ℕ) → slice_get s.link i ≡ Some (Down n) → MayTake s (Got i) n
+may_get s i n is = record {
+  takes = refl;
+  came = ap (λ o. if_there down_sending o) is;
+  named = passes_at is_down s.link i (Down n) is refl;
+  there = names s (Link, i) (slice_get_within s.link i (Down n) is);
+  within = tt;
+  goes_on = refl;
+  places_none = λ p. refl;
+  clean = λ cells memory ledger log m. tt;
+  not_all = λ e. cc;
+}
+
+may_pull : (s : Recorded) (i n : ℕ) → HasLane s.version → slice_get s.lane i ≡ Some (LaneDown n) → MayTake s (Pull i) n
+may_pull s i n has is = record {
+  takes = refl;
+  came = ap (λ o. option_map lane_sending o) is;
+  named = ap is_some is;
+  there = names s (Lane, i) (slice_get_within s.lane i (LaneDown n) is);
+  within = has;
+  goes_on = refl;
+  places_none = λ p. refl;
+  clean = λ cells memory ledger log m. tt;
+  not_all = λ e. cc;
+}
+
+-- the books after this record of the pager
+abbrev noted : PagerRec → Away → Away
+noted r a = record a { pager = record a.pager { log = a.pager.log ++ r ∷ [] } }
+
+taking_keeps : {o : List Name} (r : PagerRec) (n : ℕ) (a : Away) → AwayKept o a → IsReady (away_session a) → MayTake (away_session a) r n → AwayKept (o ++ (Pager, length a.pager.log) ∷ []) (noted r a)
+taking_keeps r n a k ready may =
+    pager_pushed r a k ready may.named may.there may.goes_on may.places_none (may.clean a.source.geometry.cells a.source.memory a.source.ledger a.pager.log (length a.pager.log)) may.within (λ e. absurd (may.not_all e))
+
+skip_keeps : {o : List Name} (g : ℕ) (r : PagerRec) (a : Away) → AwayKept o a → IsReady (away_session a) → slice_get a.pager.log g ≡ Some r → is_taking r ≡ true → AwayKept (o ++ (Pager, length a.pager.log) ∷ []) (noted (Skip g) a)
+skip_keeps g r a k ready is takes =
     let s = away_session a in
     pager_pushed (Skip g) a k ready
-    (and_both _ _ (lt-ltb g (length s.pager) (slice_get_within s.pager g (Got i) is)) (passes_at is_taking s.pager g (Got i) is refl))
+    (and_both _ _ (lt-ltb g (length s.pager) (slice_get_within s.pager g r is)) (passes_at is_taking s.pager g r is takes))
     (names_none s) refl (λ q. refl) tt tt (λ e. absurd (cc))
 
-popped_later_keeps : (o : List Name) (i : ℕ) (packet : Packet) (a : Away) → AwayKept o a → IsReady (away_session a) → DownArrived (away_session a) (released_of a) (record { number = i; packet = packet }) → Arrives o a (record a { pager = pops_later i packet a.pager })
-popped_later_keeps o i (StatePacket n rel) a k ready fact =
+-- a page, or a state, is taken from the link or from the lane
+taken_packet_keeps : (o : List Name) (r : PagerRec) (packet : Packet) (a : Away) → AwayKept o a → IsReady (away_session a) → MayTake (away_session a) r (number_of packet) → DownFact (away_session a) (released_of a) packet → Arrives o a (record a { pager = takes r packet a.pager })
+taken_packet_keeps o r (StatePacket n rel) a k ready may fact =
     let s = away_session a in
-    close_pager_two o s (Got i) (Skip (length s.pager)) _
-    (skip_keeps (length s.pager) i (record a { pager = record a.pager { log = a.pager.log ++ Got i ∷ [] } }) (got_keeps i n a k ready fact.0)
-    (get_old s.pager (Got i ∷ []) 1 Ready ready) (get_new s.pager (Got i)))
-popped_later_keeps o i (PagePacket n p content) a k ready fact =
+    close_pager_two o s r (Skip (length s.pager)) _
+    (skip_keeps (length s.pager) r (noted r a) (taking_keeps r n a k ready may) (get_old s.pager (r ∷ []) 1 Ready ready) (get_new s.pager r) may.takes)
+taken_packet_keeps o r (PagePacket n p content) a k ready may fact =
     let s = away_session a in
-    let t = pager_more (Got i) s in
-    let x = pager_extends (Got i) s in
-    let new = got_keeps i n a k ready fact.0 in
+    let t = pager_more r s in
+    let x = pager_extends r s in
+    let new = taking_keeps r n a k ready may in
     let come : Incoming = record { got = length s.pager; page = p; contents = content } in
-    close_pager o s (Got i) _
-    (with_pager (pops_later i (PagePacket n p content) a.pager) (record a { pager = record a.pager { log = a.pager.log ++ Got i ∷ [] } }) new
+    close_pager o s r _
+    (with_pager (takes r (PagePacket n p content) a.pager) (noted r a) new
     (record {
       geometry = new.pager.geometry;
       unready = new.pager.unready;
       ready = new.pager.ready;
-      inbox = each_push (HasCome t) a.pager.inbox come new.pager.inbox (record { down = i; number = n; got = get_new s.pager (Got i); came = fact.0; is_page = down_fact_stays s t x (released_of a) (PagePacket n p content) fact.1 });
+      inbox = each_push (HasCome t) a.pager.inbox come new.pager.inbox
+          (record { taking = r; number = n; got = get_new s.pager r; takes = may.takes; came = taken_stays s t x r n may.came; is_page = down_fact_stays s t x (released_of a) (PagePacket n p content) fact });
       outbox = new.pager.outbox;
       waiting = new.pager.waiting;
       wants = new.pager.wants;
     })
     k.placed k.settled)
-popped_later_keeps o i (WantPacket n p) a k ready fact = close_none o (away_session a) a k
-popped_later_keeps o i (AllPacket n) a k ready fact = close_none o (away_session a) a k
+taken_packet_keeps o r (WantPacket n p) a k ready may fact = close_none o (away_session a) a k
+taken_packet_keeps o r (AllPacket n) a k ready may fact = close_none o (away_session a) a k
 
+-- PagerPop
 -- the first pop of a state, which makes the pager ready
 first_keeps : (o : List Name) (i n : ℕ) (rel : List ℕ) (a : Away) → AwayKept o a → a.pager.released ≡ None → DownArrived (away_session a) (released_of a) (record { number = i; packet = StatePacket n rel }) →
     AwayKept ((o ++ (Pager, length a.pager.log) ∷ []) ++ (Pager, length (a.pager.log ++ Got i ∷ [])) ∷ []) (record a { pager = pops_first i (StatePacket n rel) a.pager })
@@ -230,6 +273,7 @@ first_keeps o i n rel a k unready fact = record {
   };
   ends = record { all = not_new s1.pager Ready All (not_new s0.pager (Got i) All k.ends.all (λ e. absurd (cc))) (λ e. absurd (cc)); done = k.ends.done };
   vcpus = k.vcpus;
+  lanes = k.lanes;
 }
   where
     s0 : Recorded
@@ -289,21 +333,36 @@ popped_keeps o [] a k e = close_none o (away_session a) a k
 popped_keeps o (x ∷ rest) a k e = go a.pager.released refl
   where
     facts : AllByRecursion (DownArrived (away_session a) (released_of a)) (x ∷ rest)
-    facts = subst (λ ys. AllByRecursion (DownArrived (away_session a) (released_of a)) ys) e k.link.down_arrivals
+    facts = subst (λ ys. AllByRecursion (DownArrived (away_session a) (released_of a)) ys) e k.link.down.come
 
     new : AwayKept o (record a { link = record a.link { down_arrivals = rest } })
-    new = with_link (record a.link { down_arrivals = rest }) a k (record { down = k.link.down; up = k.link.up; down_arrivals = facts.1; up_arrivals = k.link.up_arrivals })
+    new = with_link (record a.link { down_arrivals = rest }) a k (record { down = record { under_way = k.link.down.under_way; come = facts.1 }; up = k.link.up; lane = k.link.lane })
 
     go : (q : Option (List ℕ)) → a.pager.released ≡ q → Arrives o a (record a { link = record a.link { down_arrivals = rest }; pager = pops_by q x.number x.packet a.pager })
     go None is = first_packet_keeps o x.number x.packet (record a { link = record a.link { down_arrivals = rest } }) new is facts.0
-    go (Some rel) is = popped_later_keeps o x.number x.packet (record a { link = record a.link { down_arrivals = rest } }) new (k.pager.ready rel is).1 facts.0
+    go (Some rel) is = taken_packet_keeps o (Got x.number) x.packet (record a { link = record a.link { down_arrivals = rest } }) new (k.pager.ready rel is).1 (may_get (away_session a) x.number (number_of x.packet) facts.0.0) facts.0.1
+
+-- PagerPull
+pub pulled_keeps : (o : List Name) (xs : List Arrival) (a : Away) → AwayKept o a → a.link.lane_arrivals ≡ xs → Arrives o a (pulled xs a)
+pulled_keeps o [] a k e = close_none o (away_session a) a k
+pulled_keeps o (x ∷ rest) a k e = go a.pager.released refl
+  where
+    facts : AllByRecursion (LaneArrived (away_session a) (released_of a)) (x ∷ rest)
+    facts = subst (λ ys. AllByRecursion (LaneArrived (away_session a) (released_of a)) ys) e k.link.lane.come
+
+    new : AwayKept o (record a { link = record a.link { lane_arrivals = rest } })
+    new = with_link (record a.link { lane_arrivals = rest }) a k (record { down = k.link.down; up = k.link.up; lane = record { under_way = k.link.lane.under_way; come = facts.1 } })
+
+    go : (q : Option (List ℕ)) → a.pager.released ≡ q → Arrives o a (record a { link = record a.link { lane_arrivals = rest }; pager = pulls_by q x.number x.packet a.pager })
+    go None is = close_none o (away_session a) _ new
+    go (Some rel) is = taken_packet_keeps o (Pull x.number) x.packet (record a { link = record a.link { lane_arrivals = rest } }) new (k.pager.ready rel is).1 (may_pull (away_session a) x.number (number_of x.packet) facts.0.1.0 facts.0.0) facts.0.1.1
 
 -- PagerDeliver
 delivers_page : (s : Recorded) (x : Incoming) → HasCome s x → delivers s (is_send_of x.page) x.got ≡ true
 delivers_page s x h = ap (λ o. passes (λ n. passes (is_or_repeats s (is_send_of x.page)) (slice_get s.source n)) o) delivery_is ∙ at h.is_page.is_it
   where
     delivery_is : delivery s x.got ≡ Some h.number
-    delivery_is = ap (λ o. if_there (taken_sending s) o) h.got ∙ ap (λ o. if_there down_sending o) h.came
+    delivery_is = ap (λ o. if_there (taken_sending s) o) h.got ∙ h.came
 
     itself : is_or_repeats s (is_send_of x.page) (Send x.page x.contents) ≡ true
     itself = eq-eqb x.page x.page refl
@@ -322,7 +381,7 @@ placed_keeps o x a k ready h absent =
     let s = away_session a in
     let p = x.page in
     let sent = k.clean.source h.is_page.send (Send p x.contents) h.is_page.sent in
-    let lt = lt-ltb x.got (length s.pager) (slice_get_within s.pager x.got (Got h.down) h.got) in
+    let lt = lt-ltb x.got (length s.pager) (slice_get_within s.pager x.got h.taking h.got) in
     let content : IsContent s.geometry.cells x.contents = subst (λ c. IsContent s.geometry.cells c) (sym sent.1) (content_fits s.geometry.cells a.source.memory p k.source.wide) in
     close_pager o s (Place p x.got x.contents) _
     (put_pushed (Place p x.got x.contents) p (with_content p x.contents a.target.memory) (without p a.pager.waiting) a k ready
@@ -341,7 +400,7 @@ delivered_at_keeps : (o : List Name) (x : Incoming) (a : Away) → AwayKept o a 
 delivered_at_keeps o x a k ready h = go (is_there a.target x.page) refl
   where
     go : (b : Bool) → is_there a.target x.page ≡ b → Arrives o a (paged (cond b (record { pager = record a.pager { log = a.pager.log ++ Skip x.got ∷ [] }; target = a.target; woken = [] }) (places x a.pager a.target)) a)
-    go true e = close_pager o (away_session a) (Skip x.got) _ (skip_keeps x.got h.down a k ready h.got)
+    go true e = close_pager o (away_session a) (Skip x.got) _ (skip_keeps x.got h.taking a k ready h.got h.takes)
     go false e = placed_keeps o x a k ready h e
 
 delivered_next_keeps : (o : List Name) (xs : List Incoming) (a : Away) → AwayKept o a → IsReady (away_session a) → a.pager.inbox ≡ xs → Arrives o a (paged (delivers_next xs a.pager a.target) a)
@@ -473,6 +532,7 @@ with_misses misses a k new = record {
   };
   ends = k.ends;
   vcpus = k.vcpus;
+  lanes = k.lanes;
 }
 
 taken_keeps : (o : List Name) (xs : List Missing) (a : Away) → AwayKept o a → a.target.misses ≡ xs → Arrives o a (paged (faults xs a.pager a.target) a)

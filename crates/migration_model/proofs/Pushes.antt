@@ -4,7 +4,7 @@ use Rattle.audit_model.proofs.Consistent.{there}
 use Rattle.audit_model.proofs.History.{earlier_true}
 use Rattle.audit_model.specs.Faults.{IsOver, has_looked, looks_at}
 use Rattle.audit_model.specs.Flat.{cell_after, flat, freed as was_freed, home, home_after}
-use Rattle.audit_model.specs.Shape.{earlier, guest_named, in_phase_by, is_halt, is_placement, is_placement_of, is_ready, is_resume, pager_named}
+use Rattle.audit_model.specs.Shape.{earlier, guest_named, in_phase_by, is_halt, is_placement, is_placement_of, is_ready, is_release, is_resume, pager_named}
 use Rattle.audit_model.specs.declared.home.Home.TheVariants.{AtSource, AtTarget}
 use Rattle.fault_queue.specs.Waiting.{Waiting}
 use Rattle.migration_types.specs.Memory.{Memory, with_cell, with_zeros}
@@ -19,9 +19,9 @@ use Rattle.migration_types.specs.declared.records.LogName.TheVariants.{Guest, Pa
 use Rattle.migration_types.specs.declared.records.PagerRec.{PagerRec}
 use Rattle.migration_types.specs.declared.records.PagerRec.TheVariants.{All, Fault, Got, Join, Place, Pull, Ready, Skip, Want, Zero}
 use Rattle.residency.specs.Placements.{is_covered, is_resident, with_placement}
-use Rattle.migration_model.proofs.Cleans.{GuestClean, IsBareRelease, PagerClean, freed_here, freed_stays, guest_cleans, guest_frozen, is_release, over_guest, over_other, over_pager, pager_cleans}
+use Rattle.migration_model.proofs.Cleans.{GuestClean, IsBareRelease, PagerClean, freed_here, freed_stays, guest_cleans, guest_frozen, over_guest, over_other, over_pager, pager_cleans}
 use Rattle.migration_model.proofs.Facts.{AwayKept, HasMissed, IsReady, IsWaitedFor, PhaseKept, TargetKept, VcpusKept, away_home, frontier_stays, is_there, link_stays, misses_stay, not_new, pager_stays, ready_stays, released_of, unready_goes}
-use Rattle.migration_model.proofs.Grows.{IsThere, freed_same, guest_extends, guest_merges, guest_more, names, names_none, pager_extends, pager_merges, pager_more}
+use Rattle.migration_model.proofs.Grows.{IsThere, guest_extends, guest_merges, guest_more, names, names_none, pager_extends, pager_merges, pager_more}
 use Rattle.migration_model.proofs.Limits.{GuestWithin, IsWide, PagerWithin, guest_limits, pager_limits, wide_cell, wide_zeros}
 use Rattle.migration_model.proofs.Lists.{Index, before_end, each_push, each_weaker, get_new, index_key, passes_at}
 use Rattle.migration_model.proofs.Shapes.{guest_shapes, guest_starts, pager_goes_on, pager_shapes, pager_starts}
@@ -54,6 +54,7 @@ with_vcpus vcpus a k new = record {
   target = k.target;
   ends = k.ends;
   vcpus = new;
+  lanes = k.lanes;
 }
 
 pub with_standing : {o : List Name} (standing : Pages) (a : Away) → AwayKept o a → AwayKept o (record a { target = record a.target { standing = standing } })
@@ -84,6 +85,7 @@ with_standing standing a k = record {
   };
   ends = record { all = k.ends.all; done = k.ends.done };
   vcpus = k.vcpus;
+  lanes = k.lanes;
 }
 
 or_true : (b : Bool) → (b || true) ≡ true
@@ -152,6 +154,7 @@ guest_pushed {o} r resumed target a k phase named there clean within home resume
       };
       ends = record { all = λ m e p lt owed. more p (k.ends.all m e p lt owed); done = λ m e p lt owed. more p (k.ends.done m e p lt owed) };
       vcpus = k.vcpus;
+      lanes = k.lanes;
     }
 
 -- the freed pages stay those of the log
@@ -467,7 +470,7 @@ put_pushed {o} r q memory waiting a k ready named there on absent key clean with
         frontier = k.target.frontier;
         frames = λ p c e lt. frames p c (q == p) refl e lt;
         untouched = λ p c e. untouched p c (q == p) e;
-        released = λ p e. let h = k.target.released p e in (unplaced p (q == p) refl e h.0, freed_same t s refl p ∙ h.1);
+        released = λ p e. let h = k.target.released p e in (unplaced p (q == p) refl e h.0, h.1);
         over = λ p e. k.target.over p (over_pager r s p e);
         unsettled = k.target.unsettled;
         misses = misses_stay s t x a.target.misses k.target.misses;
@@ -478,6 +481,7 @@ put_pushed {o} r q memory waiting a k ready named there on absent key clean with
         done = λ n e p lt owed. more p (q == p) (k.ends.done n e p lt owed);
       };
       vcpus = k.vcpus;
+      lanes = k.lanes;
     }
   where
     number : ℕ

@@ -3,13 +3,14 @@ use Rattle.audit_model.specs.Shape.{IsRightShape, earlier, guest_named, in_phase
 use Rattle.audit_model.specs.declared.reasons.ShapeReason.TheVariants.{Named, Phases, SecondSend, Start}
 use Rattle.migration_types.specs.Sessions.{Recorded}
 use Rattle.migration_types.specs.declared.records.GuestRec.{GuestRec}
+use Rattle.migration_types.specs.declared.records.LaneRec.{LaneRec}
 use Rattle.migration_types.specs.declared.records.LinkRec.{LinkRec}
 use Rattle.migration_types.specs.declared.records.LogName.TheVariants.{Guest, Lane, Link, Pager, Source as FromSource}
 use Rattle.migration_types.specs.declared.records.PagerRec.{PagerRec}
 use Rattle.migration_types.specs.declared.records.PagerRec.TheVariants.{All, Fault, Got, Join, Place, Pull, Ready, Skip, Want, Zero}
 use Rattle.migration_types.specs.declared.records.SourceRec.{SourceRec}
 use Rattle.migration_types.specs.declared.records.SourceRec.TheVariants.{Again, Ask, Done, Halted, Send, State}
-use Rattle.migration_model.proofs.Grows.{guest_extends, guest_more, guest_named_stays, lane_named_stays, link_extends, link_more, link_named_stays, pager_extends, pager_more, pager_named_stays, pager_start_stays, source_extends, source_more, source_named_stays}
+use Rattle.migration_model.proofs.Grows.{Extends, guest_extends, guest_more, guest_named_stays, lane_named_stays, link_named_stays, links_as, pager_extends, pager_more, pager_named_stays, pager_start_stays, source_extends, source_more, source_named_stays}
 use Rattle.migration_model.proofs.Lists.{AllAt, all_push, before_push, length_suc}
 use Rattle.std.proofs.Common.{Bool, List, None, Option, Some, [], ap, arith, false, length, not, refl, suc, true, zero, ℕ, ◌<◌, ◌||◌, ◌∙◌, ◌∷◌, ◌≡◌, ◌≤◌}
 use Rattle.std.proofs.lemmas.Bool.{lt-ltb, ltb-true}
@@ -87,10 +88,10 @@ guest_starts r s b = record {
   pager = λ n y is. pager_start_stays s (guest_more r s) (guest_extends r s) n y (b.pager n y is);
 }
 
-pub link_starts : (r : LinkRec) (s : Recorded) → IsStarted s → IsStarted (link_more r s)
-link_starts r s b = record {
+pub links_starts : (link : List LinkRec) (lane : List LaneRec) (s : Recorded) → Extends s (links_as link lane s) → IsStarted s → IsStarted (links_as link lane s)
+links_starts link lane s x b = record {
   source = b.source;
-  pager = λ n y is. pager_start_stays s (link_more r s) (link_extends r s) n y (b.pager n y is);
+  pager = λ n y is. pager_start_stays s (links_as link lane s) x n y (b.pager n y is);
 }
 
 -- a record that may stand past the start
@@ -190,16 +191,15 @@ source_shapes r s k named first =
           (first_push r s (length s.source) r (omega arith) ∙ first);
     }
 
-pub link_shapes : (r : LinkRec) (s : Recorded) → IsNamed s → link_named s r ≡ true → IsNamed (link_more r s)
-link_shapes r s k named =
-    let t = (link_more r s) in
-    let x = link_extends r s in
+pub links_shapes : (link : List LinkRec) (lane : List LaneRec) (s : Recorded) → Extends s (links_as link lane s) → IsNamed s → AllAt (λ n y. link_named s y ≡ true) link → AllAt (λ n y. lane_named s y ≡ true) lane → IsNamed (links_as link lane s)
+links_shapes link lane s x k over_link over_lane =
+    let t = links_as link lane s in
     record {
       phases = k.phases;
       guest = λ n y is. guest_named_stays s t x y (k.guest n y is);
       source = λ n y is. source_named_stays s t x n y (k.source n y is);
-      link = all_push (λ n y. link_named s y ≡ true) (λ n y. link_named t y ≡ true) s.link r k.link (λ n y is e. link_named_stays s t x y e) (link_named_stays s t x r named);
-      lane = λ n y is. lane_named_stays s t x y (k.lane n y is);
+      link = λ n y is. link_named_stays s t x y (over_link n y is);
+      lane = λ n y is. lane_named_stays s t x y (over_lane n y is);
       pager = λ n y is. pager_named_stays s t x n y (k.pager n y is);
       first_sends = k.first_sends;
     }

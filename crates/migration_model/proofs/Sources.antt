@@ -3,7 +3,7 @@ use Rattle.active_push.specs.SourcePart.{SourcePart, asks, goes_before, nearer, 
 use Rattle.audit_model.proofs.Consistent.{there}
 use Rattle.audit_model.specs.Shape.{is_send_of, is_sending, is_up}
 use Rattle.bubbling.specs.Bubbling.{Ring, in_turn, turned as ring_turned}
-use Rattle.link_book.specs.LinkPart.{with_back, with_front}
+use Rattle.link_book.specs.LinkPart.{pushed_line, with_back, with_front, with_pushed}
 use Rattle.link_book.specs.declared.Arrival.{Arrival}
 use Rattle.migration_types.specs.Memory.{Memory, page_of}
 use Rattle.page_tables.specs.Tables.{with_value}
@@ -17,7 +17,7 @@ use Rattle.migration_types.specs.declared.records.SourceRec.TheVariants.{Again, 
 use Rattle.page_stream.specs.declared.Packet.{Packet}
 use Rattle.page_stream.specs.declared.Packet.TheVariants.{All as AllPacket, Page as PagePacket, State as StatePacket, Want as WantPacket}
 use Rattle.migration_model.proofs.Cleans.{SourceClean}
-use Rattle.migration_model.proofs.Facts.{Arrives, AwayKept, IsPageNumber, UpArrived, back_keeps, close_none, close_source, close_source_two, front_keeps, source_pushed, with_link}
+use Rattle.migration_model.proofs.Facts.{Arrives, AwayKept, IsPageNumber, UpArrived, back_keeps, close_none, close_source, close_source_two, front_keeps, lane_keeps, source_pushed, with_link}
 use Rattle.migration_model.proofs.Grows.{names, names_none}
 use Rattle.migration_model.proofs.Lists.{and_both, and_left, and_right, get_new, get_old, index_key, index_other, not_some, not_true, passes_at}
 use Rattle.migration_model.specs.Events.{offered, pushed, served}
@@ -26,7 +26,7 @@ use Rattle.std.proofs.Common.{Bool, List, None, Option, Some, [], ap, cond, fals
 use Rattle.std.proofs.lemmas.Bool.{eqb-true, lt-ltb, ltb-true}
 use Rattle.std.proofs.lemmas.Option.{slice_get_within}
 use Rattle.std.specs.List.{AllByRecursion, range_with_len}
-use Rattle.std.specs.Prelude.{nat_lt, slice_get}
+use Rattle.std.specs.Prelude.{is_some, nat_lt, slice_get}
 
 -- the page that is chosen is of the set
 pub nearest_in : (pivot : ℕ) (set : Pages) (xs : List ℕ) (q : ℕ) → nearest pivot set xs ≡ Some q → set q ≡ true
@@ -72,27 +72,28 @@ new_page p ring a = record { send = length a.source.log; sent = get_new a.source
 
 -- Push
 pub pushed_keeps : (o : List Name) (a : Away) → AwayKept o a → Arrives o a (pushed a)
-pushed_keeps o a k = go (nat_lt (length a.link.down) a.window)
+pushed_keeps o a k = go a.has_lane refl (nat_lt (length (pushed_line a.has_lane a.link)) a.window)
   where
-    choice : Option ℕ
-    choice = nearest (in_turn a.source.ring) (unsent a.source) (range_with_len 0 a.source.geometry.pages)
+    page : ℕ → Packet
+    page p = PagePacket (length a.source.log) p (content_of a p)
 
-    at : (q : Option ℕ) → nearest (in_turn a.source.ring) (unsent a.source) (range_with_len 0 a.source.geometry.pages) ≡ q → Arrives o a (offered with_back (pushes q a.source) a)
-    at None e = close_none o (away_session a) a k
-    at (Some p) e =
+    chosen_keeps : (p : ℕ) → nearest (in_turn a.source.ring) (unsent a.source) (range_with_len 0 a.source.geometry.pages) ≡ Some p → AwayKept (o ++ (FromSource, length a.source.log) ∷ []) (sent p (ring_turned a.source.ring) a)
+    chosen_keeps p e =
         let is : unsent a.source p ≡ true = nearest_in (in_turn a.source.ring) (unsent a.source) (range_with_len 0 a.source.geometry.pages) p e in
-        let ring = ring_turned a.source.ring in
-        close_source o (away_session a) (Send p (content_of a p)) _
-        (back_keeps (PagePacket (length a.source.log) p (content_of a p)) (sent p ring a)
-        (send_keeps p ring a k (and_left _ _ is) (not_some (a.source.sent p) (and_right _ _ is))) (new_page p ring a))
+        send_keeps p (ring_turned a.source.ring) a k (and_left (owes a.source p) (not (is_some (a.source.sent p))) is) (not_some (a.source.sent p) (and_right (owes a.source p) (not (is_some (a.source.sent p))) is))
 
-    by : (b : Bool) → Arrives o a (offered with_back (cond b (silent a.source) (pushes (nearest (in_turn a.source.ring) (unsent a.source) (range_with_len 0 a.source.geometry.pages)) a.source)) a)
-    by true = close_none o (away_session a) a k
-    by false = at (nearest (in_turn a.source.ring) (unsent a.source) (range_with_len 0 a.source.geometry.pages)) refl
+    at : (over_lane : Bool) → a.has_lane ≡ over_lane → (q : Option ℕ) → nearest (in_turn a.source.ring) (unsent a.source) (range_with_len 0 a.source.geometry.pages) ≡ q → Arrives o a (offered (with_pushed over_lane) (pushes q a.source) a)
+    at over_lane is None e = close_none o (away_session a) a k
+    at true is (Some p) e = close_source o (away_session a) (Send p (content_of a p)) _ (lane_keeps (page p) (sent p (ring_turned a.source.ring) a) (chosen_keeps p e) (k.lanes is, new_page p (ring_turned a.source.ring) a))
+    at false is (Some p) e = close_source o (away_session a) (Send p (content_of a p)) _ (back_keeps (page p) (sent p (ring_turned a.source.ring) a) (chosen_keeps p e) (new_page p (ring_turned a.source.ring) a))
 
-    go : (b : Bool) → Arrives o a (cond b (offered with_back (source_push a.source) a) a)
-    go true = by a.source.is_done
-    go false = close_none o (away_session a) a k
+    by : (over_lane : Bool) → a.has_lane ≡ over_lane → (b : Bool) → Arrives o a (offered (with_pushed over_lane) (cond b (silent a.source) (pushes (nearest (in_turn a.source.ring) (unsent a.source) (range_with_len 0 a.source.geometry.pages)) a.source)) a)
+    by over_lane is true = close_none o (away_session a) a k
+    by over_lane is false = at over_lane is (nearest (in_turn a.source.ring) (unsent a.source) (range_with_len 0 a.source.geometry.pages)) refl
+
+    go : (over_lane : Bool) → a.has_lane ≡ over_lane → (b : Bool) → Arrives o a (cond b (offered (with_pushed over_lane) (source_push a.source) a) a)
+    go over_lane is true = by over_lane is a.source.is_done
+    go over_lane is false = close_none o (away_session a) a k
 
 -- Serve
 abbrev asked : ℕ → Away → Away
@@ -178,9 +179,9 @@ module _ (o : List Name) (i : ℕ) (a : Away) (k : AwayKept o a) where
 pub served_keeps : (o : List Name) (xs : List Arrival) (a : Away) → AwayKept o a → a.link.up_arrivals ≡ xs → Arrives o a (served xs a)
 served_keeps o [] a k e = close_none o (away_session a) a k
 served_keeps o (x ∷ rest) a k e =
-    let facts : AllByRecursion (UpArrived (away_session a)) (x ∷ rest) = subst (λ ys. AllByRecursion (UpArrived (away_session a)) ys) e k.link.up_arrivals in
+    let facts : AllByRecursion (UpArrived (away_session a)) (x ∷ rest) = subst (λ ys. AllByRecursion (UpArrived (away_session a)) ys) e k.link.up.come in
     packet_keeps o x.number (record a { link = record a.link { up_arrivals = rest } })
-    (with_link (record a.link { up_arrivals = rest }) a k (record { down = k.link.down; up = k.link.up; down_arrivals = k.link.down_arrivals; up_arrivals = facts.1 }))
+    (with_link (record a.link { up_arrivals = rest }) a k (record { down = k.link.down; up = record { under_way = k.link.up.under_way; come = facts.1 }; lane = k.link.lane }))
     x.packet facts.0
 
 -- SourceTick

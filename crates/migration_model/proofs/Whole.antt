@@ -20,14 +20,14 @@ use Rattle.migration_model.proofs.Homes.{HomeKept, halted_keeps, home_clean, hom
 use Rattle.migration_model.proofs.Limits.{HasRoom, is_session}
 use Rattle.migration_model.proofs.Links.{flushed_keeps, turned_keeps}
 use Rattle.migration_model.proofs.Lists.{and_left, and_right, append_nil, nothing}
-use Rattle.migration_model.proofs.Pagers.{delivered_keeps, faulted_keeps, pager_ticked_keeps, popped_keeps}
+use Rattle.migration_model.proofs.Pagers.{delivered_keeps, faulted_keeps, pager_ticked_keeps, popped_keeps, pulled_keeps}
 use Rattle.migration_model.proofs.Shapes.{right_shape}
 use Rattle.migration_model.proofs.Sources.{pushed_keeps, served_keeps, ticked_keeps}
 use Rattle.migration_model.specs.Events.{all_at_move, away_event, books_event, event, halted, has_room, home_event, if_taken, recorded, run, start, step}
 use Rattle.migration_model.specs.Machine.{After, Away, Before, Books, Home, IsScript, Machine, Scripted, away_session, home_session, new_names, session_of}
 use Rattle.migration_model.specs.Promise.{HasEachOwed, IsFaultlessRecording, IsFaultlessSession}
 use Rattle.migration_events.specs.declared.events.Event.{Event}
-use Rattle.migration_events.specs.declared.events.Event.TheVariants.{GuestStep, Halt as HaltGuest, LinkTurn, PagerDeliver, PagerFault, PagerFlush, PagerPop, PagerTick, Push, Serve, SourceTick}
+use Rattle.migration_events.specs.declared.events.Event.TheVariants.{GuestStep, Halt as HaltGuest, LinkTurn, PagerDeliver, PagerFault, PagerFlush, PagerPop, PagerPull, PagerTick, Push, Serve, SourceTick}
 use Rattle.residency.specs.Placements.{is_resident}
 use Rattle.std.proofs.Common.{Bool, List, None, Option, Some, [], arith, cond, false, length, refl, subst, sym, true, ℕ, ◌&&◌, ◌++◌, ◌∙◌, ◌∷◌, ◌≡◌}
 use Rattle.std.proofs.lemmas.Bool.{leb-true, or_left, or_right}
@@ -104,6 +104,7 @@ away_keeps o Serve a k = served_keeps o a.link.up_arrivals a k refl
 away_keeps o SourceTick a k = ticked_keeps o a k
 away_keeps o (LinkTurn direction fate) a k = turned_keeps o direction fate a k
 away_keeps o PagerPop a k = popped_keeps o a.link.down_arrivals a k refl
+away_keeps o PagerPull a k = pulled_keeps o a.link.lane_arrivals a k refl
 away_keeps o PagerFault a k = faulted_keeps o a k
 away_keeps o PagerFlush a k = flushed_keeps o a.pager.outbox a k refl
 away_keeps o PagerDeliver a k = delivered_keeps o a k
@@ -125,6 +126,7 @@ home_keeps o Serve h k = home_stays o h k
 home_keeps o SourceTick h k = home_stays o h k
 home_keeps o (LinkTurn direction fate) h k = home_stays o h k
 home_keeps o PagerPop h k = home_stays o h k
+home_keeps o PagerPull h k = home_stays o h k
 home_keeps o PagerFault h k = home_stays o h k
 home_keeps o PagerFlush h k = home_stays o h k
 home_keeps o PagerDeliver h k = home_stays o h k

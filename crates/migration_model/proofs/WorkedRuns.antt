@@ -1,10 +1,10 @@
 -- Worked runs, computed.
-use Rattle.std.proofs.Common.{◌≡◌, [], ◌∷◌, Option, Some, None, refl, arith}
+use Rattle.std.proofs.Common.{◌≡◌, [], ◌∷◌, Option, Some, None, false, refl, arith, true}
 use Rattle.std.specs.Prelude.{take}
 use Rattle.migration_model.specs.Events.{run, start}
 use Rattle.migration_model.specs.Machine.{IsScript, Machine}
 use Rattle.migration_model.specs.Promise.{SomeRunIsDone}
-use Rattle.migration_model.specs.Worked.{Records, events_of_one, events_of_release, events_of_two, offers, order_of_one, order_of_release, order_of_two, script_of_one, script_of_release, script_of_two, session_of_one, session_of_release, session_of_two, small_source, source_calls, source_offers, source_records, woken_next}
+use Rattle.migration_model.specs.Worked.{Records, events_of_lane, events_of_one, events_of_release, events_of_two, offers, order_of_lane, order_of_one, order_of_release, order_of_two, script_of_lane, script_of_one, script_of_release, script_of_two, session_of_lane, session_of_one, session_of_release, session_of_two, small_source, source_calls, source_offers, source_records, woken_next}
 
 pub run_of_two : Records script_of_two events_of_two session_of_two order_of_two
 run_of_two = refl
@@ -14,6 +14,9 @@ run_of_one = refl
 
 pub run_of_release : Records script_of_release events_of_release session_of_release order_of_release
 run_of_release = refl
+
+pub run_of_lane : Records script_of_lane events_of_lane session_of_lane order_of_lane
+run_of_lane = refl
 
 pub woken_of_two : woken_next (run (take 17 events_of_two) (start script_of_two)) ≡ 0 ∷ 1 ∷ []
 woken_of_two = refl
@@ -26,6 +29,7 @@ pub fits_of_two : IsScript script_of_two
 fits_of_two = record {
   geometry = record { some_pages = omega arith; few_pages = omega arith; some_cells = omega arith; few_cells = omega arith; few_in_all = omega arith };
   init = record { each = (record { page = omega arith; content = record { count = refl; each = (omega arith, tt) }; not_zeros = λ all. let e : 7 ≡ 0 = all.0 in absurd (omega (arith, e)) }, tt); rising = λ k lt. absurd (omega (arith, lt)) };
+  lane = λ is. absurd (let e : false ≡ true = is in cc);
   few_vcpus = omega arith;
   vcpus = (record { before_move = tt; after_move = ((omega arith, omega arith), tt) }, (record { before_move = tt; after_move = ((omega arith, omega arith), tt) }, tt));
 }
@@ -34,6 +38,7 @@ pub fits_of_one : IsScript script_of_one
 fits_of_one = record {
   geometry = record { some_pages = omega arith; few_pages = omega arith; some_cells = omega arith; few_cells = omega arith; few_in_all = omega arith };
   init = record { each = tt; rising = λ k lt. absurd (omega (arith, lt)) };
+  lane = λ is. absurd (let e : false ≡ true = is in cc);
   few_vcpus = omega arith;
   vcpus = (record { before_move = (omega arith, tt); after_move = ((omega arith, omega arith), tt) }, tt);
 }
@@ -42,8 +47,18 @@ pub fits_of_release : IsScript script_of_release
 fits_of_release = record {
   geometry = record { some_pages = omega arith; few_pages = omega arith; some_cells = omega arith; few_cells = omega arith; few_in_all = omega arith };
   init = record { each = (record { page = omega arith; content = record { count = refl; each = (omega arith, tt) }; not_zeros = λ all. let e : 6 ≡ 0 = all.0 in absurd (omega (arith, e)) }, tt); rising = λ k lt. absurd (omega (arith, lt)) };
+  lane = λ is. tt;
   few_vcpus = omega arith;
   vcpus = (record { before_move = tt; after_move = ((tt, omega arith), ((omega arith, omega arith), tt)) }, tt);
+}
+
+pub fits_of_lane : IsScript script_of_lane
+fits_of_lane = record {
+  geometry = record { some_pages = omega arith; few_pages = omega arith; some_cells = omega arith; few_cells = omega arith; few_in_all = omega arith };
+  init = record { each = (record { page = omega arith; content = record { count = refl; each = (omega arith, tt) }; not_zeros = λ all. let e : 6 ≡ 0 = all.0 in absurd (omega (arith, e)) }, tt); rising = λ k lt. absurd (omega (arith, lt)) };
+  lane = λ is. tt;
+  few_vcpus = omega arith;
+  vcpus = (record { before_move = tt; after_move = ((omega arith, omega arith), tt) }, tt);
 }
 
 -- the machine that a run leads to

@@ -4,7 +4,7 @@ use Rattle.std.specs.List.{list_all}
 use Rattle.migration_types.specs.Receipts.{Name}
 use Rattle.migration_types.specs.Sessions.{Recorded}
 use Rattle.page_stream.specs.declared.Packet.{Packet}
-use Rattle.link_book.specs.LinkPart.{LinkPart, new_link, with_back, with_front, with_up, if_packet, turned}
+use Rattle.link_book.specs.LinkPart.{LinkPart, new_link, with_back, with_front, with_up, pushed_line, with_pushed, if_packet, turned}
 use Rattle.link_book.specs.declared.Arrival.{Arrival}
 use Rattle.active_push.specs.SourcePart.{Offer, state_packet, halted_source, source_push, source_serve, source_tick}
 use Rattle.guest_book.specs.GuestPart.{new_guest, guest_access}
@@ -12,9 +12,9 @@ use Rattle.migration_events.specs.declared.ops.Op.{Op}
 use Rattle.target_book.specs.TargetPart.{Accessed, halted_target, target_access}
 use Rattle.target_book.specs.declared.Access.{Access}
 use Rattle.target_book.specs.declared.Access.TheVariants.{Done, Missed, Waiting}
-use Rattle.target_side.specs.PagerPart.{Paged, Sent, new_pager, pager_pop, next_fault, pager_flush, deliver, pager_tick}
+use Rattle.target_side.specs.PagerPart.{Paged, Sent, new_pager, pager_pop, pager_pull, next_fault, pager_flush, deliver, pager_tick}
 use Rattle.migration_events.specs.declared.events.Event.{Event}
-use Rattle.migration_events.specs.declared.events.Event.TheVariants.{GuestStep, Halt as HaltGuest, Push, Serve, SourceTick, LinkTurn, PagerPop, PagerFault, PagerFlush, PagerDeliver, PagerTick}
+use Rattle.migration_events.specs.declared.events.Event.TheVariants.{GuestStep, Halt as HaltGuest, Push, Serve, SourceTick, LinkTurn, PagerPop, PagerPull, PagerFault, PagerFlush, PagerDeliver, PagerTick}
 use Rattle.migration_model.specs.Machine.{Vcpu, Scripted, Home, Away, Books, Before, After, session_of, Machine, new_names}
 
 abbrev pub start : Scripted → Machine
@@ -24,6 +24,7 @@ start script = record {
     init = script.init;
     pivots = script.pivots;
     window = script.window;
+    has_lane = script.has_lane;
     vcpus = script.vcpus;
     guest = new_guest script.geometry script.init;
   });
@@ -71,6 +72,7 @@ halted h =
       version = h.version;
       init = h.init;
       window = h.window;
+      has_lane = h.has_lane;
       vcpus = h.vcpus;
       source = source;
       link = with_back (state_packet 1 source) new_link;
@@ -82,8 +84,9 @@ halted h =
 abbrev pub offered : (Packet → LinkPart → LinkPart) → Offer → Away → Away
 offered offer o a = record a { source = o.book; link = if_packet offer o.packet a.link }
 
+-- Push: on the lane, where there is one, whose line the window then bounds
 abbrev pub pushed : Away → Away
-pushed a = if nat_lt (length a.link.down) a.window then offered with_back (source_push a.source) a else a
+pushed a = if nat_lt (length (pushed_line a.has_lane a.link)) a.window then offered (with_pushed a.has_lane) (source_push a.source) a else a
 
 abbrev pub served : List Arrival → Away → Away
 served [] a = a
@@ -92,6 +95,10 @@ served (x ∷ rest) a = offered with_front (source_serve x.number x.packet a.sou
 abbrev pub popped : List Arrival → Away → Away
 popped [] a = a
 popped (x ∷ rest) a = record a { link = record a.link { down_arrivals = rest }; pager = pager_pop x.number x.packet a.pager }
+
+abbrev pub pulled : List Arrival → Away → Away
+pulled [] a = a
+pulled (x ∷ rest) a = record a { link = record a.link { lane_arrivals = rest }; pager = pager_pull x.number x.packet a.pager }
 
 -- what the pager's call leaves
 abbrev pub paged : Paged → Away → Away
@@ -108,6 +115,7 @@ away_event Serve a = served a.link.up_arrivals a
 away_event SourceTick a = offered with_back (source_tick a.source) a
 away_event (LinkTurn direction fate) a = record a { link = turned direction fate a.link }
 away_event PagerPop a = popped a.link.down_arrivals a
+away_event PagerPull a = pulled a.link.lane_arrivals a
 away_event PagerFault a = paged (next_fault a.pager a.target) a
 away_event PagerFlush a = sent_up (pager_flush a.pager) a
 away_event PagerDeliver a = paged (deliver a.pager a.target) a

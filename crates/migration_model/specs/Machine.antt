@@ -1,5 +1,5 @@
 -- All books together, what they record, and the script that a guest follows.
-use Rattle.std.specs.Prelude.{ℕ, ◌≤◌, ◌-◌, List, [], ◌++◌, length}
+use Rattle.std.specs.Prelude.{ℕ, ◌≤◌, ◌-◌, Bool, List, [], ◌++◌, length, IsTrue}
 use Rattle.std.specs.List.{AllByRecursion}
 use Rattle.migration_types.specs.declared.pages.InitPage.{InitPage}
 use Rattle.migration_types.specs.declared.records.LogName.{LogName}
@@ -7,7 +7,7 @@ use Rattle.migration_types.specs.declared.records.LogName.TheVariants.{Guest, So
 use Rattle.migration_types.specs.Extents.{Extent, IsExtent}
 use Rattle.migration_types.specs.Pages.{AreInitPages}
 use Rattle.migration_types.specs.Receipts.{Name}
-use Rattle.migration_types.specs.Sessions.{Recorded}
+use Rattle.migration_types.specs.Sessions.{Recorded, HasLane}
 use Rattle.migration_types.specs.declared.version.Version.{Version}
 use Rattle.audit_model.specs.Mergings.{run_names}
 use Rattle.active_push.specs.SourcePart.{SourcePart}
@@ -23,14 +23,15 @@ pub record Vcpu : Type 0 where
   pub before_move : List Op
   pub after_move : List Op
 
--- the version, the machine, the pages that do not begin as zeros, how many pivots are kept at most, how many packets may be under
--- way when a page is pushed, and the virtual processors
+-- the version, the machine, the pages that do not begin as zeros, how many pivots are kept at most, how many packets may be
+-- under way where pages are pushed, whether there is a lane, on which they are pushed then, and the virtual processors
 pub record Scripted : Type 0 where
   pub version : Version
   pub geometry : Extent
   pub init : List InitPage
   pub pivots : ℕ
   pub window : ℕ
+  pub has_lane : Bool
   pub vcpus : List Vcpu
 
 pub record VcpuFits (version : Version) (e : Extent) (vcpu : Vcpu) : Type 0 where
@@ -41,6 +42,7 @@ pub record VcpuFits (version : Version) (e : Extent) (vcpu : Vcpu) : Type 0 wher
 pub record IsScript (script : Scripted) : Type 0 where
   pub geometry : IsExtent script.geometry
   pub init : AreInitPages script.geometry script.init
+  pub lane : IsTrue script.has_lane → HasLane script.version
   pub few_vcpus : length script.vcpus ≤ 64
   pub vcpus : AllByRecursion (VcpuFits script.version script.geometry) script.vcpus
 
@@ -50,6 +52,7 @@ pub record Home : Type 0 where
   pub init : List InitPage
   pub pivots : ℕ
   pub window : ℕ
+  pub has_lane : Bool
   pub vcpus : List Vcpu
   pub guest : GuestPart
 
@@ -58,6 +61,7 @@ pub record Away : Type 0 where
   pub version : Version
   pub init : List InitPage
   pub window : ℕ
+  pub has_lane : Bool
   pub vcpus : List Vcpu
   pub source : SourcePart
   pub link : LinkPart
@@ -68,7 +72,7 @@ pub data Books : Type 0 where
   Before : Home → Books
   After : Away → Books
 
--- what the books have recorded, in the version of the script: the lane's log has no records
+-- what the books have recorded, in the version of the script
 abbrev pub home_session : Home → Recorded
 home_session h = record { version = h.version; geometry = h.guest.geometry; init = h.init; guest = h.guest.log; source = []; link = []; lane = []; pager = [] }
 
@@ -80,7 +84,7 @@ away_session a = record {
   guest = a.target.log;
   source = a.source.log;
   link = a.link.log;
-  lane = [];
+  lane = a.link.lane_log;
   pager = a.pager.log;
 }
 

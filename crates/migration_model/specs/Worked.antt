@@ -1,5 +1,5 @@
 -- Worked runs: which events of a script record what, in which order, and what one book makes of a list of calls.
-use Rattle.std.specs.Prelude.{◌≡◌, ℕ, List, [], ◌∷◌, length, ◌<◌, Option, Some, None}
+use Rattle.std.specs.Prelude.{◌≡◌, ℕ, true, false, List, [], ◌∷◌, length, ◌<◌, Option, Some, None}
 use Rattle.migration_types.specs.Memory.{initial}
 use Rattle.migration_types.specs.PageSets.{no_page}
 use Rattle.migration_types.specs.Receipts.{Name}
@@ -8,13 +8,14 @@ use Rattle.migration_types.specs.declared.version.Version.TheVariants.{One, Two}
 use Rattle.migration_types.specs.declared.records.GuestRec.{GuestRec}
 use Rattle.migration_types.specs.declared.records.GuestRec.TheVariants.{Halt, Miss, Read, Release, Resume, See}
 use Rattle.migration_types.specs.declared.records.LinkRec.TheVariants.{Down, Up}
-use Rattle.migration_types.specs.declared.records.LogName.TheVariants.{Guest, Link, Pager, Source as FromSource}
-use Rattle.migration_types.specs.declared.records.PagerRec.TheVariants.{All, Fault, Got, Join, Place, Ready, Skip, Want, Zero}
+use Rattle.migration_types.specs.declared.records.LaneRec.TheVariants.{Down as LaneDown}
+use Rattle.migration_types.specs.declared.records.LogName.TheVariants.{Guest, Lane, Link, Pager, Source as FromSource}
+use Rattle.migration_types.specs.declared.records.PagerRec.TheVariants.{All, Fault, Got, Join, Place, Pull, Ready, Skip, Want, Zero}
 use Rattle.migration_types.specs.declared.records.SourceRec.{SourceRec}
 use Rattle.migration_types.specs.declared.records.SourceRec.TheVariants.{Again, Ask, Done, Halted, Send, State}
-use Rattle.migration_events.specs.declared.events.Direction.TheVariants.{Down as Downward, Up as Upward}
+use Rattle.migration_events.specs.declared.events.Direction.TheVariants.{Down as Downward, Lane as OverLane, Up as Upward}
 use Rattle.migration_events.specs.declared.events.Event.{Event}
-use Rattle.migration_events.specs.declared.events.Event.TheVariants.{GuestStep, Halt as HaltGuest, LinkTurn, PagerDeliver, PagerFault, PagerFlush, PagerPop, PagerTick, Push, Serve, SourceTick}
+use Rattle.migration_events.specs.declared.events.Event.TheVariants.{GuestStep, Halt as HaltGuest, LinkTurn, PagerDeliver, PagerFault, PagerFlush, PagerPop, PagerPull, PagerTick, Push, Serve, SourceTick}
 use Rattle.migration_events.specs.declared.events.Fate.TheVariants.{Back, Deliver, Lose, Repeat}
 use Rattle.migration_events.specs.declared.ops.Op.TheVariants.{Read as ReadCell, Release as ReleasePage}
 use Rattle.page_stream.specs.declared.Packet.{Packet}
@@ -42,6 +43,7 @@ script_of_two = record {
   init = record { page = 1; cells = 7 ∷ [] } ∷ [];
   pivots = 1;
   window = 4;
+  has_lane = false;
   vcpus = record { before_move = []; after_move = ReadCell 1 0 ∷ [] } ∷ record { before_move = []; after_move = ReadCell 1 0 ∷ [] } ∷ [];
 }
 
@@ -77,6 +79,7 @@ script_of_one = record {
   init = [];
   pivots = 1;
   window = 2;
+  has_lane = false;
   vcpus = record { before_move = ReleasePage 1 ∷ []; after_move = ReadCell 1 0 ∷ [] } ∷ [];
 }
 
@@ -113,6 +116,7 @@ script_of_release = record {
   init = record { page = 0; cells = 6 ∷ [] } ∷ [];
   pivots = 1;
   window = 4;
+  has_lane = false;
   vcpus = record { before_move = []; after_move = ReleasePage 0 ∷ ReadCell 0 0 ∷ [] } ∷ [];
 }
 
@@ -137,6 +141,40 @@ abbrev pub order_of_release : List Name
 order_of_release =
     (Guest, 0) ∷ (FromSource, 0) ∷ (FromSource, 1) ∷ (FromSource, 2) ∷ (Link, 0) ∷ (Pager, 0) ∷ (Pager, 1) ∷ (Guest, 1) ∷ (Guest, 2)
     ∷ (Link, 1) ∷ (Pager, 2) ∷ (Pager, 3) ∷ (Guest, 3) ∷ []
+
+-- A page is pushed over the lane.
+abbrev pub script_of_lane : Scripted
+script_of_lane = record {
+  version = Two;
+  geometry = record { pages = 1; cells = 1 };
+  init = record { page = 0; cells = 6 ∷ [] } ∷ [];
+  pivots = 1;
+  window = 4;
+  has_lane = true;
+  vcpus = record { before_move = []; after_move = ReadCell 0 0 ∷ [] } ∷ [];
+}
+
+abbrev pub events_of_lane : List Event
+events_of_lane =
+    HaltGuest ∷ Push ∷ LinkTurn Downward Deliver ∷ PagerPop ∷ PagerDeliver ∷ LinkTurn OverLane Deliver ∷ PagerPull ∷ PagerDeliver
+    ∷ GuestStep 0 ∷ []
+
+abbrev pub session_of_lane : Recorded
+session_of_lane = record {
+  version = Two;
+  geometry = record { pages = 1; cells = 1 };
+  init = record { page = 0; cells = 6 ∷ [] } ∷ [];
+  guest = Halt ∷ Resume 1 ∷ See 3 ∷ Read 0 0 0 6 ∷ [];
+  source = Halted 0 ∷ State ∷ Send 0 (6 ∷ []) ∷ [];
+  link = Down 1 ∷ [];
+  lane = LaneDown 2 ∷ [];
+  pager = Got 0 ∷ Ready ∷ Pull 0 ∷ Place 0 2 (6 ∷ []) ∷ [];
+}
+
+abbrev pub order_of_lane : List Name
+order_of_lane =
+    (Guest, 0) ∷ (FromSource, 0) ∷ (FromSource, 1) ∷ (FromSource, 2) ∷ (Link, 0) ∷ (Pager, 0) ∷ (Pager, 1) ∷ (Guest, 1) ∷ (Lane, 0)
+    ∷ (Pager, 2) ∷ (Pager, 3) ∷ (Guest, 2) ∷ (Guest, 3) ∷ []
 
 -- the virtual processors that the next delivery of the pager wakes
 abbrev pub woken_in : Books → List ℕ
@@ -185,6 +223,7 @@ core_with log = record {
     init = [];
     pivots = 1;
     window = 1;
+    has_lane = false;
     vcpus = record { before_move = ReadCell 0 0 ∷ []; after_move = [] } ∷ [];
     guest = record (new_guest (record { pages = 1; cells = 1 }) []) { log = log };
   });
