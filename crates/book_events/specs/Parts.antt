@@ -1,5 +1,5 @@
 -- An event as a change of the one or two books that it names.
-use Rattle.std.specs.Prelude.{◌≡◌, ℕ, ◌⊎◌, false, List, [], ◌∷◌, ◌++◌, length}
+use Rattle.std.specs.Prelude.{◌≡◌, ℕ, ◌⊎◌, Bool, false, List, [], ◌∷◌, ◌++◌, length}
 use Rattle.active_push.specs.SourcePart.{SourcePart, halted_source, state_packet}
 use Rattle.guest_book.specs.GuestPart.{GuestPart}
 use Rattle.link_book.specs.LinkPart.{LinkPart, with_back}
@@ -14,8 +14,8 @@ use Rattle.book_events.specs.declared.came.Came.{Came}
 use Rattle.book_events.specs.declared.came.Came.TheVariants.{Nothing, Made, Offered}
 
 -- a migration with these books
-abbrev pub pushing : ℕ → SourcePart → LinkPart → Away → Away
-pushing window source link a = record a { window = window; source = source; link = link }
+abbrev pub pushing : ℕ → Bool → SourcePart → LinkPart → Away → Away
+pushing window has_lane source link a = record a { window = window; has_lane = has_lane; source = source; link = link }
 
 abbrev pub sending : SourcePart → LinkPart → Away → Away
 sending source link a = record a { source = source; link = link }
@@ -45,10 +45,10 @@ pub record HasGained (page : ℕ) (old new : List Packet) : Type 0 where
   pub gained : (new ≡ old ++ PagePacket number page contents ∷ []) ⊎ (new ≡ PagePacket number page contents ∷ old)
 
 pub record IsOffered (page : ℕ) (old new : Away → Away) : Type 0 where
-  pub offered : (a : Away) → HasGained page (old a).link.down (new a).link.down
+  pub offered : (a : Away) → HasGained page (old a).link.down (new a).link.down ⊎ HasGained page (old a).link.lane (new a).link.lane
 
 -- what is told of an event: that there was nothing to do only where nothing has changed, and a page where the line down
--- has gained a packet of it
+-- or the lane's has gained a packet of it
 abbrev pub Tells : Came → (Away → Away) → (Away → Away) → Type 0
 Tells Nothing old new = IsSame old new
 Tells Made old new = Unit {0}

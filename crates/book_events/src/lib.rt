@@ -11,5 +11,5 @@ mod sending;
 pub use came::Came;
 pub use faults::EventFault;
 pub use halting::halt;
-pub use paging::{pager_deliver, pager_fault, pager_flush, pager_pop, pager_tick};
+pub use paging::{pager_deliver, pager_fault, pager_flush, pager_pop, pager_pull, pager_tick};
 pub use sending::{push, serve, source_tick};

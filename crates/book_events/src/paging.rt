@@ -13,8 +13,8 @@ use crate::faults::EventFault;
 use link_book::LinkBook;
 use target_side::{PagerBook, TargetBook};
 
-/// PagerPop: the pager takes the oldest packet that has arrived, if there is one, which is one that the source of such a
-/// machine sends. `EventFault::LogFull` only where its log has no room for the records. On an error nothing changes.
+/// PagerPop: the pager takes the oldest packet that has arrived, if there is one, which is one that the source of such
+/// a machine sends. `EventFault::LogFull` only where its log has no room for the records. On an error nothing changes.
 pub fn pager_pop(link: &mut LinkBook, pager: &mut PagerBook) -> Result<Came, EventFault>
     requires { (x : Arrival) → slice_get link.old.part.down_arrivals 0 ≡ Some x → IsPacketOf pager.old.geometry x.packet }
     ensures ok { OnOk result (IsMade Event.PagerPop (receiving link.old.part (part_of pager.old)) (receiving link.new.part (part_of pager.new))) }
@@ -28,6 +28,25 @@ pub fn pager_pop(link: &mut LinkBook, pager: &mut PagerBook) -> Result<Came, Eve
     };
     pager.pop(number, packet)?;
     link.pop_down();
+    Ok(Came::Made)
+}
+
+/// PagerPull: the pager takes the oldest packet that has arrived over the lane, if there is one, which is one that the
+/// source of such a machine sends. `EventFault::LogFull` only where its log has no room for the records. On an error
+/// nothing changes.
+pub fn pager_pull(link: &mut LinkBook, pager: &mut PagerBook) -> Result<Came, EventFault>
+    requires { (x : Arrival) → slice_get link.old.part.lane_arrivals 0 ≡ Some x → IsPacketOf pager.old.geometry x.packet }
+    ensures ok { OnOk result (IsMade Event.PagerPull (receiving link.old.part (part_of pager.old)) (receiving link.new.part (part_of pager.new))) }
+    ensures told { IfOk result (λ came. Tells came (receiving link.old.part (part_of pager.old)) (receiving link.new.part (part_of pager.new))) }
+    ensures machine { pager.new.geometry ≡ pager.old.geometry }
+    ensures full { IsErrOf result EventFault.LogFull → IsFull Event.PagerPull (receiving link.old.part (part_of pager.old)) }
+    ensures err { OnErr result ((link.new.part ≡ link.old.part) × (part_of pager.new ≡ part_of pager.old)) }
+{
+    let Some((number, packet)) = link.peek_lane() else {
+        return Ok(Came::Nothing);
+    };
+    pager.pull(number, packet)?;
+    link.pop_lane();
     Ok(Came::Made)
 }
 
@@ -86,9 +105,9 @@ pub fn pager_fault(pager: &mut PagerBook, target: &mut TargetBook) -> Result<Cam
 }
 
 /// PagerDeliver: the pager settles the pages that the guest released at the target before they came. Once the state has
-/// come it lets the guest resume, and from then on takes the oldest page that has come, if there is one, which it places,
-/// or drops where it is resident already. Where there is nothing of this, there is nothing to do. The books are of one
-/// machine. `EventFault::LogFull` only where a log has no room for the record. On an error nothing changes.
+/// come it lets the guest resume, and from then on takes the oldest page that has come, if there is one, which it
+/// places, or drops where it is resident already. Where there is nothing of this, there is nothing to do. The books are
+/// of one machine. `EventFault::LogFull` only where a log has no room for the record. On an error nothing changes.
 pub fn pager_deliver(pager: &mut PagerBook, target: &mut TargetBook) -> Result<Came, EventFault>
     requires machine { geometry_of target.old ≡ pager.old.geometry }
     ensures ok { OnOk result (IsMade Event.PagerDeliver (placing (part_of pager.old) (target_of target.old)) (placing (part_of pager.new) (target_of target.new))) }

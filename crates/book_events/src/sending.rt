@@ -13,23 +13,40 @@ use active_push::SourceBook;
 use link_book::LinkBook;
 use page_stream::Packet;
 
-/// Push: the source sends the page that bubbling chooses, where fewer packets than the window are under way down.
-/// `EventFault::LogFull` only where the source's log has no room for the record. On an error nothing changes.
-pub fn push(source: &mut SourceBook, link: &mut LinkBook, window: u32) -> Result<Came, EventFault>
-    ensures ok { OnOk result (IsMade Event.Push (pushing window (part_of source.old) link.old.part) (pushing window (part_of source.new) link.new.part)) }
-    ensures told { IfOk result (λ came. Tells came (pushing window (part_of source.old) link.old.part) (pushing window (part_of source.new) link.new.part)) }
+/// Push: the source sends the page that bubbling chooses, over the lane, if there is one, or else down the link, where
+/// fewer packets than the window are under way. `EventFault::LogFull` only where the source's log has no room for the
+/// record. On an error nothing changes.
+pub fn push(
+    source: &mut SourceBook,
+    link: &mut LinkBook,
+    window: u32,
+    has_lane: bool,
+) -> Result<Came, EventFault>
+    ensures ok { OnOk result (IsMade Event.Push (pushing window has_lane (part_of source.old) link.old.part) (pushing window has_lane (part_of source.new) link.new.part)) }
+    ensures told { IfOk result (λ came. Tells came (pushing window has_lane (part_of source.old) link.old.part) (pushing window has_lane (part_of source.new) link.new.part)) }
     ensures machine { source.new.frames.geometry ≡ source.old.frames.geometry }
-    ensures full { IsErrOf result EventFault.LogFull → IsFull Event.Push (pushing window (part_of source.old) link.old.part) }
+    ensures full { IsErrOf result EventFault.LogFull → IsFull Event.Push (pushing window has_lane (part_of source.old) link.old.part) }
     ensures err { OnErr result ((part_of source.new ≡ part_of source.old) × (link.new.part ≡ link.old.part)) }
 {
-    if link.down_len() >= window as usize {
+    let under_way = if has_lane {
+        link.lane_len()
+    } else {
+        link.down_len()
+    };
+    if under_way >= window as usize {
         return Ok(Came::Nothing);
     }
     link.room()?;
     let Some(packet) = source.push()? else {
         return Ok(Came::Nothing);
     };
-    Ok(offer(link, packet, false))
+    let came = carried(&packet);
+    if has_lane {
+        link.offer_lane(packet);
+    } else {
+        link.offer_down(packet, false);
+    }
+    Ok(came)
 }
 
 /// Serve: the source takes the oldest packet that has arrived, if there is one, and sends the page that it wants ahead
@@ -54,8 +71,8 @@ pub fn serve(source: &mut SourceBook, link: &mut LinkBook) -> Result<Came, Event
     }
 }
 
-/// SourceTick: the source sends the state once more, as long as nobody asked it for anything. `EventFault::LogFull` only
-/// where its log has no room for the record. On an error nothing changes.
+/// SourceTick: the source sends the state once more, as long as nobody asked it for anything. `EventFault::LogFull`
+/// only where its log has no room for the record. On an error nothing changes.
 pub fn source_tick(source: &mut SourceBook, link: &mut LinkBook) -> Result<Came, EventFault>
     ensures ok { OnOk result (IsMade Event.SourceTick (sending (part_of source.old) link.old.part) (sending (part_of source.new) link.new.part)) }
     ensures told { IfOk result (λ came. Tells came (sending (part_of source.old) link.old.part) (sending (part_of source.new) link.new.part)) }

@@ -7,6 +7,8 @@ ghost use Rattle.page_stream.specs.declared.Packet.TheVariants.{Want};
 #[cfg(test)]
 mod guests;
 #[cfg(test)]
+mod lanes;
+#[cfg(test)]
 mod links;
 #[cfg(test)]
 mod packets;

@@ -17,7 +17,7 @@ const FIRST: u16 = 0;
 const SECOND: u16 = 1;
 
 /// The machine's book after the halt, and its state packet.
-fn after_halt(rt: &HostRuntime) -> Result<(SourceBook, Packet), Fail> {
+pub(crate) fn after_halt(rt: &HostRuntime) -> Result<(SourceBook, Packet), Fail> {
     let geometry = Geometry::new(2, 1)?;
     let mut store = Store::zeroed(rt.alloc(), geometry)?;
     store.write(PageNo::new(SECOND), 0, 7);
