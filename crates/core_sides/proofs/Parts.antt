@@ -1,9 +1,11 @@
 -- An event on the books that it names is the event on all.
-use Rattle.std.proofs.Common.{◌≡◌, ◌∙◌, ℕ, sym, ap, subst}
+use Rattle.std.proofs.Common.{◌≡◌, ◌∙◌, ℕ, Bool, List, Option, Some, None, Bor, is_some, sym, ap, subst}
 use Rattle.std.specs.Prelude.{false}
+use Rattle.std.specs.Option.{option_map}
 use Rattle.active_push.specs.SourcePart.{SourcePart}
 use Rattle.link_book.specs.LinkPart.{LinkPart}
 use Rattle.migration_events.specs.declared.events.Event.{Event}
+use Rattle.migration_events.specs.declared.events.Fate.{Fate}
 use Rattle.migration_events.specs.declared.events.Event.TheVariants.{Push}
 use Rattle.migration_model.specs.Machine.{Away, away_session}
 use Rattle.migration_model.specs.Events.{away_event, has_room}
@@ -18,9 +20,14 @@ pub full : (e : Event) (old : Away → Away) (before now : AwayLists) → IsFull
     → has_room (away_session (away_event e (away_of now))) ≡ false
 full e old before now part is whole = sym (ap (λ (a : Away). has_room (away_session (away_event e a))) (whole ∙ ap (λ (v : AwayLists). away_of v) is)) ∙ part.full (away_of before)
 
--- a push within the window that the script says
-pub pushes_within : (w v : ℕ) (s t : SourcePart) (l m : LinkPart) → w ≡ v → IsMade Push (pushing w s l) (pushing w t m) → IsMade Push (pushing v s l) (pushing v t m)
-pushes_within w v s t l m is part = subst (λ (x : ℕ). IsMade Push (pushing x s l) (pushing x t m)) is part
+-- whether the script has a lane
+pub lane_told : (seen : Option (Bor (List Fate))) (lane : Option (List Fate)) (has : Bool) → option_map (λ l. l.now) seen ≡ lane → has ≡ is_some seen → has ≡ is_some lane
+lane_told None lane has is told = told ∙ ap is_some is
+lane_told (Some fates) lane has is told = told ∙ ap is_some is
 
-pub full_within : (w v : ℕ) (s : SourcePart) (l : LinkPart) → w ≡ v → IsFull Push (pushing w s l) → IsFull Push (pushing v s l)
-full_within w v s l is part = subst (λ (x : ℕ). IsFull Push (pushing x s l)) is part
+-- a push within the window that the script says, on the line that it says
+pub pushes_within : (w v : ℕ) (h k : Bool) (s t : SourcePart) (l m : LinkPart) → w ≡ v → h ≡ k → IsMade Push (pushing w h s l) (pushing w h t m) → IsMade Push (pushing v k s l) (pushing v k t m)
+pushes_within w v h k s t l m within lane part = subst (λ (x : ℕ × Bool). IsMade Push (pushing x.0 x.1 s l) (pushing x.0 x.1 t m)) (λ i. (within i, lane i)) part
+
+pub full_within : (w v : ℕ) (h k : Bool) (s : SourcePart) (l : LinkPart) → w ≡ v → h ≡ k → IsFull Push (pushing w h s l) → IsFull Push (pushing v k s l)
+full_within w v h k s l within lane part = subst (λ (x : ℕ × Bool). IsFull Push (pushing x.0 x.1 s l)) (λ i. (within i, lane i)) part

@@ -1,17 +1,19 @@
 -- What an operation after the move comes to, and what a script in its limits says to the events and to the books.
-use Rattle.std.proofs.Common.{◌≡◌, ◌∙◌, ℕ, ◌<◌, List, [], ◌∷◌, Some, refl, ap, sym, subst, length, get_or}
+use Rattle.std.proofs.Common.{◌≡◌, ◌∙◌, ℕ, ◌<◌, List, [], ◌∷◌, Option, Some, None, is_some, refl, ap, sym, subst, length, get_or}
 use Rattle.std.proofs.lemmas.Option.{slice_get-get_or}
 use Rattle.std.proofs.lemmas.List.{length-map}
-use Rattle.std.specs.Prelude.{slice_get, map}
+use Rattle.std.specs.Prelude.{slice_get, map, IsTrue}
 use Rattle.std.specs.List.{AllByRecursion}
 use Rattle.migration_types.specs.Extents.{Extent}
 use Rattle.migration_types.specs.declared.version.Version.{Version}
 use Rattle.migration_types.specs.Pages.{InitPageFits}
+use Rattle.migration_types.specs.Sessions.{HasLane}
 use Rattle.migration_types.specs.declared.pages.InitPage.{InitPage}
 use Rattle.page_store.specs.Frames.{IsPageOf}
+use Rattle.migration_events.specs.declared.events.Fate.{Fate}
 use Rattle.migration_events.specs.declared.ops.Op.{Op}
 use Rattle.guest_script.specs.declared.vcpus.Vcpu.{Vcpu as Scheduled}
-use Rattle.guest_script.specs.Scenarios.{Scenario, IsScenario, VcpuFits as ScheduledFits}
+use Rattle.guest_script.specs.Scenarios.{Scenario, IsScenario, LaneFits, VcpuFits as ScheduledFits}
 use Rattle.target_book.specs.TargetPart.{TargetPart, Accessed, target_access}
 use Rattle.target_book.specs.declared.Access.{Access}
 use Rattle.target_book.specs.declared.Access.TheVariants.{Done, Missed, Waiting}
@@ -57,10 +59,15 @@ all_scripted_fit : (version : Version) (e : Extent) (vcpus : List Scheduled) →
 all_scripted_fit version e [] all = all
 all_scripted_fit version e (vcpu ∷ vcpus) all = (record { before_move = all.0.before_move; after_move = all.0.after_move }, all_scripted_fit version e vcpus all.1)
 
+lane_is : (version : Version) (lane : Option (List Fate)) → LaneFits version lane → IsTrue (is_some lane) → HasLane version
+lane_is version None fits has = absurd cc
+lane_is version (Some fates) fits has = fits.0
+
 pub script_is : (s : Scenario) → IsScenario s → IsScript (scripted_of s)
 script_is s is = record {
   geometry = is.geometry;
   init = is.init;
+  lane = lane_is s.version s.lane is.lane;
   few_vcpus = rw (length-map s.vcpus vcpu_of) is.few_vcpus;
   vcpus = all_scripted_fit s.version s.geometry s.vcpus is.vcpus;
 }

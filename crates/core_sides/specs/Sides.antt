@@ -1,5 +1,5 @@
 -- A migration before its halt and after it: what its sides hold, and what they stand for in the events.
-use Rattle.std.specs.Prelude.{◌≡◌, List, map}
+use Rattle.std.specs.Prelude.{◌≡◌, List, is_some, map}
 use Rattle.std.specs.List.{AllByRecursion}
 use Rattle.migration_types.specs.declared.version.Version.{Version}
 use Rattle.migration_types.specs.Extents.{Extent}
@@ -18,7 +18,7 @@ abbrev pub vcpu_of : Scheduled → Vcpu
 vcpu_of vcpu = record { before_move = vcpu.before_move; after_move = vcpu.after_move }
 
 abbrev pub scripted_of : Scenario → Scripted
-scripted_of s = record { version = s.version; geometry = s.geometry; init = s.init; pivots = s.pivots; window = s.window; vcpus = map vcpu_of s.vcpus }
+scripted_of s = record { version = s.version; geometry = s.geometry; init = s.init; pivots = s.pivots; window = s.window; has_lane = is_some s.lane; vcpus = map vcpu_of s.vcpus }
 
 -- before the halt: the script, what each virtual processor has left to do, and the guest's book
 pub record HomeLists : Type 0 where
@@ -42,6 +42,7 @@ home_of h = record {
   init = h.script.init;
   pivots = h.script.pivots;
   window = h.script.window;
+  has_lane = is_some h.script.lane;
   vcpus = h.vcpus;
   guest = guest_of h.guest;
 }
@@ -51,6 +52,7 @@ away_of a = record {
   version = a.script.version;
   init = a.script.init;
   window = a.script.window;
+  has_lane = is_some a.script.lane;
   vcpus = a.vcpus;
   source = source_of a.source;
   link = a.link.part;

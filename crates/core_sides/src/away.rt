@@ -15,7 +15,7 @@ use active_push::SourceBook;
 use guest_script::Script;
 use link_book::LinkBook;
 use migration_events::{Direction, Event, Fate};
-use migration_types::{GuestRec, LinkRec, Logs, PagerRec, Seq, Session, SourceRec};
+use migration_types::{GuestRec, LaneRec, LinkRec, Logs, PagerRec, Seq, Session, SourceRec};
 use std::alloc::{AllocError, Global};
 use std::marker::Model;
 use target_side::{Access, PagerBook, TargetBook};
@@ -76,7 +76,9 @@ impl<'a> Away<'a> {
         ensures full { IsErrOf result CoreFault.LogFull → has_room (away_session (away_event Event.Push (away_of self.old))) ≡ false }
         ensures err { OnErr result (away_of self.new ≡ away_of self.old) }
     {
-        book_events::push(&mut self.source, &mut self.link, self.script.window())?;
+        let has_lane = self.script.lane().is_some();
+        let window = self.script.window();
+        book_events::push(&mut self.source, &mut self.link, window, has_lane)?;
         Ok(())
     }
 
@@ -125,8 +127,21 @@ impl<'a> Away<'a> {
         Ok(())
     }
 
-    /// The pager settles the pages that the guest released before they came, and learns of the oldest miss that it has not
-    /// taken. There is none before the state has come.
+    /// The pager takes the oldest packet that has arrived over the lane, which is one that the source of such a machine
+    /// sends.
+    pub fn pull(&mut self) -> Result<(), CoreFault>
+        requires { (x : Arrived) → slice_get (away_of self.old).link.lane_arrivals 0 ≡ Some x → IsPacketOf (away_of self.old).pager.geometry x.packet }
+        ensures ok { OnOk result (away_of self.new ≡ away_event Event.PagerPull (away_of self.old)) }
+        ensures script { self.new.script ≡ self.old.script }
+        ensures full { IsErrOf result CoreFault.LogFull → has_room (away_session (away_event Event.PagerPull (away_of self.old))) ≡ false }
+        ensures err { OnErr result (away_of self.new ≡ away_of self.old) }
+    {
+        book_events::pager_pull(&mut self.link, &mut self.pager)?;
+        Ok(())
+    }
+
+    /// The pager settles the pages that the guest released before they came, and learns of the oldest miss that it has
+    /// not taken. There is none before the state has come.
     pub fn fault(&mut self) -> Result<(), CoreFault>
         requires { (away_of self.old).pager.released ≡ None → (away_of self.old).target.misses ≡ [] }
         ensures ok { OnOk result (away_of self.new ≡ away_event Event.PagerFault (away_of self.old)) }
@@ -149,8 +164,8 @@ impl<'a> Away<'a> {
         Ok(())
     }
 
-    /// The pager settles the pages that the guest released before they came, and lets the guest resume, or places or drops
-    /// the oldest page that has come.
+    /// The pager settles the pages that the guest released before they came, and lets the guest resume, or places or
+    /// drops the oldest page that has come.
     pub fn deliver(&mut self) -> Result<(), CoreFault>
         ensures ok { OnOk result (away_of self.new ≡ away_event Event.PagerDeliver (away_of self.old)) }
         ensures script { self.new.script ≡ self.old.script }
@@ -193,6 +208,13 @@ impl<'a> Away<'a> {
         self.link.link_log()
     }
 
+    /// The lane's log.
+    pub fn lane_log(&self) -> &[LaneRec]
+        ensures { result.now ≡ (away_of self.now).link.lane_log }
+    {
+        self.link.lane_log()
+    }
+
     /// The pager's log.
     pub fn pager_log(&self) -> &[PagerRec]
         ensures { result.now ≡ (away_of self.now).pager.log }
@@ -200,7 +222,8 @@ impl<'a> Away<'a> {
         self.pager.pager_log()
     }
 
-    /// What was recorded so far, copied, where it is within the limits of a session. An error: there is no memory for it.
+    /// What was recorded so far, copied, where it is within the limits of a session. An error: there is no memory for
+    /// it.
     pub fn session(&self) -> Result<Session, AllocError>
         requires { IsSession (away_session (away_of self.now)) }
         ensures { IfOk result (λ s. s ≡ away_session (away_of self.now)) }
@@ -209,12 +232,13 @@ impl<'a> Away<'a> {
         let guest = Vec::from_slice(self.alloc, self.guest_log())?;
         let source = copies(self.alloc, self.source_log())?;
         let link = Vec::from_slice(self.alloc, self.link_log())?;
+        let lane = Vec::from_slice(self.alloc, self.lane_log())?;
         let pager = copies(self.alloc, self.pager_log())?;
         let logs = Logs {
             guest: Seq::from_vec(guest),
             source,
             link: Seq::from_vec(link),
-            lane: Seq::from_vec(Vec::new(self.alloc)),
+            lane: Seq::from_vec(lane),
             pager,
         };
         Ok(Session::new(self.script.version(), self.source.geometry(), init, logs))
@@ -228,7 +252,6 @@ impl<'a> Away<'a> {
     {
         let init = self.script.copied_init(self.alloc)?;
         let Away {
-            alloc,
             script,
             source,
             link,
@@ -238,11 +261,12 @@ impl<'a> Away<'a> {
         } = self;
         let geometry = source.geometry();
         let (guest, _) = target.into_parts();
+        let (link, lane) = link.into_logs();
         let logs = Logs {
             guest: Seq::from_vec(guest),
             source: Seq::from_vec(source.into_log()),
-            link: Seq::from_vec(link.into_log()),
-            lane: Seq::from_vec(Vec::new(alloc)),
+            link: Seq::from_vec(link),
+            lane: Seq::from_vec(lane),
             pager: Seq::from_vec(pager.into_log()),
         };
         Ok(Session::new(script.version(), geometry, init, logs))

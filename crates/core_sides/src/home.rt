@@ -1,8 +1,7 @@
 //! The side before the halt.
 
-ghost use Rattle.std.specs.Prelude.{◌≡◌, true, false, slice_get, IfOk, IfErr, OnOk, OnErr, IsErrOf};
+ghost use Rattle.std.specs.Prelude.{◌≡◌, true, false, [], slice_get, IfOk, IfErr, OnOk, OnErr, IsErrOf};
 ghost use Rattle.migration_types.specs.Sessions.{IsSession};
-ghost use Rattle.guest_book.specs.Books.{guest_session};
 ghost use Rattle.migration_model.specs.Machine.{Before, IsScript, home_session, away_session};
 ghost use Rattle.migration_model.specs.Events.{start, home_step, all_at_move, halted, has_room};
 ghost use Rattle.core_sides.specs.Sides.{home_of, away_of, scripted_of, IsHome};
@@ -13,7 +12,7 @@ use crate::left::{Left, all_left};
 use guest_book::GuestBook;
 use guest_script::Script;
 use link_book::LinkBook;
-use migration_types::{Geometry, GuestRec, InitPage, Logs, Seq, Session, Version};
+use migration_types::{GuestRec, Logs, Seq, Session};
 use std::alloc::{AllocError, Global};
 use std::marker::Model;
 use target_side::PagerBook;
@@ -132,20 +131,16 @@ impl<'a> Home<'a> {
         self.guest.guest_log()
     }
 
-    /// What was recorded so far, copied, where it is within the limits of a session. An error: there is no memory for it.
+    /// What was recorded so far, copied, where it is within the limits of a session. An error: there is no memory for
+    /// it.
     pub fn session(&self) -> Result<Session, AllocError>
         requires { IsSession (home_session (home_of self.now)) }
         ensures { IfOk result (λ s. s ≡ home_session (home_of self.now)) }
     {
         let init = self.script.copied_init(self.alloc)?;
         let guest = Vec::from_slice(self.alloc, self.guest.guest_log())?;
-        Ok(guest_session(
-            self.alloc,
-            self.script.version(),
-            self.guest.geometry(),
-            init,
-            Seq::from_vec(guest),
-        ))
+        let logs = guest_logs(self.alloc, guest);
+        Ok(Session::new(self.script.version(), self.guest.geometry(), init, logs))
     }
 
     /// What was recorded, where it is within the limits of a session; nothing of it is copied but the initial pages. An
@@ -162,8 +157,8 @@ impl<'a> Home<'a> {
             ..
         } = self;
         let geometry = guest.geometry();
-        let log = Seq::from_vec(guest.into_log());
-        Ok(guest_session(alloc, script.version(), geometry, init, log))
+        let logs = guest_logs(alloc, guest.into_log());
+        Ok(Session::new(script.version(), geometry, init, logs))
     }
 
     /// Tells callers what it keeps: all is of the script's machine, and the log is within its limit.
@@ -175,23 +170,15 @@ impl<'a> Home<'a> {
     }
 }
 
-/// What was recorded where nobody but the guest recorded anything.
-fn guest_session(
-    alloc: Global,
-    version: Version,
-    geometry: Geometry,
-    init: Seq<InitPage>,
-    guest: Seq<GuestRec>,
-) -> Session
-    requires { IsSession (record (guest_session geometry init guest) { version = version }) }
-    ensures { result ≡ record (guest_session geometry init guest) { version = version } }
+/// The logs where nobody but the guest recorded anything. Takes no memory.
+fn guest_logs(alloc: Global, guest: Vec<GuestRec>) -> Logs
+    ensures { result ≡ record { guest = guest.items; source = []; link = []; lane = []; pager = [] } }
 {
-    let logs = Logs {
-        guest,
+    Logs {
+        guest: Seq::from_vec(guest),
         source: Seq::from_vec(Vec::new(alloc)),
         link: Seq::from_vec(Vec::new(alloc)),
         lane: Seq::from_vec(Vec::new(alloc)),
         pager: Seq::from_vec(Vec::new(alloc)),
-    };
-    Session::new(version, geometry, init, logs)
+    }
 }

@@ -1,5 +1,5 @@
 -- The core: what it holds, and what it stands for in the events.
-use Rattle.std.specs.Prelude.{List, []}
+use Rattle.std.specs.Prelude.{false, List, []}
 use Rattle.migration_types.specs.Receipts.{Name}
 use Rattle.migration_types.specs.declared.version.Version.TheVariants.{One}
 use Rattle.core_sides.specs.Sides.{home_of, away_of}
@@ -10,7 +10,7 @@ use Rattle.session_core.specs.declared.side.Side.TheVariants.{Home as HomeSide, 
 
 -- no books at all
 abbrev pub no_books : Books
-no_books = (start (record { version = One; geometry = record { pages = 0; cells = 0 }; init = []; pivots = 0; window = 0; vcpus = [] })).books
+no_books = (start (record { version = One; geometry = record { pages = 0; cells = 0 }; init = []; pivots = 0; window = 0; has_lane = false; vcpus = [] })).books
 
 -- the books of a side; inside a halt nothing is held, which no caller of a core sees
 abbrev pub books_of : Side → Books

@@ -10,7 +10,8 @@ use Rattle.session_core.specs.declared.names.Lengths.{Lengths}
 abbrev pub lengths_of : Recorded → Lengths
 lengths_of s = record { guest = length s.guest; source = length s.source; link = length s.link; lane = length s.lane; pager = length s.pager }
 
--- the names of the records by which the logs have grown: the guest's, the source's, the link's, the lane's and then the pager's
+-- the names of the records by which the logs have grown: the guest's, the source's, the link's, the lane's and then the
+-- pager's
 abbrev pub names_between : Lengths → Lengths → List Name
 names_between old new =
     run_names Guest old.guest (new.guest - old.guest) ++ run_names Source old.source (new.source - old.source)

@@ -16,7 +16,8 @@ pub record IsPromised (s : Recorded) (order : List Name) : Type 0 where
   pub is_certified : (c : Certified) × IsCertified s c
   pub has_certificate : HasCertificate s
 
--- none of these events was refused, the session is what they recorded from the script's start, and all is promised of it
+-- none of these events was refused, the session is what they recorded from the script's start, and all is promised of
+-- it
 pub record IsRecordedBy (script : Scripted) (events : List Event) (s : Recorded) : Type 0 where
   pub core : Machine
   pub runs : run events (start script) ≡ Some core

@@ -52,8 +52,8 @@ impl<'a> Core<'a> {
     }
 
     /// An event. The books and the recorded order are then what the event makes of them. `CoreFault::LogFull` where the
-    /// event needs more records than a log has room for, `CoreFault::Memory` where memory is refused. On an error nothing
-    /// changes.
+    /// event needs more records than a log has room for, `CoreFault::Memory` where memory is refused. On an error
+    /// nothing changes.
     pub fn step(&mut self, event: Event) -> Result<(), CoreFault>
         ensures ok { OnOk result (step event (machine_of self.old) ≡ Some (machine_of self.new)) }
         ensures full { IsErrOf result CoreFault.LogFull → step event (machine_of self.old) ≡ None }
@@ -80,8 +80,8 @@ impl<'a> Core<'a> {
         self.side.into_session()
     }
 
-    /// Tells callers what every core keeps: some script and events lead to it, and so what it has recorded is faultless,
-    /// and its recorded order is a merging of it.
+    /// Tells callers what every core keeps: some script and events lead to it, and so what it has recorded is
+    /// faultless, and its recorded order is a merging of it.
     pub fn keeps_promise(&self)
         ensures reached { IsReached (machine_of self.now) }
         ensures promised { IsPromised (session_of (machine_of self.now).books) (machine_of self.now).order }

@@ -77,7 +77,7 @@ impl<'a> Side<'a> {
                 guest: away.guest_log().len(),
                 source: away.source_log().len(),
                 link: away.link_log().len(),
-                lane: 0,
+                lane: away.lane_log().len(),
                 pager: away.pager_log().len(),
             },
             Side::Halting => Lengths {
@@ -90,7 +90,8 @@ impl<'a> Side<'a> {
         }
     }
 
-    /// What was recorded so far, copied, where it is within the limits of a session. An error: there is no memory for it.
+    /// What was recorded so far, copied, where it is within the limits of a session. An error: there is no memory for
+    /// it.
     pub fn session(&self) -> Result<Session, AllocError>
         requires held { IsHeld self.now }
         requires limits { IsSession (session_of (books_of self.now)) }
@@ -157,6 +158,7 @@ fn step_away(away: &mut Away<'_>, event: Event) -> Result<(), CoreFault>
         Event::SourceTick => away.source_tick(),
         Event::LinkTurn { direction, fate } => away.link_turn(direction, fate),
         Event::PagerPop => away.pop(),
+        Event::PagerPull => away.pull(),
         Event::PagerFault => away.fault(),
         Event::PagerFlush => away.flush(),
         Event::PagerDeliver => away.deliver(),
