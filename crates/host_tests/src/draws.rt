@@ -1,4 +1,4 @@
-//! Scripts of the second version whose operations and fates are drawn by a number.
+//! Scripts of the second version whose operations and fates are drawn by a number, as is whether there is a lane.
 
 ghost use Rattle.std.specs.Prelude.{◌<◌};
 
@@ -19,7 +19,7 @@ const VCPUS: u32 = 3;
 /// How many operations each of them has before its move, and after it.
 const OPS: (u32, u32) = (3, 6);
 
-/// How many fates each direction has.
+/// How many fates each line has.
 const FATES: u32 = 6;
 
 /// What is drawn next follows from a number.
@@ -72,6 +72,15 @@ fn push_fates(text: &mut Vec<u8>, word: &str, draws: &mut Draws) -> Result<(), A
     Ok(())
 }
 
+/// Adds how many links carry packets down: one, or two, with a line of fates on the lane.
+fn push_lanes(text: &mut Vec<u8>, draws: &mut Draws) -> Result<(), AllocError> {
+    if draws.below(2) == 0 {
+        return text.extend_from_slice(b"lanes 1\n");
+    }
+    text.extend_from_slice(b"lanes 2\n")?;
+    push_fates(text, "lane ", draws)
+}
+
 /// The text of a drawn script.
 fn text_of(alloc: Global, seed: u32) -> Result<Vec<u8>, AllocError> {
     let mut draws = Draws { seed };
@@ -84,8 +93,9 @@ fn text_of(alloc: Global, seed: u32) -> Result<Vec<u8>, AllocError> {
     text.extend_from_slice(limits.as_bytes())?;
     push_fates(&mut text, "down ", &mut draws)?;
     push_fates(&mut text, "up ", &mut draws)?;
+    push_lanes(&mut text, &mut draws)?;
     let (before, after) = OPS;
-    let counts = format!(in alloc; "lanes 1\nvcpus {VCPUS}\n")?;
+    let counts = format!(in alloc; "vcpus {VCPUS}\n")?;
     text.extend_from_slice(counts.as_bytes())?;
     for _ in 0..VCPUS {
         let line = format!(in alloc; "vcpu {before} {after}\n")?;

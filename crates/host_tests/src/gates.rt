@@ -117,6 +117,31 @@ impl<R: Wait + Sync> Gate for Readers<'_, R> {
     }
 }
 
+/// A gate under which no page is placed before each of four pages was offered. Its flags are those of the pages.
+#[derive(Drop)]
+pub(crate) struct Offers<'a, R: Wait> {
+    pub board: Board<'a, R>,
+}
+
+impl<R: Wait + Sync> Gate for Offers<'_, R> {
+    fn placing(&self, _page: PageNo) {
+        for page in 0..4 {
+            self.board.hold(page);
+        }
+    }
+
+    fn offered(&self, page: PageNo) {
+        let page = usize::from(page.number());
+        if page < 4 {
+            self.board.set(page);
+        }
+    }
+
+    fn answered(&self, _vcpu: u8, _page: PageNo) {}
+
+    fn held(&self, _vcpu: u8, _page: PageNo, _book: &TargetBook) {}
+}
+
 /// The first virtual processor was answered.
 const ANSWERED: usize = 0;
 

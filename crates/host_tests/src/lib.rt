@@ -10,6 +10,8 @@ mod draws;
 #[cfg(test)]
 mod gates;
 #[cfg(test)]
+mod lanes;
+#[cfg(test)]
 mod relays;
 #[cfg(test)]
 mod releases;

@@ -4,7 +4,7 @@ ghost use Rattle.std.specs.Prelude.{◌≤◌, length};
 
 use crate::runs::{TWO_MISSES, has_answers};
 use guest_script::{Script, read_script};
-use host_threads::{Migrated, Open, Relay, RelayFault, RunFault, migrate_over};
+use host_threads::{Gate, Migrated, Open, Relay, RelayFault, RunFault, migrate_over};
 use std::alloc::Global;
 use std::sync::atomic::{AtomicU32, Ordering};
 use std::sync::{Arc, Wait};
@@ -93,6 +93,24 @@ impl Relay for Fake {
             _ => Ok(count),
         }
     }
+}
+
+/// A run over a relay that gives each byte back as it was, one at a time.
+pub(crate) fn run_over_relay<R: Threads + Wait + Sync, G: Gate>(
+    rt: &R,
+    alloc: Global,
+    script: &Script,
+    gate: &G,
+) -> Result<Migrated, RunFault> {
+    let Ok(calls) = Arc::new(alloc, AtomicU32::new(0)) else {
+        return Err(RunFault::Memory);
+    };
+    let relay = Fake {
+        calls,
+        conduct: Conduct::Trickles,
+        held: Vec::new(alloc),
+    };
+    migrate_over(rt, alloc, script, gate, relay)
 }
 
 /// What a run comes to.

@@ -28,15 +28,21 @@ r 0 0
 end
 ";
 
-/// One that writes into the page that it has released there.
-const WRITTEN: &str = "postcopy-script 2
+/// The script of one that writes into the page that it has released there, over a link with these fates on the way
+/// down.
+macro_rules! written_text {
+    ($down:literal) => {
+        concat!(
+            "postcopy-script 2
 pages 1
 cells 2
 init 1
 page 0 00000000000000060000000000000007
 pivots 1
 window 4
-down -
+down ",
+            $down,
+            "
 up -
 lanes 1
 vcpus 1
@@ -46,27 +52,16 @@ w 0 0 9
 r 0 0
 r 0 1
 end
-";
+"
+        )
+    };
+}
 
-/// The same over a link that loses what the source sends, but for the state.
-const LOST: &str = "postcopy-script 2
-pages 1
-cells 2
-init 1
-page 0 00000000000000060000000000000007
-pivots 1
-window 4
-down dllllllllllllllllllllllllllllllll
-up -
-lanes 1
-vcpus 1
-vcpu 0 4
-z 0
-w 0 0 9
-r 0 0
-r 0 1
-end
-";
+/// It over a link that delivers all.
+const WRITTEN: &str = written_text!("-");
+
+/// It over a link that loses what the source sends, but for the state.
+const LOST: &str = written_text!("dllllllllllllllllllllllllllllllll");
 
 /// One that releases a page which it has read there.
 const READ_BEFORE: &str = "postcopy-script 2

@@ -2,6 +2,7 @@
 
 use crate::are_answers;
 use crate::gates::{Board, Readers};
+use crate::relays::run_over_relay;
 use guest_script::{Script, read_script};
 use host_threads::{Gate, Migrated, Open, RunFault, migrate, migrate_tcp};
 use migration_types::PageNo;
@@ -127,10 +128,11 @@ pub(crate) fn has_value(migrated: &Migrated, page: u16, value: u64) -> bool {
 #[derive(Clone, Copy)]
 pub(crate) enum Carrier {
     Memory,
+    Relay,
     Loopback,
 }
 
-/// A run of a script over this link.
+/// A run of a script over this carrier.
 pub(crate) fn run<
     R: Threads + Wait + Sync + Net<Listener = TcpListener, Stream = TcpStream>,
     G: Gate,
@@ -143,6 +145,7 @@ pub(crate) fn run<
 ) -> Result<Migrated, RunFault> {
     match carrier {
         Carrier::Memory => migrate(rt, alloc, script, gate),
+        Carrier::Relay => run_over_relay(rt, alloc, script, gate),
         Carrier::Loopback => migrate_tcp(rt, alloc, script, gate),
     }
 }

@@ -1,7 +1,7 @@
-//! The link's thread.
+//! The thread of the link and the lane.
 
 ghost use Rattle.std.specs.Prelude.{◌≡◌, ◌≢◌, true, Some, None, slice_get, slice_index_or};
-ghost use Rattle.link_book.specs.LinkPart.{lane_of, turned};
+ghost use Rattle.link_book.specs.LinkPart.{line_of, turned};
 ghost use Rattle.page_stream.specs.declared.Packet.{Packet as Sent};
 ghost use Rattle.host_threads.specs.Ways.{HasPassed, arrives};
 
@@ -22,7 +22,18 @@ struct Fates<'a> {
     met: usize,
 }
 
-impl Fates<'_> {
+impl<'a> Fates<'a> {
+    /// None was met yet.
+    fn new(direction: Direction, fates: &'a [Fate]) -> Self
+        ensures { (result.direction ≡ direction) × (result.fates.now ≡ fates.now) × (result.met ≡ 0) }
+    {
+        Fates {
+            direction,
+            fates,
+            met: 0,
+        }
+    }
+
     /// The fate of the next packet.
     fn next(&self) -> Fate
         ensures { result ≡ slice_index_or self.now.fates.now self.now.met Fate.Deliver }
@@ -52,8 +63,8 @@ fn turn_head<L: Relay>(
     fate: Fate,
 ) -> Turn
     ensures did { result ≡ Turn.Did → link.new ≡ record link.old { part = turned direction fate link.old.part } }
-    ensures passed { result ≡ Turn.Did → arrives fate ≡ true → (packet : Sent) → slice_get (lane_of direction link.old.part).line 0 ≡ Some packet → HasPassed way.new packet }
-    ensures idle { result ≡ Turn.Idle → slice_get (lane_of direction link.old.part).line 0 ≡ None }
+    ensures passed { result ≡ Turn.Did → arrives fate ≡ true → (packet : Sent) → slice_get (line_of direction link.old.part) 0 ≡ Some packet → HasPassed way.new packet }
+    ensures idle { result ≡ Turn.Idle → slice_get (line_of direction link.old.part) 0 ≡ None }
     ensures stays { result ≢ Turn.Did → link.new ≡ link.old }
 {
     let Some(packet) = link.head(direction) else {
@@ -70,7 +81,7 @@ fn turn_head<L: Relay>(
     }
 }
 
-/// LinkTurn.
+/// LinkTurn, of one line.
 fn turn<R: Wait, L: Relay>(
     rt: &R,
     shared: &Shared,
@@ -85,8 +96,25 @@ fn turn<R: Wait, L: Relay>(
     turn
 }
 
-/// The link: the turns of both lines, one and then the other, until the run is over. A packet passes the way before it
-/// is delivered.
+/// A turn of each line, one after another: whether a packet met its fate. None: the run stops.
+fn turn_each<R: Wait, L: Relay>(
+    rt: &R,
+    shared: &Shared,
+    way: &mut Way<L>,
+    lines: &mut [Fates<'_>],
+) -> Option<bool> {
+    let mut has_turned = false;
+    for fates in lines.iter_mut() {
+        let turned = turn(rt, shared, way, fates);
+        if shared.tell(rt, turned)? {
+            has_turned = true;
+        }
+    }
+    Some(has_turned)
+}
+
+/// The link and the lane: the turns of the lines down, up and over the lane, one after another, until the run is over.
+/// Where there is no lane, nothing is ever under way there. A packet passes the way before it is delivered.
 pub(crate) fn run_link<R: Wait, L: Relay + Drop>(
     rt: &R,
     shared: &Shared,
@@ -94,30 +122,20 @@ pub(crate) fn run_link<R: Wait, L: Relay + Drop>(
     mut way: Way<L>,
 ) {
     let vcpus = script.vcpus().len();
-    let mut down = Fates {
-        direction: Direction::Down,
-        fates: script.down(),
-        met: 0,
-    };
-    let mut up = Fates {
-        direction: Direction::Up,
-        fates: script.up(),
-        met: 0,
-    };
+    let mut lines = [
+        Fates::new(Direction::Down, script.down()),
+        Fates::new(Direction::Up, script.up()),
+        Fates::new(Direction::Lane, script.lane().unwrap_or(&[])),
+    ];
     for _ in rt.forever() {
         let seen = shared.bell.now(rt);
         if seen.is_over(vcpus) {
             break;
         }
-        let turned = turn(rt, shared, &mut way, &mut down);
-        let Some(went_down) = shared.tell(rt, turned) else {
+        let Some(has_turned) = turn_each(rt, shared, &mut way, &mut lines) else {
             break;
         };
-        let turned = turn(rt, shared, &mut way, &mut up);
-        let Some(went_up) = shared.tell(rt, turned) else {
-            break;
-        };
-        if !went_down && !went_up {
+        if !has_turned {
             shared.bell.wait_past(rt, &seen);
         }
     }

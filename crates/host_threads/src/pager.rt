@@ -1,6 +1,9 @@
 //! The pager's thread.
 
-ghost use Rattle.std.specs.Prelude.{◌≡◌, true};
+ghost use Rattle.std.specs.Prelude.{◌≡◌, true, Some};
+ghost use Rattle.std.specs.Option.{option_map};
+ghost use Rattle.link_book.specs.Links.{arrival};
+ghost use Rattle.link_book.specs.declared.Arrival.{Arrival as Arrived};
 ghost use Rattle.target_book.specs.Kept.{part_of as target_of};
 ghost use Rattle.target_side.specs.PagerLists.{part_of, IsPacketOf};
 ghost use Rattle.book_events.specs.Parts.{receiving, placing};
@@ -10,7 +13,7 @@ use crate::bell::Fault;
 use crate::gate::Gate;
 use crate::shared::{Shared, Turn, told, told_to_all};
 use crate::side::TargetSide;
-use book_events::{pager_deliver, pager_fault, pager_flush, pager_pop, pager_tick};
+use book_events::{pager_deliver, pager_fault, pager_flush, pager_pop, pager_pull, pager_tick};
 use link_book::LinkBook;
 use migration_events::Event;
 use migration_types::{Geometry, PageNo};
@@ -25,13 +28,24 @@ fn is_packet_of(geometry: Geometry, packet: &Packet) -> bool
     fits(geometry, packet)
 }
 
-/// An event on the link's and the pager's books: PagerPop, PagerFlush or PagerTick. A packet of another machine is not
-/// taken. The pager ticks only where nothing is under way.
+/// Whether the packet that came first, if there is one, is of the machine.
+fn is_first_of(geometry: Geometry, oldest: Option<(u32, &Packet)>) -> bool
+    ensures { result ≡ true → (x : Arrived) → option_map (λ a. arrival a.0 a.1.now) oldest.entry ≡ Some x → IsPacketOf geometry x.packet }
+{
+    match oldest {
+        Some((_, packet)) => is_packet_of(geometry, packet),
+        None => true,
+    }
+}
+
+/// An event on the link's and the pager's books: PagerPop, PagerPull, PagerFlush or PagerTick. A packet of another
+/// machine is not taken. The pager ticks only where nothing is under way.
 fn exchange(link: &mut LinkBook, pager: &mut PagerBook, event: Event) -> Turn
     ensures { IsTurn result event (receiving link.old.part (part_of pager.old)) (receiving link.new.part (part_of pager.new)) }
 {
     match event {
         Event::PagerPop => pop_next(link, pager),
+        Event::PagerPull => pull_next(link, pager),
         Event::PagerFlush => told(pager_flush(link, pager)),
         Event::PagerTick if link.quiet() => told(pager_tick(link, pager)),
         _ => Turn::Idle,
@@ -42,13 +56,20 @@ fn exchange(link: &mut LinkBook, pager: &mut PagerBook, event: Event) -> Turn
 fn pop_next(link: &mut LinkBook, pager: &mut PagerBook) -> Turn
     ensures { IsTurn result Event.PagerPop (receiving link.old.part (part_of pager.old)) (receiving link.new.part (part_of pager.new)) }
 {
-    let Some((_, packet)) = link.peek_down() else {
-        return Turn::Idle;
-    };
-    if !is_packet_of(pager.geometry(), packet) {
+    if !is_first_of(pager.geometry(), link.peek_down()) {
         return Turn::Stops(Fault::Astray);
     }
     told(pager_pop(link, pager))
+}
+
+/// Takes the oldest packet that has come over the lane, if there is one.
+fn pull_next(link: &mut LinkBook, pager: &mut PagerBook) -> Turn
+    ensures { IsTurn result Event.PagerPull (receiving link.old.part (part_of pager.old)) (receiving link.new.part (part_of pager.new)) }
+{
+    if !is_first_of(pager.geometry(), link.peek_lane()) {
+        return Turn::Stops(Fault::Astray);
+    }
+    told(pager_pull(link, pager))
 }
 
 /// An event on the pager's and the target's books: PagerFault or PagerDeliver. Both first settle the pages that the guest
@@ -66,7 +87,7 @@ fn attend(pager: &mut PagerBook, target: &mut TargetBook, event: Event) -> Turn
     }
 }
 
-/// PagerPop, PagerFlush or PagerTick.
+/// PagerPop, PagerPull, PagerFlush or PagerTick.
 fn exchange_once<R: Wait>(rt: &R, shared: &Shared, event: Event) -> Turn {
     let mut link = shared.link.lock(rt);
     let mut pager = shared.pager.lock(rt);
@@ -128,15 +149,19 @@ fn serve<R: Wait, G: Gate>(rt: &R, shared: &Shared, gate: &G, is_resumed: &mut b
     }
 }
 
-/// What there is to do on the link's and the pager's books: a packet to take, or else one to offer.
+/// What there is to do on the link's and the pager's books: a packet to take from the link, or else one to offer, or else
+/// a packet to take from the lane, whose pages nobody asked for.
 fn take_or_offer<R: Wait>(rt: &R, shared: &Shared) -> Turn {
-    match exchange_once(rt, shared, Event::PagerPop) {
-        Turn::Idle => exchange_once(rt, shared, Event::PagerFlush),
-        other => other,
+    for event in [Event::PagerPop, Event::PagerFlush, Event::PagerPull] {
+        match exchange_once(rt, shared, event) {
+            Turn::Idle => {}
+            other => return other,
+        }
     }
+    Turn::Idle
 }
 
-/// The pager: what comes from the link and what the guest misses or releases, until the run is over.
+/// The pager: what comes from the link and the lane and what the guest misses or releases, until the run is over.
 pub(crate) fn run_pager<R: Wait, G: Gate>(rt: &R, shared: &Shared, gate: &G, vcpus: usize) {
     let mut is_resumed = false;
     for _ in rt.forever() {

@@ -4,7 +4,8 @@
 #[derive(Clone, Copy, Debug, PartialEq, Eq)]
 pub struct RelayFault;
 
-/// What a link's packets go through: bytes are taken in at one end and come back at the other, in order.
+/// What the packets of the link and of the lane go through: bytes are taken in at one end and come back at the other,
+/// in order.
 ///
 /// Nothing is believed of what it answers: its counts are looked at, and what came back is compared with what was sent.
 /// Each call may wait, and the link waits with it.

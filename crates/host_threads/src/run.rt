@@ -98,18 +98,13 @@ fn run_threads<R: Threads + Wait + Sync, G: Gate, L: Relay + Drop>(
 }
 
 /// What the books have recorded.
-fn logs_of(
-    alloc: Global,
-    guest: Vec<GuestRec>,
-    source: SourceBook,
-    link: LinkBook,
-    pager: PagerBook,
-) -> Logs {
+fn logs_of(guest: Vec<GuestRec>, source: SourceBook, link: LinkBook, pager: PagerBook) -> Logs {
+    let (link, lane) = link.into_logs();
     Logs {
         guest: Seq::from_vec(guest),
         source: Seq::from_vec(source.into_log()),
-        link: Seq::from_vec(link.into_log()),
-        lane: Seq::from_vec(Vec::new(alloc)),
+        link: Seq::from_vec(link),
+        lane: Seq::from_vec(lane),
         pager: Seq::from_vec(pager.into_log()),
     }
 }
@@ -154,7 +149,7 @@ fn checked<R: Threads + Sync>(
         return Err(RunFault::TranscriptDiffers);
     };
     let (guest, store) = target.into_parts();
-    let logs = logs_of(alloc, guest, source, link.into_inner(), pager.into_inner());
+    let logs = logs_of(guest, source, link.into_inner(), pager.into_inner());
     settle(rt, alloc, script, logs, store, Seq::from_vec(transcripts))
 }
 
@@ -189,7 +184,7 @@ fn run<R: Threads + Wait + Sync, G: Gate, L: Relay + Drop>(
 
 /// Runs a script's migration in threads, one for each virtual processor and one each for the source, the link and the
 /// pager, over books under four locks, which are taken in the order source, link, pager, target; and then checks what it
-/// left. The link is in memory.
+/// left. The link is in memory. The lane, where the script has one, turns in the link's thread and under its lock.
 ///
 /// `Ok` comes only where all checks were made and passed: the session is of the script's version, machine and initial
 /// pages; the checker answers `Yes` to it with the certificate, so that every merging of its logs is safe; each
@@ -225,10 +220,10 @@ pub fn migrate<R: Threads + Wait + Sync, G: Gate>(
     run(rt, alloc, script, gate, Way::<NoRelay>::InMemory)
 }
 
-/// The same as [`migrate`] over a relay, for the packets of both directions. Under the link's lock, before a packet is
-/// delivered, its bytes are written to the relay, 4,096 at most at a time, and read back before the next are written;
-/// what came back, read as one stream, has to be that packet. A packet that is lost or sent to the back passes at a
-/// later turn, or never.
+/// The same as [`migrate`] over a relay, one for the packets of the link in both directions and of the lane. Under the
+/// link's lock, before a packet is delivered, its bytes are written to the relay, 4,096 at most at a time, and read
+/// back before the next are written; what came back, read as one stream, has to be that packet. A packet that is lost
+/// or sent to the back passes at a later turn, or never.
 ///
 /// # Errors
 ///

@@ -21,11 +21,17 @@ use std::sync::Wait;
 
 /// An event on the source's and the link's books: Push, Serve or SourceTick. The source ticks only where nothing is
 /// under way and it is not done.
-fn act(book: &mut SourceBook, link: &mut LinkBook, event: Event, window: u32) -> Turn
-    ensures { IsTurn result event (pushing window (part_of book.old) link.old.part) (pushing window (part_of book.new) link.new.part) }
+fn act(
+    book: &mut SourceBook,
+    link: &mut LinkBook,
+    event: Event,
+    window: u32,
+    has_lane: bool,
+) -> Turn
+    ensures { IsTurn result event (pushing window has_lane (part_of book.old) link.old.part) (pushing window has_lane (part_of book.new) link.new.part) }
 {
     match event {
-        Event::Push => told(push(book, link, window)),
+        Event::Push => told(push(book, link, window, has_lane)),
         Event::Serve => told(serve(book, link)),
         Event::SourceTick if !book.is_done() && link.quiet() => told(source_tick(book, link)),
         _ => Turn::Idle,
@@ -65,13 +71,14 @@ fn halt<R: Wait>(rt: &R, shared: &Shared, script: &Script) -> Turn {
 }
 
 /// Push, Serve or SourceTick, where there is a source's book.
-fn act_once<R: Wait>(rt: &R, shared: &Shared, event: Event, window: u32) -> Turn {
+fn act_once<R: Wait>(rt: &R, shared: &Shared, script: &Script, event: Event) -> Turn {
     let mut source = shared.source.lock(rt);
     let mut link = shared.link.lock(rt);
     let Some(book) = &mut *source else {
         return Turn::Idle;
     };
-    let turn = act(book, &mut link, event, window);
+    let has_lane = script.lane().is_some();
+    let turn = act(book, &mut link, event, script.window(), has_lane);
     if book.is_done() {
         shared.bell.finish(rt);
     }
@@ -79,9 +86,9 @@ fn act_once<R: Wait>(rt: &R, shared: &Shared, event: Event, window: u32) -> Turn
 }
 
 /// What there is to do after the halt: to serve, or else to push, or else to tick.
-fn turn<R: Wait>(rt: &R, shared: &Shared, window: u32) -> Turn {
+fn turn<R: Wait>(rt: &R, shared: &Shared, script: &Script) -> Turn {
     for event in [Event::Serve, Event::Push, Event::SourceTick] {
-        match act_once(rt, shared, event, window) {
+        match act_once(rt, shared, script, event) {
             Turn::Idle => {}
             other => return other,
         }
@@ -110,7 +117,7 @@ pub(crate) fn run_source<R: Wait, G: Gate>(rt: &R, shared: &Shared, gate: &G, sc
         let turn = if seen.arrived < vcpus {
             Turn::Idle
         } else if is_halted {
-            turn(rt, shared, script.window())
+            turn(rt, shared, script)
         } else {
             is_halted = true;
             halt(rt, shared, script)

@@ -8,10 +8,10 @@ use crate::carry::Echo;
 use crate::relay::{Relay, RelayFault};
 use page_stream::{Packet, fits};
 
-/// What a link's packets pass.
+/// What the packets of the link and of the lane pass.
 #[derive(Drop)]
 pub(crate) enum Way<L> {
-    /// Nothing: the link is in memory.
+    /// Nothing: both are in memory.
     InMemory,
     /// A relay, from which they come back.
     Over(L, Echo),

@@ -7,9 +7,9 @@ use Rattle.host_threads.proofs.source.act.Goals as goal
 pub returns-in-Serve : goal.returns-in-Serve
 returns-in-Serve c =
     rw c.in-Serve.is
-    (turn_within c.told-in-Serve.result Serve c.args.window (part_of c.args.book.now) (part_of c.serve.new.source) c.args.link.now.part c.serve.new.link.part (search rules))
+    (turn_within c.told-in-Serve.result Serve c.args.window c.args.has_lane (part_of c.args.book.now) (part_of c.serve.new.source) c.args.link.now.part c.serve.new.link.part (search rules))
 
 pub returns-in-SourceTick : goal.returns-in-SourceTick
 returns-in-SourceTick c =
     rw c.in-SourceTick.is
-    (turn_within c.told-in-SourceTick.result SourceTick c.args.window (part_of c.args.book.now) (part_of c.source_tick.new.source) c.args.link.now.part c.source_tick.new.link.part (search rules))
+    (turn_within c.told-in-SourceTick.result SourceTick c.args.window c.args.has_lane (part_of c.args.book.now) (part_of c.source_tick.new.source) c.args.link.now.part c.source_tick.new.link.part (search rules))
