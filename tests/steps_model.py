@@ -25,8 +25,9 @@ class Script:
             _, page, contents = line.split(" ")
             self.memory[int(page)] = cells_of(contents)
         self.pivots, self.window = (int(line.split(" ")[1]) for line in lines[4 + initial:6 + initial])
-        # (a script of the second version has a line with the number of lanes here)
-        at = 8 + initial + self.version
+        # (in the second version the number of lanes stands here, and behind two of them the fates of the second)
+        self.has_lane = lines[8 + initial] == "lanes 2"
+        at = 8 + initial + self.version + self.has_lane
         self.vcpus = []
         for _ in range(int(lines[at - 1].split(" ")[1])):
             before, after = (int(word) for word in lines[at].split(" ")[1:])
@@ -63,8 +64,9 @@ class Migration:
         self.source_memory = None
         self.left = [(list(before), list(after)) for before, after in script.vcpus]
         self.pivots, self.turn = [0], 0
-        self.lines = {"down": [], "up": []}
-        self.arrivals = {"down": [], "up": []}
+        self.lines = {"down": [], "up": [], "lane": []}
+        self.arrivals = {"down": [], "up": [], "lane": []}
+        self.pushed_on = "lane" if script.has_lane else "down"
         self.released_told = None
         # The pages that the guest released at the target while they were absent; of these, those that the pager has not
         # settled, and those that it has.
@@ -139,6 +141,7 @@ class Migration:
                 "serve": self.serve,
                 "source-tick": self.source_tick,
                 "pop": self.pager_pop,
+                "pop-lane": self.pager_pull,
                 "fault": self.pager_fault,
                 "flush": self.pager_flush,
                 "deliver": self.pager_deliver,
@@ -195,13 +198,14 @@ class Migration:
         return ("page", number, page)
 
     def push(self):
-        if not self.has("guest", "halt") or self.has("source", "done") or len(self.lines["down"]) >= self.script.window:
+        line = self.lines[self.pushed_on]
+        if not self.has("guest", "halt") or self.has("source", "done") or len(line) >= self.script.window:
             return
         unsent = [page for page in self.owed() if self.send_of(page) is None]
         if unsent:
             pivot = self.pivots[self.turn]
             self.turn = (self.turn + 1) % len(self.pivots)
-            self.lines["down"].append(self.send(min(unsent, key=lambda page: (abs(page - pivot), -page))))
+            line.append(self.send(min(unsent, key=lambda page: (abs(page - pivot), -page))))
 
     def fault_at(self, page):
         if page not in self.pivots:
@@ -233,7 +237,7 @@ class Migration:
             return
         packet = line.pop(0)
         if fate in ("deliver", "repeat"):
-            number = self.record("link", direction, packet[1])
+            number = self.record("lane", "down", packet[1]) if direction == "lane" else self.record("link", direction, packet[1])
             self.arrivals[direction].append((number, packet))
         if fate in ("repeat", "back"):
             line.append(packet)
@@ -242,17 +246,26 @@ class Migration:
         if not self.arrivals["down"]:
             return
         number, packet = self.arrivals["down"].pop(0)
-        if not self.has("pager", "ready"):
-            if packet[0] == "state":
-                self.record("pager", "got", number)
-                self.record("pager", "ready")
-                self.released_told = packet[2]
+        if self.has("pager", "ready"):
+            self.take("got", number, packet)
+        elif packet[0] == "state":
+            self.record("pager", "got", number)
+            self.record("pager", "ready")
+            self.released_told = packet[2]
+
+    def pager_pull(self):
+        if not self.arrivals["lane"]:
             return
-        got = self.record("pager", "got", number)
+        number, packet = self.arrivals["lane"].pop(0)
+        if self.has("pager", "ready"):
+            self.take("pull", number, packet)
+
+    def take(self, kind, number, packet):
+        taken = self.record("pager", kind, number)
         if packet[0] == "state":
-            self.record("pager", "skip", got)
+            self.record("pager", "skip", taken)
         else:
-            self.inbox.append((got, packet[2]))
+            self.inbox.append((taken, packet[2]))
 
     def settle(self):
         """Nobody waits any more for the pages that the guest released at the target."""
@@ -294,12 +307,12 @@ class Migration:
         self.settle()
         if not self.inbox:
             return
-        got, page = self.inbox.pop(0)
+        taken, page = self.inbox.pop(0)
         if self.is_resident(page):
-            self.record("pager", "skip", got)
+            self.record("pager", "skip", taken)
             return
         self.memory[page] = list(self.source_memory[page])
-        self.record("pager", "place", page, got, contents_of(self.memory[page]))
+        self.record("pager", "place", page, taken, contents_of(self.memory[page]))
         self.waiting = [entry for entry in self.waiting if entry[0] != page]
 
     def pager_tick(self):

@@ -17,8 +17,8 @@ RECORDS = {
 # The kinds of records that the second version alone has.
 LATER = {"pull"}
 FATES = ("deliver", "lose", "repeat", "back")
-EVENTS = {"halt", "push", "serve", "source-tick", "pop", "flush", "pager-tick", "fault", "deliver"}
-EVENTS |= {f"link {direction} {fate}" for direction in ("down", "up") for fate in FATES}
+EVENTS = {"halt", "push", "serve", "source-tick", "pop", "pop-lane", "flush", "pager-tick", "fault", "deliver"}
+EVENTS |= {f"link {direction} {fate}" for direction in ("down", "up", "lane") for fate in FATES}
 
 
 class Refused(Exception):
@@ -111,14 +111,19 @@ def certificate(line):
     runs(line, version)
 
 
+def fates(line, direction):
+    demand(re.fullmatch(f"{direction} (-|[dlrb]{{1,4096}})", line))
+
+
 def script(line):
     version = keyed(line(), "postcopy-script", 1, 2)
     pages, cells = machine(line)
     keyed(line(), "pivots", 1, 16)
     keyed(line(), "window", 1, 65536)
     for direction in ("down", "up"):
-        demand(re.fullmatch(f"{direction} (-|[dlrb]{{1,4096}})", line()))
-    demand(version == 1 or line() == "lanes 1")
+        fates(line(), direction)
+    if version == 2 and keyed(line(), "lanes", 1, 2) == 2:
+        fates(line(), "lane")
     early = {"r": "pc", "w": "pcx", "z": "p"}
     late = {kind: early[kind] for kind in ("rw", "rwz")[version - 1]}
     for _ in range(keyed(line(), "vcpus", 1, 64)):
