@@ -70,6 +70,11 @@ __attribute__((noreturn)) void _exit(int status) {
     real_exit(status);
 }
 
+/* Any other program ends with its destructors. */
+__attribute__((destructor)) static void end(void) {
+    if (running) tell();
+}
+
 /* What is to become of a call of this kind. */
 static int fate(int call) {
     if (!running) return WHOLE;
