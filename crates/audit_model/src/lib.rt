@@ -2,7 +2,7 @@
 //! certificates and faults; and the laws on these.
 //!
 //! The definitions are in `specs/`. A function of [`laws`] carries a law as its contract; a caller calls it to have the
-//! law at hand. The others answer what is asked of one record.
+//! law at hand. The others answer what is asked of a log or of one record.
 #![tactic(auto)]
 
 mod asked;
@@ -14,7 +14,7 @@ mod reasons;
 pub use asked::{
     delivers_send, delivers_state, delivery, goes_down, goes_up, is_down, is_halt, is_miss,
     is_placement, is_placement_of, is_ready, is_resume, is_send_of, is_sending, is_state, is_up,
-    is_want, sends,
+    is_want, records_of, sends,
 };
 pub use home::Home;
 pub use laws::{

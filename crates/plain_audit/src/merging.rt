@@ -2,26 +2,14 @@
 
 ghost use Rattle.std.specs.Prelude.{◌≡◌, ◌<◌, ◌↔◌, IsTrue, length, take, slice_index_or};
 ghost use Rattle.migration_types.specs.Receipts.{Name};
-ghost use Rattle.audit_model.specs.Names.{receipt, receipt_in, log_length, same_log};
+ghost use Rattle.audit_model.specs.Names.{receipt, receipt_in, same_log};
 ghost use Rattle.audit_model.specs.Mergings.{IsMerging, at_start};
 ghost use Rattle.audit_model.specs.Walks.{cursors_from};
 ghost use Rattle.audit_model.specs.FoundOrder.{is_received};
 ghost use Rattle.audit_model.specs.inner.MergingTests.{may, all_taken};
 
+use audit_model::records_of;
 use migration_types::{LogName, Record, Session};
-
-/// How many records a log has.
-fn log_length(session: &Session, log: LogName) -> usize
-    ensures { result ≡ log_length session.now log }
-{
-    match log {
-        LogName::Guest => session.guest().len(),
-        LogName::Source => session.source().len(),
-        LogName::Link => session.link().len(),
-        LogName::Lane => session.lane().len(),
-        LogName::Pager => session.pager().len(),
-    }
-}
 
 /// What the record at a place is a receipt for.
 fn receipt_in<R: Record>(records: &[R], place: u32) -> Option<(LogName, u32)>
@@ -81,7 +69,7 @@ fn may_follow(session: &Session, order: &[(LogName, u32)], log: LogName, place: 
     ensures { result ≡ may session.now (cursors_from at_start order.now) (log, place) }
 {
     place as usize == taken(order, log)
-        && (place as usize) < log_length(session, log)
+        && (place as usize) < records_of(session, log)
         && is_received(order, receipt(session, log, place))
 }
 
@@ -89,11 +77,11 @@ fn may_follow(session: &Session, order: &[(LogName, u32)], log: LogName, place: 
 fn takes_all(session: &Session, order: &[(LogName, u32)]) -> bool
     ensures { result ≡ all_taken session.now (cursors_from at_start order.now) }
 {
-    taken(order, LogName::Guest) == log_length(session, LogName::Guest)
-        && taken(order, LogName::Source) == log_length(session, LogName::Source)
-        && taken(order, LogName::Link) == log_length(session, LogName::Link)
-        && taken(order, LogName::Lane) == log_length(session, LogName::Lane)
-        && taken(order, LogName::Pager) == log_length(session, LogName::Pager)
+    taken(order, LogName::Guest) == records_of(session, LogName::Guest)
+        && taken(order, LogName::Source) == records_of(session, LogName::Source)
+        && taken(order, LogName::Link) == records_of(session, LogName::Link)
+        && taken(order, LogName::Lane) == records_of(session, LogName::Lane)
+        && taken(order, LogName::Pager) == records_of(session, LogName::Pager)
 }
 
 /// Whether a list of names is a merging of the session's logs. Counts what is before each name.
