@@ -9,7 +9,8 @@ ghost use Rattle.page_facts.specs.inner.Parts.{IsPart};
 use crate::findings::{Findings, findings_of, judge_page};
 use crate::frame::{Frame, frame_for};
 use crate::session_lists::{SessionLists, lists_par};
-use migration_types::{PageNo, Session};
+use audit_model::records_of;
+use migration_types::{PageNo, Session, logs};
 use rayon::iter::plumbing::{Consumer, Folder, drive};
 use rayon::prelude::*;
 use std::alloc::{AllocError, Global};
@@ -118,11 +119,12 @@ impl Consumer for PartJudge<'_> {
 fn work_of(session: &Session) -> usize
     ensures { 0 < result }
 {
-    let records = session.guest().len()
-        + session.source().len()
-        + session.link().len()
-        + session.pager().len();
-    session.geometry().pages() as usize + records
+    session.keeps_limits();
+    let mut work = session.geometry().pages() as usize;
+    for log in logs() {
+        work += records_of(session, log);
+    }
+    work
 }
 
 /// Whether two threads are worth it.
