@@ -240,7 +240,17 @@ fn tests_fault(session: &Session, reason: PageReason, log: LogName, place: usize
         (PageReason::Altered, LogName::Pager) => is_altered(session, place),
         (PageReason::Unfit, LogName::Pager) => is_unfit(session, place),
         (PageReason::Over, LogName::Pager) => is_over(session, place),
-        _ => false,
+        (
+            PageReason::Read
+            | PageReason::Early
+            | PageReason::Given
+            | PageReason::Stale
+            | PageReason::Twice
+            | PageReason::Altered
+            | PageReason::Unfit
+            | PageReason::Over,
+            _,
+        ) => false,
     }
 }
 
