@@ -208,7 +208,7 @@ module _ (s : Recorded) where
   exactly_of clean law fits (Err e) is = tt
 
   -- the text of a report's runs has room for them
-  fits_text : (report : Report) → IsReport s report → ReportFits report
+  pub fits_text : (report : Report) → IsReport s report → ReportFits report
   fits_text (Clean cert) is = tt
   fits_text (Shape fault) is = tt
   fits_text (Knot line) is = tt

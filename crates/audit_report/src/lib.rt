@@ -13,6 +13,7 @@ mod texts;
 mod wanted;
 
 pub use auditing::audit;
+pub use placements::first_placement;
 pub use printing::{print_report, push_first_line, push_shape};
 pub use report::Report;
 pub use texts::{Audited, audit_text};

@@ -2,13 +2,12 @@
 
 ghost use Rattle.std.specs.Prelude.{◌≡◌, MatchOption};
 ghost use Rattle.migration_types.specs.Sessions.{IsSession};
-ghost use Rattle.audit_model.specs.Shape.{is_placement_of};
 ghost use Rattle.audit_model.specs.Faults.{IsPageFault};
 ghost use Rattle.audit_model.specs.Delayed.{IsFirstPlacement};
 ghost use Rattle.audit_report.specs.Reports.{page_used, HasNoPlacement, IsShownWith, IsUndelayed};
 
-use audit_model::PageReason;
-use migration_types::{GuestRec, LogName, PageNo, PagerRec, Session};
+use audit_model::{PageReason, is_placement_of};
+use migration_types::{GuestRec, LogName, PageNo, Session};
 use page_facts::PageFault;
 
 /// The page that the record of this log and place reads or writes, if it is an access of the guest.
@@ -25,25 +24,14 @@ fn page_used(session: &Session, log: LogName, place: u32) -> Option<PageNo>
     }
 }
 
-/// Whether the record places the page.
-fn places(rec: &PagerRec, page: PageNo) -> bool
-    ensures { result ≡ is_placement_of page rec.now }
-{
-    match rec {
-        PagerRec::Place { page: placed, .. } => placed.number() == page.number(),
-        PagerRec::Zero { page: placed } => placed.number() == page.number(),
-        _ => false,
-    }
-}
-
-/// The pager's first placement of a page. Takes one pass over the pager's log.
-fn first_placement(session: &Session, page: PageNo) -> Option<u32>
-    requires { IsSession session.now }
+/// The pager's first placement of a page, by one pass over the pager's log. Takes no memory.
+pub fn first_placement(session: &Session, page: PageNo) -> Option<u32>
     ensures { MatchOption result (HasNoPlacement session.now page) (IsFirstPlacement session.now page) }
 {
+    session.keeps_limits();
     let pager = session.pager();
     for n in 0..pager.len() {
-        if places(&pager[n], page) {
+        if is_placement_of(&pager[n], page) {
             return Some(n as u32);
         }
     }
@@ -63,6 +51,11 @@ pub(crate) fn placement_for(session: &Session, fault: &PageFault) -> Option<u32>
             first_placement(session, page)
         }
         PageReason::Over => Some(fault.place),
-        _ => None,
+        PageReason::Read
+        | PageReason::Given
+        | PageReason::Stale
+        | PageReason::Twice
+        | PageReason::Altered
+        | PageReason::Unfit => None,
     }
 }
