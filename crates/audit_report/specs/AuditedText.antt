@@ -15,6 +15,10 @@ use Rattle.audit_report.specs.ReportText.{first_line, report_text}
 abbrev pub refusal_text : ℕ → List ℕ
 refusal_text line = codes "session-text line " ++ decimal line ++ 10 ∷ []
 
+-- as in "certificate-text line 7"
+abbrev pub certificate_refusal_text : ℕ → List ℕ
+certificate_refusal_text line = codes "certificate-text line " ++ decimal line ++ 10 ∷ []
+
 -- the certificate's spelling where the session is clean, and else the first line of the report
 abbrev pub certificate_text : Report → List ℕ
 certificate_text (report.Clean cert) = ended (cert_lines cert)

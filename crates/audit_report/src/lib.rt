@@ -14,7 +14,9 @@ mod wanted;
 
 pub use auditing::audit;
 pub use placements::first_placement;
-pub use printing::{print_report, push_first_line, push_shape};
+pub use printing::{
+    print_report, push_first_line, push_refused_certificate, push_refused_session, push_shape,
+};
 pub use report::Report;
 pub use texts::{Audited, audit_text};
 pub use wanted::{Wanted, print_audited};

@@ -3,6 +3,7 @@
 ghost use Rattle.std.specs.Prelude.{◌≡◌, [], ◌∷◌, ◌++◌, IfOk, OnOk};
 ghost use Rattle.text_lines.specs.Text.{ended};
 ghost use Rattle.audit_report.specs.Reports.{ReportFits};
+ghost use Rattle.audit_report.specs.AuditedText.{refusal_text, certificate_refusal_text};
 ghost use Rattle.audit_report.specs.ReportText.{shape_line, first_line, lines_behind, report_text};
 
 use crate::report::Report;
@@ -11,6 +12,10 @@ use cert_text::{write_cert, write_runs};
 use std::alloc::{AllocError, Global};
 use text_lines::{push_keyed, push_keyed_word, push_line};
 
+const SESSION_TEXT: &[u8] = b"session-text line ";
+
+const CERT_TEXT: &[u8] = b"certificate-text line ";
+
 const SHAPE: &[u8] = b"shape line ";
 
 const KNOT: &[u8] = b"knot line ";
@@ -18,6 +23,20 @@ const KNOT: &[u8] = b"knot line ";
 const CLEAN: &[u8] = b"clean";
 
 const FAULTY: &[u8] = b"faulty line ";
+
+/// Adds the line that says where the text of a session is refused.
+pub fn push_refused_session(out: &mut Vec<u8>, line: u32) -> Result<(), AllocError>
+    ensures { OnOk result (out.new.items ≡ out.old.items ++ refusal_text line) }
+{
+    push_keyed(out, SESSION_TEXT, line)
+}
+
+/// Adds the line that says where the text of a certificate is refused.
+pub fn push_refused_certificate(out: &mut Vec<u8>, line: u32) -> Result<(), AllocError>
+    ensures { OnOk result (out.new.items ≡ out.old.items ++ certificate_refusal_text line) }
+{
+    push_keyed(out, CERT_TEXT, line)
+}
 
 /// Adds the line of a fault of shape.
 pub fn push_shape(out: &mut Vec<u8>, fault: &ShapeFault) -> Result<(), AllocError>
@@ -49,7 +68,7 @@ fn text_behind(alloc: Global, report: &Report) -> Result<Vec<u8>, AllocError>
     match report {
         Report::Clean(cert) => write_cert(alloc, cert),
         Report::Faulty { order, .. } => write_runs(alloc, order.as_slice()),
-        _ => Ok(Vec::new(alloc)),
+        Report::Shape(_) | Report::Knot(_) => Ok(Vec::new(alloc)),
     }
 }
 

@@ -7,12 +7,11 @@ ghost use Rattle.audit_report.specs.ReportText.{first_line};
 ghost use Rattle.audit_report.specs.Texts.{AuditedFits};
 ghost use Rattle.audit_report.specs.AuditedText.{refusal_text, certificate_text, wanted_text, audited_text};
 
-use crate::printing::{print_report, push_first_line};
+use crate::printing::{print_report, push_first_line, push_refused_session};
 use crate::report::Report;
 use crate::texts::Audited;
 use cert_text::write_cert;
 use std::alloc::{AllocError, Global};
-use text_lines::push_keyed;
 
 /// What of an audit is told.
 #[derive(Clone, Copy)]
@@ -28,7 +27,7 @@ fn refusal(alloc: Global, line: u32) -> Result<Vec<u8>, AllocError>
     ensures { IfOk result (λ text. text.items ≡ refusal_text line) }
 {
     let mut text = Vec::new(alloc);
-    push_keyed(&mut text, b"session-text line ", line)?;
+    push_refused_session(&mut text, line)?;
     Ok(text)
 }
 
@@ -47,7 +46,7 @@ fn certificate(alloc: Global, report: &Report) -> Result<Vec<u8>, AllocError>
 {
     match report {
         Report::Clean(cert) => write_cert(alloc, cert),
-        _ => summary(alloc, report),
+        Report::Shape(_) | Report::Knot(_) | Report::Faulty { .. } => summary(alloc, report),
     }
 }
 
