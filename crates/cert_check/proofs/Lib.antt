@@ -2,6 +2,7 @@ pub mod Reading
 pub mod FirstOfLog
 pub mod FirstOfAll
 pub mod RightEntries
+pub mod Promised
 pub mod Spelled
 pub mod FirstTrue
 pub mod OneVerdict

@@ -3,3 +3,4 @@ pub mod FirstOfLog
 pub mod Phases
 pub mod CertTexts
 pub mod WrongEntries
+pub mod Promises

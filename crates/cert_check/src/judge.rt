@@ -5,6 +5,7 @@ ghost use Rattle.audit_model.specs.Mergings.{HasMerging, spelled};
 ghost use Rattle.audit_model.specs.World.{IsSafe, IsSafeOrder};
 ghost use Rattle.audit_model.specs.Laws.{FindsResident, ReadsFlat, PlacedOnce, PlacedUntouched, ReleasedAsZeros};
 ghost use Rattle.cert_check.specs.Verdicts.{IsVerdict, IsTheOneVerdict};
+ghost use Rattle.cert_check.specs.inner.Promises.{Promises, IsReplayedBy};
 
 use crate::bad_page::EntryJudges;
 use crate::shape_fault::shape;
@@ -32,14 +33,7 @@ pub(crate) fn check_by<J: EntryJudges>(
 ) -> Result<Verdict, AllocError>
     requires ready { J.ready }
     ensures verdict { IfOk result (IsVerdict session.now cert.now) }
-    ensures safe { result ≡ Ok Verdict.Yes → IsSafe session.now }
-    ensures replays_clean { result ≡ Ok Verdict.Yes → IsSafeOrder session.now (spelled cert.now.runs) }
-    ensures has_merging { result ≡ Ok Verdict.Yes → HasMerging session.now }
-    ensures finds_resident { result ≡ Ok Verdict.Yes → FindsResident session.now }
-    ensures reads_flat { result ≡ Ok Verdict.Yes → ReadsFlat session.now }
-    ensures placed_once { result ≡ Ok Verdict.Yes → PlacedOnce session.now }
-    ensures placed_untouched { result ≡ Ok Verdict.Yes → PlacedUntouched session.now }
-    ensures released_as_zeros { result ≡ Ok Verdict.Yes → ReleasedAsZeros session.now }
+    ensures yes { Promises (result ≡ Ok Verdict.Yes) (λ Has. Has session.now) (IsReplayedBy cert.now) }
 {
     session.keeps_limits();
     cert.keeps_limits();

@@ -8,7 +8,8 @@ ghost use Rattle.audit_model.specs.Mergings.{HasMerging};
 ghost use Rattle.audit_model.specs.World.{IsSafe};
 ghost use Rattle.audit_model.specs.Laws.{FindsResident, ReadsFlat, PlacedOnce, PlacedUntouched, ReleasedAsZeros};
 ghost use Rattle.cert_check.specs.Texts.{IsTextVerdict, SpellsOneSession, OfSpelled, ReplaysClean};
-ghost use Rattle.cert_check.specs.inner.CertTexts.{IsCertTextVerdict, IsYes};
+ghost use Rattle.cert_check.specs.inner.CertTexts.{IsCertTextVerdict};
+ghost use Rattle.cert_check.specs.inner.Promises.{Promises};
 
 use crate::bad_page::EntryJudges;
 use crate::judge::{check_by, check_par};
@@ -30,7 +31,7 @@ fn judged<J: EntryJudges>(
 ) -> Result<Verdict, AllocError>
     requires ready { J.ready }
     ensures verdict { IfOk result (IsCertTextVerdict session.now cert.now) }
-    ensures yes { result ≡ Ok Verdict.Yes → IsYes session.now cert.now }
+    ensures yes { Promises (result ≡ Ok Verdict.Yes) (λ Has. Has session.now) (ReplaysClean cert.now) }
 {
     cert_texts_are_unambiguous();
     match read_cert(alloc, cert) {
@@ -68,14 +69,7 @@ fn check_texts_by<J: EntryJudges>(
     requires ready { J.ready }
     ensures verdict { IfOk result (IsTextVerdict session.now cert.now) }
     ensures one_session { result ≡ Ok Verdict.Yes → SpellsOneSession session.now }
-    ensures safe { result ≡ Ok Verdict.Yes → OfSpelled session.now IsSafe }
-    ensures replays_clean { result ≡ Ok Verdict.Yes → OfSpelled session.now (ReplaysClean cert.now) }
-    ensures has_merging { result ≡ Ok Verdict.Yes → OfSpelled session.now HasMerging }
-    ensures finds_resident { result ≡ Ok Verdict.Yes → OfSpelled session.now FindsResident }
-    ensures reads_flat { result ≡ Ok Verdict.Yes → OfSpelled session.now ReadsFlat }
-    ensures placed_once { result ≡ Ok Verdict.Yes → OfSpelled session.now PlacedOnce }
-    ensures placed_untouched { result ≡ Ok Verdict.Yes → OfSpelled session.now PlacedUntouched }
-    ensures released_as_zeros { result ≡ Ok Verdict.Yes → OfSpelled session.now ReleasedAsZeros }
+    ensures yes { Promises (result ≡ Ok Verdict.Yes) (OfSpelled session.now) (ReplaysClean cert.now) }
 {
     session_texts_are_unambiguous();
     match read_session(alloc, session) {

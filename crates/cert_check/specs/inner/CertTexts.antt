@@ -4,13 +4,9 @@ use Rattle.text_lines.specs.Text.{IsSpelling, IsRefusalLine}
 use Rattle.migration_types.specs.Certs.{Certified}
 use Rattle.migration_types.specs.Sessions.{Recorded}
 use Rattle.cert_text.specs.Grammar.{SpellsCert}
-use Rattle.audit_model.specs.Mergings.{HasMerging}
-use Rattle.audit_model.specs.World.{IsSafe}
-use Rattle.audit_model.specs.Laws.{FindsResident, ReadsFlat, PlacedOnce, PlacedUntouched, ReleasedAsZeros}
 use Rattle.cert_check.specs.declared.verdict.Verdict.{Verdict}
 use Rattle.cert_check.specs.declared.verdict.Verdict.TheVariants.{SessionText, CertText, Shape, Pages, Runs, Page, Yes}
 use Rattle.cert_check.specs.Verdicts.{IsVerdict}
-use Rattle.cert_check.specs.Texts.{ReplaysClean}
 
 -- the text is a spelling, and this is the verdict on what it spells
 pub record IsCertJudged (s : Recorded) (cert : List ℕ) (verdict : Verdict) : Type 0 where
@@ -27,14 +23,3 @@ IsCertTextVerdict s cert Pages = IsCertJudged s cert Pages
 IsCertTextVerdict s cert (Runs line) = IsCertJudged s cert (Runs line)
 IsCertTextVerdict s cert (Page line) = IsCertJudged s cert (Page line)
 IsCertTextVerdict s cert Yes = IsCertJudged s cert Yes
-
--- what holds on a yes
-pub record IsYes (s : Recorded) (cert : List ℕ) : Type 0 where
-  pub safe : IsSafe s
-  pub replays_clean : ReplaysClean cert s
-  pub has_merging : HasMerging s
-  pub finds_resident : FindsResident s
-  pub reads_flat : ReadsFlat s
-  pub placed_once : PlacedOnce s
-  pub placed_untouched : PlacedUntouched s
-  pub released_as_zeros : ReleasedAsZeros s

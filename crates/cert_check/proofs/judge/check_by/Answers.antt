@@ -7,6 +7,8 @@ use Rattle.audit_model.specs.Mergings.{IsMerging, spelled}
 use Rattle.audit_model.specs.Shape.{IsRightShape}
 use Rattle.audit_model.specs.Laws.{IsCertified}
 use Rattle.cert_check.specs.Verdicts.{IsShapeFault, SamePages, AreRightEntries, IsFirstBadPage}
+use Rattle.cert_check.specs.inner.Promises.{IsReplayedBy}
+use Rattle.cert_check.proofs.Promised.{promised}
 use Rattle.cert_check.proofs.judge.check_by.Goals.{In-None}
 use Rattle.cert_check.proofs.judge.check_by.Given.{Over}
 use Rattle.cert_check.proofs.judge.check_by.Goals as goal
@@ -30,28 +32,10 @@ certified g c =
 pub returns-in-None-clause-verdict : goal.returns-in-None-clause-verdict
 returns-in-None-clause-verdict g c = let is = certified g c in (is.shape, is.certificate)
 
-pub returns-in-None-clause-safe : goal.returns-in-None-clause-safe
-returns-in-None-clause-safe g c = λ _. c.certified_is_safe.ensures.safe c.args.session.now c.args.cert.now (certified g c)
-
-pub returns-in-None-clause-replays_clean : goal.returns-in-None-clause-replays_clean
-returns-in-None-clause-replays_clean g c = λ _.
+pub returns-in-None-clause-yes : goal.returns-in-None-clause-yes
+returns-in-None-clause-yes g c =
+    let s = c.args.session.now in
+    let cert = c.args.cert.now in
     let is = certified g c in
-    c.certified_is_safe.ensures.safe c.args.session.now c.args.cert.now is (spelled c.args.cert.now.runs) is.certificate.merging
-
-pub returns-in-None-clause-has_merging : goal.returns-in-None-clause-has_merging
-returns-in-None-clause-has_merging g c = λ _. c.certified_is_safe.ensures.has_merging c.args.session.now c.args.cert.now (certified g c)
-
-pub returns-in-None-clause-finds_resident : goal.returns-in-None-clause-finds_resident
-returns-in-None-clause-finds_resident g c = λ _. c.certified_is_safe.ensures.finds_resident c.args.session.now c.args.cert.now (certified g c)
-
-pub returns-in-None-clause-reads_flat : goal.returns-in-None-clause-reads_flat
-returns-in-None-clause-reads_flat g c = λ _. c.certified_is_safe.ensures.reads_flat c.args.session.now c.args.cert.now (certified g c)
-
-pub returns-in-None-clause-placed_once : goal.returns-in-None-clause-placed_once
-returns-in-None-clause-placed_once g c = λ _. c.certified_is_safe.ensures.placed_once c.args.session.now c.args.cert.now (certified g c)
-
-pub returns-in-None-clause-placed_untouched : goal.returns-in-None-clause-placed_untouched
-returns-in-None-clause-placed_untouched g c = λ _. c.certified_is_safe.ensures.placed_untouched c.args.session.now c.args.cert.now (certified g c)
-
-pub returns-in-None-clause-released_as_zeros : goal.returns-in-None-clause-released_as_zeros
-returns-in-None-clause-released_as_zeros g c = λ _. c.certified_is_safe.ensures.released_as_zeros c.args.session.now c.args.cert.now (certified g c)
+    let laws = c.certified_is_safe.ensures in
+    promised s (IsReplayedBy cert) (laws.migrated s cert is) (laws.safe s cert is (spelled cert.runs) is.certificate.merging)
