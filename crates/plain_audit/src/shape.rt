@@ -104,9 +104,12 @@ fn is_right_source(session: &Session, reason: ShapeReason, place: usize) -> bool
 fn is_right_link(session: &Session, reason: ShapeReason, place: usize) -> bool
     ensures { result ≡ is_right session.now reason (Link, place) }
 {
-    match session.link().get(place) {
-        Some(record) => reason != ShapeReason::Named || link_named(session, record),
-        None => true,
+    let Some(record) = session.link().get(place) else {
+        return true;
+    };
+    match reason {
+        ShapeReason::Named => link_named(session, record),
+        ShapeReason::Phases | ShapeReason::Start | ShapeReason::SecondSend => true,
     }
 }
 
@@ -114,9 +117,12 @@ fn is_right_link(session: &Session, reason: ShapeReason, place: usize) -> bool
 fn is_right_lane(session: &Session, reason: ShapeReason, place: usize) -> bool
     ensures { result ≡ is_right session.now reason (Lane, place) }
 {
-    match session.lane().get(place) {
-        Some(record) => reason != ShapeReason::Named || lane_named(session, record),
-        None => true,
+    let Some(record) = session.lane().get(place) else {
+        return true;
+    };
+    match reason {
+        ShapeReason::Named => lane_named(session, record),
+        ShapeReason::Phases | ShapeReason::Start | ShapeReason::SecondSend => true,
     }
 }
 
