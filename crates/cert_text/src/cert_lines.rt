@@ -1,11 +1,9 @@
 //! Reading a certificate line by line.
 
-ghost use Rattle.std.specs.Prelude.{◌≡◌, ◌≢◌, ◌≤◌, ℕ, [], ◌++◌, MatchOption, IfOk, OnErr};
-ghost use Rattle.std.specs.Fmt.{decimal};
+ghost use Rattle.std.specs.Prelude.{◌≡◌, ◌≢◌, ℕ, [], MatchOption};
 ghost use Rattle.migration_types.specs.declared.version.Version.{Version as Told};
-ghost use Rattle.migration_types.specs.Limits.{most_pages};
 ghost use Rattle.text_lines.specs.Text.{TakesLines};
-ghost use Rattle.cert_text.specs.Grammar.{header, pages_key, SpellsCert};
+ghost use Rattle.cert_text.specs.Grammar.{header, SpellsCert};
 
 use crate::entry_lines::{drop_entry, take_entries, take_entry};
 use crate::keys::{PAGES_KEY, cert_header};
@@ -16,7 +14,7 @@ use std::alloc::Global;
 use std::marker::Model;
 use std::thread::Threads;
 use text_lines::{
-    Alone, FaultKind, ItemCrew, LineReader, LinesApart, Rewind, Team, is_line, read_keyed,
+    Alone, FaultKind, ItemCrew, LineReader, LinesApart, Rewind, Team, is_line, read_some,
 };
 
 /// Which line is due.
@@ -99,7 +97,7 @@ impl LineReader for CertLines {
                 Ok(())
             }
             Stage::Pages => {
-                let pages = read_pages(line)?;
+                let pages = read_some(line, PAGES_KEY, MOST_PAGES)?;
                 self.pages = pages;
                 self.stage = Stage::Entries;
                 Ok(())
@@ -191,16 +189,4 @@ fn version_of(line: &[u8]) -> Option<Version>
         return Some(Version::Two);
     }
     None
-}
-
-/// The number of pages that a line announces, 1 to 65,536.
-fn read_pages(line: &[u8]) -> Result<u32, FaultKind>
-    ensures found { IfOk result (λ n. (1 ≤ n) × (n ≤ most_pages) × (line.now ≡ pages_key ++ decimal n)) }
-    ensures refused { OnErr result ((n : ℕ) → 1 ≤ n → n ≤ most_pages → line.now ≢ pages_key ++ decimal n) }
-{
-    let pages = read_keyed(line, PAGES_KEY, MOST_PAGES)?;
-    if pages == 0 {
-        return Err(FaultKind::Range);
-    }
-    Ok(pages)
 }

@@ -11,11 +11,11 @@ ghost use Rattle.migration_types.specs.Certs.{FirstFits, EntryFits};
 ghost use Rattle.cert_text.specs.Grammar.{first_text, placed_text, entry_text, entry_line, entry_lines};
 ghost use Rattle.cert_text.specs.inner.Taken.{LosesLast, TakesEntries, TakesEntry};
 
-use crate::keys::{BALLOON_KEY, FRESH_KEY, NO_FIRST, NONE, PAGE_KEY, SOURCE_KEY, after_end};
+use crate::keys::{BALLOON_KEY, FRESH_KEY, NO_FIRST, NONE, PAGE_KEY, SOURCE_KEY};
 use migration_types::{Entry, First, LAST_RECORD, Version};
 use std::alloc::AllocError;
 use text_lines::{
-    FaultKind, after_key, end_line, front_number, number_then, push_number, push_then,
+    FaultKind, after_end, after_key, end_line, front_number, number_then, push_number, push_then,
 };
 
 /// A number up to a limit at the front, and what follows the space after it.

@@ -64,18 +64,6 @@ pub fn log_key(log: LogName) -> &'static [u8]
     }
 }
 
-/// What follows the LF at the front.
-#[inline(always)]
-pub fn after_end(text: &[u8]) -> Option<&[u8]>
-    ensures { IfSome result (λ rest. text.now ≡ 10 ∷ rest.now) }
-{
-    let (end, rest) = text.split_first()?;
-    if *end != b'\n' {
-        return None;
-    }
-    Some(rest)
-}
-
 /// The log whose name begins with these letters.
 #[inline(always)]
 fn log_with_letters(first: u8, second: u8) -> LogName

@@ -7,13 +7,13 @@ ghost use Rattle.text_lines.specs.Text.{ended};
 ghost use Rattle.cert_text.specs.Runs.{run_line, runs_lines};
 ghost use Rattle.cert_text.specs.inner.Held.{MayFollow};
 
-use crate::keys::{CLOSING, RUN_KEY, RUNS_KEY, after_end, log_key, log_then};
+use crate::keys::{CLOSING, RUN_KEY, RUNS_KEY, log_key, log_then};
 use migration_types::{LogName, MOST_RECORDS, Run, Version};
 use std::alloc::AllocError;
 use std::thread::Threads;
 use text_lines::{
-    FaultKind, ItemCrew, LineForm, Team, after_key, front_number, push_counted, push_keyed,
-    push_line, take_parts,
+    FaultKind, ItemCrew, LineForm, Team, after_end, after_key, front_number, push_counted,
+    push_keyed, push_line, take_parts,
 };
 
 /// Whether a version has runs of a log.

@@ -15,10 +15,10 @@ use crate::vcpus::{MOST_PIVOTS, MOST_VCPUS, MOST_WINDOW, Vcpu, When};
 use crate::versions::script_header;
 use migration_events::{Fate, Op};
 use migration_types::{Geometry, InitPage, Seq, Version};
-use session_log::{CLOSING, INIT_KEY, InitLines, Machine, read_cells, read_pages, read_some};
+use session_log::{CLOSING, INIT_KEY, InitLines, Machine, read_cells, read_pages};
 use std::alloc::Global;
 use std::mem;
-use text_lines::{Counted, FaultKind, is_line};
+use text_lines::{Counted, FaultKind, is_line, read_some};
 
 /// What came of a script.
 #[derive(Drop)]

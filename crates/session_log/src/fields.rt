@@ -1,6 +1,6 @@
 //! Fields that several records' lines have.
 
-ghost use Rattle.std.specs.Prelude.{◌≡◌, ◌≢◌, ◌<◌, ◌≤◌, [], ◌∷◌, ◌++◌, List, ℕ, IfSome, IsSomeAnd, IfOk, IfErr};
+ghost use Rattle.std.specs.Prelude.{◌≡◌, ◌≢◌, ◌<◌, ◌≤◌, [], ◌++◌, List, ℕ, IfSome, IsSomeAnd, IfOk, IfErr};
 ghost use Rattle.std.specs.Fmt.{decimal};
 ghost use Rattle.text_lines.specs.Contents.{contents_text, IsContent};
 
@@ -68,16 +68,4 @@ pub(crate) fn contents_then(
     let (digits, rest) = text.split_at(digits);
     let contents = read_page_contents(alloc, digits, cells)?;
     Ok((contents, rest))
-}
-
-/// What follows the line feed at the front of a text.
-#[inline(always)]
-pub(crate) fn after_end(text: &[u8]) -> Option<&[u8]>
-    ensures { IfSome result (λ rest. text.now ≡ 10 ∷ rest.now) }
-{
-    let (end, rest) = text.split_first()?;
-    if *end != b'\n' {
-        return None;
-    }
-    Some(rest)
 }

@@ -6,11 +6,11 @@ ghost use Rattle.migration_types.specs.declared.records.LaneRec.{LaneRec as Rec}
 ghost use Rattle.migration_types.specs.declared.version.Version.TheVariants.{Two};
 ghost use Rattle.session_log.specs.Records.{lane_line};
 
-use crate::fields::{after_end, numbered_then};
+use crate::fields::numbered_then;
 use crate::keys::DOWN_KEY;
 use migration_types::LaneRec;
 use std::alloc::AllocError;
-use text_lines::{FaultKind, LineForm, push_keyed};
+use text_lines::{FaultKind, LineForm, after_end, push_keyed};
 
 /// The record at the front, and what follows. Nothing follows where the text is its line alone.
 #[inline(always)]

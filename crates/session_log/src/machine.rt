@@ -7,19 +7,7 @@ ghost use Rattle.session_log.specs.Grammar.{pages_key, cells_key};
 
 use crate::keys::{CELLS_KEY, PAGES_KEY};
 use migration_types::{Geometry, MOST_CELLS, MOST_PAGES};
-use text_lines::{FaultKind, read_keyed};
-
-/// The number behind a key that a line says, 1 to `most`.
-pub fn read_some(line: &[u8], key: &[u8], most: u32) -> Result<u32, FaultKind>
-    ensures found { IfOk result (λ n. (1 ≤ n) × (n ≤ most) × (line.now ≡ key.now ++ decimal n)) }
-    ensures refused { OnErr result ((n : ℕ) → 1 ≤ n → n ≤ most → line.now ≢ key.now ++ decimal n) }
-{
-    let number = read_keyed(line, key, most)?;
-    if number == 0 {
-        return Err(FaultKind::Range);
-    }
-    Ok(number)
-}
+use text_lines::{FaultKind, read_keyed, read_some};
 
 /// The number of pages that a line says, 1 to 65,536.
 pub fn read_pages(line: &[u8]) -> Result<u32, FaultKind>
