@@ -13,6 +13,7 @@ use crate::SourceFault;
 use crate::records::{self, Copies};
 use balloon_ledger::Ledger;
 use bubbling::Bubbles;
+use migration_events::look_for_room;
 use migration_types::{Geometry, PageNo, Shared, SourceRec};
 use page_store::Store;
 use page_stream::Packet;
@@ -105,7 +106,7 @@ impl SourceBook {
         if self.has_nothing_to_push() {
             return Ok(None);
         }
-        records::look_for_room(&self.log, 1)?;
+        look_for_room(&self.log, 1)?;
         let cells = self.frames.geometry().cells() as usize;
         let Ok(record) = records::blank(self.alloc, cells) else {
             return Err(SourceFault::Memory);
@@ -157,7 +158,7 @@ impl SourceBook {
         if self.was_asked {
             return Ok(None);
         }
-        records::look_for_room(&self.log, 1)?;
+        look_for_room(&self.log, 1)?;
         let Ok(released) = self.released.another() else {
             return Err(SourceFault::Memory);
         };
@@ -191,7 +192,7 @@ impl SourceBook {
         ensures full { IsErrOf result SourceFault.LogFull → most_records < length self.old.log + 2 }
         ensures err { OnErr result (part_of self.new ≡ part_of self.old) }
     {
-        records::look_for_room(&self.log, 2)?;
+        look_for_room(&self.log, 2)?;
         let Ok(contents) = records::copied_twice(self.alloc, self.frames.page(page)) else {
             return Err(SourceFault::Memory);
         };
@@ -216,7 +217,7 @@ impl SourceBook {
         ensures full { IsErrOf result SourceFault.LogFull → most_records < length self.old.log + 2 }
         ensures err { OnErr result (part_of self.new ≡ part_of self.old) }
     {
-        records::look_for_room(&self.log, 2)?;
+        look_for_room(&self.log, 2)?;
         let contents = match records::sent_again(self.alloc, &mut self.log, sending) {
             Ok(Some(contents)) => contents,
             Ok(None) => unreachable!(),
@@ -245,7 +246,7 @@ impl SourceBook {
             self.note_ask(up)?;
             return Ok(None);
         }
-        records::look_for_room(&self.log, 2)?;
+        look_for_room(&self.log, 2)?;
         records::make_room(&mut self.log, 2)?;
         self.log.push_reserved(SourceRec::Ask { up });
         self.log.push_reserved(SourceRec::Done);
@@ -260,7 +261,7 @@ impl SourceBook {
         ensures full { IsErrOf result SourceFault.LogFull → most_records < length self.old.log + 1 }
         ensures err { OnErr result (part_of self.new ≡ part_of self.old) }
     {
-        records::look_for_room(&self.log, 1)?;
+        look_for_room(&self.log, 1)?;
         records::make_room(&mut self.log, 1)?;
         self.log.push_reserved(SourceRec::Ask { up });
         self.was_asked = true;

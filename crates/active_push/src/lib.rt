@@ -9,18 +9,7 @@ mod book;
 mod records;
 
 pub use book::SourceBook;
-use thiserror::Error;
-
-/// Why a call of the source's book did nothing. The book is then as it was.
-#[derive(Clone, Copy, Debug, PartialEq, Eq, Error)]
-pub enum SourceFault {
-    /// The log has no room for what the call would append.
-    #[error("the source's log is full")]
-    LogFull,
-    /// Memory was refused.
-    #[error("out of memory")]
-    Memory,
-}
+pub use migration_events::EventFault as SourceFault;
 
 /// The page that is pushed is the next one of bubbling.
 pub fn pushes_are_next()

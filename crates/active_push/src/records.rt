@@ -6,22 +6,10 @@ ghost use Rattle.active_push.specs.inner.Sent.{contents_in};
 ghost use Rattle.page_tables.specs.Tables.{values, with_value, pages_of, IsWith};
 
 use crate::SourceFault;
-use migration_types::{Contents, MOST_RECORDS, PageNo, SourceRec};
+use migration_types::{Contents, PageNo, SourceRec};
 use page_stream::Packet;
 use page_tables::Table;
 use std::alloc::{AllocError, Global};
-
-/// Whether the log has room for so many records more, which is looked at before memory is asked for.
-pub fn look_for_room(log: &Vec<SourceRec>, count: usize) -> Result<(), SourceFault>
-    requires { count ≤ 2 }
-    ensures room { OnOk result (length log.now.items + count ≤ most_records) }
-    ensures full { IsErrOf result SourceFault.LogFull → most_records < length log.now.items + count }
-{
-    if log.len() > MOST_RECORDS as usize - count {
-        return Err(SourceFault::LogFull);
-    }
-    Ok(())
-}
 
 /// Memory for so many records more.
 pub fn make_room(log: &mut Vec<SourceRec>, count: usize) -> Result<(), SourceFault>

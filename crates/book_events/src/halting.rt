@@ -9,9 +9,9 @@ ghost use Rattle.target_book.specs.TargetPart.{halted_target};
 ghost use Rattle.target_book.specs.Kept.{geometry_of, part_of as target_of};
 ghost use Rattle.book_events.specs.Parts.{IsHalt};
 
-use crate::faults::EventFault;
 use active_push::SourceBook;
 use link_book::LinkBook;
+use migration_events::EventFault;
 use target_side::{GuestBook, TargetBook};
 
 /// Halt, where each virtual processor is at its move: the guest's book parts into the source's, which keeps at most so

@@ -3,13 +3,12 @@
 #![tactic(auto)]
 
 mod came;
-mod faults;
 mod halting;
 mod paging;
 mod sending;
 
 pub use came::Came;
-pub use faults::EventFault;
 pub use halting::halt;
+pub use migration_events::EventFault;
 pub use paging::{pager_deliver, pager_fault, pager_flush, pager_pop, pager_pull, pager_tick};
 pub use sending::{push, serve, source_tick};

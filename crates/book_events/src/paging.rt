@@ -9,8 +9,8 @@ ghost use Rattle.migration_events.specs.declared.events.Event.{Event};
 ghost use Rattle.book_events.specs.Parts.{receiving, placing, IsMade, IsFull, Tells};
 
 use crate::came::Came;
-use crate::faults::EventFault;
 use link_book::LinkBook;
+use migration_events::EventFault;
 use target_side::{PagerBook, TargetBook};
 
 /// PagerPop: the pager takes the oldest packet that has arrived, if there is one, which is one that the source of such

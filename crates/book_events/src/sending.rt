@@ -8,9 +8,9 @@ ghost use Rattle.book_events.specs.Parts.{pushing, sending, IsMade, IsFull, Tell
 ghost use Rattle.book_events.specs.inner.Offers.{Carries};
 
 use crate::came::Came;
-use crate::faults::EventFault;
 use active_push::SourceBook;
 use link_book::LinkBook;
+use migration_events::EventFault;
 use page_stream::Packet;
 
 /// Push: the source sends the page that bubbling chooses, over the lane, if there is one, or else down the link, where

@@ -18,8 +18,8 @@ ghost use Rattle.guest_book.specs.inner.Records.{record_of};
 use active_push::SourceBook;
 use balloon_ledger::Ledger;
 use flat_machine::Machine;
-use migration_events::Op;
-use migration_types::{Geometry, GuestRec, InitPage, MOST_RECORDS};
+use migration_events::{Op, make_room};
+use migration_types::{Geometry, GuestRec, InitPage};
 use page_store::Store;
 use page_stream::Packet;
 use std::alloc::{AllocError, Global};
@@ -77,12 +77,7 @@ impl GuestBook {
         ensures full { IsErrOf result TargetFault.LogFull → most_records < length (guest_access v op (part_of self.old)).log }
         ensures err { OnErr result (self.new ≡ self.old) }
     {
-        if self.log.len() >= MOST_RECORDS as usize {
-            return Err(TargetFault::LogFull);
-        }
-        if self.log.reserve(1).is_err() {
-            return Err(TargetFault::Memory);
-        }
+        make_room(&mut self.log, 1)?;
         let done = perform(&mut self.machine, v, op);
         self.log.push_reserved(done.rec);
         Ok(done.answer)

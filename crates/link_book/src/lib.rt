@@ -7,13 +7,13 @@ ghost use Rattle.std.specs.Option.{option_map};
 mod arrivals;
 mod turns;
 
+pub use migration_events::EventFault as LinkFault;
 use migration_events::{Direction, Fate};
 use migration_types::{LaneRec, LinkRec};
 use page_stream::Packet;
 use std::alloc::{AllocError, Global};
 use std::collections::VecDeque;
 use std::marker::Model;
-use thiserror::Error;
 use turns::turn_line;
 
 /// A packet that has arrived, with the number of the record that says so, of the lane's log where it came over the lane
@@ -22,17 +22,6 @@ use turns::turn_line;
 pub struct Arrival {
     pub number: u32,
     pub packet: Packet,
-}
-
-/// Why a turn was refused. The book is then as it was.
-#[derive(Clone, Copy, Debug, PartialEq, Eq, Error)]
-pub enum LinkFault {
-    /// The log has no room for the record that the packet has arrived.
-    #[error("the log of a link is full")]
-    LogFull,
-    /// Memory was refused.
-    #[error("out of memory")]
-    Memory,
 }
 
 /// The book of the link, which carries packets down and up, and of the lane, a second link down: for each way a line of

@@ -7,8 +7,7 @@ ghost use Rattle.link_book.specs.LinkPart.{goes, way_turned};
 ghost use Rattle.link_book.specs.Links.{arrival, way};
 
 use crate::{Arrival, LinkFault};
-use migration_events::{Direction, Fate};
-use migration_types::MOST_RECORDS;
+use migration_events::{Direction, Fate, make_room};
 use page_stream::Packet;
 use std::alloc::Global;
 use std::collections::VecDeque;
@@ -78,13 +77,8 @@ fn make_places<R>(log: &mut Vec<R>, arrivals: &mut VecDeque<Arrival>) -> Result<
     ensures ok { OnOk result ((length log.old.items < 1048576) × (vec_len log.new < vec_capacity log.new) × (deque_len arrivals.new < deque_capacity arrivals.new)) }
     ensures full { IsErrOf result LinkFault.LogFull → 1048576 ≤ length log.old.items }
 {
-    if log.len() >= MOST_RECORDS as usize {
-        return Err(LinkFault::LogFull);
-    }
-    if log.reserve(1).is_err() || arrivals.reserve(1).is_err() {
-        return Err(LinkFault::Memory);
-    }
-    Ok(())
+    make_room(log, 1)?;
+    arrivals.reserve(1).map_err(|_| LinkFault::Memory)
 }
 
 /// A packet arrives, of which the record with this number is to say so. Its own number is answered.

@@ -2,7 +2,11 @@
 #![tactic(auto)]
 
 mod events;
+mod faults;
 mod ops;
+mod room;
 
 pub use events::{Direction, Event, Fate};
+pub use faults::EventFault;
 pub use ops::Op;
+pub use room::{look_for_room, make_room};

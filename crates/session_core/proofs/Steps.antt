@@ -3,7 +3,7 @@ use Rattle.migration_events.specs.declared.events.Event.{Event}
 use Rattle.migration_model.specs.Events.{books_event, has_room, if_room, recorded, step}
 use Rattle.migration_model.specs.Machine.{Books, Machine, new_names, session_of}
 use Rattle.migration_types.specs.Receipts.{Name}
-use Rattle.book_events.specs.declared.faults.EventFault.{EventFault}
+use Rattle.migration_events.specs.declared.faults.EventFault.{EventFault}
 use Rattle.migration_model.proofs.Reached.{step_reached}
 use Rattle.migration_model.specs.Promise.{IsReached}
 use Rattle.std.proofs.Common.{Err, List, None, Ok, OnErr, OnOk, Result, Some, ap, cond, false, subst, sym, true, ◌++◌, ◌∙◌, ◌≡◌}

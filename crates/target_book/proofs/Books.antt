@@ -8,7 +8,7 @@ use Rattle.migration_types.specs.Extents.{Extent}
 use Rattle.migration_events.specs.declared.ops.Op.{Op}
 use Rattle.residency.specs.Placements.{placements, freed, is_resident}
 use Rattle.target_book.specs.declared.Access.{Access}
-use Rattle.target_book.specs.declared.TargetFault.{TargetFault}
+use Rattle.migration_events.specs.declared.faults.EventFault.{EventFault}
 use Rattle.target_book.specs.declared.book.Placement.{Placement}
 use Rattle.target_book.specs.TargetPart.{TargetPart, Accessed, halted_target, target_access, resumes, with_placed, with_zeroed, settled}
 use Rattle.target_book.specs.History.{Happening, Did, Placed, IsHistoryOf, IsBeforeHalt}
@@ -54,11 +54,11 @@ unchanged_keeps : (old new : Held) → new ≡ old → Keeps (part_held old) (pa
 unchanged_keeps old new is =
     keeps_same (part_held old) (part_held new) (ap (λ (h : Held). h.log) is) (λ h was. subst (λ (x : Held). IsHistoryOf (part_held x) h) (sym is) was)
 
-pub accessed : (v : ℕ) (op : Op) (old new : Held) (r : Result Access TargetFault) → IfOk r (λ a. record { book = part_held new; access = a } ≡ target_access v op (part_held old)) → OnErr r (new ≡ old) → Keeps (part_held old) (part_held new)
+pub accessed : (v : ℕ) (op : Op) (old new : Held) (r : Result Access EventFault) → IfOk r (λ a. record { book = part_held new; access = a } ≡ target_access v op (part_held old)) → OnErr r (new ≡ old) → Keeps (part_held old) (part_held new)
 accessed v op old new (Ok a) ok err = subst (λ (b : TargetPart). Keeps (part_held old) b) (sym (ap (λ (x : Accessed). x.book) ok)) (access_keeps v op (part_held old))
 accessed v op old new (Err f) ok err = unchanged_keeps old new err
 
-pub resumed : (old new : Held) (r : Result Unit TargetFault) → OnOk r (part_held new ≡ resumes (part_held old)) → OnErr r (new ≡ old) → Keeps (part_held old) (part_held new)
+pub resumed : (old new : Held) (r : Result Unit EventFault) → OnOk r (part_held new ≡ resumes (part_held old)) → OnErr r (new ≡ old) → Keeps (part_held old) (part_held new)
 resumed old new (Ok u) ok err = subst (λ (b : TargetPart). Keeps (part_held old) b) (sym ok) (resume_keeps (part_held old))
 resumed old new (Err f) ok err = unchanged_keeps old new err
 

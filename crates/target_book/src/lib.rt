@@ -5,6 +5,7 @@ mod book;
 mod state;
 
 pub use book::TargetBook;
+pub use migration_events::EventFault as TargetFault;
 use migration_types::PageNo;
 
 /// What an operation at the target comes to.
@@ -27,13 +28,4 @@ pub struct Missing {
     pub vcpu: u8,
     /// The page that it missed.
     pub page: PageNo,
-}
-
-/// Why a call on the guest's, the target's or the pager's book was refused.
-#[derive(Clone, Copy, Debug, PartialEq, Eq)]
-pub enum TargetFault {
-    /// A log has no room for the call's records.
-    LogFull,
-    /// There is no memory for what the call stores.
-    Memory,
 }

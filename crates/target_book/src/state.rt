@@ -13,8 +13,8 @@ ghost use Rattle.target_book.specs.Kept.{IsSized, part_held, marked};
 ghost use Rattle.target_book.specs.inner.States.{held};
 
 use crate::{Access, Missing, TargetFault};
-use migration_events::Op;
-use migration_types::{Geometry, GuestRec, MOST_RECORDS, PageNo};
+use migration_events::{Op, make_room};
+use migration_types::{Geometry, GuestRec, PageNo};
 use page_store::Store;
 use residency::Residency;
 use std::alloc::{AllocError, Global};
@@ -55,7 +55,7 @@ impl State {
         ensures err { IfErr result (λ e. e.0.items ≡ log.items) }
     {
         let mut log = log;
-        if let Err(fault) = room(&mut log, 1) {
+        if let Err(fault) = make_room(&mut log, 1) {
             return Err((log, fault));
         }
         let Ok((frames, places, standing)) = nothing_placed(alloc, geometry) else {
@@ -110,7 +110,7 @@ impl State {
         ensures sized { (e : Extent) → IsSized e (held self.old) → IsSized e (held self.new) }
         ensures err { OnErr result (held self.new ≡ held self.old) }
     {
-        room(&mut self.log, 1)?;
+        make_room(&mut self.log, 1)?;
         Ok(Access::Done(self.act(vcpu, op)))
     }
 
@@ -124,7 +124,7 @@ impl State {
         ensures sized { (e : Extent) → IsSized e (held self.old) → IsSized e (held self.new) }
         ensures err { OnErr result (held self.new ≡ held self.old) }
     {
-        room(&mut self.log, 1)?;
+        make_room(&mut self.log, 1)?;
         if self.unsettled.reserve(1).is_err() {
             return Err(TargetFault::Memory);
         }
@@ -146,7 +146,7 @@ impl State {
         if self.standing[usize::from(vcpu)] {
             return Ok(Access::Waiting);
         }
-        room(&mut self.log, 1)?;
+        make_room(&mut self.log, 1)?;
         if self.misses.reserve(1).is_err() {
             return Err(TargetFault::Memory);
         }
@@ -169,9 +169,9 @@ impl State {
         ensures err { OnErr result (held self.new ≡ held self.old) }
     {
         if self.places.covers(op.page()) {
-            room(&mut self.log, 1)?;
+            make_room(&mut self.log, 1)?;
         } else {
-            room(&mut self.log, 2)?;
+            make_room(&mut self.log, 2)?;
             self.look(number);
         }
         Ok(Access::Done(self.act(vcpu, op)))
@@ -237,7 +237,7 @@ impl State {
         ensures sized { (e : Extent) → IsSized e (held self.old) → IsSized e (held self.new) }
         ensures err { OnErr result (held self.new ≡ held self.old) }
     {
-        room(&mut self.log, 1)?;
+        make_room(&mut self.log, 1)?;
         self.log.push_reserved(GuestRec::Resume { ready: 1 });
         self.is_resumed = true;
         Ok(())
@@ -278,21 +278,6 @@ impl State {
         self.frames.release(page);
         self.places.mark(page, number);
     }
-}
-
-/// So many records more fit into the log, and there is room for them.
-fn room(log: &mut Vec<GuestRec>, more: usize) -> Result<(), TargetFault>
-    requires few { length log.old.items ≤ most_records }
-    requires small { more ≤ 2 }
-    ensures items { log.new.items ≡ log.old.items }
-    ensures fits { OnOk result (length log.old.items + more ≤ most_records) }
-    ensures room { OnOk result (vec_len log.new + more ≤ vec_capacity log.new) }
-    ensures full { IsErrOf result TargetFault.LogFull → most_records < length log.old.items + more }
-{
-    if log.len() + more > MOST_RECORDS as usize {
-        return Err(TargetFault::LogFull);
-    }
-    log.reserve(more).map_err(|_| TargetFault::Memory)
 }
 
 /// The frames, the residency and the marks of a target with no page.

@@ -9,8 +9,9 @@ ghost use Rattle.target_side.specs.PagerLists.{part_of, IsPacketOf};
 
 use super::PagerBook;
 use crate::Incoming;
-use crate::log::{append, make_room};
+use crate::log::append;
 use crate::marks::mark_all;
+use migration_events::make_room;
 use migration_types::{Contents, PageNo, PagerRec, Shared};
 use page_stream::Packet;
 use target_book::TargetFault;

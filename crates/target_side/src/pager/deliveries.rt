@@ -11,7 +11,8 @@ ghost use Rattle.target_side.specs.PagerLists.{part_of};
 ghost use Rattle.target_side.specs.inner.Steps.{skips, places_next};
 
 use super::PagerBook;
-use crate::log::{append, make_room};
+use crate::log::append;
+use migration_events::make_room;
 use migration_types::{PagerRec, Seq};
 use std::alloc::Global;
 use target_book::{TargetBook, TargetFault};

@@ -10,8 +10,9 @@ ghost use Rattle.target_side.specs.PagerLists.{part_of};
 ghost use Rattle.target_side.specs.inner.Steps.{learned, asks};
 
 use super::{PagerBook, want_page};
-use crate::log::{append, make_room};
+use crate::log::append;
 use fault_queue::Asked;
+use migration_events::make_room;
 use migration_types::PagerRec;
 use page_stream::Packet;
 use target_book::{Missing, TargetBook, TargetFault};

@@ -6,9 +6,10 @@ ghost use Rattle.target_side.specs.PagerPart.{oldest, pager_tick};
 ghost use Rattle.target_side.specs.PagerLists.{part_of};
 
 use super::{PagerBook, want_page};
-use crate::log::{append, make_room};
+use crate::log::append;
 use crate::marks::first_unmarked;
 use fault_queue::FaultQueue;
+use migration_events::make_room;
 use migration_types::{PageNo, PagerRec};
 use page_stream::Packet;
 use target_book::TargetFault;

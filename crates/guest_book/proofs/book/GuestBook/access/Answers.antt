@@ -11,15 +11,15 @@ pub invariant_of-self-2 : goal.invariant_of-self-2
 invariant_of-self-2 c =
     let k : GuestKept = the_view c.self.inside in
     let done = c.perform-done in
-    let grown = c.push_reserved.ensures.items ∙ ap (λ (xs : List GuestRec). xs ++ done.result.rec ∷ []) c.reserve.ensures.items ∙ ap (λ (r : GuestRec). k.log ++ r ∷ []) done.ensures.rec in
+    let grown = c.push_reserved.ensures.items ∙ ap (λ (xs : List GuestRec). xs ++ done.result.rec ∷ []) c.make_room.ensures.items ∙ ap (λ (r : GuestRec). k.log ++ r ∷ []) done.ensures.rec in
     let fits = subst (λ (o : GuestKept). OpFits o.frames.geometry c.args.op) (sym c.self.view_is) c.requires in
-    access_keeps k c.args.v c.args.op done.new.machine c.push_reserved.new.self.items done.ensures.machine grown fits (omega (arith, c.if-len.false, c.len.ensures, c.self.inside.log.ok.0)) c.self.invariant
+    access_keeps k c.args.v c.args.op done.new.machine c.push_reserved.new.self.items done.ensures.machine grown fits (omega (arith, c.in_ok-make_room.ensures.fits)) c.self.invariant
 
 pub returns-clause-part : goal.returns-clause-part
 returns-clause-part c =
     let k : GuestKept = the_view c.self.inside in
     let done = c.perform-done in
-    let grown = c.push_reserved.ensures.items ∙ ap (λ (xs : List GuestRec). xs ++ done.result.rec ∷ []) c.reserve.ensures.items ∙ ap (λ (r : GuestRec). k.log ++ r ∷ []) done.ensures.rec in
+    let grown = c.push_reserved.ensures.items ∙ ap (λ (xs : List GuestRec). xs ++ done.result.rec ∷ []) c.make_room.ensures.items ∙ ap (λ (r : GuestRec). k.log ++ r ∷ []) done.ensures.rec in
     let n : GuestKept = the_view (record c.self.inside { log = c.push_reserved.new.self; machine = done.new.machine }) in
     subst (λ (o : GuestKept). part_of n ≡ guest_access c.args.v c.args.op (part_of o)) c.self.view_is
     (access_part k c.args.v c.args.op done.new.machine c.push_reserved.new.self.items done.ensures.machine grown)

@@ -6,7 +6,7 @@ pub returns-clause-sized : goal.returns-clause-sized
 returns-clause-sized c = λ e sized.
     let s = c.args.self.now in
     c.act.ensures.sized e (record {
-      few = rw c.room.ensures.items sized.few;
+      few = rw c.make_room.ensures.items sized.few;
       frames = sized.frames;
       places = c.release.ensures.geometry ∙ sized.places;
       marks = sized.marks;

@@ -8,4 +8,4 @@ pub returns-clause-part : goal.returns-clause-part
 returns-clause-part c =
     let e = c.in-Ok.ensures in
     let marks : marked c.in-Ok.standing.items ≡ no_page = ap marked e.marks ∙ none_marked 256 in
-    rw (c.push_reserved.ensures.items, c.room.ensures.items, e.memory, e.placed, e.freed, e.frontier, marks, c.new.ensures.items, c.in-Ok-with_capacity.ensures.items) refl
+    rw (c.push_reserved.ensures.items, c.make_room.ensures.items, e.memory, e.placed, e.freed, e.frontier, marks, c.new.ensures.items, c.in-Ok-with_capacity.ensures.items) refl

@@ -8,7 +8,7 @@ use Rattle.migration_types.specs.declared.records.PagerRec.TheVariants.{Fault, J
 use Rattle.page_tables.specs.Tables.{values, with_value}
 use Rattle.fault_queue.specs.Waiting.{is_asked}
 use Rattle.page_stream.specs.declared.Packet.TheVariants.{Want as WantPacket}
-use Rattle.target_book.specs.declared.TargetFault.TheVariants.{LogFull}
+use Rattle.migration_events.specs.declared.faults.EventFault.TheVariants.{LogFull}
 use Rattle.target_side.specs.PagerLists.{PagerLists, part_of, IsKept}
 use Rattle.target_side.specs.inner.Steps.{learned, asks}
 use Rattle.target_side.proofs.Sounds.{sound_with}
@@ -33,7 +33,7 @@ invariant_of-self-in-Some c =
     let kept = kept_more_waiting _ c.args.missing.number c.args.missing.page c.args.missing.vcpu c.in-Some.want c.append-in-Some.new.log.items c.fault.new.self there
     (c.append-in-Some.ensures.items
     ∙ ap (λ l. l ++ Join c.in-Some.want ∷ []) c.append.ensures.items
-    ∙ ap (λ (l : List PagerRec). (l ++ Fault c.args.missing.number ∷ []) ++ Join c.in-Some.want ∷ []) c.make_room.ensures.same)
+    ∙ ap (λ (l : List PagerRec). (l ++ Fault c.args.missing.number ∷ []) ++ Join c.in-Some.want ∷ []) c.make_room.ensures.items)
     (asked_joined _ c.args.missing.page c.args.missing.vcpu c.self.inside.waiting c.fault.new.self c.in-Ok.ensures.entries is)
     c.in_ok-make_room.ensures.fits c.self.invariant.kept
     in rw outbox (sound_with _ _ _ _ c.self.invariant kept)
@@ -56,7 +56,7 @@ invariant_of-self-in-New c =
     let same : c.args.self.now.geometry ≡ c.self.inside.geometry = sym (ap (λ (v : PagerLists). v.geometry) c.self.view_is) in
     let fits : c.args.missing.page < c.self.inside.geometry.pages = subst (λ (e : Extent). c.args.missing.page < e.pages) same c.requires.page in
     let new : is_asked c.args.missing.page c.self.inside.waiting ≡ false = told_new _ c.in-Ok.asked c.in-Ok.ensures.told c.in-New.is in
-    let learned_log : c.append.new.log.items ≡ c.self.inside.log.items ++ Fault c.args.missing.number ∷ [] = c.append.ensures.items ∙ ap (λ l. l ++ Fault c.args.missing.number ∷ []) c.make_room.ensures.same in
+    let learned_log : c.append.new.log.items ≡ c.self.inside.log.items ++ Fault c.args.missing.number ∷ [] = c.append.ensures.items ∙ ap (λ l. l ++ Fault c.args.missing.number ∷ []) c.make_room.ensures.items in
     let number = c.want_page-number.ensures.number ∙ ap length learned_log in
     let part = asked_part _ c.args.missing.number c.args.missing.page c.args.missing.vcpu c.want_page-number.result c.want_page-number.new.log.items c.push_back_reserved.new.self.items c.fault.new.self (values c.want_page-number.new.wants)
     (c.want_page-number.ensures.items ∙ ap (λ l. l ++ Want c.args.missing.page ∷ []) learned_log)

@@ -24,7 +24,7 @@ invariant_of-self-2 c =
       kept = begun_first _ c.args.link_number c.in-Ok.pages c.append-2.new.log.items away
           (c.append-2.ensures.items
           ∙ ap (λ l. l ++ Ready ∷ []) c.append.ensures.items
-          ∙ ap (λ (l : List PagerRec). (l ++ Got c.args.link_number ∷ []) ++ Ready ∷ []) c.make_room.ensures.same)
+          ∙ ap (λ (l : List PagerRec). (l ++ Got c.args.link_number ∷ []) ++ Ready ∷ []) c.make_room.ensures.items)
           c.self.invariant.kept;
       placed_pages = c.self.invariant.placed_pages;
       settled_pages = c.self.invariant.settled_pages;

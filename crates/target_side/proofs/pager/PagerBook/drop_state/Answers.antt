@@ -15,5 +15,5 @@ invariant_of-self-2 c =
     (dropped_state _ c.args.receipt c.append-got.result c.append.new.log.items there c.requires.taking
     (c.append.ensures.items
     ∙ ap (λ l. l ++ Skip c.append-got.result ∷ []) c.append-got.ensures.items
-    ∙ ap (λ (l : List PagerRec). (l ++ c.args.receipt ∷ []) ++ Skip c.append-got.result ∷ []) c.make_room.ensures.same)
+    ∙ ap (λ (l : List PagerRec). (l ++ c.args.receipt ∷ []) ++ Skip c.append-got.result ∷ []) c.make_room.ensures.items)
     room c.self.invariant.kept)

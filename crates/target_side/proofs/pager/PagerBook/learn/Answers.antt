@@ -9,4 +9,4 @@ pub invariant_of-self-2 : goal.invariant_of-self-2
 invariant_of-self-2 c =
     let there : is_some c.self.inside.released ≡ true = ap (λ (v : PagerLists). is_some v.released) c.self.view_is ∙ c.requires in
     sound_with _ _ _ _ c.self.invariant
-    (kept_one _ (Fault c.args.miss) c.append.new.log.items there (c.append.ensures.items ∙ ap (λ l. l ++ Fault c.args.miss ∷ []) c.make_room.ensures.same) (λ p. refl) c.in_ok-make_room.ensures.fits c.self.invariant.kept)
+    (kept_one _ (Fault c.args.miss) c.append.new.log.items there (c.append.ensures.items ∙ ap (λ l. l ++ Fault c.args.miss ∷ []) c.make_room.ensures.items) (λ p. refl) c.in_ok-make_room.ensures.fits c.self.invariant.kept)

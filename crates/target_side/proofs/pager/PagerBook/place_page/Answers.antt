@@ -12,7 +12,7 @@ use Rattle.target_side.proofs.Paging.{sound_placed, kept_delivered, delivered_pa
 use Rattle.target_side.proofs.pager.PagerBook.place_page.Goals as goal
 
 log_is : (c : goal.After-all_of) → c.append.new.log.items ≡ c.self.inside.log.items ++ Place c.in-Some.incoming.page c.in-Some.incoming.got c.in-Some.incoming.contents ∷ []
-log_is c = c.append.ensures.items ∙ ap (λ l. l ++ Place c.in-Some.incoming.page c.in-Some.incoming.got c.in-Some.incoming.contents ∷ []) c.make_room.ensures.same
+log_is c = c.append.ensures.items ∙ ap (λ l. l ++ Place c.in-Some.incoming.page c.in-Some.incoming.got c.in-Some.incoming.contents ∷ []) c.make_room.ensures.items
 
 pub invariant_of-self-2 : goal.invariant_of-self-2
 invariant_of-self-2 c =
@@ -22,7 +22,7 @@ invariant_of-self-2 c =
 
 pub returns-clause-ok : goal.returns-clause-ok
 returns-clause-ok c =
-    let at : c.len-number.result ≡ length c.self.inside.log.items = omega (arith, ap length c.make_room.ensures.same) in
+    let at : c.len-number.result ≡ length c.self.inside.log.items = omega (arith, ap length c.make_room.ensures.items) in
     let raw : target_of c.place.new.self ≡ with_placed c.in-Some.incoming.page c.len-number.result c.as_slice.result.now (target_of c.args.target.now) = grind (arith, common_steps) in
     let is : target_of c.place.new.self ≡ with_placed c.in-Some.incoming.page c.len-number.result c.in-Some.incoming.contents (target_of c.args.target.now) =
     raw ∙ ap (λ xs. with_placed c.in-Some.incoming.page c.len-number.result xs (target_of c.args.target.now)) c.as_slice.ensures

@@ -15,7 +15,7 @@ invariant_of-self-2 c =
     let cells : length c.in-Ok.contents ≡ c.self.inside.geometry.cells = ap length c.in-Ok.ensures ∙ c.requires.cells ∙ ap (λ (e : Extent). e.cells) same in
     sound_with _ _ _ _ c.self.invariant
     (taken_page _ c.args.receipt c.append-got.result c.args.page c.in-Ok.contents c.append-got.new.log.items c.push_back_reserved.new.self.items there c.requires.taking
-    (c.append-got.ensures.items ∙ ap (λ l. l ++ c.args.receipt ∷ []) c.make_room.ensures.same)
-    (c.append-got.ensures.number ∙ ap length c.make_room.ensures.same)
+    (c.append-got.ensures.items ∙ ap (λ l. l ++ c.args.receipt ∷ []) c.make_room.ensures.items)
+    (c.append-got.ensures.number ∙ ap length c.make_room.ensures.items)
     (c.push_back_reserved.ensures.items ∙ ap (λ xs. xs ++ (record { got = c.append-got.result; page = c.args.page; contents = c.in-Ok.contents }) ∷ []) c.reserve.ensures.items)
     fits cells room c.self.invariant.kept)

@@ -16,7 +16,7 @@ log_is : (c : goal.After-set) → c.append-2.new.log.items ≡ (c.self.inside.lo
 log_is c =
     c.append-2.ensures.items
     ∙ ap (λ l. l ++ Zero c.args.missing.page ∷ []) c.append.ensures.items
-    ∙ ap (λ (l : List PagerRec). (l ++ Fault c.args.missing.number ∷ []) ++ Zero c.args.missing.page ∷ []) c.make_room.ensures.same
+    ∙ ap (λ (l : List PagerRec). (l ++ Fault c.args.missing.number ∷ []) ++ Zero c.args.missing.page ∷ []) c.make_room.ensures.items
 
 pub invariant_of-self-2 : goal.invariant_of-self-2
 invariant_of-self-2 c =
@@ -26,7 +26,7 @@ invariant_of-self-2 c =
 
 pub returns-clause-ok : goal.returns-clause-ok
 returns-clause-ok c =
-    let at : c.len.result + 1 ≡ length c.self.inside.log.items + 1 = omega (arith, ap length c.make_room.ensures.same) in
+    let at : c.len.result + 1 ≡ length c.self.inside.log.items + 1 = omega (arith, ap length c.make_room.ensures.items) in
     let is : target_of c.zero.new.self ≡ with_zeroed c.args.missing.page (c.len.result + 1) (target_of c.args.target.now) = grind (arith, common_steps) in
     zeroed_part _ (target_of c.args.target.now) (target_of c.zero.new.self) c.args.missing.page c.args.missing.number (c.len.result + 1) c.append-2.new.log.items (values c.set.new.self) (log_is c) c.set.ensures.values_are is at
     ∙ ap (λ (v : PagerLists). zeroes c.args.missing.page (learned c.args.missing.number (part_of v)) (target_of c.args.target.now)) c.self.view_is

@@ -1,0 +1,32 @@
+//! Room for records in a log.
+
+ghost use Rattle.std.specs.Prelude.{◌+◌, ◌≡◌, ◌<◌, ◌≤◌, length, vec_len, vec_capacity, OnOk, IsErrOf};
+ghost use Rattle.migration_types.specs.Limits.{most_records};
+
+use crate::faults::EventFault;
+use migration_types::MOST_RECORDS;
+
+/// Whether the log may have so many records more, which is looked at before memory is asked for.
+pub fn look_for_room<R>(log: &Vec<R>, more: usize) -> Result<(), EventFault>
+    requires { more ≤ 2 }
+    ensures room { OnOk result (length log.now.items + more ≤ most_records) }
+    ensures full { IsErrOf result EventFault.LogFull → most_records < length log.now.items + more }
+{
+    if log.len() > MOST_RECORDS as usize - more {
+        return Err(EventFault::LogFull);
+    }
+    Ok(())
+}
+
+/// Makes room for so many records more. On an error the log has its records as before, as on success.
+pub fn make_room<R>(log: &mut Vec<R>, more: usize) -> Result<(), EventFault>
+    requires { more ≤ 2 }
+    ensures items { log.new.items ≡ log.old.items }
+    ensures len { vec_len log.new ≡ vec_len log.old }
+    ensures room { OnOk result (vec_len log.new + more ≤ vec_capacity log.new) }
+    ensures fits { OnOk result (length log.old.items + more ≤ most_records) }
+    ensures full { IsErrOf result EventFault.LogFull → most_records < length log.old.items + more }
+{
+    look_for_room(log, more)?;
+    log.reserve(more).map_err(|_| EventFault::Memory)
+}
