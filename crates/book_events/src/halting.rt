@@ -10,9 +10,10 @@ ghost use Rattle.target_book.specs.Kept.{geometry_of, part_of as target_of};
 ghost use Rattle.book_events.specs.Parts.{IsHalt};
 
 use active_push::SourceBook;
+use guest_book::GuestBook;
 use link_book::LinkBook;
 use migration_events::EventFault;
-use target_side::{GuestBook, TargetBook};
+use target_side::TargetBook;
 
 /// Halt, where each virtual processor is at its move: the guest's book parts into the source's, which keeps at most so
 /// many pivots, 1 to 16, and the target's, and the packet of the state is offered. `EventFault::LogFull` only where the

@@ -24,6 +24,7 @@ use crate::source::run_source;
 use crate::vcpu::run_vcpu;
 use crate::way::{NoRelay, Way};
 use active_push::SourceBook;
+use guest_book::GuestBook;
 use guest_script::Script;
 use host_checks::{Migrated, RunFault, Transcript, settle};
 use link_book::LinkBook;
@@ -33,7 +34,7 @@ use std::net::{Net, TcpListener, TcpStream};
 use std::sync::{Mutex, Wait};
 use std::thread;
 use std::thread::Threads;
-use target_side::{GuestBook, PagerBook};
+use target_side::PagerBook;
 
 /// The books before the first event.
 fn books_of(alloc: Global, script: &Script) -> Result<Shared, AllocError> {

@@ -5,9 +5,10 @@ ghost use Rattle.host_threads.specs.Sides.{Halts};
 
 use active_push::SourceBook;
 use book_events::{EventFault, halt};
+use guest_book::GuestBook;
 use link_book::LinkBook;
 use std::mem::{self, drop};
-use target_side::{GuestBook, TargetBook};
+use target_side::TargetBook;
 
 /// The guest's book until the halt, and the target's from then on.
 #[derive(Drop)]

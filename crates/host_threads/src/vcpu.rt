@@ -10,13 +10,14 @@ use crate::bell::Fault;
 use crate::gate::Gate;
 use crate::shared::{Shared, of_target};
 use crate::side::TargetSide;
+use guest_book::GuestBook;
 use guest_script::Vcpu;
 use host_checks::{Answered, Transcript};
 use migration_events::Op;
 use migration_types::{Geometry, PageNo, Seq};
 use std::alloc::Global;
 use std::sync::Wait;
-use target_side::{Access, GuestBook, TargetBook};
+use target_side::{Access, TargetBook};
 
 /// Whether the machine has the page.
 fn has_page(geometry: Geometry, page: PageNo) -> bool

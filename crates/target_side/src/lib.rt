@@ -1,11 +1,10 @@
-//! The pager's book, and its calls on the target's; the guest's and the target's books are handed on.
+//! The pager's book, and its calls on the target's book, which is handed on.
 #![tactic(auto)]
 
 mod log;
 mod marks;
 mod pager;
 
-pub use guest_book::GuestBook;
 use migration_types::{Contents, PageNo};
 pub use pager::PagerBook;
 pub use target_book::{Access, Missing, TargetBook, TargetFault};
