@@ -1,9 +1,8 @@
 //! Why parts are no script.
 
-ghost use Rattle.std.specs.Prelude.{◌≡◌, ◌<◌, ◌≤◌, length, MatchBool, MatchOption};
+ghost use Rattle.std.specs.Prelude.{◌≡◌, ◌≤◌, length, MatchBool, MatchOption};
 ghost use Rattle.std.specs.List.{AllByRecursion};
 ghost use Rattle.migration_types.specs.Pages.{AreInitPages, AreZeros, InitPageFits};
-ghost use Rattle.migration_events.specs.Ops.{OpFits};
 ghost use Rattle.guest_script.specs.Scenarios.{VcpuFits};
 ghost use Rattle.guest_script.specs.ScriptFaults.{AreAsMany, IsFirstVcpuFault, IsFirstWrong, IsVcpuFault};
 ghost use Rattle.guest_script.specs.inner.Ops.{OpFitsAt};
@@ -12,7 +11,7 @@ ghost use Rattle.session_log.specs.inner.InitPages.{IsInitContent};
 use crate::vcpus::{MOST_OPS, Vcpu, When};
 use crate::versions::may_release;
 use migration_events::Op;
-use migration_types::{Geometry, InitPage, PageNo, Version};
+use migration_types::{Geometry, InitPage, Version};
 use thiserror::Error;
 
 /// Why the operations of a virtual processor are none. Of several faults, the first here is told.
@@ -64,35 +63,6 @@ pub enum ScriptFault {
     Vcpu { vcpu: u8, fault: VcpuFault },
 }
 
-/// Whether a machine has the page and the cell of an operation.
-fn op_fits(geometry: Geometry, op: Op) -> bool
-    ensures { MatchBool result (OpFits geometry op) (OpFits geometry op → ⊥) }
-{
-    match op {
-        Op::Read { page, cell } => has_cell(geometry, page, cell),
-        Op::Write {
-            page,
-            cell,
-            value: _,
-        } => has_cell(geometry, page, cell),
-        Op::Release { page } => has_page(geometry, page),
-    }
-}
-
-/// Whether a machine has a page.
-fn has_page(geometry: Geometry, page: PageNo) -> bool
-    ensures { MatchBool result (page < geometry.pages) (page < geometry.pages → ⊥) }
-{
-    u32::from(page.number()) < geometry.pages()
-}
-
-/// Whether a machine has a cell.
-fn has_cell(geometry: Geometry, page: PageNo, cell: u16) -> bool
-    ensures { MatchBool result ((page < geometry.pages) × (cell < geometry.cells)) ((page < geometry.pages) × (cell < geometry.cells) → ⊥) }
-{
-    has_page(geometry, page) && u32::from(cell) < geometry.cells()
-}
-
 /// Whether an operation fits before a move, or after it.
 fn op_fits_at(geometry: Geometry, op: Op, when: When) -> bool
     ensures { MatchBool result (OpFitsAt when geometry op) (OpFitsAt when geometry op → ⊥) }
@@ -100,7 +70,7 @@ fn op_fits_at(geometry: Geometry, op: Op, when: When) -> bool
     if matches!(op, Op::Release { .. }) && !may_release(when) {
         return false;
     }
-    op_fits(geometry, op)
+    op.fits(geometry)
 }
 
 /// The place of the first operation that does not fit.
@@ -173,7 +143,7 @@ fn page_fits(geometry: Geometry, least: u32, page: &InitPage) -> bool
     ensures { MatchBool result ((least ≤ page.now.page) × InitPageFits geometry page.now) ((least ≤ page.now.page) × InitPageFits geometry page.now → ⊥) }
 {
     least <= u32::from(page.page.number())
-        && has_page(geometry, page.page)
+        && geometry.has_page(page.page)
         && content_fits(geometry.cells(), page.cells.as_slice())
 }
 

@@ -29,13 +29,6 @@ fn has_lane(version: Version) -> bool
     matches!(version, Version::Two)
 }
 
-/// Whether the machine has the page.
-fn has_page(geometry: Geometry, page: PageNo) -> bool
-    ensures { IsTrue result → page < geometry.pages }
-{
-    u32::from(page.number()) < geometry.pages()
-}
-
 /// Whether the virtual processor may be.
 fn may_be(vcpu: u8) -> bool
     ensures { IsTrue result → vcpu < 64 }
@@ -63,7 +56,7 @@ fn has_place(geometry: Geometry, vcpu: u8, page: PageNo, cell: u16) -> bool
     ensures page { IsTrue result → page < geometry.pages }
     ensures cell { IsTrue result → cell < geometry.cells }
 {
-    may_be(vcpu) && has_page(geometry, page) && u32::from(cell) < geometry.cells()
+    may_be(vcpu) && geometry.has_page(page) && u32::from(cell) < geometry.cells()
 }
 
 fn guest_fits(geometry: Geometry, rec: GuestRec) -> bool
@@ -82,8 +75,8 @@ fn guest_fits(geometry: Geometry, rec: GuestRec) -> bool
             cell,
             value: _,
         } => has_place(geometry, vcpu, page, cell),
-        GuestRec::Release { vcpu, page } => may_be(vcpu) && has_page(geometry, page),
-        GuestRec::Miss { vcpu, page } => may_be(vcpu) && has_page(geometry, page),
+        GuestRec::Release { vcpu, page } => may_be(vcpu) && geometry.has_page(page),
+        GuestRec::Miss { vcpu, page } => may_be(vcpu) && geometry.has_page(page),
         GuestRec::Halt => true,
         GuestRec::Resume { ready } => is_number(ready),
         GuestRec::See { placement } => is_number(placement),
@@ -97,7 +90,7 @@ fn source_fits(geometry: Geometry, rec: &SourceRec) -> bool
         SourceRec::Halted { halt } => is_number(*halt),
         SourceRec::State | SourceRec::Done => true,
         SourceRec::Send { page, contents } => {
-            has_page(geometry, *page) && has_content(geometry, contents)
+            geometry.has_page(*page) && has_content(geometry, contents)
         }
         SourceRec::Again { sending } => is_number(*sending),
         SourceRec::Ask { up } => is_number(*up),
@@ -130,13 +123,13 @@ fn pager_fits(version: Version, geometry: Geometry, rec: &PagerRec) -> bool
         PagerRec::Ready | PagerRec::All => true,
         PagerRec::Fault { miss } => is_number(*miss),
         PagerRec::Join { want } => is_number(*want),
-        PagerRec::Want { page } => has_page(geometry, *page),
+        PagerRec::Want { page } => geometry.has_page(*page),
         PagerRec::Place {
             page,
             got,
             contents,
-        } => has_page(geometry, *page) && is_number(*got) && has_content(geometry, contents),
-        PagerRec::Zero { page } => has_page(geometry, *page),
+        } => geometry.has_page(*page) && is_number(*got) && has_content(geometry, contents),
+        PagerRec::Zero { page } => geometry.has_page(*page),
         PagerRec::Skip { got } => is_number(*got),
     }
 }

@@ -1,6 +1,6 @@
 //! The thread of a virtual processor.
 
-ghost use Rattle.std.specs.Prelude.{◌≢◌, ◌<◌, MatchBool};
+ghost use Rattle.std.specs.Prelude.{◌≢◌};
 ghost use Rattle.migration_events.specs.Ops.{OpFits};
 ghost use Rattle.guest_book.specs.Books.{part_of as guest_of};
 ghost use Rattle.target_book.specs.Kept.{geometry_of, part_of as target_of};
@@ -14,33 +14,10 @@ use guest_book::GuestBook;
 use guest_script::Vcpu;
 use host_checks::{Answered, Transcript};
 use migration_events::Op;
-use migration_types::{Geometry, PageNo, Seq};
+use migration_types::Seq;
 use std::alloc::Global;
 use std::sync::Wait;
 use target_side::{Access, TargetBook};
-
-/// Whether the machine has the page.
-fn has_page(geometry: Geometry, page: PageNo) -> bool
-    ensures { MatchBool result (page < geometry.pages) (page < geometry.pages → ⊥) }
-{
-    u32::from(page.number()) < geometry.pages()
-}
-
-/// Whether the machine has the page and the cell of an operation.
-fn fits(geometry: Geometry, op: &Op) -> bool
-    ensures { MatchBool result (OpFits geometry op.now) (OpFits geometry op.now → ⊥) }
-{
-    let op = *op;
-    match op {
-        Op::Read { page, cell } => has_page(geometry, page) && u32::from(cell) < geometry.cells(),
-        Op::Write {
-            page,
-            cell,
-            value: _,
-        } => has_page(geometry, page) && u32::from(cell) < geometry.cells(),
-        Op::Release { page } => has_page(geometry, page),
-    }
-}
 
 /// What came of an operation.
 enum Step {
@@ -59,7 +36,7 @@ fn step_guest(book: &mut GuestBook, vcpu: u8, op: &Op) -> Step
     ensures step { IsGuestStep result vcpu op.now (guest_of book.old) (guest_of book.new) }
     ensures taken { OpFits book.old.frames.geometry op.now → result ≢ Step.Stops Fault.Astray }
 {
-    if !fits(book.geometry(), op) {
+    if !op.fits(book.geometry()) {
         return Step::Stops(Fault::Astray);
     }
     match book.access(vcpu, *op) {
@@ -73,7 +50,7 @@ fn step_target(book: &mut TargetBook, vcpu: u8, op: &Op) -> Step
     ensures step { IsTargetStep result vcpu op.now (target_of book.old) (target_of book.new) }
     ensures taken { OpFits (geometry_of book.old) op.now → result ≢ Step.Stops Fault.Astray }
 {
-    if !fits(book.geometry(), op) {
+    if !op.fits(book.geometry()) {
         return Step::Stops(Fault::Astray);
     }
     match book.access(vcpu, *op) {

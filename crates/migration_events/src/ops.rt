@@ -1,9 +1,9 @@
 //! What a virtual processor does.
 
-ghost use Rattle.std.specs.Prelude.{◌≡◌};
-ghost use Rattle.migration_events.specs.Ops.{page_in};
+ghost use Rattle.std.specs.Prelude.{◌≡◌, ◌<◌, MatchBool};
+ghost use Rattle.migration_events.specs.Ops.{OpFits, page_in};
 
-use migration_types::PageNo;
+use migration_types::{Geometry, PageNo};
 
 /// What a virtual processor does.
 #[derive(Clone, Copy, Debug, PartialEq, Eq)]
@@ -27,4 +27,26 @@ impl Op {
             Op::Release { page } => page,
         }
     }
+
+    /// Whether a machine has its page and its cell.
+    pub fn fits(self, geometry: Geometry) -> bool
+        ensures { MatchBool result (OpFits geometry self) (OpFits geometry self → ⊥) }
+    {
+        match self {
+            Op::Read { page, cell } => has_cell(geometry, page, cell),
+            Op::Write {
+                page,
+                cell,
+                value: _,
+            } => has_cell(geometry, page, cell),
+            Op::Release { page } => geometry.has_page(page),
+        }
+    }
+}
+
+/// Whether a machine has a cell.
+fn has_cell(geometry: Geometry, page: PageNo, cell: u16) -> bool
+    ensures { MatchBool result ((page < geometry.pages) × (cell < geometry.cells)) ((page < geometry.pages) × (cell < geometry.cells) → ⊥) }
+{
+    geometry.has_page(page) && u32::from(cell) < geometry.cells()
 }

@@ -1,8 +1,9 @@
 //! How many pages and cells a machine has.
 
-ghost use Rattle.std.specs.Prelude.{◌≡◌, MatchResult};
+ghost use Rattle.std.specs.Prelude.{◌≡◌, ◌<◌, MatchBool, MatchResult};
 ghost use Rattle.migration_types.specs.Extents.{IsExtent, IsGeometryFault};
 
+use crate::pages::PageNo;
 use std::marker::Model;
 use thiserror::Error;
 
@@ -77,6 +78,13 @@ impl Geometry {
         ensures { result ≡ self.cells }
     {
         self.cells
+    }
+
+    /// Whether the machine has a page.
+    pub fn has_page(self, page: PageNo) -> bool
+        ensures { MatchBool result (page < self.pages) (page < self.pages → ⊥) }
+    {
+        u32::from(page.number()) < self.pages
     }
 
     /// Tells callers that it is within the limits.
