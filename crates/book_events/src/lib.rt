@@ -4,11 +4,13 @@
 
 mod came;
 mod halting;
+mod logs;
 mod paging;
 mod sending;
 
 pub use came::Came;
 pub use halting::halt;
+pub use logs::logs_of;
 pub use migration_events::EventFault;
 pub use paging::{pager_deliver, pager_fault, pager_flush, pager_pop, pager_pull, pager_tick};
 pub use sending::{push, serve, source_tick};

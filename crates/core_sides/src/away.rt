@@ -12,6 +12,7 @@ use crate::CoreFault;
 use crate::copies::copies;
 use crate::left::Left;
 use active_push::SourceBook;
+use book_events::logs_of;
 use guest_script::Script;
 use link_book::LinkBook;
 use migration_events::{Direction, Event, Fate};
@@ -261,14 +262,7 @@ impl<'a> Away<'a> {
         } = self;
         let geometry = source.geometry();
         let (guest, _) = target.into_parts();
-        let (link, lane) = link.into_logs();
-        let logs = Logs {
-            guest: Seq::from_vec(guest),
-            source: Seq::from_vec(source.into_log()),
-            link: Seq::from_vec(link),
-            lane: Seq::from_vec(lane),
-            pager: Seq::from_vec(pager.into_log()),
-        };
+        let logs = logs_of(guest, source, link, pager);
         Ok(Session::new(script.version(), geometry, init, logs))
     }
 

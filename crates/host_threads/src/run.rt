@@ -23,12 +23,12 @@ use crate::side::TargetSide;
 use crate::source::run_source;
 use crate::vcpu::run_vcpu;
 use crate::way::{NoRelay, Way};
-use active_push::SourceBook;
+use book_events::logs_of;
 use guest_book::GuestBook;
 use guest_script::Script;
 use host_checks::{Migrated, RunFault, Transcript, settle};
 use link_book::LinkBook;
-use migration_types::{GuestRec, Logs, Seq};
+use migration_types::Seq;
 use std::alloc::{AllocError, Global};
 use std::net::{Net, TcpListener, TcpStream};
 use std::sync::{Mutex, Wait};
@@ -96,18 +96,6 @@ fn run_threads<R: Threads + Wait + Sync, G: Gate, L: Relay + Drop>(
         }
     });
     Ok(transcripts)
-}
-
-/// What the books have recorded.
-fn logs_of(guest: Vec<GuestRec>, source: SourceBook, link: LinkBook, pager: PagerBook) -> Logs {
-    let (link, lane) = link.into_logs();
-    Logs {
-        guest: Seq::from_vec(guest),
-        source: Seq::from_vec(source.into_log()),
-        link: Seq::from_vec(link),
-        lane: Seq::from_vec(lane),
-        pager: Seq::from_vec(pager.into_log()),
-    }
 }
 
 /// The checks of what the threads left.
