@@ -10,6 +10,7 @@ ghost use Rattle.cert_check.specs.Verdicts.{IsVerdict};
 ghost use Rattle.cert_check.specs.declared.verdict.Verdict.TheVariants.{Yes};
 ghost use Rattle.migration_model.specs.Promise.{HasEachOwed};
 ghost use Rattle.host_checks.specs.Outcomes.{AreOfScript, AreOfLog, IsDone, IsFlatStore, IsRunFault};
+ghost use Rattle.host_threads.specs.Runs.{HasMigrated};
 
 use crate::bell::{Bell, Fault};
 use crate::carry::Echo;
@@ -106,16 +107,7 @@ fn checked<R: Threads + Sync>(
     shared: Shared,
     transcripts: Vec<Transcript>,
 ) -> Result<Migrated, RunFault>
-    ensures version { IfOk result (λ m. m.session.version ≡ script.now.version) }
-    ensures geometry { IfOk result (λ m. m.session.geometry ≡ script.now.geometry) }
-    ensures init { IfOk result (λ m. m.session.init ≡ script.now.init) }
-    ensures checked { IfOk result (λ m. IsVerdict m.session m.cert Yes) }
-    ensures safe { IfOk result (λ m. IsSafe m.session) }
-    ensures operations { IfOk result (λ m. AreOfScript script.now.vcpus m.transcripts) }
-    ensures answers { IfOk result (λ m. AreOfLog m.session.guest m.transcripts) }
-    ensures done { IfOk result (λ m. IsDone m.session) }
-    ensures owed { IfOk result (λ m. HasEachOwed m.session (spelled m.cert.runs)) }
-    ensures store { IfOk result (λ m. IsFlatStore m.session m.store) }
+    ensures whole { IfOk result (HasMigrated script.now) }
     ensures refused { IfErr result IsRunFault }
 {
     let Shared {
@@ -150,16 +142,7 @@ fn run<R: Threads + Wait + Sync, G: Gate, L: Relay + Drop>(
     gate: &G,
     way: Way<L>,
 ) -> Result<Migrated, RunFault>
-    ensures version { IfOk result (λ m. m.session.version ≡ script.now.version) }
-    ensures geometry { IfOk result (λ m. m.session.geometry ≡ script.now.geometry) }
-    ensures init { IfOk result (λ m. m.session.init ≡ script.now.init) }
-    ensures checked { IfOk result (λ m. IsVerdict m.session m.cert Yes) }
-    ensures safe { IfOk result (λ m. IsSafe m.session) }
-    ensures operations { IfOk result (λ m. AreOfScript script.now.vcpus m.transcripts) }
-    ensures answers { IfOk result (λ m. AreOfLog m.session.guest m.transcripts) }
-    ensures done { IfOk result (λ m. IsDone m.session) }
-    ensures owed { IfOk result (λ m. HasEachOwed m.session (spelled m.cert.runs)) }
-    ensures store { IfOk result (λ m. IsFlatStore m.session m.store) }
+    ensures whole { IfOk result (HasMigrated script.now) }
     ensures refused { IfErr result IsRunFault }
 {
     let Ok(shared) = books_of(alloc, script) else {
