@@ -1,5 +1,5 @@
 -- What is told of a session, by the report on it.
-use Rattle.std.specs.Prelude.{◌≡◌, ℕ, ◌<◌, List, length, MatchOption, Option, Some, slice_get, slice_index}
+use Rattle.std.specs.Prelude.{◌≡◌, ℕ, ◌<◌, Bool, true, false, not, ◌&&◌, nat_le, is_some, List, length, MatchOption, Option, Some, None, slice_get, slice_index}
 use Rattle.migration_types.specs.declared.records.LogName.{LogName}
 use Rattle.migration_types.specs.declared.records.GuestRec.TheVariants.{Read}
 use Rattle.migration_types.specs.declared.records.SourceRec.TheVariants.{Send}
@@ -9,7 +9,9 @@ use Rattle.audit_model.specs.declared.reasons.PageReason.{PageReason}
 use Rattle.audit_model.specs.declared.reasons.PageReason.TheVariants.{Read as WrongRead, Early, Given, Stale, Twice, Altered, Unfit, Over}
 use Rattle.audit_model.specs.Flat.{flat, at_halt}
 use Rattle.audit_model.specs.FirstFault.{IsFirstFault, IsFirstPageFault}
-use Rattle.page_facts.specs.Judged.{is_late_touch}
+use Rattle.audit_model.specs.Shape.{is_send_of, is_placement_of}
+use Rattle.page_facts.specs.declared.findings.Findings.{Findings}
+use Rattle.page_facts.specs.Judged.{is_late_touch, releases_at}
 use Rattle.page_facts.specs.PageFaults.{page_at}
 use Rattle.page_facts.specs.Tables.{first_before}
 use Rattle.audit_report.specs.declared.report.Report.{Report}
@@ -23,6 +25,9 @@ use Rattle.session_story.specs.declared.looks.Look.{Look}
 use Rattle.session_story.specs.declared.values.Held.{Held}
 use Rattle.session_story.specs.declared.faults.Detail.{Detail}
 use Rattle.session_story.specs.declared.faults.Detail.TheVariants.{Instead, Seen, Other, Plain}
+use Rattle.session_story.specs.declared.faults.Wrong.{Wrong}
+use Rattle.session_story.specs.declared.faults.Cause.{Cause}
+use Rattle.session_story.specs.declared.faults.Cause.TheVariants.{Sent, Placed, Unplaced}
 use Rattle.session_story.specs.declared.faults.FaultStory.{FaultStory}
 use Rattle.session_story.specs.declared.shapes.ShapeStory.{ShapeStory}
 use Rattle.session_story.specs.declared.explaining.Explanation.{Explanation}
@@ -52,6 +57,68 @@ IsDetail s Twice log n page Plain = Unit {0}
 IsDetail s Unfit log n page Plain = Unit {0}
 IsDetail s reason log n page detail = ⊥
 
+-- the first `send` of the page has other contents than the page has at the halt, at this cell first
+pub record IsWrongSend (s : Recorded) (page : ℕ) (w : Wrong) : Type 0 where
+  pub content : List ℕ
+  pub is_first : first_before (λ m. is_send_of page) s.source (length s.source) ≡ Some w.place
+  pub sends : slice_get s.source w.place ≡ Some (Send page content)
+  pub other : IsOther s page content w.held
+
+-- the first placement of the page is a `place` with other contents than the page has at the halt, at this cell first
+pub record IsWrongPlacement (s : Recorded) (page : ℕ) (w : Wrong) : Type 0 where
+  pub got : ℕ
+  pub content : List ℕ
+  pub is_first : first_before (λ m. is_placement_of page) s.pager (length s.pager) ≡ Some w.place
+  pub places : slice_get s.pager w.place ≡ Some (Place page got content)
+  pub other : IsOther s page content w.held
+
+-- there is no such `send`, and no such placement
+abbrev pub IsSentRight : Recorded → ℕ → Type 0
+IsSentRight s page = (w : Wrong) → IsWrongSend s page w → ⊥
+
+abbrev pub IsPlacedRight : Recorded → ℕ → Type 0
+IsPlacedRight s page = (w : Wrong) → IsWrongPlacement s page w → ⊥
+
+-- the page is never placed, and its first use at the target, which makes it no zeros, needs it
+abbrev pub unplaced : Option ℕ → Option ℕ → Bool → Bool
+unplaced placement touch releases = not (is_some placement) && is_some touch && not releases
+
+abbrev pub is_unplaced : Findings → Bool
+is_unplaced f = unplaced f.placement f.touch f.releases
+
+-- the page's first use at the target
+abbrev pub first_touch : Recorded → ℕ → Option ℕ
+first_touch s page = first_before (is_late_touch s page) s.guest (length s.guest)
+
+abbrev pub IsUnplaced : Recorded → ℕ → Type 0
+IsUnplaced s page = unplaced (first_before (λ m. is_placement_of page) s.pager (length s.pager)) (first_touch s page) (releases_at s (first_touch s page)) ≡ true
+
+-- What went wrong with a page first: its sending; where that is right its placement, whose contents are then not those
+-- that were sent; or that it has none.
+abbrev pub IsWrong : Recorded → ℕ → Cause → Type 0
+IsWrong s page (Sent w) = IsWrongSend s page w
+IsWrong s page (Placed w) = IsSentRight s page × IsWrongPlacement s page w
+IsWrong s page Unplaced = IsSentRight s page × IsUnplaced s page
+
+-- whether the first use, if there is one, comes no later than guest record n
+abbrev pub is_used_by : Option ℕ → ℕ → Bool
+is_used_by None n = false
+is_used_by (Some first) n = nat_le first n
+
+abbrev pub is_read : PageReason → Bool
+is_read WrongRead = true
+is_read _ = false
+
+-- it is a wrong read at the target, and this went wrong with its page first
+pub record IsCause (s : Recorded) (reason : PageReason) (n page : ℕ) (c : Cause) : Type 0 where
+  pub reads : is_read reason ≡ true
+  pub is_late : is_used_by (first_touch s page) n ≡ true
+  pub wrong : IsWrong s page c
+
+-- the cause that is told, or there is none
+abbrev pub IsToldCause : Recorded → PageReason → ℕ → ℕ → Option Cause → Type 0
+IsToldCause s reason n page cause = MatchOption cause ((c : Cause) → IsCause s reason n page c → ⊥) (IsCause s reason n page)
+
 -- the session's first fault of a page, at this line, with its page's story
 pub record IsFaultStory (s : Recorded) (line : ℕ) (reason : PageReason) (f : FaultStory) : Type 0 where
   pub is_line : line ≡ line_of s (f.log, f.place)
@@ -61,6 +128,7 @@ pub record IsFaultStory (s : Recorded) (line : ℕ) (reason : PageReason) (f : F
   pub page : IsPageStory s f.page.page f.page
   pub handover : IsHandover s f.handover
   pub detail : IsDetail s f.reason f.log f.place f.page.page f.detail
+  pub cause : IsToldCause s f.reason f.place f.page.page f.cause
 
 -- the first record that has not the right shape, and what was of its kind before
 pub record IsShapeStory (s : Recorded) (fault : ShapeFault) (t : ShapeStory) : Type 0 where

@@ -1,12 +1,12 @@
 //! The story of a faulty record.
 
-ghost use Rattle.std.specs.Prelude.{◌≡◌, ◌<◌, ℕ, IfOk};
+ghost use Rattle.std.specs.Prelude.{◌≡◌, ◌<◌, ℕ, IfOk, MatchOption};
 ghost use Rattle.migration_types.specs.Receipts.{Name};
 ghost use Rattle.migration_types.specs.Sessions.{log_length, line_of};
 ghost use Rattle.audit_model.specs.FirstFault.{IsFirstPageFault};
 ghost use Rattle.page_facts.specs.PageFaults.{page_at};
 ghost use Rattle.session_story.specs.Pages.{IsPageStory};
-ghost use Rattle.session_story.specs.Explained.{IsDetail, IsFaultStory, IsLookBeforeTouch};
+ghost use Rattle.session_story.specs.Explained.{IsDetail, IsFaultStory, IsLookBeforeTouch, IsPlacedRight, IsSentRight, IsToldCause, IsWrongPlacement, IsWrongSend, is_read, is_unplaced, is_used_by};
 
 use crate::lines::record_at;
 use crate::looks::{Look, greatest_look};
@@ -31,6 +31,26 @@ pub enum Detail {
     Plain,
 }
 
+/// Contents of a page that are not those that it had at the halt.
+#[derive(Clone, Copy, Debug, PartialEq, Eq)]
+pub struct Wrong {
+    /// The number of the record that has them.
+    pub place: u32,
+    /// The first cell that is another, with what the page has there at the halt.
+    pub held: Held,
+}
+
+/// What went wrong with a page before the guest read it at the target.
+#[derive(Clone, Copy, Debug, PartialEq, Eq)]
+pub enum Cause {
+    /// The source sent it with other contents than it had at the halt.
+    Sent(Wrong),
+    /// It was sent with the contents that it had at the halt, and the pager placed it with others.
+    Placed(Wrong),
+    /// The pager never placed it.
+    Unplaced,
+}
+
 /// The first fault of a session, and the story of its page.
 #[derive(Clone, Copy, Debug, PartialEq, Eq)]
 pub struct FaultStory {
@@ -42,6 +62,8 @@ pub struct FaultStory {
     pub page: PageStory,
     pub handover: Handover,
     pub detail: Detail,
+    /// Of a wrong read at the target: what went wrong with its page before, if anything did.
+    pub cause: Option<Cause>,
 }
 
 /// The page that a record is of.
@@ -133,6 +155,113 @@ fn detail_of(
     }
 }
 
+/// Whether it is a wrong read.
+fn is_read(reason: PageReason) -> bool
+    ensures { result ≡ is_read reason }
+{
+    match reason {
+        PageReason::Read => true,
+        PageReason::Early
+        | PageReason::Given
+        | PageReason::Stale
+        | PageReason::Twice
+        | PageReason::Altered
+        | PageReason::Unfit
+        | PageReason::Over => false,
+    }
+}
+
+/// Whether the guest has used a page at the target once this record of it is done.
+fn is_used_by(page: &PageStory, place: u32) -> bool
+    ensures { result ≡ is_used_by page.now.found.touch place }
+{
+    match page.found.touch {
+        Some(first) => first <= place,
+        None => false,
+    }
+}
+
+/// The `send` of a page, where it has other contents than the page has at the halt.
+fn wrong_send(
+    alloc: Global,
+    session: &Session,
+    page: &PageStory,
+) -> Result<Option<Wrong>, AllocError>
+    requires page { page.now.page < session.now.geometry.pages }
+    requires story { IsPageStory session.now page.now.page page.now }
+    ensures { IfOk result (λ wrong. MatchOption wrong (IsSentRight session.now page.now.page) (IsWrongSend session.now page.now.page)) }
+{
+    session.keeps_limits();
+    let Some(place) = page.sent else {
+        return Ok(None);
+    };
+    let Some(SourceRec::Send { contents, .. }) = session.source().get(place as usize) else {
+        return Ok(None);
+    };
+    match other_of(alloc, session, page.page, contents.as_slice())? {
+        Some(held) => Ok(Some(Wrong { place, held })),
+        None => Ok(None),
+    }
+}
+
+/// The placement of a page, where it has other contents than the page has at the halt.
+fn wrong_placement(
+    alloc: Global,
+    session: &Session,
+    page: &PageStory,
+) -> Result<Option<Wrong>, AllocError>
+    requires page { page.now.page < session.now.geometry.pages }
+    requires story { IsPageStory session.now page.now.page page.now }
+    ensures { IfOk result (λ wrong. MatchOption wrong (IsPlacedRight session.now page.now.page) (IsWrongPlacement session.now page.now.page)) }
+{
+    session.keeps_limits();
+    let Some(place) = page.found.placement else {
+        return Ok(None);
+    };
+    let Some(PagerRec::Place { contents, .. }) = session.pager().get(place as usize) else {
+        return Ok(None);
+    };
+    match other_of(alloc, session, page.page, contents.as_slice())? {
+        Some(held) => Ok(Some(Wrong { place, held })),
+        None => Ok(None),
+    }
+}
+
+/// Whether the pager never places a page that the guest uses at the target, where its first use is no release.
+fn is_unplaced(page: &PageStory) -> bool
+    ensures { result ≡ is_unplaced page.now.found }
+{
+    page.found.placement.is_none() && page.found.touch.is_some() && !page.found.releases
+}
+
+/// What went wrong with the page of a wrong read at the target before it: the first of what may have.
+fn cause_of(
+    alloc: Global,
+    session: &Session,
+    reason: PageReason,
+    place: u32,
+    page: &PageStory,
+) -> Result<Option<Cause>, AllocError>
+    requires page { page.now.page < session.now.geometry.pages }
+    requires story { IsPageStory session.now page.now.page page.now }
+    ensures { IfOk result (IsToldCause session.now reason place page.now.page) }
+{
+    if !is_read(reason) || !is_used_by(page, place) {
+        return Ok(None);
+    }
+    if let Some(wrong) = wrong_send(alloc, session, page)? {
+        return Ok(Some(Cause::Sent(wrong)));
+    }
+    if let Some(wrong) = wrong_placement(alloc, session, page)? {
+        return Ok(Some(Cause::Placed(wrong)));
+    }
+    if is_unplaced(page) {
+        Ok(Some(Cause::Unplaced))
+    } else {
+        Ok(None)
+    }
+}
+
 /// The first fault of a session, which stands at this line, with the story of its page. Takes a few passes over each
 /// log, and as much memory as judging does and one machine more, which is the only error.
 pub(crate) fn fault_at(
@@ -153,6 +282,7 @@ pub(crate) fn fault_at(
     };
     let story = story_of(alloc, session, page)?;
     let detail = detail_of(alloc, session, reason, log, place, &story)?;
+    let cause = cause_of(alloc, session, reason, place, &story)?;
     Ok(FaultStory {
         log,
         place,
@@ -160,5 +290,6 @@ pub(crate) fn fault_at(
         page: story,
         handover: handover_of(session),
         detail,
+        cause,
     })
 }

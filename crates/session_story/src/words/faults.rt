@@ -2,7 +2,7 @@
 
 use super::has_lane;
 use super::records::{push_place, push_record};
-use crate::faults::{Detail, FaultStory};
+use crate::faults::{Cause, Detail, FaultStory};
 use crate::looks::Look;
 use crate::pages::PageStory;
 use crate::values::Held;
@@ -224,7 +224,11 @@ fn push_plain(out: &mut String, session: &Session, fault: &FaultStory) -> Result
             }
             out.push_str(".\n")
         }
-        _ => Ok(()),
+        PageReason::Read
+        | PageReason::Early
+        | PageReason::Stale
+        | PageReason::Altered
+        | PageReason::Over => Ok(()),
     }
 }
 
@@ -240,7 +244,9 @@ fn push_wrong(out: &mut String, session: &Session, fault: &FaultStory) -> Result
             LogName::Source => push_sent(out, session, fault.place, held),
             _ => push_placed(out, session, fault.place, held),
         },
-        _ => push_plain(out, session, fault),
+        Detail::Instead(None) | Detail::Other(None) | Detail::Plain => {
+            push_plain(out, session, fault)
+        }
     }
 }
 
@@ -370,17 +376,42 @@ fn push_story(out: &mut String, session: &Session, fault: &FaultStory) -> Result
 
 /// Adds how an order of the records shows the fault.
 fn push_order(out: &mut String, fault: &FaultStory) -> Result<(), AllocError> {
-    match (fault.reason, fault.page.found.placement) {
-        (PageReason::Early, Some(_)) => out.push_str(
-            "The order that the audit shows puts the placement, and all that has to come after it, behind this use, which then finds no page.\n",
-        ),
-        (PageReason::Early, None) => {
-            out.push_str("In every order of the records the use finds no page.\n")
+    out.push_str(match fault.reason {
+        PageReason::Early => match fault.page.found.placement {
+            Some(_) => {
+                "The order that the audit shows puts the placement, and all that has to come after it, behind this use, which then finds no page.\n"
+            }
+            None => "In every order of the records the use finds no page.\n",
+        },
+        PageReason::Over => {
+            "The order that the audit shows puts the placement, and all that has to come after it, behind the release, and so over the zeros.\n"
         }
-        (PageReason::Over, _) => out.push_str(
-            "The order that the audit shows puts the placement, and all that has to come after it, behind the release, and so over the zeros.\n",
-        ),
-        _ => out.push_str("It is wrong in every order of the records.\n"),
+        PageReason::Read
+        | PageReason::Given
+        | PageReason::Stale
+        | PageReason::Twice
+        | PageReason::Altered
+        | PageReason::Unfit => "It is wrong in every order of the records.\n",
+    })
+}
+
+/// Adds what went wrong with a page before the guest read it.
+fn push_cause(out: &mut String, session: &Session, cause: &Cause) -> Result<(), AllocError> {
+    out.push_str("First the page went wrong: ")?;
+    match cause {
+        Cause::Sent(wrong) => {
+            push_record(out, session, LogName::Source, wrong.place)?;
+            out.push_str(".\n")?;
+            push_sent(out, session, wrong.place, &wrong.held)
+        }
+        Cause::Placed(wrong) => {
+            push_record(out, session, LogName::Pager, wrong.place)?;
+            out.push_str(".\n")?;
+            push_placed(out, session, wrong.place, &wrong.held)
+        }
+        Cause::Unplaced => {
+            out.push_str("the pager never places it, and the guest uses it at the target.\n")
+        }
     }
 }
 
@@ -390,6 +421,9 @@ pub(crate) fn push_fault(
     session: &Session,
     fault: &FaultStory,
 ) -> Result<(), AllocError> {
+    if let Some(cause) = &fault.cause {
+        push_cause(out, session, cause)?;
+    }
     out.push_str("Wrong is ")?;
     push_record(out, session, fault.log, fault.place)?;
     out.push_str(".\n")?;

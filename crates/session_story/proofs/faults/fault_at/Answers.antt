@@ -75,4 +75,5 @@ returns c =
       page = subst (λ (p : ℕ). IsPageStory s p c.in_ok-story.story) (sym page.page_is) page;
       handover = c.handover_of.ensures;
       detail = c.in_ok-detail.ensures;
+      cause = c.in_ok-cause.ensures;
     }
