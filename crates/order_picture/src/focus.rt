@@ -85,13 +85,19 @@ fn first_placement(session: &Session, page: PageNo) -> Option<Name> {
 
 /// Whether the report is of a placement over a release.
 fn is_over(report: &Report) -> bool {
-    matches!(
-        report,
-        Report::Faulty {
-            reason: PageReason::Over,
-            ..
-        }
-    )
+    match report {
+        Report::Faulty { reason, .. } => match reason {
+            PageReason::Over => true,
+            PageReason::Read
+            | PageReason::Early
+            | PageReason::Given
+            | PageReason::Stale
+            | PageReason::Twice
+            | PageReason::Altered
+            | PageReason::Unfit => false,
+        },
+        Report::Shape(_) | Report::Knot(_) | Report::Clean(_) => false,
+    }
 }
 
 /// The guest's first release of a page at the target.
