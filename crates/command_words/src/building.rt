@@ -25,7 +25,7 @@ Status:
   1  another answer
   2  words that are no command
   3  a file, a link or an output that failed
-  4  want of memory";
+  4  out of memory";
 
 // The command with one more word that has to be there.
 fn with_word<'a>(

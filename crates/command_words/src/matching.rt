@@ -94,7 +94,7 @@ fn job_in<'a>(matches: &ArgMatches<'a>) -> Option<Job<'a>>
 }
 
 /// What the words ask for, of which the first is the program's own name. The error is clap's: it tells why the words are
-/// no command, or is the help or the version that was asked for, or want of memory.
+/// no command, or is the help or the version that was asked for, or that memory ran out.
 pub fn read_words<'a>(alloc: Global, words: &'a [&'a str]) -> Result<Option<Job<'a>>, clap::Error>
     ensures ok { IfOk result (λ r. option_map asked_names r ≡ asked (word_texts words.entry.now)) }
     ensures err { IfErr result (λ e. takes postcopy_words (word_texts words.entry.now) ≡ true → kind_of e ≡ ErrorKind.OutOfMemory) }

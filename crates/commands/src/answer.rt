@@ -21,7 +21,7 @@ pub const USAGE: u8 = 2;
 /// The status of a text that was not read, of a link that failed, or of an output that was not written.
 pub const FAILED: u8 = 3;
 
-/// The status of want of memory.
+/// The status where memory ran out.
 pub const MEMORY: u8 = 4;
 
 /// What a command writes, and its status.

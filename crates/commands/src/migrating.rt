@@ -42,7 +42,7 @@ fn carried<R: Threads + Wait + Sync + Net<Listener = TcpListener, Stream = TcpSt
     }
 }
 
-/// The answer that a migration is: the text of its session, and behind it that of its certificate.
+/// The answer that a migration is: the text of its session, and after it that of its certificate.
 fn certified(alloc: Global, migrated: &Migrated) -> Result<Answer, AllocError>
     ensures { IfOk result (λ answer. Says answer (certified_text migrated.now.session migrated.now.cert) 0) }
 {

@@ -210,7 +210,7 @@ fn refuse<O: Write, E: Write>(error: clap::Error, output: &mut O, errors: &mut E
 /// The first of the words is the program's own name; with no other it checks the two texts of the input. The status is
 /// 0 where all is well or help was asked for, 1 for another answer, 2 where the words are no command, 3 where a text was
 /// not read whole, has more than 268,435,456 bytes or takes too many reads, where a migration's link failed, or the output
-/// was not written, and 4 for want of memory. At 2 to 4 the errors tell why. The texts are read in the order of the words,
+/// was not written, and 4 where memory ran out. At 2 to 4 the errors tell why. The texts are read in the order of the words,
 /// and both before an answer is sought.
 ///
 /// The handle starts and joins threads, and opens the connection of a migration over TCP. Nothing is promised of when a

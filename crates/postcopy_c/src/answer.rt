@@ -49,7 +49,7 @@ fn misshapen(fault: &ShapeFault, text_len: usize) -> PostcopyAnswer
     }
 }
 
-/// The answer for want of memory.
+/// The answer where memory ran out.
 pub(crate) fn out_of_memory() -> PostcopyAnswer
     ensures { result ≡ no_memory }
 {

@@ -84,7 +84,7 @@ static TOLD: [&str; 14] = [
     "1  another answer",
     "2  words that are no command",
     "3  a file, a link or an output that failed",
-    "4  want of memory",
+    "4  out of memory",
     "A file named - is standard input",
     "postcopy check session cert",
     "postcopy certify session",
