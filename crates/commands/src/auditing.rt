@@ -1,27 +1,18 @@
 //! The report on a session, or its certificate, as a text and a status.
 
-ghost use Rattle.std.specs.Prelude.{◌≡◌, ℕ, List, IfOk};
+ghost use Rattle.std.specs.Prelude.{ℕ, List, IfOk};
 ghost use Rattle.text_lines.specs.Answer.{IsRead};
 ghost use Rattle.session_log.specs.Grammar.{SpellsSession};
 ghost use Rattle.audit_report.specs.Texts.{AuditedFits, IsAudited};
 ghost use Rattle.audit_report.specs.AuditedText.{audited_text};
 ghost use Rattle.commands.specs.Answers.{IsAuditAnswer, Says, audited_status};
 
-use crate::answer::{ACCEPTED, Answer, REFUSED};
-use audit_report::{Audited, Report, Wanted, audit, print_audited};
+use crate::answer::Answer;
+use crate::status::audited_status;
+use audit_report::{Audited, Wanted, audit, print_audited};
 use migration_types::Session;
 use std::alloc::{AllocError, Global};
 use std::thread::Threads;
-
-/// The status of an audit.
-fn status_of(audited: &Audited) -> u8
-    ensures { result ≡ audited_status audited.now }
-{
-    match audited {
-        Audited::Reported(Report::Clean(_)) => ACCEPTED,
-        _ => REFUSED,
-    }
-}
 
 /// What is wanted of an audit, with its status.
 fn told(alloc: Global, audited: &Audited, wanted: Wanted) -> Result<Answer, AllocError>
@@ -31,7 +22,7 @@ fn told(alloc: Global, audited: &Audited, wanted: Wanted) -> Result<Answer, Allo
     let text = print_audited(alloc, audited, wanted)?;
     Ok(Answer {
         text,
-        status: status_of(audited),
+        status: audited_status(audited),
     })
 }
 

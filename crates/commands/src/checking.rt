@@ -4,25 +4,16 @@ ghost use Rattle.std.specs.Prelude.{◌≡◌, ◌++◌, ℕ, List, IfOk, OnOk};
 ghost use Rattle.text_lines.specs.Answer.{IsRead};
 ghost use Rattle.session_log.specs.Grammar.{SpellsSession};
 ghost use Rattle.cert_text.specs.Grammar.{SpellsCert};
-ghost use Rattle.commands.specs.Answers.{IsVerdictAnswer, verdict_line, verdict_status};
+ghost use Rattle.commands.specs.Answers.{IsVerdictAnswer, verdict_line};
 
-use crate::answer::{ACCEPTED, Answer, REFUSED};
+use crate::answer::Answer;
+use crate::status::verdict_status;
 use audit_report::push_shape;
 use cert_check::{Verdict, check_read};
 use migration_types::{Cert, Session};
 use std::alloc::{AllocError, Global};
 use std::thread::Threads;
 use text_lines::{push_keyed, push_line};
-
-/// The status of a verdict.
-pub fn status_of(verdict: Verdict) -> u8
-    ensures { result ≡ verdict_status verdict }
-{
-    match verdict {
-        Verdict::Yes => ACCEPTED,
-        _ => REFUSED,
-    }
-}
 
 /// Adds the line of a verdict.
 pub fn push_verdict(out: &mut Vec<u8>, verdict: Verdict) -> Result<(), AllocError>
@@ -53,6 +44,6 @@ pub fn judge_read<R: Threads + Sync>(
     push_verdict(&mut text, verdict)?;
     Ok(Answer {
         text,
-        status: status_of(verdict),
+        status: verdict_status(verdict),
     })
 }

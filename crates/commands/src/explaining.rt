@@ -1,27 +1,17 @@
 //! What happened in a session, as a text and a status.
 
-ghost use Rattle.std.specs.Prelude.{◌≡◌, ℕ, List, IfOk};
+ghost use Rattle.std.specs.Prelude.{ℕ, List, IfOk};
 ghost use Rattle.text_lines.specs.Answer.{IsRead};
 ghost use Rattle.session_log.specs.Grammar.{SpellsSession};
-ghost use Rattle.commands.specs.Answers.{report_status};
 ghost use Rattle.commands.specs.Explained.{IsExplainAnswer, TellsReport};
 
-use crate::answer::{ACCEPTED, Answer, REFUSED};
-use audit_report::{Report, audit};
+use crate::answer::{Answer, REFUSED};
+use crate::status::report_status;
+use audit_report::audit;
 use migration_types::Session;
 use session_story::{print_explained, print_refused};
 use std::alloc::{AllocError, Global};
 use std::thread::Threads;
-
-/// The status of a report.
-fn status_of(report: &Report) -> u8
-    ensures { result ≡ report_status report.now }
-{
-    match report {
-        Report::Clean(_) => ACCEPTED,
-        _ => REFUSED,
-    }
-}
 
 /// What happened in a session.
 fn explained<R: Threads + Sync>(
@@ -35,7 +25,7 @@ fn explained<R: Threads + Sync>(
     let text = print_explained(alloc, session, &report)?;
     Ok(Answer {
         text,
-        status: status_of(&report),
+        status: report_status(&report),
     })
 }
 

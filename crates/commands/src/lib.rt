@@ -13,12 +13,14 @@ mod naming;
 mod program;
 mod reading;
 mod replaying;
+mod status;
 mod stepping;
 mod taking;
 
 pub use answer::{Fault, USAGE, tell};
-pub use checking::{push_verdict, status_of};
+pub use checking::push_verdict;
 pub use migrating::migrations_are_judged_yes;
 pub use program::run;
 pub use reading::TextSource;
+pub use status::verdict_status;
 pub use stepping::recorded_sessions_are_clean;

@@ -5,9 +5,10 @@ ghost use Rattle.text_lines.specs.Answer.{IsRead};
 ghost use Rattle.session_log.specs.Grammar.{SpellsSession};
 ghost use Rattle.cert_text.specs.Runs.{SpellsRuns};
 ghost use Rattle.audit_model.specs.Shape.{IsRightShape};
-ghost use Rattle.commands.specs.Replayed.{IsAlong, IsOutcome, IsReplayAnswer, IsReplayed, outcome_line, outcome_status};
+ghost use Rattle.commands.specs.Replayed.{IsAlong, IsOutcome, IsReplayAnswer, IsReplayed, outcome_line};
 
-use crate::answer::{ACCEPTED, Answer, REFUSED};
+use crate::answer::Answer;
+use crate::status::outcome_status;
 use audit_report::push_shape;
 use cert_check::{ShapeFault, shape};
 use merge_runs::{MergeFault, replay};
@@ -100,16 +101,6 @@ fn push_outcome(out: &mut Vec<u8>, outcome: Outcome) -> Result<(), AllocError>
     }
 }
 
-/// The status of an outcome.
-fn status_of(outcome: Outcome) -> u8
-    ensures { result ≡ outcome_status outcome }
-{
-    match outcome {
-        Outcome::Safe => ACCEPTED,
-        _ => REFUSED,
-    }
-}
-
 /// What becomes of the replay of a session along runs, by what was read of their texts.
 pub fn replay_read(
     alloc: Global,
@@ -123,6 +114,6 @@ pub fn replay_read(
     push_outcome(&mut text, outcome)?;
     Ok(Answer {
         text,
-        status: status_of(outcome),
+        status: outcome_status(outcome),
     })
 }

@@ -4,7 +4,7 @@ ghost use Rattle.std.specs.Prelude.{◌≡◌, ◌<◌, ◌≤◌};
 
 use audit_model::ShapeReason;
 use cert_check::{ShapeFault, Verdict};
-use commands::{TextSource, push_verdict, run, status_of};
+use commands::{TextSource, push_verdict, run, verdict_status};
 use std::alloc::Global;
 use std::cell::Cell;
 use std::io;
@@ -731,7 +731,7 @@ fn has_line(alloc: Global, verdict: Verdict, line: &[u8]) -> bool {
 // The number of a verdict that has another line or status.
 fn wrong_verdict(alloc: Global) -> Option<usize> {
     for (at, (verdict, line, status)) in LINES.iter().enumerate() {
-        if !has_line(alloc, *verdict, *line) || status_of(*verdict) != *status {
+        if !has_line(alloc, *verdict, *line) || verdict_status(*verdict) != *status {
             return Some(at);
         }
     }

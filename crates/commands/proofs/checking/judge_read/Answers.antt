@@ -7,5 +7,5 @@ returns g c = λ first second session cert. record {
   value = c.in_ok-verdict.verdict;
   is_right = c.in_ok-verdict.ensures first second session cert;
   is_text = c.in_ok-push_verdict.ensures ∙ ap (λ (t : List ℕ). t ++ verdict_line c.in_ok-verdict.verdict) c.new-text.ensures.items;
-  is_status = c.status_of.ensures;
+  is_status = c.verdict_status.ensures;
 }

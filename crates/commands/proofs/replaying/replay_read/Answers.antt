@@ -7,5 +7,5 @@ returns c = λ first second session runs. record {
   value = c.in_ok-outcome.outcome;
   is_right = c.in_ok-outcome.ensures first second session runs;
   is_text = c.in_ok-push_outcome.ensures ∙ ap (λ (t : List ℕ). t ++ outcome_line c.in_ok-outcome.outcome) c.new-text.ensures.items;
-  is_status = c.status_of.ensures;
+  is_status = c.outcome_status.ensures;
 }
