@@ -11,9 +11,6 @@
 
 ghost use Rattle.std.specs.Prelude.{◌≤◌};
 
-#[cfg(test)]
-mod tests;
-
 use commands::{Fault, TextSource, USAGE, run, tell};
 use std::alloc::{AllocError, Global};
 use std::io::{ErrorKind, Write};

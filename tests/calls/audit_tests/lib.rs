@@ -1,0 +1,24 @@
+//! Tests of the crates that judge a session: on sessions of which it is known what they are; and beside the plain
+//! programs, over these and over some thousands of small sessions made at random, the same in each run.
+
+pub mod changes;
+#[cfg(test)]
+mod compared;
+#[cfg(test)]
+mod facts;
+#[cfg(test)]
+mod found;
+pub mod numbers;
+pub mod plain;
+#[cfg(test)]
+mod replays;
+#[cfg(test)]
+mod reports;
+#[cfg(test)]
+mod texts;
+#[cfg(test)]
+mod threads;
+#[cfg(test)]
+mod verdicts;
+#[cfg(test)]
+mod worked;

@@ -1,0 +1,31 @@
+//! Tests of migrations in threads, over links that fail too, and of the core over a full log.
+
+#[cfg(test)]
+mod cores;
+#[cfg(test)]
+mod draws;
+#[cfg(test)]
+mod gates;
+#[cfg(test)]
+mod lanes;
+#[cfg(test)]
+mod relays;
+#[cfg(test)]
+mod releases;
+#[cfg(test)]
+mod runs;
+
+use host_threads::Answered;
+
+/// Whether a transcript's answers are these.
+pub fn are_answers(transcript: &[Answered], answers: &[u64]) -> bool {
+    if transcript.len() != answers.len() {
+        return false;
+    }
+    for k in 0..answers.len() {
+        if transcript[k].answer != answers[k] {
+            return false;
+        }
+    }
+    true
+}

@@ -1,0 +1,744 @@
+//! What the program answers to words, texts and streams that fail.
+
+use audit_model::ShapeReason;
+use cert_check::{ShapeFault, Verdict};
+use commands::{TextSource, push_verdict, run, verdict_status};
+use std::alloc::Global;
+use std::cell::Cell;
+use std::io;
+use std::io::{ErrorKind, Read, Write};
+use std::net::{Net, TcpListener, TcpStream};
+use std::process::Abort;
+use std::sync::Wait;
+use std::thread::Threads;
+use texts::{
+    ACCEPTED_LINE, BOTH, CERT, CLEAN_REPORT, EMPTY_CERT_LINE, EMPTY_SESSION_LINE, HANDOVER,
+    RECORDED, SAFE_RUNS, SCRIPT_AND_EVENTS, SESSION, TEXTS,
+};
+
+mod long;
+mod migrations;
+mod texts;
+mod usage;
+
+// Texts in memory, which count how often they were asked for.
+#[derive(Drop)]
+struct Shelf<'a> {
+    texts: &'a [(&'a str, &'a [u8])],
+    asked: Cell<u32>,
+}
+
+impl<'a> TextSource for Shelf<'a> {
+    type Text = &'a [u8];
+
+    fn text(&self, name: &str) -> io::Result<&'a [u8]> {
+        self.asked.set(self.asked.get().wrapping_add(1));
+        for (title, text) in self.texts {
+            if *title == name {
+                return Ok(*text);
+            }
+        }
+        Err(io::Error::from(ErrorKind::NotFound))
+    }
+}
+
+// Gives a byte a read, and then an error or the end.
+#[derive(Drop)]
+struct Slow<'a> {
+    text: &'a [u8],
+    fails: bool,
+}
+
+impl<'a> Read for Slow<'a> {
+    fn read(&mut self, buf: &mut [u8]) -> io::Result<usize> {
+        match (self.text.split_first(), buf.first_mut()) {
+            (Some((byte, rest)), Some(place)) => {
+                *place = *byte;
+                self.text = rest;
+                Ok(1)
+            }
+            _ if self.fails => Err(io::Error::from(ErrorKind::BrokenPipe)),
+            _ => Ok(0),
+        }
+    }
+}
+
+// Takes nothing.
+#[derive(Drop)]
+struct Full;
+
+impl Write for Full {
+    fn write(&mut self, _buf: &[u8]) -> io::Result<usize> {
+        Err(io::Error::from(ErrorKind::StorageFull))
+    }
+
+    fn flush(&mut self) -> io::Result<()> {
+        Ok(())
+    }
+}
+
+// What a run came to.
+#[derive(Drop)]
+struct Outcome {
+    status: u8,
+    output: Vec<u8>,
+    errors: Vec<u8>,
+    asked: u32,
+}
+
+// Runs the program on these words after its name, over the two texts and an input.
+fn ran_over<
+    R: Threads + Wait + Sync + AllocGlobal + Net<Listener = TcpListener, Stream = TcpStream>,
+    I: Read,
+>(rt: &R, words: &[&str], input: &mut I) -> Outcome {
+    let alloc = rt.alloc();
+    let shelf = Shelf {
+        texts: TEXTS.as_slice(),
+        asked: Cell::new(0),
+    };
+    let mut output = Vec::new(alloc);
+    let mut errors = Vec::new(alloc);
+    let status = run(rt, alloc, words, &shelf, input, &mut output, &mut errors);
+    Outcome {
+        status,
+        output,
+        errors,
+        asked: shelf.asked.get(),
+    }
+}
+
+fn ran<R: Threads + Wait + Sync + AllocGlobal + Net<Listener = TcpListener, Stream = TcpStream>>(
+    rt: &R,
+    words: &[&str],
+    input: &[u8],
+) -> Outcome {
+    let mut input = input;
+    ran_over(rt, words, &mut input)
+}
+
+// Whether a run ended with this status, and wrote this.
+fn is_outcome(found: &Outcome, status: u8, output: &[u8], errors: &[u8]) -> bool {
+    found.status == status && found.output.as_slice() == output && found.errors.as_slice() == errors
+}
+
+// Fails the test where a run on some words is wrong, and names them.
+fn none_is_wrong(rt: &impl Abort, wrong: Option<&[&str]>) {
+    if let Some(words) = wrong {
+        panic!(rt; "at {words:?}");
+    }
+}
+
+// Words, an input, the status, what is written to the output and to the errors, and where it is told how often a text is
+// asked for.
+struct Case(
+    &'static [&'static str],
+    &'static [u8],
+    u8,
+    &'static [u8],
+    &'static [u8],
+    Option<u32>,
+);
+
+// Whether a run is the case's.
+fn is_right<
+    R: Threads + Wait + Sync + AllocGlobal + Net<Listener = TcpListener, Stream = TcpStream>,
+>(rt: &R, case: &Case) -> bool {
+    let found = ran(rt, case.0, case.1);
+    let is_asked_so = match case.5 {
+        Some(asked) => found.asked == asked,
+        None => true,
+    };
+    is_asked_so && is_outcome(&found, case.2, case.3, case.4)
+}
+
+// The words of a case that is wrong.
+fn wrong_case<
+    R: Threads + Wait + Sync + AllocGlobal + Net<Listener = TcpListener, Stream = TcpStream>,
+>(rt: &R, cases: &[Case]) -> Option<&'static [&'static str]> {
+    for case in cases {
+        if !is_right(rt, case) {
+            return Some(case.0);
+        }
+    }
+    None
+}
+
+// Each pair of texts, of which one or both may be the input.
+static VERDICTS: [Case; 10] = [
+    Case(
+        &["postcopy", "check", "session", "cert"],
+        b"",
+        0,
+        ACCEPTED_LINE,
+        b"",
+        None,
+    ),
+    Case(
+        &["postcopy", "check", "-", "cert"],
+        SESSION,
+        0,
+        ACCEPTED_LINE,
+        b"",
+        None,
+    ),
+    Case(
+        &["postcopy", "check", "-", "cert"],
+        b"",
+        1,
+        EMPTY_SESSION_LINE,
+        b"",
+        None,
+    ),
+    Case(
+        &["postcopy", "check", "session", "-"],
+        CERT,
+        0,
+        ACCEPTED_LINE,
+        b"",
+        None,
+    ),
+    Case(
+        &["postcopy", "check", "session", "-"],
+        b"",
+        1,
+        EMPTY_CERT_LINE,
+        b"",
+        None,
+    ),
+    Case(
+        &["postcopy", "check", "-", "-"],
+        BOTH,
+        0,
+        ACCEPTED_LINE,
+        b"",
+        None,
+    ),
+    Case(
+        &["postcopy", "check", "-", "-"],
+        SESSION,
+        1,
+        EMPTY_CERT_LINE,
+        b"",
+        None,
+    ),
+    Case(&["postcopy"], BOTH, 0, ACCEPTED_LINE, b"", None),
+    Case(&["postcopy"], SESSION, 1, EMPTY_CERT_LINE, b"", None),
+    Case(&[], BOTH, 0, ACCEPTED_LINE, b"", None),
+];
+
+#[test]
+fn verdicts(rt: HostRuntime) {
+    none_is_wrong(&rt, wrong_case(&rt, VERDICTS.as_slice()));
+}
+
+// Mergings of sessions.
+static REPLAYS: [Case; 7] = [
+    Case(
+        &["postcopy", "replay", "handover", "broken-runs"],
+        b"",
+        1,
+        b"broken line 13\n",
+        b"",
+        None,
+    ),
+    Case(
+        &["postcopy", "replay", "handover", "safe-runs"],
+        b"",
+        0,
+        b"safe\n",
+        b"",
+        None,
+    ),
+    Case(
+        &["postcopy", "replay", "handover", "few-runs"],
+        b"",
+        1,
+        b"no-merging\n",
+        b"",
+        None,
+    ),
+    Case(
+        &["postcopy", "replay", "handover", "-"],
+        SAFE_RUNS,
+        0,
+        b"safe\n",
+        b"",
+        None,
+    ),
+    Case(
+        &["postcopy", "replay", "-", "-"],
+        HANDOVER,
+        1,
+        b"runs-text line 1\n",
+        b"",
+        None,
+    ),
+    Case(
+        &["postcopy", "replay", "cert", "safe-runs"],
+        b"",
+        1,
+        b"session-text line 1\n",
+        b"",
+        None,
+    ),
+    Case(
+        &["postcopy", "replay", "handover", "cert"],
+        b"",
+        1,
+        b"runs-text line 1\n",
+        b"",
+        None,
+    ),
+];
+
+#[test]
+fn replays(rt: HostRuntime) {
+    none_is_wrong(&rt, wrong_case(&rt, REPLAYS.as_slice()));
+}
+
+// Scripts with events.
+static STEPS: [Case; 4] = [
+    Case(
+        &["postcopy", "steps", "script", "events"],
+        b"",
+        0,
+        RECORDED,
+        b"",
+        Some(2),
+    ),
+    Case(
+        &["postcopy", "steps", "-", "-"],
+        SCRIPT_AND_EVENTS,
+        0,
+        RECORDED,
+        b"",
+        Some(0),
+    ),
+    Case(
+        &["postcopy", "steps", "script", "-"],
+        b"",
+        1,
+        b"events-text line 1\n",
+        b"",
+        None,
+    ),
+    Case(
+        &["postcopy", "steps", "cert", "x"],
+        b"",
+        3,
+        b"",
+        b"file x\n",
+        Some(2),
+    ),
+];
+
+#[test]
+fn steps(rt: HostRuntime) {
+    none_is_wrong(&rt, wrong_case(&rt, STEPS.as_slice()));
+}
+
+// Files that are not there: none is asked for behind one.
+static MISSING: [Case; 7] = [
+    Case(
+        &["postcopy", "check", "x", "y"],
+        SESSION,
+        3,
+        b"",
+        b"file x\n",
+        Some(1),
+    ),
+    Case(
+        &["postcopy", "check", "x", "cert"],
+        SESSION,
+        3,
+        b"",
+        b"file x\n",
+        Some(1),
+    ),
+    Case(
+        &["postcopy", "check", "session", "y"],
+        SESSION,
+        3,
+        b"",
+        b"file y\n",
+        Some(2),
+    ),
+    Case(
+        &["postcopy", "check", "-", "y"],
+        SESSION,
+        3,
+        b"",
+        b"file y\n",
+        Some(1),
+    ),
+    Case(
+        &["postcopy", "certify", "x"],
+        SESSION,
+        3,
+        b"",
+        b"file x\n",
+        Some(1),
+    ),
+    Case(
+        &["postcopy", "audit", "x"],
+        SESSION,
+        3,
+        b"",
+        b"file x\n",
+        Some(1),
+    ),
+    Case(
+        &["postcopy", "replay", "handover", "y"],
+        SESSION,
+        3,
+        b"",
+        b"file y\n",
+        Some(2),
+    ),
+];
+
+#[test]
+fn missing_files(rt: HostRuntime) {
+    none_is_wrong(&rt, wrong_case(&rt, MISSING.as_slice()));
+}
+
+// Sessions and what is no session.
+static AUDITS: [Case; 5] = [
+    Case(&["postcopy", "certify", "session"], b"", 0, CERT, b"", None),
+    Case(
+        &["postcopy", "audit", "session"],
+        b"",
+        0,
+        CLEAN_REPORT,
+        b"",
+        None,
+    ),
+    Case(
+        &["postcopy", "certify", "cert"],
+        b"",
+        1,
+        EMPTY_SESSION_LINE,
+        b"",
+        None,
+    ),
+    Case(
+        &["postcopy", "audit", "cert"],
+        b"",
+        1,
+        EMPTY_SESSION_LINE,
+        b"",
+        None,
+    ),
+    Case(
+        &["postcopy", "certify", "handover"],
+        b"",
+        1,
+        b"faulty line 13 early\n",
+        b"",
+        None,
+    ),
+];
+
+#[test]
+fn audits(rt: HostRuntime) {
+    none_is_wrong(&rt, wrong_case(&rt, AUDITS.as_slice()));
+}
+
+// Both words that ask for the version.
+static VERSIONS: [Case; 2] = [
+    Case(
+        &["postcopy", "--version"],
+        BOTH,
+        0,
+        b"postcopy 1.0.0\n",
+        b"",
+        Some(0),
+    ),
+    Case(
+        &["postcopy", "-V"],
+        BOTH,
+        0,
+        b"postcopy 1.0.0\n",
+        b"",
+        Some(0),
+    ),
+];
+
+#[test]
+fn version(rt: HostRuntime) {
+    none_is_wrong(&rt, wrong_case(&rt, VERSIONS.as_slice()));
+}
+
+// No memory is left to open a text, or to read it.
+#[derive(Drop)]
+struct Starved {
+    opens: bool,
+}
+
+impl Read for Starved {
+    fn read(&mut self, _buf: &mut [u8]) -> io::Result<usize> {
+        Err(io::Error::from(ErrorKind::OutOfMemory))
+    }
+}
+
+impl TextSource for Starved {
+    type Text = Starved;
+
+    fn text(&self, _name: &str) -> io::Result<Starved> {
+        if self.opens {
+            Ok(Starved { opens: true })
+        } else {
+            Err(io::Error::from(ErrorKind::OutOfMemory))
+        }
+    }
+}
+
+// Words of each command.
+static COMMANDS: [&[&str]; 10] = [
+    &["postcopy"],
+    &["postcopy", "check", "session", "cert"],
+    &["postcopy", "certify", "session"],
+    &["postcopy", "audit", "-"],
+    &["postcopy", "explain", "-"],
+    &["postcopy", "replay", "-", "-"],
+    &["postcopy", "steps", "script", "-"],
+    &["postcopy", "migrate", "script"],
+    &["postcopy", "draw", "session"],
+    &["postcopy", "draw", "-", "-"],
+];
+
+fn wants_memory<
+    R: Threads + Wait + Sync + AllocGlobal + Net<Listener = TcpListener, Stream = TcpStream>,
+>(rt: &R, words: &[&str], opens: bool) -> bool {
+    let alloc = rt.alloc();
+    let mut output = Vec::new(alloc);
+    let mut errors = Vec::new(alloc);
+    let status = run(
+        rt,
+        alloc,
+        words,
+        &Starved { opens },
+        &mut Starved { opens },
+        &mut output,
+        &mut errors,
+    );
+    status == 4 && output.is_empty() && errors.as_slice() == b"out of memory\n".as_slice()
+}
+
+fn wrong_starved<
+    R: Threads + Wait + Sync + AllocGlobal + Net<Listener = TcpListener, Stream = TcpStream>,
+>(rt: &R) -> Option<&'static [&'static str]> {
+    for words in &COMMANDS {
+        if !wants_memory(rt, *words, false) || !wants_memory(rt, *words, true) {
+            return Some(*words);
+        }
+    }
+    None
+}
+
+#[test]
+fn want_of_memory(rt: HostRuntime) {
+    none_is_wrong(&rt, wrong_starved(&rt));
+}
+
+// Words for which something is written to the output.
+static WRITING: [&[&str]; 10] = [
+    &["postcopy", "check", "session", "cert"],
+    &["postcopy", "certify", "session"],
+    &["postcopy", "audit", "session"],
+    &["postcopy", "replay", "handover", "safe-runs"],
+    &["postcopy", "steps", "script", "events"],
+    &["postcopy", "migrate", "script"],
+    &["postcopy", "draw", "session"],
+    &["postcopy", "draw", "handover", "safe-runs"],
+    &["postcopy", "--help"],
+    &["postcopy", "--version"],
+];
+
+fn tells_of_output<
+    R: Threads + Wait + Sync + AllocGlobal + Net<Listener = TcpListener, Stream = TcpStream>,
+>(rt: &R, words: &[&str]) -> bool {
+    let alloc = rt.alloc();
+    let shelf = Shelf {
+        texts: TEXTS.as_slice(),
+        asked: Cell::new(0),
+    };
+    let mut input = b"".as_slice();
+    let mut errors = Vec::new(alloc);
+    let status = run(rt, alloc, words, &shelf, &mut input, &mut Full, &mut errors);
+    status == 3 && errors.as_slice() == b"output\n".as_slice()
+}
+
+fn wrong_output<
+    R: Threads + Wait + Sync + AllocGlobal + Net<Listener = TcpListener, Stream = TcpStream>,
+>(rt: &R) -> Option<&'static [&'static str]> {
+    for words in &WRITING {
+        if !tells_of_output(rt, *words) {
+            return Some(*words);
+        }
+    }
+    None
+}
+
+#[test]
+fn an_output_that_fails(rt: HostRuntime) {
+    none_is_wrong(&rt, wrong_output(&rt));
+}
+
+// Whether a run whose errors are not told has this status, and no output.
+fn ends_untold<
+    R: Threads + Wait + Sync + AllocGlobal + Net<Listener = TcpListener, Stream = TcpStream>,
+>(rt: &R, words: &[&str], wanted: u8) -> bool {
+    let alloc = rt.alloc();
+    let shelf = Shelf {
+        texts: TEXTS.as_slice(),
+        asked: Cell::new(0),
+    };
+    let mut input = b"".as_slice();
+    let mut output = Vec::new(alloc);
+    let status = run(rt, alloc, words, &shelf, &mut input, &mut output, &mut Full);
+    status == wanted && output.is_empty()
+}
+
+static NO_FILE: [&str; 4] = ["postcopy", "check", "session", "x"];
+
+static NO_NAME: [&str; 3] = ["postcopy", "check", "session"];
+
+#[test]
+fn errors_that_are_not_told(rt: HostRuntime) {
+    assert!(rt; ends_untold(&rt, NO_FILE.as_slice(), 3));
+    assert!(rt; ends_untold(&rt, NO_NAME.as_slice(), 2));
+}
+
+// Words for which the input is read.
+static READING: [&[&str]; 2] = [&["postcopy"], &["postcopy", "check", "session", "-"]];
+
+fn tells_of_input<
+    R: Threads + Wait + Sync + AllocGlobal + Net<Listener = TcpListener, Stream = TcpStream>,
+>(rt: &R, words: &[&str]) -> bool {
+    let mut input = Slow {
+        text: BOTH,
+        fails: true,
+    };
+    let found = ran_over(rt, words, &mut input);
+    is_outcome(&found, 3, b"", b"file -\n")
+}
+
+fn wrong_input<
+    R: Threads + Wait + Sync + AllocGlobal + Net<Listener = TcpListener, Stream = TcpStream>,
+>(rt: &R) -> Option<&'static [&'static str]> {
+    for words in &READING {
+        if !tells_of_input(rt, *words) {
+            return Some(*words);
+        }
+    }
+    None
+}
+
+#[test]
+fn an_input_that_fails(rt: HostRuntime) {
+    none_is_wrong(&rt, wrong_input(&rt));
+}
+
+// Gives so many bytes, of which the first is LF, each time as many as are asked for or one. It leaves the others as they are.
+#[derive(Drop)]
+struct Plenty {
+    left: usize,
+    one_by_one: bool,
+}
+
+impl Read for Plenty {
+    fn read(&mut self, buf: &mut [u8]) -> io::Result<usize> {
+        let most = if self.one_by_one { 1 } else { buf.len() };
+        let count = most.min(self.left).min(buf.len());
+        if let Some(first) = buf.first_mut() {
+            *first = b'\n';
+        }
+        self.left -= count;
+        Ok(count)
+    }
+}
+
+static AUDIT: [&str; 3] = ["postcopy", "audit", "-"];
+
+// Inputs: how many bytes, whether one by one, and whether they are read.
+static LIMITS: [(usize, bool, bool); 4] = [
+    (268_435_456, false, true),
+    (268_435_457, false, false),
+    (1_048_575, true, true),
+    (1_048_576, true, false),
+];
+
+// Whether an input of so many bytes is read, or refused.
+fn is_limit_kept<
+    R: Threads + Wait + Sync + AllocGlobal + Net<Listener = TcpListener, Stream = TcpStream>,
+>(rt: &R, left: usize, one_by_one: bool, fits: bool) -> bool {
+    let mut input = Plenty { left, one_by_one };
+    let found = ran_over(rt, AUDIT.as_slice(), &mut input);
+    if fits {
+        is_outcome(&found, 1, EMPTY_SESSION_LINE, b"")
+    } else {
+        is_outcome(&found, 3, b"", b"file -\n")
+    }
+}
+
+// A count of bytes that is not read, or refused, as it is to be.
+fn wrong_limit<
+    R: Threads + Wait + Sync + AllocGlobal + Net<Listener = TcpListener, Stream = TcpStream>,
+>(rt: &R) -> Option<usize> {
+    for (left, one_by_one, fits) in &LIMITS {
+        if !is_limit_kept(rt, *left, *one_by_one, *fits) {
+            return Some(*left);
+        }
+    }
+    None
+}
+
+// An input of 268,435,456 bytes is read, and one in 1,048,576 reads, the last of which finds its end; no greater one is.
+#[test]
+fn limits_of_an_input(rt: HostRuntime) {
+    if let Some(left) = wrong_limit(&rt) {
+        panic!(rt; "at {left}");
+    }
+}
+
+// Each verdict, its line and its status.
+static LINES: [(Verdict, &[u8], u8); 7] = [
+    (Verdict::SessionText(7), b"session-text line 7\n", 1),
+    (Verdict::CertText(12), b"certificate-text line 12\n", 1),
+    (
+        Verdict::Shape(ShapeFault {
+            line: 9,
+            reason: ShapeReason::SecondSend,
+        }),
+        b"shape line 9 second-send\n",
+        1,
+    ),
+    (Verdict::Pages, b"pages\n", 1),
+    (Verdict::Runs(3), b"runs line 3\n", 1),
+    (Verdict::Page(4_294_967_295), b"page line 4294967295\n", 1),
+    (Verdict::Yes, b"yes\n", 0),
+];
+
+fn has_line(alloc: Global, verdict: Verdict, line: &[u8]) -> bool {
+    let mut text = Vec::new(alloc);
+    let pushed = push_verdict(&mut text, verdict);
+    pushed.is_ok() && text.as_slice() == line
+}
+
+// The number of a verdict that has another line or status.
+fn wrong_verdict(alloc: Global) -> Option<usize> {
+    for (at, (verdict, line, status)) in LINES.iter().enumerate() {
+        if !has_line(alloc, *verdict, *line) || verdict_status(*verdict) != *status {
+            return Some(at);
+        }
+    }
+    None
+}
+
+#[test]
+fn lines(rt: HostRuntime) {
+    if let Some(at) = wrong_verdict(rt.alloc()) {
+        panic!(rt; "verdict {at}");
+    }
+}

@@ -1,0 +1,46 @@
+//! Tests of what reads and writes texts, over small texts and what the formats say of them.
+
+#[cfg(test)]
+mod certificates;
+#[cfg(test)]
+mod formats;
+#[cfg(test)]
+mod kinds;
+#[cfg(test)]
+mod lines;
+#[cfg(test)]
+mod parts;
+#[cfg(test)]
+mod pieces;
+#[cfg(test)]
+mod records;
+#[cfg(test)]
+mod script_faults;
+#[cfg(test)]
+mod scripts;
+#[cfg(test)]
+mod sessions;
+#[cfg(test)]
+mod slow;
+#[cfg(test)]
+mod texts;
+#[cfg(test)]
+mod values;
+
+use text_lines::{FaultKind, TextFault};
+
+/// The line at which a text is refused, and 0 where it is read.
+pub fn refusal_line<T>(answer: &Result<T, TextFault>) -> u32 {
+    match answer {
+        Ok(_) => 0,
+        Err(fault) => fault.line,
+    }
+}
+
+/// The line and the kind of the fault, where there is one.
+pub fn fault_of<T>(answer: &Result<T, TextFault>) -> Option<(u32, FaultKind)> {
+    match answer {
+        Ok(_) => None,
+        Err(fault) => Some((fault.line, fault.kind)),
+    }
+}
