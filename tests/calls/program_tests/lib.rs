@@ -16,7 +16,6 @@ use texts::{
     RECORDED, SAFE_RUNS, SCRIPT_AND_EVENTS, SESSION, TEXTS,
 };
 
-mod long;
 mod migrations;
 mod texts;
 mod usage;

@@ -169,11 +169,14 @@ fn is_judged_alike(alloc: Global, bytes: &[u8]) -> bool {
     }
 }
 
-/// Whether a text is judged as by the slow checker with each byte at this place.
+/// Bytes that the formats have, and such as stand beside these or look like them.
+static BYTES: [u8; 26] = *b"\0\t\n\r !+-/0129:AFZ_aefgruz~";
+
+/// Whether a text is judged as by the slow checker with any of these bytes at this place.
 fn is_any_byte_judged_alike(alloc: Global, bytes: &mut [u8], at: usize) -> bool {
-    for new in 0..=127u8 {
+    for new in &BYTES {
         if let Some(place) = bytes.get_mut(at) {
-            *place = new;
+            *place = *new;
         }
         if !is_judged_alike(alloc, bytes) {
             return false;
@@ -182,7 +185,7 @@ fn is_any_byte_judged_alike(alloc: Global, bytes: &mut [u8], at: usize) -> bool 
     true
 }
 
-/// Whether a text is judged as by the slow checker with each change of a byte. The bytes are the text's, and then again.
+/// Whether a text is judged as by the slow checker with such changes of each byte. The bytes are the text's, and then again.
 fn are_changes_judged_alike(alloc: Global, text: &[u8], bytes: &mut [u8]) -> bool {
     for (at, kept) in text.iter().enumerate() {
         if !is_any_byte_judged_alike(alloc, bytes, at) {
