@@ -1,18 +1,20 @@
 """Builds the wheel of the package, with the shared library in it. Python's own library is all that it needs.
 
-    tools/library && pip wheel ./python              or, with no pip:
+    pip wheel ./python                               or, with no pip:
     python3 python/wheel_of_library.py FOLDER
+
+Where a source was changed, tools/library builds the library first.
 """
 import base64
 import hashlib
 import os
 import re
+import subprocess
 import sys
 import sysconfig
 import zipfile
 
 HERE = os.path.dirname(os.path.abspath(__file__))
-LIBRARY = f"{HERE}/../crates/postcopy_c/out/libpostcopy.so"
 
 
 def project(field):
@@ -20,15 +22,21 @@ def project(field):
         return re.search(rf'^{field} = "(.*)"$', file.read(), re.M)[1]
 
 
+def library():
+    """The shared library of the checkout: the one that was built there, or the one that is shipped with it."""
+    ran = subprocess.run([f"{HERE}/../tools/library", "--where"], stdout=subprocess.PIPE)
+    if ran.returncode:
+        sys.exit("wheel_of_library: there is no shared library of these sources: run tools/library first")
+    with open(os.path.join(os.fsdecode(ran.stdout)[:-1], "libpostcopy.so"), "rb") as file:
+        return file.read()
+
+
 def contents():
     """The files of the package, by their names in the wheel."""
     for name in ("__init__.py", "py.typed"):
         with open(f"{HERE}/postcopy/{name}", "rb") as file:
             yield f"postcopy/{name}", file.read()
-    if not os.path.isfile(LIBRARY):
-        sys.exit("wheel_of_library: there is no shared library: run tools/library first")
-    with open(LIBRARY, "rb") as file:
-        yield "postcopy/libpostcopy.so", file.read()
+    yield "postcopy/libpostcopy.so", library()
 
 
 def build_wheel(wheel_directory, config_settings=None, metadata_directory=None):

@@ -14,6 +14,7 @@ import ctypes.util
 import enum
 import mmap
 import os
+import subprocess
 from dataclasses import dataclass
 from pathlib import Path
 from typing import Optional, Union
@@ -144,12 +145,23 @@ class _Bytes:
             self._file.close()
 
 
+def _beside() -> Optional[str]:
+    """The library of the wheel, or that of a checkout: the one that was built there, or else the one that is shipped with it,
+    where it is of the sources there."""
+    here = Path(__file__).resolve().parent
+    top = here.parent.parent
+    for it in (here / "libpostcopy.so", top / "crates/postcopy_c/out/libpostcopy.so"):
+        if it.is_file():
+            return str(it)
+    if not (top / "shipped").is_dir():
+        return None
+    ran = subprocess.run(["sh", str(top / "tools/library"), "--where"], stdin=subprocess.DEVNULL, stdout=subprocess.PIPE)
+    return None if ran.returncode else os.path.join(os.fsdecode(ran.stdout)[:-1], "libpostcopy.so")
+
+
 def _library() -> ctypes.CDLL:
     """The shared library: the one that POSTCOPY_LIBRARY names, that of the wheel, that of a checkout, or the system's."""
-    here = Path(__file__).resolve().parent
-    beside = [here / "libpostcopy.so", here.parent.parent / "crates/postcopy_c/out/libpostcopy.so"]
-    named = os.environ.get("POSTCOPY_LIBRARY")
-    name = named or next((str(it) for it in beside if it.is_file()), None) or ctypes.util.find_library("postcopy")
+    name = os.environ.get("POSTCOPY_LIBRARY") or _beside() or ctypes.util.find_library("postcopy")
     if name is None:
         raise ImportError("there is no libpostcopy: in a checkout tools/library builds it, and tools/install installs it")
     library = ctypes.CDLL(name)

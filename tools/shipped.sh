@@ -1,0 +1,43 @@
+# What the scripts that read shipped/ have in common, for a POSIX shell. They set `top`, the folder of the checkout, first.
+# shellcheck shell=sh disable=SC2154
+shipped=$top/shipped/x86_64-linux
+# shellcheck disable=SC2034
+shipped_files="postcopy libpostcopy.so libpostcopy.a"
+
+# What the manifest has under a name; nothing where it has none, or there is no manifest.
+manifest() {
+    [ ! -f "$shipped/manifest" ] || awk -v name="$1" '$1 == name { print $2; exit }' "$shipped/manifest"
+}
+
+sum_of() {
+    sha256sum < "$1" | cut -d ' ' -f 1
+}
+
+# Whether a file has the bytes that the manifest tells of the shipped file of a name.
+has_shipped_bytes() {
+    [ -r "$1" ] && [ "$(sum_of "$1")" = "$(manifest "$2")" ]
+}
+
+# Whether a built file is there, and no source was changed since: of this checkout, or of the one that is named.
+is_up_to_date() {
+    [ -r "$1" ] || return 1
+    places=$(sh "$top/tools/shipped-sources" --places) || return 1
+    # (no name of a place has a space)
+    # shellcheck disable=SC2086
+    [ -z "$(cd "${2:-$top}" && find $places -newer "$1" -print -quit)" ]
+}
+
+is_of_machine() {
+    [ "$(uname -s)-$(uname -m)" = Linux-x86_64 ]
+}
+
+# Whether what is shipped was built from the sources that are here.
+is_of_sources() {
+    [ -f "$shipped/manifest" ] && [ "$(sh "$top/tools/shipped-sources")" = "$(manifest sources)" ]
+}
+
+# The identity of the toolchain that is here: its logic, and the digests of its archive and compiler.
+toolchain_digest() {
+    kit=$(dirname "$(rt doc)")
+    cat "$kit/KIT-ID" "$kit/WHAT" | sha256sum | cut -d ' ' -f 1
+}
