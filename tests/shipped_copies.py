@@ -20,7 +20,7 @@ CRATES = ("audit_tests", "cert_check", "postcopy", "postcopy_c", "session_log")
 
 # The commands that a machine has to have: those of coreutils and findutils, awk, and what the tools take besides.
 COMMANDS = """awk cat chmod cksum cp cut date dirname find install ln mkdir mktemp mv readlink rm sed sh sha256sum sort tail
-    touch tr uname xargs grep ls env getconf""".split()
+    touch tr uname xargs grep ls env getconf tar""".split()
 
 # Stands in for a proof: says that it was called, and leaves a program that says the same.
 BUILD = """#!/bin/sh
@@ -195,8 +195,8 @@ NOBODY = 65534
 
 
 def manifest(copy):
-    lines = [it.split() for it in read(f"{copy}/{SHIPPED}/manifest").decode().split("\n") if it and it[0] != "#"]
-    return {name: value for name, value in lines}
+    lines = [it.partition(" ") for it in read(f"{copy}/{SHIPPED}/manifest").decode().split("\n") if it and it[0] != "#"]
+    return {name: value for name, _, value in lines}
 
 
 def rewrite(copy, name, value):
