@@ -12,6 +12,7 @@ from __future__ import annotations
 import ctypes
 import ctypes.util
 import enum
+import functools
 import mmap
 import os
 import subprocess
@@ -159,6 +160,7 @@ def _beside() -> Optional[str]:
     return None if ran.returncode else os.path.join(os.fsdecode(ran.stdout)[:-1], "libpostcopy.so")
 
 
+@functools.lru_cache(maxsize=None)
 def _library() -> ctypes.CDLL:
     """The shared library: the one that POSTCOPY_LIBRARY names, that of the wheel, that of a checkout, or the system's."""
     name = os.environ.get("POSTCOPY_LIBRARY") or _beside() or ctypes.util.find_library("postcopy")
@@ -170,9 +172,6 @@ def _library() -> ctypes.CDLL:
         call.argtypes, call.restype = text + text, _Answer
     library.postcopy_version.argtypes, library.postcopy_version.restype = [], ctypes.c_uint32
     return library
-
-
-_LIB = _library()
 
 
 def _told(numbers: _Answer, text: bytes = b"") -> Answer:
@@ -199,21 +198,21 @@ def _with_text(call: "ctypes._FuncPointer", session: Text) -> Answer:
 def check(session: Text, certificate: Text) -> Answer:
     """Judges the certificate of a session, as the command `check` does. Raises OutOfMemory where memory is refused."""
     with _Bytes(session) as first, _Bytes(certificate) as second:
-        return _told(_LIB.postcopy_check(first.at, first.length, second.at, second.length))
+        return _told(_library().postcopy_check(first.at, first.length, second.at, second.length))
 
 
 def certify(session: Text) -> Answer:
     """The certificate of a session that is clean, and of another the first line of its report, as the command `certify` writes
     it. Raises OutOfMemory where memory is refused."""
-    return _with_text(_LIB.postcopy_certify, session)
+    return _with_text(_library().postcopy_certify, session)
 
 
 def audit(session: Text) -> Answer:
     """The report on a session, as the command `audit` writes it. Raises OutOfMemory where memory is refused."""
-    return _with_text(_LIB.postcopy_audit, session)
+    return _with_text(_library().postcopy_audit, session)
 
 
 def version() -> str:
     """The version of the library."""
-    number = _LIB.postcopy_version()
+    number = _library().postcopy_version()
     return f"{number // 10000}.{number // 100 % 100}.{number % 100}"

@@ -1,0 +1,138 @@
+"""The records of a session's logs: the word of each, its fields, and which fields name another record.
+
+A record is a tuple of its word and its fields: numbers, and contents as a text of 16 hexadecimal digits for each cell. For
+converters of recordings, which write sessions from other programs' traces; postcopy.sessions puts records together. Nothing
+here needs the library.
+
+    >>> read_record("pager", "place 2 15 e3960d5b18af7c42")
+    ('place', 2, 15, 'e3960d5b18af7c42')
+    >>> list(named("pager", ("place", 2, 15, "e3960d5b18af7c42")))
+    [('pager', 15)]
+"""
+from __future__ import annotations
+
+import re
+from typing import Dict, Iterator, NamedTuple, Optional, Tuple, Union
+
+__all__ = ["Field", "Kind", "LOGS", "LOST", "MOST_RECORDS", "RECEIVED", "RECORDS", "Record", "named", "read_record", "spelled"]
+
+Record = Tuple[Union[str, int], ...]
+
+#: The logs of a session, in the order of its text. The lane is in the second version alone.
+LOGS = ("guest", "source", "link", "lane", "pager")
+
+#: So many records a log of a session has at most.
+MOST_RECORDS = 1048576
+
+#: What a recorder answers in the place of a number where a record was not written.
+LOST = 2**32 - 1
+
+
+class Field(NamedTuple):
+    """A field of a record: its name, and the log whose record it names, if it names one."""
+
+    name: str
+    log: Optional[str]
+
+
+class Kind(NamedTuple):
+    """A kind of record: its log, its word, the recorder's call that writes it, and its fields."""
+
+    log: str
+    word: str
+    call: str
+    fields: Tuple[Field, ...]
+
+    def place(self, name: str) -> Optional[int]:
+        """Where in a record of this kind the field of this name stands."""
+        return next((at for at, field in enumerate(self.fields, 1) if field.name == name), None)
+
+
+# The log, the word, the call, and the fields: a field of another record is LOG:NAME.
+_TABLE = """
+guest r read vcpu page cell value
+guest w write vcpu page cell value
+guest z release vcpu page
+guest miss miss vcpu page
+guest halt halt
+guest resume resume pager:ready
+guest see see pager:placement
+source halted halted guest:halt
+source state state
+source send send page contents
+source again again source:sent
+source ask ask link:up
+source done done
+link down down source:sent
+link up up pager:sent
+lane down down source:sent
+pager got got link:down
+pager pull pull lane:down
+pager ready ready
+pager fault fault guest:miss
+pager join join pager:want
+pager want want page
+pager place place page pager:got contents
+pager zero zero page
+pager skip skip pager:got
+pager all all
+"""
+
+# What a recorder writes where nobody writes a log of the link or the lane: the number came with the message.
+_RECEIVED = """
+source ask-sent ask_sent pager:sent
+pager got-sent got_sent source:sent
+pager pull-sent pull_sent source:sent
+"""
+
+#: The log that such a receipt has to name, by its word.
+RECEIVED = {"ask-sent": "link", "got-sent": "link", "pull-sent": "lane"}
+
+
+def _kinds(table: str) -> Iterator[Kind]:
+    for line in table.strip().splitlines():
+        log, word, call, *fields = line.split()
+        parts = (field.rpartition(":") for field in fields)
+        yield Kind(log, word, call, tuple(Field(name, of or None) for of, _, name in parts))
+
+
+#: The kinds by log and by word: those of a session, and those that only a recorder writes.
+RECORDS: Dict[str, Dict[str, Kind]] = {log: {} for log in LOGS}
+for _kind in _kinds(_TABLE + _RECEIVED.lstrip()):
+    RECORDS[_kind.log][_kind.word] = _kind
+
+_NUMBER = re.compile("0|[1-9][0-9]*", re.ASCII)
+_CONTENTS = re.compile("(?:[0-9a-f]{16})+", re.ASCII)
+_LIMITS = {"vcpu": 64, "page": 65536, "cell": 512, "value": 2**64}
+
+
+def _field(field: Field, text: str) -> Union[str, int]:
+    if field.name == "contents":
+        if _CONTENTS.fullmatch(text):
+            return text
+    elif _NUMBER.fullmatch(text) and len(text) <= 20 and int(text) < _LIMITS.get(field.name, LOST + 1):
+        return int(text)
+    raise ValueError(f"'{text}' is no {field.name}")
+
+
+def read_record(log: str, text: str) -> Record:
+    """The record of a log that a text spells. Raises ValueError where it spells none."""
+    word, *fields = text.split(" ")
+    kind = RECORDS[log].get(word)
+    if kind is None:
+        raise ValueError(f"the {log}'s log has no record '{word}'")
+    if len(fields) != len(kind.fields):
+        raise ValueError(f"'{word}' has {len(kind.fields)} fields and not {len(fields)}")
+    return (word, *map(_field, kind.fields, fields))
+
+
+def spelled(record: Record) -> str:
+    """The text of a record."""
+    return " ".join(map(str, record))
+
+
+def named(log: str, record: Record) -> Iterator[Tuple[str, int]]:
+    """The records that a record of a log names, by their logs and numbers."""
+    for field, value in zip(RECORDS[log][str(record[0])].fields, record[1:]):
+        if field.log is not None:
+            yield field.log, int(value)
