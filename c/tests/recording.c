@@ -1,0 +1,283 @@
+/* What tests/recorded-calls asks of the recorder:
+
+       recording calls FOLDER                     makes the calls that standard input lists, and tells the numbers
+       recording threads FOLDER THREADS RECORDS   appends from threads, each record with the number of the thread's one before
+       recording locked FOLDER THREADS RECORDS    appends under a lock, each record with the place that it has to have
+       recording endless FOLDER THREADS           appends until it is killed; ANSWERED in the folder has what was answered
+       recording full FOLDER                      appends until a record is lost, and tells how many were not, and why
+       recording refused FOLDER                   calls that record nothing
+       recording hash                             the hash of each page of standard input
+       recording speed FOLDER RECORDS             how long a record takes, in nanoseconds */
+#define _GNU_SOURCE
+#include <errno.h>
+#include <fcntl.h>
+#include <inttypes.h>
+#include <pthread.h>
+#include <signal.h>
+#include <stdio.h>
+#include <stdlib.h>
+#include <string.h>
+#include <sys/mman.h>
+#include <sys/wait.h>
+#include <time.h>
+#include <unistd.h>
+
+#include "../postcopy_record.h"
+
+#define THREADS_MAX 16
+
+static void want(int is_so, const char *what)
+{
+    if (!is_so) {
+        printf("failed: %s\n", what);
+        exit(1);
+    }
+}
+
+/* The calls by their names, with so many numbers and perhaps contents. */
+
+typedef uint32_t call_0(postcopy_log *);
+typedef uint32_t call_1(postcopy_log *, uint32_t);
+typedef uint32_t call_2(postcopy_log *, uint32_t, uint32_t);
+
+static const struct {
+    const char *name;
+    call_0 *none;
+    call_1 *one;
+    call_2 *two;
+} calls[] = {
+    {"machine", NULL, NULL, postcopy_record_machine},     {"release", NULL, NULL, postcopy_record_release},
+    {"miss", NULL, NULL, postcopy_record_miss},           {"halt", postcopy_record_halt, NULL, NULL},
+    {"resume", NULL, postcopy_record_resume, NULL},       {"see", NULL, postcopy_record_see, NULL},
+    {"halted", NULL, postcopy_record_halted, NULL},       {"state", postcopy_record_state, NULL, NULL},
+    {"again", NULL, postcopy_record_again, NULL},         {"ask", NULL, postcopy_record_ask, NULL},
+    {"ask_sent", NULL, postcopy_record_ask_sent, NULL},   {"done", postcopy_record_done, NULL, NULL},
+    {"down", NULL, postcopy_record_down, NULL},           {"up", NULL, postcopy_record_up, NULL},
+    {"got", NULL, postcopy_record_got, NULL},             {"got_sent", NULL, postcopy_record_got_sent, NULL},
+    {"pull", NULL, postcopy_record_pull, NULL},           {"pull_sent", NULL, postcopy_record_pull_sent, NULL},
+    {"ready", postcopy_record_ready, NULL, NULL},         {"fault", NULL, postcopy_record_fault, NULL},
+    {"join", NULL, postcopy_record_join, NULL},           {"want", NULL, postcopy_record_want, NULL},
+    {"zero", NULL, postcopy_record_zero, NULL},           {"skip", NULL, postcopy_record_skip, NULL},
+    {"all", postcopy_record_all, NULL, NULL},
+};
+
+static uint32_t make_call(postcopy_log *log, const char *name, const uint64_t *numbers, const uint64_t *contents, size_t cells)
+{
+    if (!strcmp(name, "read"))
+        return postcopy_record_read(log, numbers[0], numbers[1], numbers[2], numbers[3]);
+    if (!strcmp(name, "write"))
+        return postcopy_record_write(log, numbers[0], numbers[1], numbers[2], numbers[3]);
+    if (!strcmp(name, "initial"))
+        return postcopy_record_initial(log, numbers[0], contents, cells);
+    if (!strcmp(name, "send"))
+        return postcopy_record_send(log, numbers[0], contents, cells);
+    if (!strcmp(name, "place"))
+        return postcopy_record_place(log, numbers[0], numbers[1], contents, cells);
+    for (size_t n = 0; n < sizeof calls / sizeof *calls; n++)
+        if (!strcmp(name, calls[n].name))
+            return calls[n].none  ? calls[n].none(log)
+                   : calls[n].one ? calls[n].one(log, numbers[0])
+                                  : calls[n].two(log, numbers[0], numbers[1]);
+    want(0, name);
+    return 0;
+}
+
+/* A line is PARTY CALL, numbers, and contents as `=` and digits. */
+static void make_calls(const char *folder)
+{
+    static const char *const parties[] = {"machine", "guest", "source", "link", "lane", "pager"};
+    postcopy_log *logs[6] = {0};
+    char *text = NULL;
+    size_t room = 0;
+    while (getline(&text, &room, stdin) > 0) {
+        uint64_t numbers[4] = {0}, contents[512];
+        size_t count = 0, cells = 0, party = 0;
+        const char *name = strtok(text, " \n");
+        while (strcmp(parties[party], name))
+            party++;
+        if (!logs[party])
+            logs[party] = postcopy_log_open(folder, name, 0);
+        name = strtok(NULL, " \n");
+        for (char *word; (word = strtok(NULL, " \n"));) {
+            if (*word != '=') {
+                numbers[count++] = strtoull(word, NULL, 10);
+                continue;
+            }
+            for (word++; *word; word += 16)
+                want(sscanf(word, "%16" SCNx64, &contents[cells++]) == 1, "contents");
+        }
+        printf("%" PRIu32 "\n", make_call(logs[party], name, numbers, contents, cells));
+    }
+    free(text);
+    for (int party = 0; party < 6; party++)
+        postcopy_log_close(logs[party]);
+}
+
+/* Threads. */
+
+static postcopy_log *guest;
+static long records;
+static pthread_mutex_t lock = PTHREAD_MUTEX_INITIALIZER;
+static uint64_t turn;
+static volatile uint32_t *answered; /* by thread, what its last call answered */
+
+static void *append(void *what)
+{
+    uint32_t vcpu = (uintptr_t)what, last = POSTCOPY_LOST;
+    for (long n = 0; n < records; n++) {
+        uint32_t number = postcopy_record_write(guest, vcpu, 0, 0, last);
+        want(number != POSTCOPY_LOST && (last == POSTCOPY_LOST || number > last), "a thread's numbers rise");
+        last = number;
+    }
+    return NULL;
+}
+
+static void *append_locked(void *what)
+{
+    for (long n = 0; n < records; n++) {
+        pthread_mutex_lock(&lock);
+        want(postcopy_record_write(guest, (uintptr_t)what, 0, 0, turn) == turn, "a number under a lock");
+        turn++;
+        pthread_mutex_unlock(&lock);
+    }
+    return NULL;
+}
+
+/* Records of many lengths; each has its thread's number and its contents tell the last one that was answered. */
+static void *append_endlessly(void *what)
+{
+    uint32_t thread = (uintptr_t)what;
+    uint64_t contents[512] = {0};
+    for (size_t n = 0;; n++) {
+        size_t cells = n * 7 % 512 + 1;
+        contents[0] = contents[cells - 1] = answered[thread];
+        answered[thread] = postcopy_record_send(guest, thread, contents, cells);
+        contents[cells - 1] = 0;
+    }
+    return NULL;
+}
+
+static void run_threads(const char *folder, const char *party, long count, void *(*of)(void *))
+{
+    pthread_t threads[THREADS_MAX];
+    guest = postcopy_log_open(folder, party, 0);
+    want(guest && count <= THREADS_MAX, "a log");
+    for (long n = 0; n < count; n++)
+        want(pthread_create(&threads[n], NULL, of, (void *)(uintptr_t)n) == 0, "a thread");
+    for (long n = 0; n < count; n++)
+        pthread_join(threads[n], NULL);
+    want(postcopy_log_error(guest) == 0, "no error");
+    postcopy_log_close(guest);
+}
+
+static void map_answers(const char *folder)
+{
+    char path[4096];
+    snprintf(path, sizeof path, "%s/ANSWERED", folder);
+    int file = open(path, O_RDWR | O_CREAT, 0666);
+    want(file >= 0 && ftruncate(file, 4096) == 0, path);
+    answered = mmap(NULL, 4096, PROT_READ | PROT_WRITE, MAP_SHARED, file, 0);
+    for (int n = 0; n < THREADS_MAX; n++)
+        answered[n] = POSTCOPY_LOST;
+}
+
+/* Calls that record nothing. */
+
+static void fill(const char *folder)
+{
+    signal(SIGXFSZ, SIG_IGN);
+    postcopy_log *log = postcopy_log_open(folder, "guest", 0);
+    want(log != NULL, "a log");
+    uint32_t kept = 0;
+    for (uint32_t number; (number = postcopy_record_write(log, 0, 0, 0, kept)) != POSTCOPY_LOST; kept++)
+        want(number == kept, "a number");
+    int error = postcopy_log_error(log);
+    for (int n = 0; n < 3; n++)
+        want(postcopy_record_halt(log) == POSTCOPY_LOST, "a log that has ended");
+    want(postcopy_log_error(log) == error, "the first error");
+    postcopy_log_close(log);
+    printf("%" PRIu32 " %s\n", kept, strerrorname_np(error));
+}
+
+static void refuse(const char *folder)
+{
+    want(postcopy_record_halt(NULL) == POSTCOPY_LOST && postcopy_log_error(NULL) == 0, "no log");
+    postcopy_log_close(NULL);
+    errno = 0;
+    want(!postcopy_log_open(folder, "guests", 0) && errno == EINVAL, "no party");
+    want(!postcopy_log_open("/dev/null/none", "guest", 0) && errno == ENOTDIR, "no folder");
+
+    postcopy_log *log = postcopy_log_open(folder, "guest", 7);
+    errno = 4321;
+    want(postcopy_record_halt(log) == 7 && errno == 4321, "the first number; errno stays");
+    fflush(stdout);
+    if (fork() == 0) {
+        int is_right = postcopy_record_halt(log) == POSTCOPY_LOST;
+        postcopy_log_close(log);
+        postcopy_log *own = postcopy_log_open(folder, "pager", 0);
+        _exit(is_right && postcopy_record_ready(own) == 0 ? 0 : 1);
+    }
+    int status;
+    wait(&status);
+    want(WIFEXITED(status) && WEXITSTATUS(status) == 0, "a forked child");
+    want(postcopy_record_resume(log, 1) == 8, "the parent goes on");
+    want(postcopy_record_done(log) == POSTCOPY_LOST && postcopy_log_error(log) == EINVAL, "another party's record");
+    want(postcopy_record_halt(log) == POSTCOPY_LOST, "the log has ended");
+    postcopy_log_close(log);
+
+    uint64_t contents[513] = {0};
+    log = postcopy_log_open(folder, "source", POSTCOPY_LOST - 2);
+    want(postcopy_record_send(log, 0, contents, 512) == POSTCOPY_LOST - 2, "the longest record");
+    want(postcopy_record_state(log) == POSTCOPY_LOST - 1, "the greatest number");
+    want(postcopy_record_state(log) == POSTCOPY_LOST && postcopy_log_error(log) == EOVERFLOW, "no number left");
+    postcopy_log_close(log);
+    log = postcopy_log_open(folder, "source", 0);
+    want(postcopy_record_send(log, 0, contents, 513) == POSTCOPY_LOST && postcopy_log_error(log) == EINVAL, "too many cells");
+    postcopy_log_close(log);
+}
+
+static void hash(void)
+{
+    char page[4096];
+    while (fread(page, sizeof page, 1, stdin) == 1)
+        printf("%" PRIu64 "\n", postcopy_page_hash(page, sizeof page));
+}
+
+static void measure(const char *folder, long count)
+{
+    struct timespec before, after;
+    postcopy_log *log = postcopy_log_open(folder, "guest", 0);
+    clock_gettime(CLOCK_MONOTONIC, &before);
+    for (long n = 0; n < count; n++)
+        postcopy_record_write(log, 1, n & 1023, 3, n * UINT64_C(0x9e3779b97f4a7c15));
+    clock_gettime(CLOCK_MONOTONIC, &after);
+    postcopy_log_close(log);
+    printf("%.0f ns a record\n", ((after.tv_sec - before.tv_sec) * 1e9 + (after.tv_nsec - before.tv_nsec)) / count);
+}
+
+int main(int count, char **words)
+{
+    const char *what = count > 1 ? words[1] : "", *folder = count > 2 ? words[2] : "";
+    long number = count > 3 ? atol(words[3]) : 0;
+    records = count > 4 ? atol(words[4]) : 0;
+    if (!strcmp(what, "calls"))
+        make_calls(folder);
+    else if (!strcmp(what, "threads"))
+        run_threads(folder, "guest", number, append);
+    else if (!strcmp(what, "locked"))
+        run_threads(folder, "guest", number, append_locked);
+    else if (!strcmp(what, "endless")) {
+        map_answers(folder);
+        run_threads(folder, "source", number, append_endlessly);
+    } else if (!strcmp(what, "full"))
+        fill(folder);
+    else if (!strcmp(what, "refused"))
+        refuse(folder);
+    else if (!strcmp(what, "hash"))
+        hash();
+    else if (!strcmp(what, "speed"))
+        measure(folder, number);
+    else
+        want(0, "no such test");
+    return 0;
+}
