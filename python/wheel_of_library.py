@@ -33,7 +33,7 @@ def library():
 
 def contents():
     """The files of the package, by their names in the wheel."""
-    for name in ("__init__.py", "py.typed"):
+    for name in sorted(it for it in os.listdir(f"{HERE}/postcopy") if it.endswith((".py", ".typed"))):
         with open(f"{HERE}/postcopy/{name}", "rb") as file:
             yield f"postcopy/{name}", file.read()
     yield "postcopy/libpostcopy.so", library()

@@ -1,0 +1,243 @@
+"""Sessions that are made of recorders' files, beside sessions that are known: those of the example folders and of the test
+cases, spread over files, and those that examples/recording/session_from_traces.py writes of traces that are cut short."""
+import glob
+import importlib.util
+import os
+import random
+import re
+import subprocess
+import sys
+
+from session_text import LOGS, SessionText
+
+TOP = os.path.dirname(os.path.dirname(os.path.abspath(__file__)))
+sys.path.insert(0, f"{TOP}/python")
+from postcopy.recorded import Unfit, session_of  # noqa: E402
+from postcopy.records import RECORDS  # noqa: E402
+
+TRACES = "examples/recording"
+
+
+def read(name):
+    with open(f"{TOP}/{name}", encoding="ascii", newline="") as file:
+        return file.read()
+
+
+def known_sessions(audit):
+    """Sessions of the right shape, once each: the texts and the first lines of their reports."""
+    found = {}
+    for path in sorted(glob.glob(f"{TOP}/examples/*/session") + glob.glob(f"{TOP}/tests/cases/*/session")):
+        text = read(os.path.relpath(path, TOP))
+        if text not in found:
+            said = audit(text)
+            if said.split()[0] in ("clean", "faulty", "knot"):
+                found[text] = said
+    return found
+
+
+def files_of(session, folder, parts=1, chance=None, lengths=None):
+    """Writes the files that recorders would have of a session, each log's records in so many, and only so many of them."""
+    os.makedirs(folder)
+    machine = [" ".join(line.split(" ")[1] for line in session.head[1:3])]
+    logs = {"machine": [f"pages {machine[0]}", *session.head[4:]], **{log: session.logs[log] for log in session.told()}}
+    for log, records in logs.items():
+        lines = [f"{number} {record}\n" for number, record in enumerate(records)][: (lengths or {}).get(log)]
+        spread = [[] for _ in range(parts)]
+        for line in lines:
+            (chance.choice(spread) if chance else spread[0]).append(line)
+        for part, some in enumerate(spread):
+            with open(f"{folder}/{log}.{part + 1}.0", "w", encoding="ascii") as file:
+                file.write("".join(some))
+                if chance and chance.random() < 0.5:
+                    file.write(chance.choice(["\0" * 100, f"{len(records)} rea", "\0\0w 1 2 3 4\n\0"]))
+
+
+def called(session):
+    """The recorder's calls that a session's records are: the party, the call and its words."""
+    pages, cells = (line.split(" ")[1] for line in session.head[1:3])
+    yield "machine", "machine", [pages, cells]
+    for line in session.head[4:]:
+        yield "machine", "initial", line.split(" ")[1:]
+    for log in session.told():
+        for record in session.logs[log]:
+            word, *fields = record.split(" ")
+            yield log, RECORDS[log][word].call, fields
+
+
+def without_links(session):
+    """The records of a session where those who received a message wrote its number: with no logs of the link and the lane."""
+    logs = {log: list(session.logs[log]) for log in ("guest", "source", "pager")}
+    for log, kind, of in (("source", "ask", "link"), ("pager", "got", "link"), ("pager", "pull", "lane")):
+        for place, record in enumerate(logs[log]):
+            word, *fields = record.split(" ")
+            if word == kind:
+                logs[log][place] = f"{kind}-sent {session.logs[of][int(fields[0])].split(' ')[1]}"
+    return logs
+
+
+class MadeSessions:
+    def __init__(self, tests, room):
+        self.tests, self.room, self.made = tests, room, 0
+        self.known = known_sessions(tests.audit)
+
+    def folder(self):
+        self.made += 1
+        return f"{self.room}/made-{self.made}"
+
+    def made_of(self, folder):
+        """The session of a folder's files, and what is said of it; or why there is none."""
+        try:
+            session, said = session_of([folder])
+            return session.text(), said
+        except Unfit as fault:
+            return None, [str(fault)]
+
+    def script(self, *words):
+        return subprocess.run([sys.executable, f"{TOP}/recorders/session", *words], capture_output=True, encoding="ascii")
+
+    def run(self):
+        self.of_known_sessions()
+        self.of_links()
+        self.of_cuts_and_windows()
+        self.of_holes()
+        self.of_the_script()
+
+    def of_known_sessions(self):
+        chance = random.Random(1)
+        for text in self.known:
+            folder = self.folder()
+            files_of(SessionText(text), folder, 3, chance)
+            made, said = self.made_of(folder)
+            self.tests.same("a session of files", made, text)
+            self.tests.same("what is said of it", [it for it in said if "there is no record" not in it], [])
+
+    def of_links(self):
+        """The logs of the link and the lane made anew: each record has the same fault, and each page the same entry."""
+        for text, said in self.known.items():
+            if said.startswith("knot"):
+                continue
+            known = SessionText(text)
+            folder = self.folder()
+            bare = SessionText(text)
+            bare.logs.update(without_links(known), link=[], lane=[])
+            files_of(bare, folder)
+            made, _ = self.made_of(folder)
+            told = self.tests.audit(made)
+            self.tests.same("a fault over links that were made", self.fault(made, told), self.fault(text, said))
+            entries = [re.findall("^page .*", self.tests.report(it), re.M) for it in (made, text)]
+            self.tests.same("entries over links that were made", *entries)
+
+    @staticmethod
+    def fault(text, said):
+        """The first line of a report, with the record in the place of its line."""
+        if said == "clean":
+            return said
+        session, (_, _, line, reason) = SessionText(text), said.split(" ")
+        for log in session.told():
+            place = int(line) - session.line(log, 0)
+            if 0 <= place < len(session.logs[log]):
+                return log, place, reason
+        return None
+
+    def of_cuts_and_windows(self):
+        """Logs that end early, at each record, and windows, beside the script of the traces. The frame that the traces have
+        outside of their window is put beside the others, so that each event of a frame becomes a record."""
+        spec = importlib.util.spec_from_file_location("session_from_traces", f"{TOP}/{TRACES}/session_from_traces.py")
+        script = importlib.util.module_from_spec(spec)
+        spec.loader.exec_module(script)
+        traces = {log: read(f"{TRACES}/{log}.trace").replace("7f3a1", "40004") for log in LOGS if log != "lane"}
+
+        def recording(frames="40000-40004", ended=None):
+            folder = self.folder()
+            os.makedirs(folder)
+            for log, text in traces.items():
+                text = text.replace("frames=40000-40003", f"frames={frames}")
+                if ended and ended[0] == log:
+                    text = re.sub(rf"^[^ \n]+ {ended[1]} .*", "", text, flags=re.M | re.S)
+                with open(f"{folder}/{log}.trace", "w", encoding="ascii") as file:
+                    file.write(text)
+            return script.Recording(folder, True)
+
+        whole = recording()
+        for (log, name), number in whole.numbers.items():
+            folder = self.folder()
+            files_of(SessionText(whole.text()), folder, lengths={log: number})
+            made, said = self.made_of(folder)
+            self.tests.same(f"the logs where the {log}'s ends before {name}", made, recording(ended=(log, name)).text())
+            self.tests.same("its verdict", self.tests.audit(made), "clean")
+        folder = self.folder()
+        files_of(SessionText(whole.text()), folder)
+        for first in range(5):
+            for last in range(first, 5):
+                made = self.script(folder, "--window", f"{first}-{last}")
+                self.tests.same(f"the window {first}-{last}", made.stdout, recording(f"4000{first}-4000{last}").text())
+
+    def of_holes(self):
+        """A record that is missing in the middle, a second one of a number, and files that are none."""
+        session = SessionText(read(f"{TRACES}/session"))
+        for log in ("guest", "source", "link", "pager"):
+            hole, ended = self.folder(), self.folder()
+            files_of(session, hole)
+            files_of(session, ended, lengths={log: 3})
+            with open(f"{hole}/{log}.1.0", encoding="ascii") as file:
+                lines = file.readlines()
+            with open(f"{hole}/{log}.1.0", "w", encoding="ascii") as file:
+                file.write("".join(lines[:3] + lines[4:]))
+            made, said = self.made_of(hole)
+            self.tests.same(f"a hole in the {log}'s log", made, self.made_of(ended)[0])
+            wanted = f"{log}: {len(lines) - 4} records left out: record 3 is missing"
+            self.tests.same("what is said of it", wanted in said, True)
+        for log in ("guest", "source", "link", "pager"):
+            missing, empty = self.folder(), self.folder()
+            files_of(session, missing)
+            files_of(session, empty, lengths={log: 0})
+            os.remove(f"{missing}/{log}.1.0")
+            made, said = self.made_of(missing)
+            self.tests.same(f"no file of the {log}", made, self.made_of(empty)[0])
+            self.tests.same("what is said of it", f"{log}: there is no record" in said, True)
+            self.tests.same("its verdict", self.tests.audit(made), "clean")
+        for log, line, wanted in (
+            ("pager", "3 skip 2\n", "the pager's log has a second record 3"),
+            ("pager", "18 skipp 2\n", "the pager's log: the pager's log has no record 'skipp'"),
+            ("guest", "17 r 0 1 0\n", "the guest's log: 'r' has 4 fields and not 3"),
+            ("guest", "17 r 64 1 0 0\n", "the guest's log: '64' is no vcpu"),
+            ("guest", "17 r 0 4 0 0\n", "record 17 of the guest's log: the machine has no such page"),
+            ("guest", "17 w 0 3 1 0\n", "record 17 of the guest's log: the machine has no such cell"),
+            ("source", "10 send 3 00\n", "the source's log: '00' is no contents"),
+            ("source", "ten done\n", "line 1 is no record"),
+            ("pager", "18 got-sent 1\n", "'got-sent 1', where the link has a log of its own"),
+            ("machine", "9 cells 3\n", "the machine's log has no record 'cells 3'"),
+            ("machine", "9 page 4 0000000000000001\n", "what a page holds at first is not of this machine"),
+        ):
+            folder = self.folder()
+            files_of(session, folder)
+            with open(f"{folder}/{log}.2.0", "w", encoding="ascii") as file:
+                file.write(line)
+            made, said = self.made_of(folder)
+            self.tests.same(f"{line!r} more", (made, [it.split(": ", 1)[1] if it.startswith("/") else it for it in said]), (None, [wanted]))
+
+    def of_the_script(self):
+        """The program: its folders, its options and its statuses."""
+        session = SessionText(read(f"{TRACES}/session"))
+        both, first, second = self.folder(), self.folder(), self.folder()
+        files_of(session, both)
+        files_of(session, first)
+        os.makedirs(second)
+        for log in ("guest", "pager"):
+            os.rename(f"{first}/{log}.1.0", f"{second}/{log}.1.0")
+        wanted = read(f"{TRACES}/session")
+        ran = self.script(both)
+        self.tests.same("a session", (ran.stdout, ran.stderr, ran.returncode), (wanted, "", 0))
+        ran = self.script(first, second, "-o", f"{both}/session")
+        with open(f"{both}/session", encoding="ascii") as file:
+            self.tests.same("a session of two folders", (ran.stdout, ran.returncode, file.read()), ("", 0, wanted))
+        ran = self.script(first, "--whole")
+        self.tests.same("a part, where the whole is wanted", (ran.stdout, ran.returncode), ("", 1))
+        for words, said in (
+            ([second], "session: no file tells how many pages and cells the machine has\n"),
+            ([both, "--window", "2-4"], "session: the machine has 4 pages\n"),
+            ([f"{both}/none"], f"session: [Errno 2] No such file or directory: '{both}/none'\n"),
+        ):
+            ran = self.script(*words)
+            self.tests.same(f"session {words}", (ran.stdout, ran.stderr, ran.returncode), ("", said, 2))
+        self.tests.same("a window that is none", self.script(both, "--window", "3-2").returncode, 2)
