@@ -429,6 +429,7 @@ uint64_t postcopy_page_hash(const void *page, size_t length)
             word = word << 8 | bytes[at + byte];
         any |= word;
         hash = (hash ^ word) * UINT64_C(0x9e3779b97f4a7c15);
+        hash = (hash ^ hash >> 29) * UINT64_C(0xbf58476d1ce4e5b9);
         hash ^= hash >> 32;
     }
     return any ? (hash ? hash : 1) : 0;

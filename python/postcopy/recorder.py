@@ -200,5 +200,6 @@ def page_hash(page: bytes) -> int:
     value, mask = 0, 2**64 - 1
     for at in range(0, len(page) - 7, 8):
         value = (value ^ int.from_bytes(page[at : at + 8], "little")) * 0x9E3779B97F4A7C15 & mask
+        value = (value ^ value >> 29) * 0xBF58476D1CE4E5B9 & mask
         value ^= value >> 32
     return value or 1
