@@ -2,7 +2,7 @@
 
    A thread's records of a log stand in a file of their own, FOLDER/PARTY.PROCESS.N, as lines `NUMBER RECORD`. A file grows by
    chunks, which are taken from the disk before they are mapped. Behind the last line there are bytes 0, until the thread or
-   the log ends. The first byte of a line is written last, so a line that a process did not live to finish begins with a 0. */
+   the log ends. The end of a line is written last, so a line that a process did not live to finish has none. */
 #define _GNU_SOURCE
 #include "postcopy_record.h"
 
@@ -166,10 +166,7 @@ struct record {
 
 static void put_line(struct part *part, uint64_t number, const struct record *record)
 {
-    char digits[20];
-    size_t count = put_number(digits, number) - digits;
-    memcpy(part->at + 1, digits + 1, count - 1);
-    char *at = part->at + count;
+    char *at = put_number(part->at, number);
     *at++ = ' ';
     at = stpcpy(at, record->word);
     for (int n = 0; n < record->count; n++) {
@@ -180,9 +177,8 @@ static void put_line(struct part *part, uint64_t number, const struct record *re
         *at++ = ' ';
         at = put_cells(at, record->contents, record->cells);
     }
-    *at++ = '\n';
-    __atomic_store_n(part->at, digits[0], __ATOMIC_RELEASE);
-    part->at = at;
+    __atomic_store_n(at, '\n', __ATOMIC_RELEASE);
+    part->at = at + 1;
 }
 
 /* Logs. */
