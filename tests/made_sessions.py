@@ -110,6 +110,18 @@ class MadeSessions:
             made, said = self.made_of(folder)
             self.tests.same("a session of files", made, text)
             self.tests.same("what is said of it", [it for it in said if "there is no record" not in it], [])
+            for name in os.listdir(folder):
+                if name.startswith("lane") and "\nlane 0\n" in text:
+                    os.remove(f"{folder}/{name}")
+            self.tests.same("with no file of the lane", self.made_of(folder)[0], self.of_least_version(text))
+
+    @staticmethod
+    def of_least_version(text):
+        """The session, of the first version where nothing in it is of the second."""
+        is_late = re.search("^resume .*^z .*^source ", text, re.M | re.S)
+        if is_late or "\nlane 0\n" not in text or "\npull " in text:
+            return text
+        return text.replace("postcopy-session 2\n", "postcopy-session 1\n").replace("\nlane 0\n", "\n")
 
     def of_links(self):
         """The logs of the link and the lane made anew: each record has the same fault, and each page the same entry."""

@@ -28,29 +28,26 @@
 #include <sys/wait.h>
 #include <unistd.h>
 
-#include <postcopy_record.h>
+#include "uffd.h"
 
-#define PAGES 32
-#define CELLS 8 /* of a page's 4,096 bytes the guest uses the first 64 */
-#define VCPUS 2
-#define MARKED 5 /* the page of the mistakes: the guest reads its cell 3, which stays 0, and writes its cells 1 and 2 */
+enum mistake mistake;
+long operations = 300;
+size_t page_size;
+char *memory;
 
-static enum { NONE, WAKE_FIRST, OLD_PAGE, PLACE_TWICE } mistake;
-static long operations = 300; /* of each thread, before the move and after it */
 static const char *folder;
 static int line; /* the socket to the other side */
-static size_t page_size;
-static char *memory;
 
-static void fail(const char *what)
+void fail(const char *what)
 {
     fprintf(stderr, "uffd: %s: %s\n", what, strerror(errno));
     _exit(2);
 }
 
-static uint64_t *cells_of(uint32_t page)
+void start(pthread_t *thread, void *(*of)(void *), void *what)
 {
-    return (uint64_t *)(memory + page * page_size);
+    if ((errno = pthread_create(thread, NULL, of, what)))
+        fail("a thread");
 }
 
 static postcopy_log *open_log(const char *party, uint32_t first)
@@ -88,96 +85,6 @@ static void put_message(uint32_t kind, uint32_t number, uint32_t page)
 static int take(void *bytes, size_t length)
 {
     return recv(line, bytes, length, MSG_WAITALL) == (ssize_t)length;
-}
-
-/* The guest, on either side: threads that read and write at random. */
-
-struct vcpu {
-    uint32_t number;
-    uint64_t seed;
-    pthread_t thread;
-    uint32_t seen;         /* the newest placement that it recorded a look at */
-    atomic_int tid;        /* its thread .. */
-    _Atomic uint32_t miss; /* .. and its last miss */
-};
-
-static struct vcpu vcpus[VCPUS];
-static postcopy_log *guest;
-static int is_moved;
-static unsigned char is_free[PAGES];
-static pthread_mutex_t page_locks[PAGES];
-static atomic_int was_used, was_written; /* the marked page, after the move */
-
-static uint64_t random_of(struct vcpu *vcpu)
-{
-    vcpu->seed ^= vcpu->seed << 13;
-    vcpu->seed ^= vcpu->seed >> 7;
-    return vcpu->seed ^= vcpu->seed << 17;
-}
-
-static void look(struct vcpu *vcpu, uint32_t page);
-
-/* One access, with its record under the page's lock: so the log has the accesses to a cell in their order. */
-static void use(struct vcpu *vcpu, uint32_t page, uint32_t cell, int is_write)
-{
-    if (is_moved)
-        look(vcpu, page);
-    pthread_mutex_lock(&page_locks[page]);
-    volatile uint64_t *word = cells_of(page) + cell;
-    if (is_write) {
-        uint64_t value = random_of(vcpu);
-        *word = value;
-        is_free[page] = 0;
-        postcopy_record_write(guest, vcpu->number, page, cell, value);
-    } else
-        postcopy_record_read(guest, vcpu->number, page, cell, *word);
-    pthread_mutex_unlock(&page_locks[page]);
-    if (is_moved && page == MARKED)
-        atomic_store(is_write ? &was_written : &was_used, 1);
-}
-
-static void release(struct vcpu *vcpu, uint32_t page)
-{
-    pthread_mutex_lock(&page_locks[page]);
-    memset(cells_of(page), 0, page_size);
-    is_free[page] = 1;
-    postcopy_record_release(guest, vcpu->number, page);
-    pthread_mutex_unlock(&page_locks[page]);
-}
-
-static void *run(void *what)
-{
-    struct vcpu *vcpu = what;
-    atomic_store(&vcpu->tid, gettid());
-    if (is_moved && vcpu->number == 0) {
-        use(vcpu, MARKED, 3, 0);
-        use(vcpu, MARKED, 2, 1);
-    }
-    for (long n = 0; n < operations; n++) {
-        uint64_t choice = random_of(vcpu) >> 20;
-        uint32_t page = choice % PAGES, cell = choice / PAGES % CELLS, act = choice / PAGES / CELLS % 16;
-        if (page == MARKED)
-            use(vcpu, page, act < 6 ? 2 : 3, act < 6);
-        else if (act == 15 && !is_moved)
-            release(vcpu, page);
-        else
-            use(vcpu, page, cell, act < 6);
-    }
-    return NULL;
-}
-
-static void start(pthread_t *thread, void *(*of)(void *), void *what)
-{
-    if ((errno = pthread_create(thread, NULL, of, what)))
-        fail("a thread");
-}
-
-static void run_guest(void)
-{
-    for (int n = 0; n < VCPUS; n++)
-        start(&vcpus[n].thread, run, &vcpus[n]);
-    for (int n = 0; n < VCPUS; n++)
-        pthread_join(vcpus[n].thread, NULL);
 }
 
 /* The source. One thread pushes pages, and another answers what is asked, both under one lock. */
@@ -287,8 +194,7 @@ static uint32_t placement_of(uint32_t page)
     return placement;
 }
 
-/* Looks whether a page was placed, before it is used, and waits where it was not. */
-static void look(struct vcpu *vcpu, uint32_t page)
+void look(struct vcpu *vcpu, uint32_t page)
 {
     uint32_t placement = placement_of(page);
     if (placement == POSTCOPY_LOST) {
@@ -509,8 +415,6 @@ int main(int count, char **words)
     memory = mmap(NULL, PAGES * page_size, PROT_READ | PROT_WRITE, MAP_PRIVATE | MAP_ANONYMOUS, -1, 0);
     if (page_size != sizeof old_page || memory == MAP_FAILED || socketpair(AF_UNIX, SOCK_STREAM, 0, ends))
         fail("pages of 4,096 bytes, and a socket");
-    for (uint32_t page = 0; page < PAGES; page++)
-        pthread_mutex_init(&page_locks[page], NULL);
     for (uint32_t n = 0; n < VCPUS; n++)
         vcpus[n].number = n;
     for (int side = 0; side < 2; side++) {

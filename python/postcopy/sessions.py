@@ -156,7 +156,7 @@ class _Reach:
         self._length = len(records)
         for number, record in enumerate(records):
             for other, it in named(log, record):
-                self._note(other, LOST if other == log and it >= number else it, number)
+                self._note(other, it, number)
 
     def _note(self, other: str, it: int, number: int) -> None:
         greatest = self._greatest.setdefault(other, [])
