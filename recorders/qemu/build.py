@@ -1,0 +1,89 @@
+"""Builds what the recorder needs of C: the test guest's ROM and the library that is preloaded into QEMU."""
+import fcntl
+import os
+import shutil
+import struct
+import subprocess
+
+HERE = os.path.dirname(os.path.abspath(__file__))
+OUT = f"{HERE}/out"
+ROM_LENGTH = 65536
+PACKAGES = "qemu-system-x86 binutils libc6-dev gcc"
+TOOLS = ("qemu-system-x86_64", "gcc", "ld", "objcopy")
+
+GUEST_FLAGS = ("-m32", "-O2", "-Wall", "-Wextra", "-ffreestanding", "-Wno-array-bounds", "-fno-pic", "-fno-pie",
+               "-fno-stack-protector", "-mgeneral-regs-only", "-fno-asynchronous-unwind-tables", "-fcf-protection=none")
+
+
+class Missing(Exception):
+    """What this machine lacks, in words."""
+
+
+def can_guard_memory():
+    """Whether a process of ours may guard its memory with userfaultfd against the kernel's own accesses too."""
+    if os.geteuid() == 0 or os.access("/dev/userfaultfd", os.R_OK | os.W_OK):
+        return os.path.exists("/proc/sys/vm/unprivileged_userfaultfd")
+    try:
+        with open("/proc/sys/vm/unprivileged_userfaultfd", encoding="ascii") as setting:
+            return setting.read().strip() == "1"
+    except OSError:
+        return False
+
+
+def require_tools():
+    """Raises Missing where this machine cannot record a migration."""
+    lacks = [tool for tool in TOOLS if not shutil.which(tool)]
+    if lacks:
+        raise Missing(f"{', '.join(lacks)} not found. On Debian:\n"
+                      f"    apt-get install --no-install-recommends {PACKAGES}")
+    if not can_guard_memory():
+        raise Missing("userfaultfd cannot be used here. It needs Linux with CONFIG_USERFAULTFD, and root or\n"
+                      "    sysctl vm.unprivileged_userfaultfd=1")
+
+
+def run(*words):
+    done = subprocess.run(words, capture_output=True, text=True)
+    if done.returncode:
+        raise Missing(f"{' '.join(words)}\n{done.stderr}")
+
+
+def is_stale(built, *sources):
+    return not os.path.exists(built) or any(os.path.getmtime(built) < os.path.getmtime(source) for source in sources)
+
+
+def build_rom(rom):
+    objects = []
+    for name in ("start.S", "walk.c"):
+        objects.append(f"{OUT}/{name}.o")
+        run("gcc", *GUEST_FLAGS, "-c", "-o", objects[-1], f"{HERE}/guest/{name}")
+    run("ld", "-m", "elf_i386", "-T", f"{HERE}/guest/rom.ld", "-o", f"{OUT}/guest.elf", *objects)
+    run("objcopy", "-O", "binary", "--gap-fill", "0xff", f"{OUT}/guest.elf", f"{rom}.new")
+    os.truncate(f"{rom}.new", ROM_LENGTH)
+    os.replace(f"{rom}.new", rom)
+
+
+def build_library(library):
+    run("gcc", "-O2", "-Wall", "-Wextra", "-shared", "-fPIC", "-o", f"{library}.new", f"{HERE}/preload.c", "-ldl", "-lpthread")
+    os.replace(f"{library}.new", library)
+
+
+def build():
+    """The paths of the ROM and of the library, built where they are not there or older than their sources."""
+    os.makedirs(OUT, exist_ok=True)
+    rom, library = f"{OUT}/guest.bin", f"{OUT}/preload.so"
+    with open(f"{OUT}/lock", "w") as lock:
+        fcntl.flock(lock, fcntl.LOCK_EX)
+        if is_stale(rom, *(f"{HERE}/guest/{name}" for name in ("start.S", "walk.c", "rom.ld"))):
+            build_rom(rom)
+        if is_stale(library, f"{HERE}/preload.c"):
+            build_library(library)
+    return rom, library
+
+
+def rom_for(plan, rom, path):
+    """Writes the ROM with the settings of a plan."""
+    with open(rom, "rb") as file:
+        bytes_of_rom = file.read()
+    settings = struct.pack("<6I", plan.pages, plan.words, plan.writes, plan.pace, plan.flush, plan.cpus)
+    with open(path, "wb") as file:
+        file.write(settings + bytes_of_rom[len(settings):])

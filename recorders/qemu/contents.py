@@ -1,0 +1,34 @@
+"""Pages' contents as cells.
+
+A page of 4,096 bytes has as many cells as the guest uses words of it. The rest of the page is zeros; where it is not, the last
+cell is mixed with a hash of the rest, so that it differs.
+"""
+import hashlib
+
+from stream import PAGE_BYTES
+from wire import ZERO
+
+
+def cells_of(page, words):
+    used, rest = page[:words * 8], page[words * 8:]
+    values = [int.from_bytes(used[at:at + 8], "little") for at in range(0, len(used), 8)]
+    if rest.count(0) != len(rest):
+        values[-1] ^= int.from_bytes(hashlib.blake2b(rest, digest_size=8).digest(), "big")
+    return "".join(f"{value:016x}" for value in values)
+
+
+class Contents:
+    """The files of a recording that hold pages one after another."""
+
+    def __init__(self, read, words):
+        self.files, self.read, self.words = {}, read, words
+
+    def page(self, file, place):
+        if place == ZERO:
+            return bytes(PAGE_BYTES)
+        if file not in self.files:
+            self.files[file] = self.read(file)
+        return self.files[file][int(place) * PAGE_BYTES:(int(place) + 1) * PAGE_BYTES]
+
+    def cells(self, file, place):
+        return "0" * 16 * self.words if place == ZERO else cells_of(self.page(file, place), self.words)

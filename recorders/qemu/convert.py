@@ -1,0 +1,58 @@
+"""A session of what was recorded of a migration."""
+import json
+
+from contents import Contents
+from kinds import plan_from_json
+from pipe import Pipe
+from records import Hole, Session
+from relay import Window
+from source_side import SourceSide
+from target_side import TargetSide
+from wire import Wire
+
+MOST_RECORDS = 1 << 20
+
+
+class Recording:
+    """The files of a recording; `read(name)` answers the bytes of one."""
+
+    source_side, target_side = SourceSide, TargetSide
+
+    def __init__(self, read):
+        self.read = read
+        self.plan = plan_from_json(json.loads(read("plan.json")))
+        self.window = Window(self.plan.base, self.plan.pages)
+        self.contents = Contents(read, self.plan.words)
+        self.wire = Wire(read("relay.log").decode().splitlines(), self.window.page, self.plan.pages)
+
+    def session(self, is_from_halt=False):
+        """The session. With `is_from_halt` it begins with the memory at the halt."""
+        plan = self.plan
+        session = Session(plan.pages, plan.words, plan.preempt)
+        if not self.wire.has_state:
+            raise Hole("relay.log: the state was never handed over")
+        pipe = Pipe()
+        self.source_side(session, self.wire, self.contents, is_from_halt).read(pipe.tokens(self.read("source.raw")))
+        self.target_side(session, self.wire, self.contents, plan.base).read(pipe.tokens(self.read("target.raw")))
+        self.links(session)
+        if len(session.logs["guest"]) > MOST_RECORDS and not is_from_halt:
+            return self.session(is_from_halt=True)
+        return session
+
+    def links(self, session):
+        """The logs of the link and of the lane, in the relay's order."""
+        for log, what, name in self.wire.order:
+            if what == "up":
+                session.add(log, "up", name=name, pager=name)
+            elif name[0] == "page":
+                _, connection, taken, handed = name
+                session.add(log, "down", name=("handed", connection, handed), source=("page", connection, taken))
+            else:
+                session.add(log, "down", name=name, source=name)
+
+
+def recording_in(folder):
+    def read(name):
+        with open(f"{folder}/{name}", "rb") as file:
+            return file.read()
+    return Recording(read)

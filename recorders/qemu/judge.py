@@ -1,0 +1,86 @@
+"""What the program says of a recording: its session, the verdict, the words and the picture."""
+import os
+import re
+import subprocess
+
+from convert import recording_in
+from records import Hole
+from witness import witness
+
+TOP = os.path.dirname(os.path.dirname(os.path.dirname(os.path.abspath(__file__))))
+
+
+def program():
+    """The program: the checkout's launcher, or what POSTCOPY names."""
+    return os.environ.get("POSTCOPY", f"{TOP}/postcopy")
+
+
+def ask(*words):
+    """What the program writes, and its status."""
+    done = subprocess.run([program(), *words], stdout=subprocess.PIPE)
+    return done.stdout.decode(), done.returncode
+
+
+def write(path, text):
+    with open(path, "w") as out:
+        out.write(text)
+
+
+class Verdict:
+    """A verdict in a line, as `clean, yes` or `faulty line 7 read` or `not judged: ..`."""
+
+    def __init__(self, line, session=None, left_out=0):
+        self.line, self.session, self.left_out = line, session, left_out
+
+    @property
+    def reason(self):
+        """The verdict without its line's number."""
+        return re.sub(r" line \d+", "", self.line.split(":")[0])
+
+    @property
+    def is_clean(self):
+        return self.line == "clean, yes"
+
+
+def session_of(folder, is_whole):
+    """The recording's session. Where a QEMU ended early its logs are cut to a whole."""
+    session = recording_in(folder).session()
+    left_out = 0 if is_whole else session.cut()
+    return session, left_out
+
+
+def judge(folder, is_whole=True):
+    """Judges a recording, and leaves what was found in its folder."""
+    try:
+        session, left_out = session_of(folder, is_whole)
+        write(f"{folder}/session", session.text())
+    except (Hole, OSError) as fault:
+        verdict = Verdict(f"not judged: {fault}")
+    else:
+        verdict = Verdict(verdict_line(folder), session, left_out)
+    write(f"{folder}/verdict", verdict.line + "\n")
+    write(f"{folder}/witness", witness(folder))
+    return verdict
+
+
+def verdict_line(folder):
+    path = f"{folder}/session"
+    report, _ = ask("audit", path)
+    write(f"{folder}/report", report)
+    first = report.split("\n", 1)[0]
+    if first != "clean":
+        return first or "not judged: the program said nothing"
+    certificate, _ = ask("certify", path)
+    write(f"{folder}/certificate", certificate)
+    return f"clean, {ask('check', path, f'{folder}/certificate')[0].strip()}"
+
+
+def explain_and_draw(folder):
+    """The words, and where the picture is; None where the program does not have them."""
+    words, status = ask("explain", f"{folder}/session")
+    if status not in (0, 1) or not words.count("\n") > 1:
+        return None
+    write(f"{folder}/explained", words)
+    picture, _ = ask("draw", f"{folder}/session")
+    write(f"{folder}/picture.svg", picture)
+    return words

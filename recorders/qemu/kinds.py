@@ -1,0 +1,64 @@
+"""The kinds of migrations, as plans: what the guest is and how it is moved."""
+from dataclasses import asdict, dataclass, field, replace
+
+BASE = 0x400000
+
+
+@dataclass
+class Plan:
+    """How one migration is made. Rates are in bytes a second, `warm` and `after` in accesses of the guest."""
+    kind: str = "live"
+    pages: int = 256          # of the window
+    words: int = 16           # of each page that the guest uses, which are the cells
+    ram: int = 32             # MiB
+    cpus: int = 1
+    writes: int = 4           # of 16 accesses
+    pace: int = 0             # how long the guest waits behind each access
+    flush: bool = True        # whether the guest drops a page's translation before each access
+    bandwidth: int = 1 << 20  # of pre-copy
+    post_bandwidth: int = 500_000
+    warm: int = 2000          # before the migration starts
+    pre: float = 0.5          # seconds of pre-copy
+    after: int = 3000         # at the target, behind the end
+    preempt: bool = False
+    paused: bool = False      # the guest is stopped first, and goes on at the target behind the end
+    cuts: list = field(default_factory=list)  # the connection is cut behind so many pages; -1: behind the package
+    fault: str = ""
+    skip: int = 3             # of the pages that the fault could take
+    limit: float = 40.0       # seconds for each part of the migration
+    base: int = BASE
+
+    def to_json(self):
+        return asdict(self)
+
+
+KINDS = {
+    "live": ("the guest runs, and asks for what it needs", {}),
+    "left": ("pre-copy leaves pages at the target that need not come again",
+             {"pages": 1024, "bandwidth": 5_000_000, "pace": 2000, "post_bandwidth": 1_000_000}),
+    "cells": ("512 cells a page: each byte of a page is judged word by word",
+              {"pages": 512, "words": 512, "bandwidth": 3_000_000, "post_bandwidth": 1_000_000}),
+    "wide": ("8,192 pages of one cell",
+             {"pages": 8192, "words": 1, "ram": 64, "bandwidth": 20_000_000, "post_bandwidth": 8_000_000}),
+    "paused": ("the guest is stopped before, and started behind the migration",
+               {"pages": 512, "paused": True, "post_bandwidth": 1_000_000}),
+    "processors": ("four virtual processors", {"pages": 512, "cpus": 4}),
+    "preempt": ("pages that are asked for have a connection of their own: the lane",
+                {"pages": 1024, "preempt": True, "post_bandwidth": 1_000_000}),
+    "recovery": ("the connection is cut, and the migration goes on over another",
+                 {"pages": 512, "post_bandwidth": 1_000_000, "cuts": [200]}),
+    "preempt-recovery": ("both connections are cut, and the migration goes on over two others",
+                         {"pages": 512, "preempt": True, "post_bandwidth": 1_000_000, "cuts": [200]}),
+    "lost-write": ("64 pages, which fit the emulator's TLB: QEMU 7.2 loses writes here",
+                   {"pages": 64, "words": 8, "flush": False, "post_bandwidth": 300_000}),
+}
+
+
+def plan_of(kind, **changes):
+    """The plan of a kind, with changes."""
+    plan = replace(Plan(kind=kind, **KINDS[kind][1]), **changes)
+    return replace(plan, cuts=list(plan.cuts))
+
+
+def plan_from_json(values):
+    return Plan(**values)

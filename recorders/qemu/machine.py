@@ -1,0 +1,123 @@
+"""One of the two QEMUs, with a pipe that takes all that it tells."""
+import os
+import select
+import subprocess
+import threading
+import time
+
+from qmp import Gone, Qmp, Refused
+
+EVENT_BYTES = 27  # of an access
+SOURCE_TRACE = ("runstate_set", "vm_state_notify", "ram_save_page", "migrate_handle_rp_req_pages",
+                "source_return_path_thread_shut", "postcopy_start", "migrate_set_state", "postcopy_pause_return_path_continued")
+TARGET_TRACE = ("runstate_set", "vm_state_notify", "loadvm_handle_cmd_packaged", "loadvm_handle_cmd_packaged_received",
+                "loadvm_postcopy_handle_listen", "loadvm_postcopy_handle_run_bh", "ram_load_postcopy_loop",
+                "migrate_send_rp_message", "postcopy_place_page", "postcopy_place_page_zero", "migrate_set_state",
+                "postcopy_pause_incoming_continued", "postcopy_pause_fast_load_continued",
+                "postcopy_ram_fault_thread_request", "postcopy_ram_fault_thread_quit")
+
+
+class PipeReader:
+    """Reads a pipe into a file, until QEMU has ended and all is read."""
+
+    def __init__(self, pipe, path):
+        self.descriptor = os.open(pipe, os.O_RDONLY | os.O_NONBLOCK)
+        self.file, self.length, self.is_ending = open(path, "wb", buffering=0), 0, False
+        self.thread = threading.Thread(target=self.read, daemon=True)
+        self.thread.start()
+
+    def read(self):
+        while True:
+            is_last = self.is_ending
+            if select.select([self.descriptor], [], [], 0 if is_last else 0.05)[0]:
+                data = os.read(self.descriptor, 1 << 20)
+                self.file.write(data)
+                self.length += len(data)
+                if data:
+                    continue
+                time.sleep(0.01)  # nobody writes, yet or any more
+            if is_last:
+                break
+        self.file.close()
+        os.close(self.descriptor)
+
+    def end(self):
+        self.is_ending = True
+        self.thread.join()
+
+
+class Machine:
+    def __init__(self, name, folder, plan, library, trace, extra=()):
+        self.name, self.folder = name, folder
+        self.pipe, self.socket = f"{folder}/{name}.pipe", f"{folder}/{name}.qmp"
+        os.mkfifo(self.pipe)
+        self.reader = PipeReader(self.pipe, f"{folder}/{name}.raw")
+        self.errors = f"{folder}/{name}.errors"
+        environment = dict(
+            os.environ, LD_PRELOAD=library, RECORD_PIPE=self.pipe, RECORD_CONTENTS=f"{folder}/{name}.pages",
+            RECORD_RAM=str(plan.ram << 20), RECORD_BASE=str(plan.base), RECORD_PAGES=str(plan.pages),
+            RECORD_EARLY=str(plan.skip + 1 if plan.fault == "early" and name == "target" else 0))
+        command = [
+            "qemu-system-x86_64", "-name", name, "-machine", "pc,accel=tcg", "-m", f"{plan.ram}M", "-smp", str(plan.cpus),
+            "-nodefaults", "-no-user-config", "-display", "none", "-bios", f"{folder}/guest.bin",
+            "-chardev", f"file,id=told,path={self.pipe}", "-device", "isa-debugcon,iobase=0xe9,chardev=told",
+            "-qmp", f"unix:{self.socket},server=on,wait=off", "-D", self.pipe,
+            *(word for event in trace for word in ("-trace", event)), *extra]
+        with open(f"{folder}/{name}.command", "w") as out:
+            print(*command, file=out)
+        with open(self.errors, "w") as errors:
+            self.process = subprocess.Popen(command, env=environment, stderr=errors, stdin=subprocess.DEVNULL)
+        self.qmp = None
+
+    def is_running(self):
+        return self.process.poll() is None
+
+    def __call__(self, command, **arguments):
+        if not self.qmp:
+            self.qmp = Qmp(self.socket, self.is_running)
+        return self.qmp(command, **arguments)
+
+    def wait_for_accesses(self, count, seconds):
+        """Waits until the guest has told so many accesses more. Answers whether it did."""
+        wanted, until = self.reader.length + count * EVENT_BYTES, time.monotonic() + seconds
+        while self.reader.length < wanted and time.monotonic() < until and self.is_running():
+            time.sleep(0.01)
+        return self.reader.length >= wanted
+
+    def migration(self):
+        """Where the migration stands, or `ended` where QEMU did."""
+        try:
+            return self("query-migrate").get("status", "none")
+        except Gone:
+            return "ended"
+
+    def wait_for(self, wanted, seconds):
+        until = time.monotonic() + seconds
+        while True:
+            status = self.migration()
+            if status in wanted or status == "ended" or time.monotonic() > until:
+                return status
+            time.sleep(0.02)
+
+    def last_error(self):
+        with open(self.errors) as file:
+            lines = file.read().splitlines()
+        return lines[-1] if lines else f"status {self.process.poll()}, and it said nothing"
+
+    def end(self):
+        """Ends QEMU, and reads what it told to the last."""
+        try:
+            if self.is_running():
+                self("quit")
+                self.process.wait(10)
+        except (Gone, Refused, subprocess.TimeoutExpired):
+            pass
+        if self.is_running():
+            self.process.kill()
+        self.process.wait()
+        if self.qmp:
+            self.qmp.close()
+        self.reader.end()
+        for path in (self.pipe, self.socket):
+            if os.path.exists(path):
+                os.unlink(path)

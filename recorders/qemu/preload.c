@@ -1,0 +1,237 @@
+/*
+ * Records what QEMU does with userfaultfd: to be preloaded into the target, and harmless in the source.
+ *
+ * RECORD_PIPE is the pipe to which the guest's port and QEMU's trace go as well, so all that this process tells is in one
+ * order. RECORD_RAM is the length of the guest's memory, by which its range is known; RECORD_BASE and RECORD_PAGES are the
+ * window. RECORD_CONTENTS is the file for the contents of pages, one after another. With RECORD_EARLY=N the N-th page that is
+ * put in place is open to the guest 0.2 s before its contents are there, as by a pager with a fault. The lines are
+ *
+ *     uffd guard START LENGTH      memory from START on is guarded
+ *     uffd have PAGE INDEX         a page of the window was there when it was guarded, and its contents
+ *     uffd fault PAGE THREAD       a fault in the window was read
+ *     uffd place PAGE INDEX        contents were put in place
+ *     uffd zero PAGE               zeros were put in place
+ *     uffd refused PAGE ERRNO      they were not
+ *
+ * A placement is made without a wake, then told, and then woken; and it is made and told under the lock that the guest's bytes
+ * take. So a look of the guest that comes behind the placement in the pipe came behind it in fact, and one before, before.
+ */
+#define _GNU_SOURCE
+#include <dlfcn.h>
+#include <errno.h>
+#include <fcntl.h>
+#include <linux/userfaultfd.h>
+#include <pthread.h>
+#include <stdarg.h>
+#include <stdint.h>
+#include <stdio.h>
+#include <stdlib.h>
+#include <string.h>
+#include <sys/ioctl.h>
+#include <sys/stat.h>
+#include <sys/uio.h>
+#include <unistd.h>
+
+#define PAGE 4096UL
+#define DESCRIPTORS 1024
+
+enum use { UNKNOWN, GUEST, USERFAULT, OTHER };
+
+static pthread_mutex_t lock = PTHREAD_MUTEX_INITIALIZER;
+static int pipe_end = -1, contents_file = -1;
+static ino_t pipe_inode;
+static uint64_t ram, base, pages;
+static uint64_t window; /* where the window is in this process, 0 before it is guarded */
+static long stored, early;
+static char use_of[DESCRIPTORS];
+
+static int (*real_ioctl)(int, unsigned long, ...);
+static ssize_t (*real_read)(int, void *, size_t);
+static ssize_t (*real_writev)(int, const struct iovec *, int);
+static int (*real_close)(int);
+
+static uint64_t number(const char *name)
+{
+    const char *text = getenv(name);
+    return text ? strtoull(text, NULL, 0) : 0;
+}
+
+__attribute__((constructor)) static void begin(void)
+{
+    struct stat found;
+    real_ioctl = dlsym(RTLD_NEXT, "ioctl");
+    real_read = dlsym(RTLD_NEXT, "read");
+    real_writev = dlsym(RTLD_NEXT, "writev");
+    real_close = dlsym(RTLD_NEXT, "close");
+    const char *path = getenv("RECORD_PIPE"), *contents = getenv("RECORD_CONTENTS");
+    if (!path || !contents)
+        return;
+    pipe_end = open(path, O_WRONLY | O_CLOEXEC);
+    contents_file = open(contents, O_WRONLY | O_CREAT | O_TRUNC | O_CLOEXEC, 0666);
+    if (pipe_end < 0 || contents_file < 0 || fstat(pipe_end, &found)) {
+        perror("preload");
+        exit(1);
+    }
+    pipe_inode = found.st_ino;
+    ram = number("RECORD_RAM");
+    base = number("RECORD_BASE");
+    pages = number("RECORD_PAGES");
+    early = number("RECORD_EARLY");
+}
+
+static int is_known(int fd, enum use use)
+{
+    return fd >= 0 && fd < DESCRIPTORS && use_of[fd] == use;
+}
+
+/* The page of the window at an address, or -1. */
+static long page_at(uint64_t address)
+{
+    return window && address >= window && (address - window) / PAGE < pages ? (long)((address - window) / PAGE) : -1;
+}
+
+static long store(const void *contents)
+{
+    if (write(contents_file, contents, PAGE) != (ssize_t)PAGE) {
+        perror("preload: contents");
+        abort();
+    }
+    return stored++;
+}
+
+/* The pages of the window that are there, once it is guarded. */
+static void tell_present(void)
+{
+    int map = open("/proc/self/pagemap", O_RDONLY | O_CLOEXEC);
+    for (uint64_t page = 0; page < pages; page++) {
+        uint64_t entry, address = window + page * PAGE;
+        if (pread(map, &entry, 8, address / PAGE * 8) == 8 && entry >> 62) /* present, or swapped */
+            dprintf(pipe_end, "uffd have %lu %ld\n", page, store((void *)address));
+    }
+    real_close(map);
+}
+
+static int guard(int fd, unsigned long request, struct uffdio_register *what)
+{
+    pthread_mutex_lock(&lock);
+    int answer = real_ioctl(fd, request, what), error = errno;
+    if (answer == 0) {
+        dprintf(pipe_end, "uffd guard %llx %llx\n", what->range.start, what->range.len);
+        if (what->range.len == ram) {
+            window = what->range.start + base;
+            tell_present();
+        }
+    }
+    pthread_mutex_unlock(&lock);
+    errno = error;
+    return answer;
+}
+
+/* The fault that can be put in here: the page is open to the guest before its contents are there. */
+static int place_too_early(int fd, struct uffdio_copy *copy, long page)
+{
+    struct uffdio_zeropage zeros = {{copy->dst, copy->len}, 0, 0};
+    real_ioctl(fd, UFFDIO_ZEROPAGE, &zeros);
+    usleep(200000);
+    memcpy((void *)copy->dst, (void *)copy->src, copy->len);
+    pthread_mutex_lock(&lock);
+    dprintf(pipe_end, "uffd place %ld %ld\n", page, store((void *)copy->src));
+    pthread_mutex_unlock(&lock);
+    copy->copy = copy->len;
+    return 0;
+}
+
+/* Makes a placement of one page, tells it, and wakes who waits. `contents` is NULL for zeros. */
+static int place(int fd, unsigned long request, void *what, struct uffdio_range range, const void *contents)
+{
+    long page = page_at(range.start);
+    if (early > 0 && page >= 0 && contents && --early == 0)
+        return place_too_early(fd, what, page);
+    pthread_mutex_lock(&lock);
+    int answer = real_ioctl(fd, request, what), error = errno;
+    if (page >= 0) {
+        if (answer)
+            dprintf(pipe_end, "uffd refused %ld %d\n", page, error);
+        else if (contents)
+            dprintf(pipe_end, "uffd place %ld %ld\n", page, store(contents));
+        else
+            dprintf(pipe_end, "uffd zero %ld\n", page);
+    }
+    pthread_mutex_unlock(&lock);
+    if (answer == 0)
+        real_ioctl(fd, UFFDIO_WAKE, &range);
+    errno = error;
+    return answer;
+}
+
+int ioctl(int fd, unsigned long request, ...)
+{
+    va_list words;
+    va_start(words, request);
+    void *what = va_arg(words, void *);
+    va_end(words);
+    if (pipe_end < 0)
+        return real_ioctl(fd, request, what);
+    if (request == UFFDIO_API && fd < DESCRIPTORS)
+        use_of[fd] = USERFAULT;
+    if (request == UFFDIO_REGISTER)
+        return guard(fd, request, what);
+    if (request == UFFDIO_COPY) {
+        struct uffdio_copy *copy = what;
+        copy->mode |= UFFDIO_COPY_MODE_DONTWAKE;
+        return place(fd, request, copy, (struct uffdio_range){copy->dst, copy->len}, (void *)copy->src);
+    }
+    if (request == UFFDIO_ZEROPAGE) {
+        struct uffdio_zeropage *zero = what;
+        zero->mode |= UFFDIO_ZEROPAGE_MODE_DONTWAKE;
+        return place(fd, request, zero, zero->range, NULL);
+    }
+    return real_ioctl(fd, request, what);
+}
+
+static void tell_fault(const struct uffd_msg *message)
+{
+    long page = page_at(message->arg.pagefault.address);
+    if (message->event != UFFD_EVENT_PAGEFAULT || page < 0)
+        return;
+    pthread_mutex_lock(&lock);
+    dprintf(pipe_end, "uffd fault %ld %u\n", page, message->arg.pagefault.feat.ptid);
+    pthread_mutex_unlock(&lock);
+}
+
+ssize_t read(int fd, void *into, size_t length)
+{
+    ssize_t got = real_read(fd, into, length);
+    if (is_known(fd, USERFAULT))
+        for (ssize_t at = 0; at + (ssize_t)sizeof(struct uffd_msg) <= got; at += sizeof(struct uffd_msg))
+            tell_fault((const struct uffd_msg *)((char *)into + at));
+    return got;
+}
+
+/* Whether what is written there is the guest's: its port goes to the pipe. */
+static int is_guests(int fd)
+{
+    struct stat found;
+    if (is_known(fd, UNKNOWN))
+        use_of[fd] = fstat(fd, &found) == 0 && S_ISFIFO(found.st_mode) && found.st_ino == pipe_inode ? GUEST : OTHER;
+    return is_known(fd, GUEST);
+}
+
+ssize_t writev(int fd, const struct iovec *parts, int count)
+{
+    if (pipe_end < 0 || !is_guests(fd))
+        return real_writev(fd, parts, count);
+    pthread_mutex_lock(&lock);
+    ssize_t answer = real_writev(fd, parts, count);
+    int error = errno;
+    pthread_mutex_unlock(&lock);
+    errno = error;
+    return answer;
+}
+
+int close(int fd)
+{
+    if (fd >= 0 && fd < DESCRIPTORS)
+        use_of[fd] = UNKNOWN;
+    return real_close(fd);
+}

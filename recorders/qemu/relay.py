@@ -1,0 +1,274 @@
+"""Stands between two QEMUs that migrate, forwards both directions, and writes down what it hands over.
+
+Each item is handed over whole, once it is written down, under one lock. A line of the log begins with what is told and with
+the connection's number; connections count from 0 as they come:
+
+    open C main|lane new|resumed
+    down C page pre|post BLOCK OFFSET TAKEN GIVEN   contents as they came and as they went on: places in the file of
+                                                    contents, `zero`, or `-` for a page outside of the window
+    again C page ..             handed over a second time
+    lost C page ..              never handed over
+    down C discard BLOCK START LENGTH   a range that the target shall forget, in bytes, as it came
+    down C state LENGTH         the package
+    down C command NAME
+    up C request BLOCK OFFSET LENGTH
+    up C shut VALUE
+    up C message
+    cut C
+    fault KIND PAGE..           what was put in
+
+Once a connection is cut nothing more is told of it: what is still read from it went nowhere.
+"""
+import os
+import socket
+import threading
+
+import stream
+from faults import fault_of
+
+PC_RAM = "pc.ram"
+
+
+class Cut(Exception):
+    """The connection is cut."""
+
+
+class Window:
+    """The pages of memory that are recorded."""
+
+    def __init__(self, base, pages):
+        self.base, self.pages = base, pages
+
+    def page(self, block, offset):
+        """The number of a page, or None outside of the window."""
+        page = (offset - self.base) // stream.PAGE_BYTES
+        return page if block == PC_RAM and 0 <= page < self.pages else None
+
+
+class CutPlan:
+    """When a connection is cut: behind so many pages of the window the following `lose` are lost, and then it is cut."""
+
+    def __init__(self, behind, lose=21):
+        self.behind, self.lose = behind, lose
+
+
+class Connection:
+    def __init__(self, number, is_lane, is_resumed, source, target):
+        self.number, self.is_lane, self.is_resumed = number, is_lane, is_resumed
+        self.source, self.target = source, target
+        self.is_cut = self.is_losing = False
+
+    def shut(self):
+        for end in (self.source, self.target):
+            try:
+                end.shutdown(socket.SHUT_RDWR)
+            except OSError:
+                pass
+
+    def close(self):
+        for end in (self.source, self.target):
+            end.close()
+
+
+class Relay:
+    """Listens on a port of its own, `port`, and goes to `target_port`, which may change between connections."""
+
+    def __init__(self, folder, window, target_port, fault=None, skip=0, cuts=()):
+        self.log = open(f"{folder}/relay.log", "w")
+        self.contents = open(f"{folder}/relay.pages", "wb")
+        self.window, self.target_port, self.cuts = window, target_port, list(cuts)
+        self.fault = fault_of(fault, skip, window, self.tell)
+        self.lock, self.stored, self.is_post = threading.Lock(), 0, False
+        self.connections, self.threads, self.lost, self.complaint = [], [], [], None
+        self.was_cut = threading.Event()
+        self.sent_before = self.sent_after = 0
+        self.listener = socket.create_server(("127.0.0.1", 0))
+        self.port = self.listener.getsockname()[1]
+        threading.Thread(target=self.accept, daemon=True).start()
+
+    def tell(self, *fields):
+        print(*fields, file=self.log, flush=True)
+
+    def store(self, contents):
+        if len(contents) == 1:
+            return "zero"
+        self.contents.write(contents)
+        self.stored += 1
+        return self.stored - 1
+
+    def end(self):
+        self.listener.close()
+        for connection in self.connections:
+            connection.shut()
+        for thread in self.threads:
+            thread.join(5)
+        with self.lock:
+            self.contents.close()
+            self.log.close()
+
+    # Connections
+
+    def accept(self):
+        while True:
+            try:
+                source, _ = self.listener.accept()
+            except OSError:
+                return
+            try:
+                target = socket.create_connection(("127.0.0.1", self.target_port))
+            except OSError:
+                source.close()
+                continue
+            for end in (source, target):
+                end.setsockopt(socket.IPPROTO_TCP, socket.TCP_NODELAY, 1)
+            with self.lock:
+                connection = self.opened(source, target)
+            for work in (self.down, self.up):
+                thread = threading.Thread(target=self.guarded, args=(work, connection), daemon=True)
+                self.threads.append(thread)
+                thread.start()
+
+    def opened(self, source, target):
+        """The first connection, and the first one after a cut, is the main one; the next one is the lane."""
+        is_lane = any(not (one.is_cut or one.is_lane) for one in self.connections)
+        connection = Connection(len(self.connections), is_lane, bool(self.connections) and self.was_cut.is_set(), source, target)
+        self.connections.append(connection)
+        self.tell("open", connection.number, "lane" if is_lane else "main", "resumed" if connection.is_resumed else "new")
+        return connection
+
+    def guarded(self, work, connection):
+        try:
+            work(connection)
+        except (EOFError, OSError, Cut, ValueError):
+            pass  # the connection is at its end, or closed by us
+        except stream.Strange as fault:
+            self.complaint = str(fault)
+            connection.shut()
+
+    def cut(self):
+        """Cuts all connections that stand. To be called under the lock."""
+        for connection in self.connections:
+            if not connection.is_cut:
+                connection.is_cut = True
+                self.tell("cut", connection.number)
+                connection.shut()
+        self.was_cut.set()
+
+    def cut_now(self):
+        with self.lock:
+            self.cut()
+
+    def check(self, connection):
+        if connection.is_cut:
+            raise Cut
+
+    # The way down
+
+    def down(self, connection):
+        reader = connection.source.makefile("rb", 1 << 16)
+        items = stream.pages(reader) if connection.is_lane else stream.items(reader, connection.is_resumed)
+        try:
+            for item in items:
+                with self.lock:
+                    self.check(connection)
+                    self.take(connection, item)
+        finally:
+            with self.lock:
+                if connection.is_losing and not connection.is_cut:
+                    self.cut()  # the stream ended before all was lost that should have been
+            try:
+                connection.target.shutdown(socket.SHUT_WR)
+            except OSError:
+                pass
+
+    def take(self, connection, item):
+        """Tells of an item and hands it over."""
+        if isinstance(item, stream.Page):
+            self.take_page(connection, item)
+            return
+        if isinstance(item, stream.EndOfPages):
+            for page in self.fault.end_of_section():
+                self.hand_over(connection, page)
+        elif isinstance(item, stream.Package):
+            self.tell("down", connection.number, "state", item.length)
+            self.is_post = True
+        elif isinstance(item, stream.Discard):
+            for start, length in item.ranges:
+                self.tell("down", connection.number, "discard", item.block, start, length)
+            ranges = self.fault.discarded(item.block, item.ranges)
+            item = item if ranges == item.ranges else stream.with_ranges(item, ranges)
+        elif isinstance(item, stream.Command):
+            self.tell("down", connection.number, "command", item.name)
+        self.send(connection, item.raw)
+        if isinstance(item, stream.Package) and self.cuts and self.cuts[0].behind < 0:
+            self.cuts.pop(0)
+            self.cut()
+
+    def send(self, connection, raw):
+        if not connection.is_losing:
+            connection.target.sendall(raw)
+
+    def take_page(self, connection, page):
+        is_inside = self.window.page(page.block, page.offset) is not None
+        self.count(is_inside)
+        if self.is_post and (is_inside and self.loses(connection, page) or connection.is_losing):
+            if not connection.is_cut:
+                self.tell_page("lost", connection, page)
+            return
+        given = [page]
+        if is_inside and not page.is_zero:
+            given = self.fault.after(page) if self.is_post else self.fault.before(page)
+        if not given and self.fault.held is not page:
+            self.tell_page("lost", connection, page)
+        for place, one in enumerate(given):
+            self.hand_over(connection, one, "again" if place and one is given[place - 1] else "down")
+
+    def count(self, is_inside):
+        if is_inside:
+            self.sent_after += self.is_post
+            self.sent_before += not self.is_post
+
+    def loses(self, connection, page):
+        """Whether the page is lost with its connection, which is cut when enough were."""
+        if not self.cuts or self.cuts[0].behind < 0:
+            return False
+        cut = self.cuts[0]
+        if cut.behind > 0:
+            cut.behind -= 1
+            return False
+        connection.is_losing = True
+        self.lost.append(page.offset)
+        cut.lose -= 1
+        if cut.lose < 0:
+            self.cuts.pop(0)
+            self.cut()
+        return True
+
+    def hand_over(self, connection, page, how="down"):
+        self.tell_page(how, connection, page)
+        self.send(connection, page.head + page.contents)
+
+    def tell_page(self, how, connection, page):
+        places = ["-", "-"]
+        if self.window.page(page.block, page.offset) is not None:
+            place = self.store(page.came)
+            places = [place, place if page.contents == page.came else self.store(page.contents)]
+        phase = "post" if self.is_post else "pre"
+        self.tell(how, connection.number, "page", phase, page.block, page.offset, *places)
+
+    # The way up
+
+    def up(self, connection):
+        for item in stream.answers(connection.target.makefile("rb", 1 << 16)):
+            with self.lock:
+                self.check(connection)
+                raw = item.raw
+                if isinstance(item, stream.Request):
+                    self.tell("up", connection.number, "request", item.block, item.offset, item.length)
+                elif isinstance(item, stream.Shut):
+                    self.tell("up", connection.number, "shut", item.value)
+                else:
+                    if isinstance(item, stream.Bitmap):
+                        raw = self.fault.bitmap(item, self.lost)
+                    self.tell("up", connection.number, "message")
+                connection.source.sendall(raw)

@@ -1,0 +1,131 @@
+"""The guest's log as far as the halt, and the source's."""
+from moments import SOURCE, Moments
+from pipe import Access
+from records import Hole
+from wire import ZERO
+
+
+class SourceSide:
+    def __init__(self, session, wire, contents, is_from_halt):
+        self.session, self.wire, self.contents, self.is_from_halt = session, wire, contents, is_from_halt
+        self.moments = Moments(SOURCE)
+        self.is_halted = self.is_done = False
+        self.pages_over = self.asks_over = 0   # behind so many recoveries
+        self.asked = 0                         # requests that were taken, of their connection
+        self.position = {connection.number: 0 for connection in wire.connections}
+        self.sent = set()
+
+    def add(self, what, name=None, **fields):
+        self.session.add("source", what, name, **fields)
+
+    def read(self, tokens):
+        for token in tokens:
+            if isinstance(token, Access):
+                self.session.add("guest", token.what, actor=token.actor, page=token.page, cell=token.cell, value=token.value)
+            elif isinstance(token, str):
+                for moment, fields in self.moments.of(token):
+                    self.act(moment, fields)
+        if not self.is_halted:
+            raise Hole("source.raw: the guest was never halted")
+        self.send_rest()
+
+    def act(self, moment, fields):
+        if moment == "halt":
+            if not self.is_halted:
+                self.halt()
+        elif not self.is_halted:
+            return
+        elif moment == "page":
+            self.page_is_traced(self.wire.page_of(fields["block"], int(fields["offset"], 16)))
+        elif moment == "ask":
+            self.ask()
+        elif moment == "shut":
+            self.done()
+        elif moment == "pages over a new connection":
+            self.send_rest(upto=self.pages_over)
+            self.pages_over += 1
+            self.send_untraced()
+        elif moment == "asks over a new connection":
+            self.asks_over, self.asked = self.asks_over + 1, 0
+
+    def halt(self):
+        self.is_halted = True
+        if self.is_from_halt:
+            self.session.logs["guest"].clear()
+            self.session.initial = {page: self.contents.cells("halt.mem", page) for page in range(self.session.pages)}
+        self.session.add("guest", "halt", name=("halt",))
+        self.add("halted", guest=("halt",))
+        if not self.wire.has_state:
+            return
+        self.add("state", name=("state",))
+        for page in self.wire.left:
+            self.add("page", name=("left", page), page=page, contents=self.contents.cells("halt.mem", page))
+        self.send_untraced()
+
+    # Pages go in the order of each connection; between them, and among the requests, in that of the trace.
+
+    def connections(self):
+        both = (self.wire.of(is_lane, self.pages_over) for is_lane in (False, True))
+        return [connection for connection in both if connection]
+
+    def next_of(self, connection):
+        place = self.position[connection.number]
+        return connection.taken[place] if place < len(connection.taken) else None
+
+    def send(self, connection):
+        place = self.position[connection.number]
+        taken = connection.taken[place]
+        self.position[connection.number] += 1
+        if taken.page is None:
+            return
+        name = ("page", connection.number, place)
+        if taken.page in self.sent:
+            self.add("again", name=name, of=("sent", taken.page))
+            return
+        self.sent.add(taken.page)
+        self.add("page", name=name, page=taken.page, contents=self.contents.cells("relay.pages", taken.contents))
+        self.session.name_too("source", name, ("sent", taken.page))
+
+    def send_untraced(self):
+        """A page of zeros is in no trace: it is put as early as its connection allows, so never behind what it led to."""
+        for connection in self.connections():
+            while (taken := self.next_of(connection)) and (taken.page is None or taken.contents == ZERO):
+                self.send(connection)
+
+    def page_is_traced(self, page):
+        if page is None:
+            return
+        for connection in self.connections():
+            taken = self.next_of(connection)
+            if taken and taken.page == page:
+                self.send(connection)
+                self.send_untraced()
+                return
+
+    def send_rest(self, upto=None):
+        """What was taken from connections that are at their end, and was not traced."""
+        rest = []
+        for generation in range(len(self.wire.connections) if upto is None else upto + 1):
+            for is_lane in (False, True):
+                connection = self.wire.of(is_lane, generation)
+                if connection and self.position[connection.number] < len(connection.taken):
+                    rest.append(connection)
+        for connection in rest:
+            while self.position[connection.number] < len(connection.taken):
+                self.send(connection)
+
+    # Answers
+
+    def ask(self):
+        """The n-th request that the source takes is the n-th that its connection handed over."""
+        connection = self.wire.of(False, self.asks_over)
+        place, self.asked = self.asked, self.asked + 1
+        if connection and place < len(connection.requests) and connection.requests[place] is not None:
+            self.add("request", link=("request", connection.number, place))
+
+    def done(self):
+        if self.wire.is_shut and not self.is_done:
+            self.is_done = True
+            self.send_rest()
+            self.add("request", link=("shut",))
+            self.add("done")

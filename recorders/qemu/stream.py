@@ -1,0 +1,222 @@
+"""The migration stream of QEMU 7.2 as items, as far as a post-copy of memory alone needs it, and the answers that go back.
+
+Down the main connection come, behind a header that a resumed stream has not: sections of `ram`, commands and the end. The
+devices' state stands in a package whose length is told, and is not read. Down the second connection of postcopy-preempt come
+pages alone. A reader is anything with `read(length)`, which answers fewer bytes only at its end.
+
+Each item has the bytes that it was read from, so what is handed on is what came.
+"""
+import struct
+from dataclasses import dataclass, field
+
+PAGE_BYTES = 4096
+ZERO, MEM_SIZE, PAGE, EOS, CONTINUE = 0x02, 0x04, 0x08, 0x10, 0x20  # flags of a page's header
+EOF, SECTION_START, SECTION_PART, SECTION_END, SECTION_FULL = 0x00, 0x01, 0x02, 0x03, 0x04
+CONFIGURATION, COMMAND, FOOTER = 0x07, 0x08, 0x7E
+MAGIC = b"QEVM\0\0\0\3"
+COMMANDS = {1: "open-return-path", 2: "ping", 3: "advise", 4: "listen", 5: "run", 6: "discard", 7: "package",
+            8: "colo", 9: "resume", 10: "recv-bitmap"}
+SHUT, PONG, REQUEST_WITH_BLOCK, REQUEST, BITMAP = 1, 2, 3, 4, 5  # kinds of answers
+
+
+class Strange(Exception):
+    """What a stream has that this does not understand."""
+
+
+@dataclass
+class Item:
+    """What needs no closer look."""
+    raw: bytes
+
+
+@dataclass
+class Page(Item):
+    """A page of post-copy or of pre-copy: `head` is its header, with the block's name or without.
+
+    `came` is the contents that came, where `contents` are to be others.
+    """
+    block: str = ""
+    offset: int = 0
+    head: bytes = b""
+    contents: bytes = b""
+    came: bytes = b""
+
+    @property
+    def is_zero(self):
+        return len(self.contents) == 1
+
+    @property
+    def names_block(self):
+        return len(self.head) > 8
+
+
+@dataclass
+class EndOfPages(Item):
+    """The end of a section's pages."""
+
+
+@dataclass
+class Command(Item):
+    name: str = ""
+    data: bytes = b""
+
+
+@dataclass
+class Package(Item):
+    """The devices' state, with what has to be handled in order with it."""
+    length: int = 0
+
+
+@dataclass
+class Discard(Item):
+    """Ranges of a block, in bytes, that the target shall forget."""
+    block: str = ""
+    ranges: list = field(default_factory=list)
+
+
+@dataclass
+class Request(Item):
+    block: str = ""
+    offset: int = 0
+    length: int = 0
+
+
+@dataclass
+class Shut(Item):
+    """The target's word that all is there, or that it failed."""
+    value: int = 0
+
+
+@dataclass
+class Bitmap(Item):
+    """The pages of a block that the target has: `bits` is where they stand in `raw`."""
+    block: str = ""
+    bits: slice = None
+
+
+class Tap:
+    """Reads exactly, and keeps the bytes of the item."""
+
+    def __init__(self, reader):
+        self.reader, self.raw = reader, bytearray()
+
+    def take(self, length):
+        data = self.reader.read(length)
+        if len(data) < length:
+            raise EOFError
+        self.raw += data
+        return data
+
+    def number(self, form):
+        return struct.unpack(">" + form, self.take(struct.calcsize(form)))[0]
+
+    def name(self):
+        return self.take(self.number("B")).decode()
+
+    def end(self):
+        raw, self.raw = bytes(self.raw), bytearray()
+        return raw
+
+
+def items(reader, is_resumed=False):
+    """What comes down the main connection. Ends with EOFError, as each stream does here."""
+    tap = Tap(reader)
+    if not is_resumed:
+        if tap.take(len(MAGIC)) != MAGIC:
+            raise Strange("this is no migration stream of version 3")
+        yield Item(tap.end())
+    blocks = [""]
+    while True:
+        kind = tap.number("B")
+        if kind == CONFIGURATION:
+            tap.take(tap.number("I"))
+        elif kind in (SECTION_START, SECTION_FULL, SECTION_PART, SECTION_END):
+            tap.take(4)
+            if kind in (SECTION_START, SECTION_FULL):
+                name = tap.name()
+                tap.take(8)
+                if name != "ram":
+                    raise Strange(f"a section of {name} outside of the package")
+            yield Item(tap.end())
+            yield from section(tap, blocks)
+            continue
+        elif kind == COMMAND:
+            yield command(tap)
+            continue
+        elif kind == FOOTER:
+            tap.take(4)
+        elif kind != EOF:
+            raise Strange(f"a section of kind {kind:#x}")
+        yield Item(tap.end())
+
+
+def pages(reader):
+    """What comes down the second connection."""
+    tap, blocks = Tap(reader), [""]
+    while True:
+        yield from section(tap, blocks)
+
+
+def section(tap, blocks):
+    """A section's pages as far as their end. `blocks` holds the block that was named last."""
+    while True:
+        head = tap.number("Q")
+        flags, offset = head & 0xFFF, head & ~0xFFF
+        if flags & MEM_SIZE:
+            while offset > 0:
+                tap.name()
+                offset -= tap.number("Q")
+            yield Item(tap.end())
+        elif flags & (ZERO | PAGE):
+            if not flags & CONTINUE:
+                blocks[0] = tap.name()
+            length = len(tap.raw)
+            contents = tap.take(PAGE_BYTES if flags & PAGE else 1)
+            raw = tap.end()
+            yield Page(raw, blocks[0], offset, raw[:length], contents, contents)
+        elif flags == EOS:
+            yield EndOfPages(tap.end())
+            return
+        else:
+            raise Strange(f"a page with flags {flags:#x}")
+
+
+def command(tap):
+    number = tap.number("H")
+    if number not in COMMANDS:
+        raise Strange(f"a command {number}")
+    name, data = COMMANDS[number], tap.take(tap.number("H"))
+    if name == "package":
+        length = struct.unpack(">I", data)[0]
+        tap.take(length)
+        return Package(tap.end(), length)
+    if name == "discard":
+        end = 2 + data[1]
+        return Discard(tap.end(), data[2:end].decode(), list(struct.iter_unpack(">QQ", data[end + 1:])))
+    return Command(tap.end(), name, data)
+
+
+def with_ranges(discard, ranges):
+    """A discard of other ranges. The bytes before the ranges are those that came; the lengths are made anew."""
+    data = discard.raw[5:5 + 2 + len(discard.block) + 1] + b"".join(struct.pack(">QQ", *part) for part in ranges)
+    return Discard(discard.raw[:3] + struct.pack(">H", len(data)) + data, discard.block, ranges)
+
+
+def answers(reader):
+    """What goes back. A bitmap is a message with a name, and behind it its size in 64 bits, the bits, and an ending."""
+    tap, block = Tap(reader), ""
+    while True:
+        kind, data = tap.number("H"), tap.take(tap.number("H"))
+        if kind in (REQUEST_WITH_BLOCK, REQUEST):
+            offset, length = struct.unpack(">QI", data[:12])
+            block = data[13:].decode() if kind == REQUEST_WITH_BLOCK else block
+            yield Request(tap.end(), block, offset, length)
+        elif kind == SHUT:
+            yield Shut(tap.end(), struct.unpack(">I", data)[0])
+        elif kind == BITMAP:
+            start = len(tap.raw) + 8
+            length = tap.number("Q")
+            tap.take(length + 8)
+            yield Bitmap(tap.end(), data[1:].decode(), slice(start, start + length))
+        else:
+            yield Item(tap.end())

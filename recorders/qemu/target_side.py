@@ -1,0 +1,145 @@
+"""The guest's log from the resume on, and the pager's."""
+from moments import TARGET, Moments
+from pipe import Access, Look
+from records import Hole
+from stream import PAGE, PAGE_BYTES, REQUEST, REQUEST_WITH_BLOCK, SHUT
+from stream import ZERO as ZERO_FLAG
+from wire import ZERO
+
+
+class TargetSide:
+    def __init__(self, session, wire, contents, base):
+        self.session, self.wire, self.contents, self.base = session, wire, contents, base
+        self.moments = Moments(TARGET)
+        self.is_ready = self.is_resumed = self.has_state = self.is_shut = False
+        self.have = []        # pages that were there when memory was guarded, with the places of their contents
+        self.placed = {}      # by page, the number of its first placement among all placements
+        self.placements = self.seen = self.misses = 0
+        self.missed = {}      # by page, the name of its last miss
+        self.arrived = {}     # by page, the name of its last packet
+        self.over = {False: 0, True: 0}           # main connection, lane: behind so many recoveries
+        self.messages_over = 0
+        self.count = {False: 0, True: 0}          # pages that came by each
+        self.requested = 0
+
+    def read(self, tokens):
+        for token in tokens:
+            if isinstance(token, str):
+                for moment, fields in self.moments.of(token):
+                    self.act(moment, fields)
+            elif isinstance(token, Look):
+                self.look(token)
+            elif isinstance(token, Access):
+                self.session.add("guest", token.what, actor=token.actor, page=token.page, cell=token.cell, value=token.value)
+        if not self.is_ready:
+            raise Hole("target.raw: the target never listened")
+
+    def add(self, what, name=None, **fields):
+        self.session.add("pager", what, name, **fields)
+
+    def act(self, moment, fields):
+        if moment == "state":
+            if not self.has_state:
+                self.has_state = True
+                self.add("packet", link=("state",))
+        elif moment == "ready":
+            self.ready()
+        elif moment == "resume":
+            self.resume()
+        elif moment == "taken":
+            self.take(int(fields["channel"]) > 0, int(fields["offset"], 16), int(fields["flags"], 16))
+        elif moment == "message":
+            self.message(int(fields["kind"]))
+        elif moment == "messages over a new connection":
+            self.messages_over, self.requested = self.messages_over + 1, 0
+        elif moment in ("pages over a new connection", "pages over a new lane"):
+            is_lane = moment == "pages over a new lane"
+            self.over[is_lane], self.count[is_lane] = self.over[is_lane] + 1, 0
+        elif moment == "have":
+            self.have.append((int(fields["page"]), fields["place"]))
+        elif moment == "fault":
+            if int(fields["page"]) in self.missed:
+                self.add("fault", guest=self.missed[int(fields["page"])])
+        elif moment in ("place", "zero"):
+            self.place(int(fields["page"]), fields.get("place", ZERO))
+        elif moment == "refused":
+            if int(fields["page"]) in self.arrived:
+                self.add("skip", of=self.arrived[int(fields["page"])])
+
+    # The guest
+
+    def look(self, look):
+        """A look shows the page's placement where that stands before it in the pipe."""
+        if look.page in self.placed:
+            self.see(self.placed[look.page])
+            return
+        if look.page in self.missed and self.session.is_last("guest", self.missed[look.page]):
+            return  # the second look of one access
+        self.misses += 1
+        self.missed[look.page] = name = ("miss", self.misses)
+        self.session.add("guest", "miss", name=name, actor=look.actor, page=look.page)
+
+    def see(self, placement):
+        if placement > self.seen:
+            self.seen = placement
+            self.session.add("guest", "see", pager=("placement", placement))
+
+    def resume(self):
+        if self.is_resumed:
+            return
+        self.is_resumed = True
+        self.session.add("guest", "resume", pager=("ready",))
+        if self.placements:
+            self.see(self.placements)
+
+    # The pager
+
+    def ready(self):
+        self.is_ready = True
+        self.add("ready", name=("ready",))
+        left = set(self.wire.left)
+        for page, place in self.have:
+            if page in left:
+                self.arrived[page] = ("left", page)
+                self.add("packet", name=("left", page), link=("left", page))
+                self.place(page, place)
+
+    def take(self, is_lane, offset, flags):
+        """The n-th page that is taken from a connection is the n-th that was handed over there."""
+        if not flags & (ZERO_FLAG | PAGE):
+            return
+        connection = self.wire.of(is_lane, self.over[is_lane])
+        place, self.count[is_lane] = self.count[is_lane], self.count[is_lane] + 1
+        if not connection or place >= len(connection.handed):
+            raise Hole(f"target.raw: page {place} of a connection that handed over fewer")
+        page = connection.taken[connection.handed[place]].page
+        if page is None:
+            return
+        if offset != self.base + page * PAGE_BYTES:
+            raise Hole(f"target.raw: page {place} of connection {connection.number} is at {offset:#x}, and {page} was handed over")
+        name = ("packet", connection.number, place)
+        self.arrived[page] = name
+        handed = ("handed", connection.number, place)
+        self.add("pushed" if is_lane else "packet", name=name, **{connection.log: handed})
+
+    def message(self, kind):
+        """The n-th request that the target makes is the n-th that its connection hands over; those behind a cut are lost."""
+        if kind == SHUT:
+            if not self.is_shut:
+                self.is_shut = True
+                self.add("all", name=("shut",))
+            return
+        if kind not in (REQUEST, REQUEST_WITH_BLOCK):
+            return
+        connection = self.wire.of(False, self.messages_over)
+        place, self.requested = self.requested, self.requested + 1
+        if connection and place < len(connection.requests) and connection.requests[place] is not None:
+            self.add("request", name=("request", connection.number, place), page=connection.requests[place])
+
+    def place(self, page, contents):
+        if page not in self.arrived:
+            raise Hole(f"target.raw: page {page} is put in place, and no packet with it was taken")
+        self.placements += 1
+        self.placed.setdefault(page, self.placements)
+        self.add("place", name=("placement", self.placements), page=page, of=self.arrived[page],
+                 contents=self.contents.cells("target.pages", contents))

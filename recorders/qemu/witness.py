@@ -1,0 +1,27 @@
+"""What is seen of a lost write without the auditor.
+
+Of the pages that the target was not told to forget, what pre-copy sent last has to be what the source has at the halt.
+"""
+import os
+
+from convert import recording_in
+from stream import PAGE_BYTES
+
+
+def pages_that_differ(recording):
+    """The pages that were left at the target and that differ from the source's memory at the halt, and how many were left."""
+    memory, wire = recording.read("halt.mem"), recording.wire
+    left = [page for page in getattr(wire, "left", ()) if page in wire.last_before]
+    differ = [page for page in left
+              if recording.contents.page("relay.pages", wire.last_before[page]) != memory[page * PAGE_BYTES:][:PAGE_BYTES]]
+    return differ, len(left)
+
+
+def witness(folder):
+    if not os.path.exists(f"{folder}/halt.mem"):
+        return "the source's memory at the halt was not kept\n"
+    differ, left = pages_that_differ(recording_in(folder))
+    if not differ:
+        return f"{left} pages that pre-copy sent were not sent again, and are what the source has at the halt\n"
+    return (f"{left} pages that pre-copy sent were not sent again; of these {len(differ)} are not what the source has at the "
+            f"halt: {' '.join(map(str, differ))}\n")
