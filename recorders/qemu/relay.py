@@ -131,7 +131,7 @@ class Relay:
     def opened(self, source, target):
         """The first connection, and the first one after a cut, is the main one; the next one is the lane."""
         is_lane = any(not (one.is_cut or one.is_lane) for one in self.connections)
-        connection = Connection(len(self.connections), is_lane, bool(self.connections) and self.was_cut.is_set(), source, target)
+        connection = Connection(len(self.connections), is_lane, bool(self.connections) and not is_lane, source, target)
         self.connections.append(connection)
         self.tell("open", connection.number, "lane" if is_lane else "main", "resumed" if connection.is_resumed else "new")
         return connection

@@ -32,7 +32,7 @@ class Outcome:
         parts = [f"source {self.source}", f"target {self.target}"]
         if self.recoveries:
             parts.append(f"{self.recoveries} recovered")
-        return ", ".join([*parts, f"{self.requests} requests", f"{self.seconds:.1f} s", *self.remarks])
+        return ", ".join([*parts, f"{self.requests} requests"])
 
 
 def free_port():
@@ -196,16 +196,18 @@ class Migration:
                 self.target("cont")
             if outcome.target == "completed":
                 self.target.wait_for_accesses(plan.after, plan.limit / 4)
-            self.target("stop")
-        except (Gone, Refused):
-            outcome.target = "ended"
-        if outcome.target == "ended":
+                self.target("stop")
+        except (Gone, Refused) as fault:
+            self.remark(f"target: {fault}")
+        if outcome.target == "ended" or not self.target.is_running():
             outcome.target = "ENDED"
             self.remark(f"target: {self.target.last_error()}")
         try:
             outcome.requests = self.source("query-migrate").get("ram", {}).get("postcopy-requests", 0)
             self.source("pmemsave", val=plan.base, size=plan.pages * 4096, filename=f"{self.folder}/halt.mem")
         except (Gone, Refused) as fault:
+            self.remark(f"source: {fault}")
+        if not self.source.is_running():
             outcome.source = "ENDED"
-            self.remark(f"source: {self.source.last_error()} ({fault})")
+            self.remark(f"source: {self.source.last_error()}")
         self.say(outcome.line())
