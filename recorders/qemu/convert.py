@@ -30,7 +30,7 @@ class Recording:
         plan = self.plan
         session = Session(plan.pages, plan.words, plan.preempt)
         if not self.wire.has_state:
-            raise Hole("relay.log: the state was never handed over")
+            raise Hole("there was no post-copy: the state was never handed over in a package")
         pipe = Pipe()
         self.source_side(session, self.wire, self.contents, is_from_halt).read(pipe.tokens(self.read("source.raw")))
         self.target_side(session, self.wire, self.contents, plan.base).read(pipe.tokens(self.read("target.raw")))

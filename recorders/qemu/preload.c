@@ -4,7 +4,7 @@
  * RECORD_PIPE is the pipe to which the guest's port and QEMU's trace go as well, so all that this process tells is in one
  * order. RECORD_RAM is the length of the guest's memory, by which its range is known; RECORD_BASE and RECORD_PAGES are the
  * window. RECORD_CONTENTS is the file for the contents of pages, one after another. With RECORD_EARLY=N the N-th page that is
- * put in place is open to the guest 0.2 s before its contents are there, as by a pager with a fault. The lines are
+ * waited for is open to the guest 0.2 s before its contents are there, as by a pager with a fault. The lines are
  *
  *     uffd guard START LENGTH      memory from START on is guarded
  *     uffd have PAGE INDEX         a page of the window was there when it was guarded, and its contents
@@ -34,6 +34,7 @@
 
 #define PAGE 4096UL
 #define DESCRIPTORS 1024
+#define MOST_PAGES 65536
 
 enum use { UNKNOWN, GUEST, USERFAULT, OTHER };
 
@@ -43,7 +44,7 @@ static ino_t pipe_inode;
 static uint64_t ram, base, pages;
 static uint64_t window; /* where the window is in this process, 0 before it is guarded */
 static long stored, early;
-static char use_of[DESCRIPTORS];
+static char use_of[DESCRIPTORS], is_waited_for[MOST_PAGES];
 
 static int (*real_ioctl)(int, unsigned long, ...);
 static ssize_t (*real_read)(int, void *, size_t);
@@ -75,7 +76,7 @@ __attribute__((constructor)) static void begin(void)
     pipe_inode = found.st_ino;
     ram = number("RECORD_RAM");
     base = number("RECORD_BASE");
-    pages = number("RECORD_PAGES");
+    pages = number("RECORD_PAGES") < MOST_PAGES ? number("RECORD_PAGES") : MOST_PAGES;
     early = number("RECORD_EARLY");
 }
 
@@ -145,7 +146,7 @@ static int place_too_early(int fd, struct uffdio_copy *copy, long page)
 static int place(int fd, unsigned long request, void *what, struct uffdio_range range, const void *contents)
 {
     long page = page_at(range.start);
-    if (early > 0 && page >= 0 && contents && --early == 0)
+    if (early > 0 && page >= 0 && contents && is_waited_for[page] && --early == 0)
         return place_too_early(fd, what, page);
     pthread_mutex_lock(&lock);
     int answer = real_ioctl(fd, request, what), error = errno;
@@ -195,6 +196,7 @@ static void tell_fault(const struct uffd_msg *message)
     if (message->event != UFFD_EVENT_PAGEFAULT || page < 0)
         return;
     pthread_mutex_lock(&lock);
+    is_waited_for[page] = 1;
     dprintf(pipe_end, "uffd fault %ld %u\n", page, message->arg.pagefault.feat.ptid);
     pthread_mutex_unlock(&lock);
 }

@@ -19,7 +19,6 @@ the connection's number; connections count from 0 as they come:
 
 Once a connection is cut nothing more is told of it: what is still read from it went nowhere.
 """
-import os
 import socket
 import threading
 
@@ -141,9 +140,6 @@ class Relay:
             work(connection)
         except (EOFError, OSError, Cut, ValueError):
             pass  # the connection is at its end, or closed by us
-        except stream.Strange as fault:
-            self.complaint = str(fault)
-            connection.shut()
 
     def cut(self):
         """Cuts all connections that stand. To be called under the lock."""
@@ -165,13 +161,15 @@ class Relay:
     # The way down
 
     def down(self, connection):
-        reader = connection.source.makefile("rb", 1 << 16)
-        items = stream.pages(reader) if connection.is_lane else stream.items(reader, connection.is_resumed)
+        tap = stream.Tap(connection.source.makefile("rb", 1 << 16))
         try:
-            for item in items:
+            for item in stream.pages(tap) if connection.is_lane else stream.items(tap, connection.is_resumed):
                 with self.lock:
                     self.check(connection)
                     self.take(connection, item)
+        except stream.Strange as fault:
+            self.complaint = str(fault) if self.is_post else "pre-copy came to its end, and nothing was left to post-copy"
+            self.copy_rest(connection, tap)
         finally:
             with self.lock:
                 if connection.is_losing and not connection.is_cut:
@@ -180,6 +178,13 @@ class Relay:
                 connection.target.shutdown(socket.SHUT_WR)
             except OSError:
                 pass
+
+    def copy_rest(self, connection, tap):
+        """Hands on what is not understood."""
+        data = tap.end()
+        while data:
+            connection.target.sendall(data)
+            data = tap.reader.read1(1 << 16)
 
     def take(self, connection, item):
         """Tells of an item and hands it over."""
@@ -259,7 +264,7 @@ class Relay:
     # The way up
 
     def up(self, connection):
-        for item in stream.answers(connection.target.makefile("rb", 1 << 16)):
+        for item in stream.answers(stream.Tap(connection.target.makefile("rb", 1 << 16))):
             with self.lock:
                 self.check(connection)
                 raw = item.raw

@@ -68,7 +68,7 @@ class Migration:
                 machine.end()
             self.relay.end()
         if self.relay.complaint:
-            self.remark(f"the relay does not understand {self.relay.complaint}")
+            self.remark(self.relay.complaint)
         self.outcome.seconds = round(time.monotonic() - began, 1)
         with open(f"{self.folder}/outcome.json", "w") as out:
             json.dump(asdict(self.outcome), out, indent=1)
@@ -127,25 +127,26 @@ class Migration:
         """Waits for the end, and has the migration go on where a connection is cut."""
         cuts_seen = 0
         while True:
-            status = self.wait_with_progress()
-            if self.relay.was_cut.is_set():
-                cuts_seen += 1
-                self.say(f"the connection was cut behind {self.relay.sent_after} pages")
-                if not self.recover():
-                    break
-                continue
-            break
-        self.outcome.source = status if status != "ended" else "ENDED"
+            self.wait_with_progress()
+            if not self.relay.was_cut.is_set():
+                break
+            cuts_seen += 1
+            self.say(f"the connection was cut behind {self.relay.sent_after} pages")
+            if not self.recover():
+                break
         if cuts_seen < len(self.plan.cuts):
             self.remark(f"{len(self.plan.cuts) - cuts_seen} cut not reached")
 
     def wait_with_progress(self):
-        """Waits for an end or for a cut."""
+        """Waits for an end, for a cut, or for the target to have failed."""
         until, told = time.monotonic() + self.plan.limit, time.monotonic()
         while True:
-            status = self.source.migration()
-            if status in ENDS or status == "ended" or self.relay.was_cut.is_set() or time.monotonic() > until:
-                return status
+            status, there = self.source.migration(), self.target.migration()
+            if self.relay.was_cut.is_set() or status in ENDS or "ended" in (status, there) or time.monotonic() > until:
+                return
+            if there in ("failed", "postcopy-paused"):
+                self.remark(f"the target went to {there} by itself")
+                return
             if time.monotonic() - told > 1:
                 told = time.monotonic()
                 self.say(f"post-copy: {self.relay.sent_after} pages")
@@ -169,7 +170,6 @@ class Migration:
         self.relay.was_cut.clear()
         if set(stands.values()) != {"postcopy-paused"}:
             self.remark("no recovery: " + ", ".join(f"{name} {status}" for name, status in stands.items()))
-            self.outcome.source = stands["source"]
             return False
         port = free_port()
         try:
@@ -190,7 +190,7 @@ class Migration:
     def finish(self):
         """What is asked of both at the end, and the source's memory, which is that of the halt."""
         plan, outcome = self.plan, self.outcome
-        outcome.target = self.target.wait_for(ENDS, 3)
+        outcome.source, outcome.target = self.source.migration(), self.target.wait_for(ENDS, 3)
         try:
             if plan.paused and outcome.target == "completed":
                 self.target("cont")

@@ -2,7 +2,7 @@
 
 Down the main connection come, behind a header that a resumed stream has not: sections of `ram`, commands and the end. The
 devices' state stands in a package whose length is told, and is not read. Down the second connection of postcopy-preempt come
-pages alone. A reader is anything with `read(length)`, which answers fewer bytes only at its end.
+pages alone. A tap reads from anything with `read(length)`, which answers fewer bytes only at its end.
 
 Each item has the bytes that it was read from, so what is handed on is what came.
 """
@@ -118,9 +118,8 @@ class Tap:
         return raw
 
 
-def items(reader, is_resumed=False):
+def items(tap, is_resumed=False):
     """What comes down the main connection. Ends with EOFError, as each stream does here."""
-    tap = Tap(reader)
     if not is_resumed:
         if tap.take(len(MAGIC)) != MAGIC:
             raise Strange("this is no migration stream of version 3")
@@ -150,9 +149,9 @@ def items(reader, is_resumed=False):
         yield Item(tap.end())
 
 
-def pages(reader):
+def pages(tap):
     """What comes down the second connection."""
-    tap, blocks = Tap(reader), [""]
+    blocks = [""]
     while True:
         yield from section(tap, blocks)
 
@@ -202,9 +201,9 @@ def with_ranges(discard, ranges):
     return Discard(discard.raw[:3] + struct.pack(">H", len(data)) + data, discard.block, ranges)
 
 
-def answers(reader):
+def answers(tap):
     """What goes back. A bitmap is a message with a name, and behind it its size in 64 bits, the bits, and an ending."""
-    tap, block = Tap(reader), ""
+    block = ""
     while True:
         kind, data = tap.number("H"), tap.take(tap.number("H"))
         if kind in (REQUEST_WITH_BLOCK, REQUEST):

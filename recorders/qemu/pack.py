@@ -1,0 +1,36 @@
+"""Recordings in one small file, and out of it again."""
+import io
+import lzma
+import os
+import tarfile
+
+FILES = ("plan.json", "relay.log", "relay.pages", "source.raw", "target.raw", "target.pages", "halt.mem")
+
+
+def pack(folder, path):
+    """Packs what a session is made from. The same recording gives the same file."""
+    packed = io.BytesIO()
+    with tarfile.open(fileobj=packed, mode="w", format=tarfile.USTAR_FORMAT) as archive:
+        for name in FILES:
+            with open(f"{folder}/{name}", "rb") as file:
+                data = file.read()
+            member = tarfile.TarInfo(name)
+            member.size = len(data)
+            archive.addfile(member, io.BytesIO(data))
+    with open(path, "wb") as out:
+        out.write(lzma.compress(packed.getvalue(), preset=9 | lzma.PRESET_EXTREME))
+
+
+def unpacked(path):
+    """The files of a packed recording, by their names."""
+    with open(path, "rb") as file:
+        packed = io.BytesIO(lzma.decompress(file.read()))
+    with tarfile.open(fileobj=packed) as archive:
+        return {member.name: archive.extractfile(member).read() for member in archive}
+
+
+def unpack(path, folder):
+    os.makedirs(folder, exist_ok=True)
+    for name, data in unpacked(path).items():
+        with open(f"{folder}/{name}", "wb") as out:
+            out.write(data)
