@@ -23,7 +23,8 @@ class Recording:
         self.plan = plan_from_json(json.loads(read("plan.json")))
         self.window = Window(self.plan.base, self.plan.pages)
         self.contents = Contents(read, self.plan.words)
-        self.wire = Wire(read("relay.log").decode().splitlines(), self.window.page, self.plan.pages)
+        whole_lines = read("relay.log").decode().split("\n")[:-1]  # a last line that was not written to its end goes
+        self.wire = Wire(whole_lines, self.window.page, self.plan.pages)
 
     def session(self, is_from_halt=False):
         """The session. With `is_from_halt` it begins with the memory at the halt."""

@@ -124,8 +124,8 @@ class Relay:
                 connection = self.opened(source, target)
             for work in (self.down, self.up):
                 thread = threading.Thread(target=self.guarded, args=(work, connection), daemon=True)
-                self.threads.append(thread)
                 thread.start()
+                self.threads.append(thread)
 
     def opened(self, source, target):
         """The first connection, and the first one after a cut, is the main one; the next one is the lane."""

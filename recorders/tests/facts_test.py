@@ -1,0 +1,229 @@
+"""Kept recordings of QEMU 7.2, and each fact that their conversion rests on, told wrong in one of them."""
+import hashlib
+import os
+import re
+import tempfile
+
+import convert
+import judge
+from moments import SOURCE, TARGET, Moments
+from pack import unpacked
+from pipe import Pipe
+from records import Hole
+from source_side import SourceSide
+from target_side import TargetSide
+from wire import ZERO
+
+RECORDINGS = f"{os.path.dirname(os.path.dirname(os.path.abspath(__file__)))}/qemu/recordings"
+
+
+def kept():
+    """The kept recordings: the name, the hash of the session and its verdict."""
+    with open(f"{RECORDINGS}/expected", encoding="ascii") as lines:
+        return [line.rstrip("\n").split(" ", 2) for line in lines]
+
+
+def files_of(name):
+    return unpacked(f"{RECORDINGS}/{name}.tar.xz")
+
+
+def session_of(files, source_side=SourceSide, target_side=TargetSide):
+    recording = convert.Recording(files.__getitem__)
+    recording.source_side, recording.target_side = source_side, target_side
+    return recording.session()
+
+
+def verdict_of(session):
+    with tempfile.TemporaryDirectory() as room:
+        judge.write(f"{room}/session", session.text())
+        return judge.verdict_line(room)
+
+
+def reason_of(session):
+    return re.sub(r" line \d+", "", verdict_of(session))
+
+
+# A fact that is told wrong in the recording's files: lines of the pipes, which a line of the pipe is whole in.
+
+def replaced(data, *changes):
+    for old, new in changes:
+        if not data.count(old):
+            raise AssertionError(f"the recording has no {old!r}")
+        data = data.replace(old, new)
+    return data
+
+
+def halted_when_the_state_is_set(files):
+    """The halt is told where QEMU sets the state of the run, before its processors stand still."""
+    return {**files, "source.raw": replaced(
+        files["source.raw"], (b"vm_state_notify running 0", b"vm_state_notified running 0"),
+        (b"runstate_set current_run_state 9 (running) new_state 7 (finish-migrate)", b"vm_state_notify running 0 reason 7 (finish-migrate)"))}
+
+
+def ready_when_it_returns(files):
+    """The target is told to be ready where the handling of `listen` returns, which is behind the first pages."""
+    return {**files, "target.raw": replaced(
+        files["target.raw"], (b"loadvm_postcopy_handle_listen after uffd", b"loadvm_postcopy_handle_listen after"),
+        (b"loadvm_postcopy_handle_listen return", b"loadvm_postcopy_handle_listen after uffd"))}
+
+
+def placed_by_the_trace(files):
+    """A placement is told where QEMU's trace has it, which is behind the wake."""
+    told, waiting = [], []
+    for part in re.split(rb"(?<=\n)", files["target.raw"]):
+        ascii_of = bytes(byte for byte in part if byte < 0x80)
+        if ascii_of.startswith((b"uffd place", b"uffd zero")):
+            waiting.append(ascii_of)
+            told.append(bytes(byte for byte in part if byte >= 0x80))
+        elif ascii_of.startswith((b"postcopy_place_page host", b"postcopy_place_page_zero host")) and waiting:
+            told += [part, *waiting]
+            waiting.clear()
+        else:
+            told.append(part)
+    return {**files, "target.raw": b"".join(told)}
+
+
+def told_behind_a_cut(files):
+    return {**files, "relay.log": files["relay.log"] + b"up 0 message\n"}
+
+
+def a_connection_for_the_other(files):
+    """What came by the main connection is told of the lane, and the other way round."""
+    lines = files["target.raw"]
+    return {**files, "target.raw": lines.replace(b"chan=0", b"chan=2").replace(b"chan=1", b"chan=0").replace(b"chan=2", b"chan=1")}
+
+
+class ZerosLate(SourceSide):
+    """Pages of zeros, which no trace tells of, are told as sent behind all others."""
+
+    late = ()
+
+    def send(self, connection):
+        place = self.position[connection.number]
+        if connection.taken[place].contents == ZERO and connection.taken[place].page is not None:
+            self.late = (*self.late, (connection, place))
+            self.position[connection.number] += 1
+        else:
+            super().send(connection)
+
+    def send_rest(self, upto=None):
+        super().send_rest(upto)
+        if upto is None:
+            for connection, place in self.late:
+                self.position[connection.number] = place
+                super().send(connection)
+                self.position[connection.number] = len(connection.taken)
+            self.late = ()
+
+
+class OneConnection(TargetSide):
+    """What came by the connection behind the cut is told as if it had come by the one before."""
+
+    def act(self, moment, fields):
+        if moment != "pages over a new connection":
+            super().act(moment, fields)
+
+
+class OneConnectionOfRequests(TargetSide):
+    """The same of requests."""
+
+    def act(self, moment, fields):
+        if moment != "messages over a new connection":
+            super().act(moment, fields)
+
+
+class SecondRequestJoins(TargetSide):
+    """A request for a page that was asked for already is told as one that waits for the first."""
+
+    def message(self, kind):
+        before = len(self.session.logs["pager"])
+        super().message(kind)
+        new = self.session.logs["pager"][before:]
+        if new and new[0][0].startswith("want"):
+            page = new[0][1]["page"]
+            self.wanted = getattr(self, "wanted", {})
+            if page in self.wanted:
+                self.session.logs["pager"][-1] = ("join {of}", {"of": self.wanted[page]})
+            else:
+                self.wanted[page] = [name for name, number in self.session.numbers["pager"].items() if number == before][0]
+
+
+WRONG_FILES = (
+    ("the halt", "live", halted_when_the_state_is_set, "shape phases"),
+    ("the moment at which the target is ready", "live", ready_when_it_returns, "shape start"),
+    ("placements", "preempt-recovery", placed_by_the_trace, "faulty early"),
+)
+WRONG_SIDES = (
+    ("pages of zeros", "live", {"source_side": ZerosLate}, "knot"),
+    ("a request that is made a second time", "recovery", {"target_side": SecondRequestJoins}, "shape named"),
+)
+HOLES = (
+    ("nothing is told of a connection behind its cut", "recovery", told_behind_a_cut, {}),
+    ("the connection of a page with preempt", "preempt-recovery", a_connection_for_the_other, {}),
+    ("the connection of a page behind a cut", "recovery", None, {"target_side": OneConnection}),
+    ("the connection of a request behind a cut", "recovery", None, {"target_side": OneConnectionOfRequests}),
+)
+
+
+def of_recordings(tests):
+    for name, digest, verdict in kept():
+        session = session_of(files_of(name))
+        tests.wants(f"the session of {name}, byte for byte", hashlib.sha256(session.text().encode()).hexdigest(), digest)
+        tests.wants(f"the verdict of {name}", verdict_of(session), verdict)
+
+
+def of_facts(tests):
+    for what, name, change, reason in WRONG_FILES:
+        tests.wants(f"told wrong: {what}", reason_of(session_of(change(files_of(name)))), reason)
+    for what, name, sides, reason in WRONG_SIDES:
+        tests.wants(f"told wrong: {what}", reason_of(session_of(files_of(name), **sides)), reason)
+    for what, name, change, sides in HOLES:
+        files = files_of(name)
+        tests.refuses(f"told wrong: {what}", Hole, lambda: session_of(change(files) if change else files, **sides).text())
+
+
+def of_pipes(tests):
+    """The guest's bytes within lines, and the moment of an event, which is its last byte."""
+    access = bytes([0xC1, 0x85, 0x80, 0x80, 0xC2, 0x85, 0x80, 0x80, 0x81, 0x80, *[0x87] + [0x80] * 10])
+    for cut in range(1, len(access)):
+        told = list(Pipe().tokens(b"one " + access[:cut] + b"line\ntwo\n" + access[cut:] + b"three\n"))
+        events = [token for token in told if not isinstance(token, str)]
+        tests.wants(f"lines around a cut at {cut}", [token for token in told if isinstance(token, str)], ["one line", "two", "three"])
+        tests.wants(f"the events around a cut at {cut}", [(type(event).__name__, event.page) for event in events], [("Look", 5), ("Access", 5)])
+        tests.wants(f"the access is behind the lines at {cut}", told.index(events[1]) > told.index("two"), True)
+    both = Pipe()
+    first, second = list(both.tokens(access[:9])), list(both.tokens(access[9:]))
+    tests.wants("an access that is told to its end at the target", ([type(e).__name__ for e in first], second[0].value), (["Look"], 7))
+    tests.refuses("bytes that are no event", Hole, lambda: list(Pipe().tokens(bytes([0xC5]) * 100)))
+
+
+def of_ends(tests):
+    """Recordings that end early, as when a QEMU ends: what is left is judged, or it is told what it lacks."""
+    files = files_of("recovery")
+    for name in ("source.raw", "target.raw", "relay.log"):
+        seen = set()
+        for length in (*range(0, len(files[name]), len(files[name]) // 6), len(files[name]) - 200, len(files[name]) - 1):
+            short = {**files, name: files[name][:length]}
+            try:
+                session = session_of(short)
+            except Hole:
+                seen.add("hole")
+                continue
+            session.cut()
+            seen.add(reason_of(session))
+        tests.wants(f"verdicts where {name} ends early", seen, {"hole", "clean, yes"})
+
+
+def of_moments(tests):
+    for table in (SOURCE, TARGET):
+        moments = Moments(table)
+        tests.wants("a line that is no moment", list(moments.of("postcopy_start")), [])
+    tests.wants("a moment with its fields", list(Moments(TARGET).of("uffd fault 7 123")), [("fault", {"page": "7", "thread": "123"})])
+
+
+def run(tests):
+    of_pipes(tests)
+    of_moments(tests)
+    of_recordings(tests)
+    of_facts(tests)
+    of_ends(tests)

@@ -1,0 +1,194 @@
+"""The relay between a source and a target that are written here: what it hands over, what it tells, and each fault."""
+import io
+import socket
+import tempfile
+import time
+
+import stream
+from relay import CutPlan, Relay, Window
+from streams import END, EOS, HEADER, bitmap, command, discard, footer, package, page, request, section_part
+
+BASE, PAGES = 0x400000, 8
+
+
+def filled(number):
+    return bytes([number]) * 4096
+
+
+def section(*pages):
+    return section_part() + b"".join(pages) + EOS + footer()
+
+
+def at(number):
+    return BASE + number * 4096
+
+
+BEFORE = HEADER + section(page(0x1000, filled(9), "pc.ram"), *(page(at(n), filled(n)) for n in range(PAGES)))
+SWITCH = discard("pc.ram", (at(0), 6 * 4096)) + package(b"state")
+AFTER = section(page(at(0), filled(100), "pc.ram"), *(page(at(n), filled(100 + n)) for n in range(1, 6))) + END
+
+
+class Ends:
+    """A source and a target on both sides of a relay."""
+
+    def __init__(self, room, **options):
+        self.room = room
+        self.listener = socket.create_server(("127.0.0.1", 0))
+        self.listener.settimeout(10)
+        self.relay = Relay(room, Window(BASE, PAGES), self.listener.getsockname()[1], **options)
+
+    def connect(self):
+        source = socket.create_connection(("127.0.0.1", self.relay.port), 10)
+        target, _ = self.listener.accept()
+        target.settimeout(10)
+        return source, target
+
+    def end(self):
+        self.relay.end()
+        self.listener.close()
+        with open(f"{self.room}/relay.log") as log:
+            return log.read().splitlines()
+
+
+def read_all(target):
+    data = b""
+    try:
+        while part := target.recv(1 << 16):
+            data += part
+    except OSError:
+        pass
+    return data
+
+
+def through(data, **options):
+    """What comes out of the relay for what goes in, and the log."""
+    with tempfile.TemporaryDirectory() as room:
+        ends = Ends(room, **options)
+        source, target = ends.connect()
+        source.sendall(data)
+        source.shutdown(socket.SHUT_WR)
+        found = read_all(target)
+        log = ends.end()
+        for one in (source, target):
+            one.close()
+    return found, log
+
+
+def pages_of(data):
+    """The window's pages of post-copy that came, with the first and the last byte of each."""
+    pages, is_post = [], False
+    try:
+        for item in stream.items(stream.Tap(io.BytesIO(data))):
+            is_post = is_post or isinstance(item, stream.Package)
+            if is_post and isinstance(item, stream.Page):
+                pages.append(((item.offset - BASE) // 4096, item.contents[0], item.contents[-1]))
+    except EOFError:
+        pass
+    return pages
+
+
+RIGHT = [(n, 100 + n, 100 + n) for n in range(6)]
+FAULTS = (
+    ("flip", [(0, 100, 100), (1, 101 ^ 16, 101), *RIGHT[2:]]),
+    ("flip-end", [(0, 100, 100), (1, 101, 101 ^ 16), *RIGHT[2:]]),
+    ("stale", [(0, 100, 100), (1, 1, 1), *RIGHT[2:]]),
+    ("swap", [(0, 100, 100), (1, 102, 102), (2, 101, 101), *RIGHT[3:]]),
+    ("drop", [(0, 100, 100), (1, 101, 101), *RIGHT[3:]]),
+    ("twice", [(0, 100, 100), (1, 101, 101), (1, 101, 101), *RIGHT[2:]]),
+)
+
+
+def told(log, start):
+    return [line for line in log if line.startswith(start)]
+
+
+def of_faults(tests):
+    data = BEFORE + SWITCH + AFTER
+    found, log = through(data)
+    tests.wants("without a fault all is handed over as it came", found, data)
+    tests.wants("what is told", [line.split()[:6] for line in told(log, "down 0 page post")],
+                [["down", "0", "page", "post", "pc.ram", str(at(n))] for n in range(6)])
+    tests.wants("contents outside of the window are not kept", told(log, "down 0 page pre")[0], "down 0 page pre pc.ram 4096 - -")
+    for kind, wanted in FAULTS:
+        found, log = through(data, fault=kind, skip=1)
+        tests.wants(f"fault {kind}", pages_of(found), wanted)
+        tests.wants(f"fault {kind} is told", len(told(log, f"fault {kind}")), 1)
+    tests.wants("a dropped page is told as lost", [line.split()[5] for line in told(through(data, fault="drop", skip=1)[1], "lost")], [str(at(2))])
+    found, log = through(data, fault="keep-drop", skip=1)
+    tests.wants("fault keep-drop: the discard without a page", discard("pc.ram", (at(0), 4096), (at(2), 4 * 4096)) in found, True)
+    tests.wants("fault keep-drop: the page does not come", [page[0] for page in pages_of(found)], [0, 2, 3, 4, 5])
+    tests.wants("the discard is told as it came", told(log, "down 0 discard"), [f"down 0 discard pc.ram {at(0)} {6 * 4096}"])
+    found, _ = through(data, fault="preflip", skip=0)
+    tests.wants("fault preflip", found[:len(BEFORE)].count(bytes([1 ^ 16]) + filled(1)[1:]), 1)
+
+
+def of_a_cut(tests):
+    """Two connections are cut; what is still read from them is not told, and the next two are told apart from them."""
+    with tempfile.TemporaryDirectory() as room:
+        ends = Ends(room, cuts=[CutPlan(2, lose=1)])
+        source, target = ends.connect()
+        lane, lane_target = ends.connect()
+        source.sendall(BEFORE + SWITCH + section(page(at(0), filled(100), "pc.ram"), page(at(1), filled(101))))
+        target.sendall(request(at(3), block="pc.ram"))
+        wait_for(lambda: ends.relay.sent_after == 2)
+        source.sendall(section(page(at(2), filled(102), "pc.ram"), page(at(3), filled(103)), page(at(4), filled(104))))
+        wait_for(ends.relay.was_cut.is_set)
+        for late in (lambda: target.sendall(request(at(4))), lambda: lane.sendall(page(at(5), filled(105), "pc.ram") + EOS)):
+            try:
+                late()
+            except OSError:
+                pass
+        tests.wants("what came before the cut", pages_of(read_all(target)), RIGHT[:2])
+        again, there = ends.connect()
+        again.sendall(command(9) + section(page(at(2), filled(102), "pc.ram")))
+        second_lane, _ = ends.connect()
+        wait_for(lambda: ends.relay.sent_after >= 5)
+        log = ends.end()
+    after = log[log.index("cut 0") + 2:]
+    tests.wants("who was opened", told(log, "open"), ["open 0 main new", "open 1 lane new", "open 2 main resumed", "open 3 lane new"])
+    tests.wants("both were cut", told(log, "cut"), ["cut 0", "cut 1"])
+    tests.wants("nothing is told of a connection behind its cut", [line for line in after if line.split()[1] in "01"], [])
+    tests.wants("what was lost", [int(line.split()[5]) for line in told(log, "lost")], [at(2), at(3)][:len(told(log, "lost"))])
+    tests.wants("a page over the next one", told(log, "down 2 page post"), [line for line in after if " page " in line])
+
+
+def of_a_bitmap(tests):
+    with tempfile.TemporaryDirectory() as room:
+        ends = Ends(room, fault="forget", skip=0)
+        ends.relay.lost = [at(1)]
+        source, target = ends.connect()
+        target.sendall(bitmap("pc.ram", bytes(256)))
+        target.shutdown(socket.SHUT_WR)
+        wanted = bytearray(256)
+        wanted[at(1) // 4096 // 8] |= 1 << at(1) // 4096 % 8
+        source.settimeout(10)
+        found = b""
+        while len(found) < len(bitmap("pc.ram", bytes(256))):
+            found += source.recv(4096)
+        tests.wants("fault forget", found, bitmap("pc.ram", bytes(wanted)))
+        ends.end()
+
+
+def of_what_is_strange(tests):
+    data = HEADER + b"\x04" + bytes(4) + b"\5timer" + bytes(100)
+    with tempfile.TemporaryDirectory() as room:
+        ends = Ends(room)
+        source, target = ends.connect()
+        source.sendall(data)
+        source.shutdown(socket.SHUT_WR)
+        tests.wants("what is not understood is handed over all the same", read_all(target), data)
+        ends.end()
+        tests.wants("and told of", ends.relay.complaint, "pre-copy came to its end, and nothing was left to post-copy")
+
+
+def wait_for(is_so, seconds=10):
+    until = time.monotonic() + seconds
+    while not is_so() and time.monotonic() < until:
+        time.sleep(0.01)
+
+
+def run(tests):
+    of_faults(tests)
+    of_a_cut(tests)
+    of_a_bitmap(tests)
+    of_what_is_strange(tests)

@@ -1,0 +1,68 @@
+"""The parser of the migration stream, on bytes made by hand."""
+import stream
+from streams import (CONFIGURATION, END, EOS, HEADER, answer, bitmap, command, discard, footer, package, page, reader, request,
+                     section_part, section_start, sizes, zeros)
+
+A, B = bytes([1]) * 4096, bytes([2]) * 4096
+WHOLE = (HEADER + CONFIGURATION + command(1) + command(2, b"\0\0\0\1") + command(3, bytes(16)) +
+         section_start() + sizes(("pc.ram", 1 << 20), ("vga.vram", 4096)) + EOS + footer() +
+         section_part() + page(0x5000, A, "pc.ram") + zeros(0x6000) + page(0x7000, B) + EOS + footer() +
+         discard("pc.ram", (0x5000, 0x1000), (0x9000, 0x3000)) + package(b"devices' state: any bytes \x08\x02") +
+         section_part() + page(0, B, "vga.vram") + EOS + footer() + END)
+
+
+def taken(items):
+    """The items of a stream to its end."""
+    found = []
+    try:
+        for item in items:
+            found.append(item)
+    except EOFError:
+        pass
+    return found
+
+
+def down(data, is_resumed=False):
+    return taken(stream.items(stream.Tap(reader(data)), is_resumed))
+
+
+def run(tests):
+    items = down(WHOLE)
+    tests.wants("no byte is lost", b"".join(item.raw for item in items), WHOLE)
+    pages = [(item.block, item.offset, item.is_zero, item.names_block) for item in items if isinstance(item, stream.Page)]
+    tests.wants("pages, each in the block that was named last", pages, [
+        ("pc.ram", 0x5000, False, True), ("pc.ram", 0x6000, True, False), ("pc.ram", 0x7000, False, False),
+        ("vga.vram", 0, False, True)])
+    tests.wants("a page is its header and its contents", [item.head + item.contents == item.raw for item in items
+                                                          if isinstance(item, stream.Page)], [True] * 4)
+    tests.wants("commands", [item.name for item in items if isinstance(item, stream.Command)], ["open-return-path", "ping", "advise"])
+    tests.wants("the package is not looked into", [item.length for item in items if isinstance(item, stream.Package)], [28])
+    found = [item for item in items if isinstance(item, stream.Discard)]
+    tests.wants("ranges", [(item.block, item.ranges) for item in found], [("pc.ram", [(0x5000, 0x1000), (0x9000, 0x3000)])])
+    tests.wants("a discard of other ranges", stream.with_ranges(found[0], [(0x9000, 0x3000)]).raw, discard("pc.ram", (0x9000, 0x3000)))
+    for length in range(len(HEADER + CONFIGURATION), len(WHOLE), 997):
+        part = down(WHOLE[:length])
+        tests.wants(f"a stream of {length} bytes gives the items that are whole", part, items[:len(part)])
+
+    resumed = command(1) + command(9) + command(10, b"\6pc.ram") + section_part() + page(0x8000, A, "pc.ram") + EOS
+    tests.wants("a resumed stream has no header", b"".join(item.raw for item in down(resumed, True)), resumed)
+    tests.refuses("the same as a new one", stream.Strange, lambda: down(resumed))
+    tests.refuses("a header in a resumed one", stream.Strange, lambda: down(WHOLE, True))
+    tests.refuses("a device's section outside of the package", stream.Strange, lambda: down(HEADER + section_start(3, "timer")))
+    tests.refuses("a page that is compressed", stream.Strange, lambda: down(HEADER + section_part() + bytes(6) + b"\1\0"))
+    tests.refuses("an unknown command", stream.Strange, lambda: down(HEADER + command(99)))
+
+    lane = page(0x5000, A, "pc.ram") + EOS + page(0x7000, B, "pc.ram") + EOS
+    found = taken(stream.pages(stream.Tap(reader(lane))))
+    tests.wants("the second connection has pages alone", [type(item).__name__ for item in found], ["Page", "EndOfPages"] * 2)
+
+    back = (answer(2, b"\0\0\0\1") + request(0x5000, block="pc.ram") + request(0x9000) + bitmap("pc.ram", b"\xff\x01" + bytes(6)) +
+            request(0xA000) + answer(1, b"\0\0\0\0"))
+    found = taken(stream.answers(stream.Tap(reader(back))))
+    tests.wants("no byte of the answers is lost", b"".join(item.raw for item in found), back)
+    tests.wants("requests, each in the block that was named last", [(item.block, item.offset, item.length) for item in found
+                                                                    if isinstance(item, stream.Request)],
+                [("pc.ram", 0x5000, 4096), ("pc.ram", 0x9000, 4096), ("pc.ram", 0xA000, 4096)])
+    bits = [item.raw[item.bits] for item in found if isinstance(item, stream.Bitmap)]
+    tests.wants("a bitmap has its size before it and an ending behind it", bits, [b"\xff\x01" + bytes(6)])
+    tests.wants("the end", [item.value for item in found if isinstance(item, stream.Shut)], [0])
