@@ -18,7 +18,8 @@ class Plan:
     bandwidth: int = 1 << 20  # of pre-copy
     post_bandwidth: int = 500_000
     warm: int = 2000          # before the migration starts
-    pre: float = 0.5          # seconds of pre-copy
+    pre_pages: int = 0        # the switch waits until pre-copy has sent so many pages of the window,
+    pre: float = 0.5          # and then so many seconds
     after: int = 3000         # at the target, behind the end
     preempt: bool = False
     paused: bool = False      # the guest is stopped first, and goes on at the target behind the end
@@ -50,7 +51,7 @@ KINDS = {
     "preempt-recovery": ("both connections are cut, and the migration goes on over two others",
                          {"pages": 512, "preempt": True, "post_bandwidth": 1_000_000, "cuts": [200]}),
     "lost-write": ("64 pages, which fit the emulator's TLB: QEMU 7.2 loses writes here",
-                   {"pages": 64, "words": 8, "flush": False, "post_bandwidth": 300_000}),
+                   {"pages": 64, "words": 8, "flush": False, "pre_pages": 72, "pre": 0.0, "post_bandwidth": 300_000}),
 }
 
 

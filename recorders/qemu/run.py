@@ -117,8 +117,12 @@ class Migration:
             "max-bandwidth": self.plan.bandwidth, "max-postcopy-bandwidth": self.plan.post_bandwidth, "downtime-limit": 1})
 
     def wait_for_precopy(self):
-        """Pre-copy has to run before post-copy can be asked for."""
+        """Pre-copy has to run before post-copy can be asked for; and it may come to its end by itself."""
+        until = time.monotonic() + self.plan.limit
         status = self.source.wait_for(("active", *ENDS), self.plan.limit)
+        while status == "active" and self.relay.sent_before < self.plan.pre_pages and time.monotonic() < until:
+            time.sleep(0.005)
+            status = self.source.migration()
         if status != "active":
             raise Gone(f"pre-copy: {status}")
         time.sleep(self.plan.pre)

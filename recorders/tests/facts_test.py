@@ -13,8 +13,11 @@ from records import Hole
 from source_side import SourceSide
 from target_side import TargetSide
 from wire import ZERO
+from witness import pages_that_differ
 
-RECORDINGS = f"{os.path.dirname(os.path.dirname(os.path.abspath(__file__)))}/qemu/recordings"
+TOP = os.path.dirname(os.path.dirname(os.path.dirname(os.path.abspath(__file__))))
+RECORDINGS = f"{TOP}/recorders/qemu/recordings"
+EXAMPLES = {"example-live": "qemu-live", "example-preempt": "qemu-preempt", "lost-write": "qemu-lost-write"}
 
 
 def kept():
@@ -172,6 +175,28 @@ def of_recordings(tests):
         tests.wants(f"the verdict of {name}", verdict_of(session), verdict)
 
 
+def of_examples(tests):
+    """The sessions in examples/ are those of kept recordings, and the picture is the program's."""
+    for name, example in EXAMPLES.items():
+        with open(f"{TOP}/examples/{example}/session", encoding="ascii") as file:
+            tests.wants(f"the session of examples/{example}", session_of(files_of(name)).text() == file.read(), True)
+    with open(f"{TOP}/examples/qemu-lost-write/picture.svg", encoding="ascii") as file:
+        picture = judge.ask("draw", f"{TOP}/examples/qemu-lost-write/session")[0]
+        tests.wants("the picture of examples/qemu-lost-write", picture == file.read(), True)
+
+
+def of_witness(tests):
+    """A lost write is seen without the auditor too: what went over the wire last is not what the source had at the halt."""
+    found = {name: pages_that_differ(convert.Recording(files_of(name).__getitem__))[0] for name, _, _ in kept()}
+    tests.wants("pages that differ from the source's memory", {name for name in found if found[name]}, {"lost-write"})
+    session = session_of(files_of("lost-write"))
+    tests.wants("how many", len(found["lost-write"]), 7)
+    contents = {fields["page"]: fields["contents"] for form, fields in session.logs["source"] if form.startswith("send")}
+    placed = {fields["page"]: fields["contents"] for form, fields in session.logs["pager"] if form.startswith("place")}
+    tests.wants("and they are those that were placed otherwise than sent",
+                [page for page in sorted(placed) if placed[page] != contents[page]], found["lost-write"])
+
+
 def of_facts(tests):
     for what, name, change, reason in WRONG_FILES:
         tests.wants(f"told wrong: {what}", reason_of(session_of(change(files_of(name)))), reason)
@@ -225,5 +250,7 @@ def run(tests):
     of_pipes(tests)
     of_moments(tests)
     of_recordings(tests)
+    of_examples(tests)
+    of_witness(tests)
     of_facts(tests)
     of_ends(tests)
