@@ -1,5 +1,6 @@
 /* The proved checker and auditor of recorded live migrations, for C and whatever calls C.
-   docs/EMBEDDING.md says what is proved of each call. Link with -lpostcopy. */
+   The man page postcopy(1) says what each answer means and what is proved, postcopy(5) what the texts are.
+   Link with -lpostcopy. */
 #ifndef POSTCOPY_H
 #define POSTCOPY_H
 

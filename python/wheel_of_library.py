@@ -42,12 +42,15 @@ def contents():
 def build_wheel(wheel_directory, config_settings=None, metadata_directory=None):
     """Writes the wheel into a folder, and answers its name."""
     name, version = project("name"), project("version")
+    with open(f"{HERE}/../LICENSE", "rb") as file:
+        licence = file.read()
     tag = "py3-none-" + re.sub(r"[-.]", "_", sysconfig.get_platform())
     info = f"{name}-{version}.dist-info"
     files = dict(contents())
+    files[f"{info}/LICENSE"] = licence
     files[f"{info}/METADATA"] = (
         f"Metadata-Version: 2.1\nName: {name}\nVersion: {version}\nSummary: {project('description')}\n"
-        f"Requires-Python: {project('requires-python')}\n"
+        f"Requires-Python: {project('requires-python')}\nLicense: {project('license')}\nLicense-File: LICENSE\nAuthor: the Tingaro authors\n"
     ).encode()
     files[f"{info}/WHEEL"] = f"Wheel-Version: 1.0\nGenerator: {name}\nRoot-Is-Purelib: false\nTag: {tag}\n".encode()
     rows = []

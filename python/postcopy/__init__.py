@@ -5,7 +5,11 @@
     yes
 
 Each function takes a text as bytes, or as the path of a file, which is mapped and not copied. Bytes and files must not change
-while a call runs; other threads go on meanwhile. What is proved of each call is told in docs/EMBEDDING.md.
+while a call runs; other threads go on meanwhile. `help(postcopy.Kind)` and `help(postcopy.Reason)` tell
+what the answers mean.
+
+What is proved: YES and CLEAN are answered only of a session in every merging of whose logs each read or write after the handover
+finds its page resident, and each read gives what one machine that never moved gives. That the logs say what happened is a premise.
 """
 from __future__ import annotations
 
@@ -33,7 +37,13 @@ class OutOfMemory(MemoryError):
 
 
 class Kind(enum.IntEnum):
-    """Which answer it is."""
+    """Which answer it is.
+
+    YES: the certificate is right, and every merging of the session is safe. CLEAN: every merging is safe. SESSION_TEXT, CERT_TEXT:
+    the text is refused at the line. SHAPE: the session has not the right shape. PAGES: session and certificate are of machines of
+    different sizes. RUNS, PAGE: the run, or the entry, at the line of the certificate is not right. KNOT: the session's records
+    wait for one another in a cycle. FAULTY: the session is not safe, because of the record at the line.
+    """
 
     YES = 1
     CLEAN = 2
@@ -54,7 +64,13 @@ class Kind(enum.IntEnum):
 
 
 class Reason(enum.IntEnum):
-    """Why a session has not the right shape, or a page is faulty."""
+    """Why a session has not the right shape, or a page is faulty.
+
+    PHASES: a record in the wrong phase. NAMED: it names what is not there, or of the wrong kind. START: a log does not begin as it
+    has to. SECOND_SEND: a page is sent twice. READ: a wrong value. EARLY: a use of a page that was not seen to be placed. GIVEN: a
+    released page is sent. STALE, ALTERED: a page is sent, or placed, with other contents than it has at the halt. TWICE: a second
+    placement. UNFIT: zeros for a page that was not released. OVER: a placement over the guest's release at the target.
+    """
 
     PHASES = 1
     NAMED = 2
