@@ -25,7 +25,7 @@ class Script:
             _, page, contents = line.split(" ")
             self.memory[int(page)] = cells_of(contents)
         self.pivots, self.window = (int(line.split(" ")[1]) for line in lines[4 + initial:6 + initial])
-        # (in the second version the number of lanes stands here, and behind two of them the fates of the second)
+        # (in the second version the number of lanes stands here, and after two of them the fates of the second)
         self.has_lane = lines[8 + initial] == "lanes 2"
         at = 8 + initial + self.version + self.has_lane
         self.vcpus = []

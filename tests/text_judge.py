@@ -6,7 +6,7 @@ from session_text import logs_of
 MOST_RECORDS = 2**20
 NUMBER = re.compile("0|[1-9][0-9]*")
 
-# What stands behind a record's kind: a virtual processor, a page, a cell, a value, a record's number, a page's contents.
+# What stands after a record's kind: a virtual processor, a page, a cell, a value, a record's number, a page's contents.
 RECORDS = {
     "guest": {"r": "vpcx", "w": "vpcx", "z": "vp", "miss": "vp", "halt": "", "resume": "n", "see": "n"},
     "source": {"halted": "n", "state": "", "send": "ph", "again": "n", "ask": "n", "done": ""},

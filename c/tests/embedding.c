@@ -22,7 +22,7 @@ _Static_assert(sizeof(postcopy_answer) == 24, "layout");
 
 enum { PATTERN = 0xa5, MARGIN = 64, THREADS = 4, ROUNDS = 8, STACK = 65536, ALL_LENGTHS = 4096 };
 
-/* How many allocations pass before one fails, or -1; whether those behind it fail too; and how many blocks are there. */
+/* How many allocations pass before one fails, or -1; whether those after it fail too; and how many blocks are there. */
 static _Thread_local long passing = -1;
 static _Thread_local int fail_on;
 static _Thread_local long blocks;
@@ -60,7 +60,7 @@ static void fail(const char *why, const char *job) {
     exit(1);
 }
 
-/* So many bytes, and behind them memory that may not be touched. */
+/* So many bytes, and after them memory that may not be touched. */
 static uint8_t *guarded(size_t len) {
     size_t page = (size_t)sysconf(_SC_PAGESIZE), whole = (len + page - 1) / page * page;
     uint8_t *at = mmap(NULL, whole + page, PROT_READ | PROT_WRITE, MAP_PRIVATE | MAP_ANONYMOUS, -1, 0);
