@@ -1,0 +1,274 @@
+"""Whether what the pages claim is so: counts, sums, sizes, answers, and sentences that were once untrue."""
+import glob
+import os
+import re
+
+from page_text import TOP, headings, links, number_of, plain, read, rows
+
+README_MOST = 6144
+GUARANTEES, FORMATS, MAP, ANSWERS = "docs/GUARANTEES.md", "docs/FORMATS.md", "docs/MAP.md", "docs/ANSWERS.md"
+MAN1, MAN5 = "share/man/man1/postcopy.1", "share/man/man5/postcopy.5"
+
+# What the glossary has to explain.
+TERMS = ("merging", "receipt", "knot", "halt", "owed page", "settled", "look", "flat machine", "pivot", "fate", "lane", "certificate",
+         "cut", "run", "party", "channel", "mutant", "pool of workers")
+
+# Words that have a plain one, in every page.
+WORDS = {
+    r"[Ww]ant of memory": "out of memory",
+    r"\bcrews?\b": "pool of workers",
+    r"\bdear(?:er|est)?\b": "expensive",
+    r"\b[Ss]tands? (?:on|upon)\b(?! (?:its|their|two|one) feet)": "depends on",
+    r"\b[Bb]ehind\b": "after",
+    r"\bmust-fail edits?\b|\bedits? (?:of the code )?that the prover\b": "mutants",
+}
+
+# Sentences that were untrue, by the pages that may not have them (or all), and what is true.
+UNTRUE = (
+    (None, r"bytes that come in", "what is proved is of the bytes that were read"),
+    (None, r"when each error comes", "not so of migrate, of status 3 and of plan"),
+    (None, r"each owed page came(?! or)", "or was released at the target"),
+    (None, r"(?:every|each) owed page (?:was|is) placed(?!,? (?:or|and|neither))", "or was released at the target, and settled"),
+    (None, r"says that all are placed(?! or)", "or settled"),
+    (None, r"three to six times", "the table has other ratios"),
+    (GUARANTEES, r"which records are folded.*\| tested", "nothing tests which records are folded"),
+    (GUARANTEES, r"agrees with the plan; which records are folded", "nothing tests which records are folded"),
+    (GUARANTEES, r"only constructors, `released_list` and `FaultQueue::fault` take", "FaultQueue::left_without takes memory too"),
+    (GUARANTEES, r"wait for the threads that they start, and return", "they return once their threads have ended"),
+    (GUARANTEES, r"^\| where the status is 0 or 1, the output gained", "only where the command line takes the words"),
+)
+
+# What a page has to say beside what would be untrue alone: the page, the line it is about, and what that line must have.
+ALSO = (
+    (GUARANTEES, r"a page is covered where", r"released", "pages that the guest released at the target are covered too"),
+    (GUARANTEES, r"a record's receipt is", r"LaneRec::named", "the lane's records have receipts"),
+    (GUARANTEES, r"clause `told`: \*TellsAsked\*", r"\*takes\*.*version", "told is asked only where the command line takes the words"),
+    (GUARANTEES, r"used by none of these laws", r"is_miss.*goes_down.*lane_named|is_miss.*link_named.*goes_down.*lane_named", "these rules are used by no law, too"),
+    (GUARANTEES, r"^\| every function returns", r"once their threads have ended", "those that start threads wait for them"),
+    (GUARANTEES, r"A released page comes back as zeros' stands for", r"not sent", "the headline's last claim has an exact clause"),
+    (ANSWERS, r"^\| 0 \|", r"--help.*--version", "help and version have status 0"),
+    (FORMATS, r"^`--help` writes", r"status 0", "help and version have status 0"),
+)
+
+
+def lines(page):
+    return enumerate(page.split("\n"), 1)
+
+
+def wrong_counts(pages, sources):
+    """Counts of what is in the tree."""
+    tried, others = sources.mutants()
+    counts = {
+        "crates": {len(sources.crates), len(sources.crates | sources.test_crates)},
+        "mutants": {tried, others, tried + others},
+        "examples": {sources.folders_in("examples")},
+        "cases": {sources.folders_in("tests/cases")},
+        "files of definitions": {len(definition_files())},
+    }
+    pattern = rf"(?<![\d,.])(\d[\d,]*) ({'|'.join(counts)})\b"
+    for name, page in pages.items():
+        for number, line in lines(page):
+            for count, what in re.findall(pattern, line):
+                if number_of(count) not in counts[what]:
+                    yield f"{name}, line {number}: {count} {what}, and there are {' or '.join(map(str, sorted(counts[what])))}"
+
+
+def wrong_lists(pages):
+    """Headings that count the numbered list below them."""
+    for name, page in pages.items():
+        for heading, count, body in re.findall(r"^(## [^\n]*: (\d+) files)\n(.*?)(?=^## |\Z)", page, re.M | re.S):
+            items = [it.split(":")[0] for it in re.findall(r"^\d+\. (.*)", body, re.M)]
+            found = sum(max(1, it.count(".rt`") - it.count(" or ")) for it in items)
+            if items and found != int(count):
+                yield f"{name}: '{heading}', and the list below has {found}"
+
+
+def as_number(cell):
+    found = re.match(r"\*{0,2}([\d,]+(?:\.\d+)?)\b", cell)
+    return float(found[1].replace(",", "")) if found else None
+
+
+def wrong_sums(pages):
+    """Rows of tables that say what the rows above them make together."""
+    for name, page in pages.items():
+        above = []
+        for number, cells, _ in rows(page):
+            if above and above[-1][0] + 1 != number:
+                above = []
+            if re.match(r"\*{0,2}(?:All|Sum|Total|Together|In all)\b", cells[0]):
+                for at in range(1, len(cells)):
+                    some = [as_number(it[1][at]) for it in above if at < len(it[1])]
+                    said, whole = as_number(cells[at]), sum(it for it in some if it is not None)
+                    if said is not None and any(it is not None for it in some) and abs(said - whole) > len(above) / 2:
+                        yield f"{name}, line {number}: {cells[at]}, and the rows above make {whole:g}"
+            above.append((number, cells))
+
+
+def wrong_scripts(pages):
+    """What different pages say of how much the same test tries."""
+    said = {}
+    for name, page in pages.items():
+        for script, count in re.findall(r"`(tests/[\w-]+)`[^`|.;]*?\bsome ([\w, -]*?(?:\d[\d,]*|thousand|hundred))\b", page):
+            said.setdefault(script, {}).setdefault(count, []).append(name)
+    for script, counts in said.items():
+        if len(counts) > 1:
+            yield f"{script} does " + ", but ".join(f"some {count} in {', '.join(names)}" for count, names in counts.items())
+
+
+def definition_files():
+    names = (os.path.relpath(it, f"{TOP}/crates") for it in glob.glob(f"{TOP}/crates/*/specs/*.antt"))
+    return {it for it in names if os.path.basename(it) not in ("Lib.antt", "inner.antt")}
+
+
+def wrong_definitions(pages):
+    """The list of trusted definitions."""
+    listed = pages[GUARANTEES].partition("\n## Trusted definitions\n")[2]
+    for it in sorted(definition_files()):
+        if f"`{it}`" not in listed:
+            yield f"{GUARANTEES}: the list of trusted definitions lacks {it}"
+
+
+def wrong_sentences(pages):
+    for where, pattern, truth in UNTRUE:
+        for name, page in pages.items():
+            if where in (None, name):
+                for number, line in lines(page):
+                    if re.search(pattern, line):
+                        yield f"{name}, line {number}: untrue, '{pattern}': {truth}"
+    for name, about, wanted, truth in ALSO:
+        if name in pages:
+            found = [line for _, line in lines(pages[name]) if re.search(about, line)]
+            if not any(re.search(wanted, it) for it in found):
+                yield f"{name}: where it says '{about}' it has to say '{wanted}': {truth}"
+
+
+def wrong_words(pages):
+    for name, page in pages.items():
+        written = r"<!-- written by tools/pages.*?<!-- end"
+        page = re.sub(written, lambda it: "\n" * it[0].count("\n"), page, flags=re.S)
+        for number, line in lines(plain(page)):
+            for pattern, better in WORDS.items():
+                if re.search(pattern, line):
+                    yield f"{name}, line {number}: '{re.search(pattern, line)[0]}' is '{better}'"
+
+
+def wrong_ratios(pages):
+    """How a record of a migration compares with one of `steps`, by the table above the sentence."""
+    page = pages["docs/PERFORMANCE.md"]
+    each, run = {}, ""
+    for _, cells, head in rows(page):
+        if head[:3] == ["Run", "Records", "Time"]:
+            run = cells[0].replace("the same", run) if cells[0].startswith("the same over") else cells[0]
+            each[run] = float(cells[2].split(" ")[0]) / number_of(cells[1])
+    steps = next((each[it] for it in each if it.startswith("`steps`")), None)
+    runs = ("`migrate`, a good link", "`migrate`, a bad link over TCP")
+    said = re.search(r"takes ([\d.]+) times that of `steps` over a good link, and ([\d.]+) times over TCP with a bad one", page)
+    if not said or not steps or any(it not in each for it in runs):
+        yield "docs/PERFORMANCE.md: it does not say how a record of a migration compares with one of `steps`"
+        return
+    for run, number in zip(runs, said.groups()):
+        ratio = each[run] / steps
+        if abs(ratio - float(number)) > 0.06:
+            yield f"docs/PERFORMANCE.md: {number} times, and the table has {ratio:.1f}"
+
+
+def headline(text):
+    """The claims of the headline, from its first words on."""
+    found = re.search(r"the bytes spell one session, and in every merging.*?comes back as zeros\.", text)
+    return found and found[0]
+
+
+def wrong_readme(pages):
+    readme = pages["README.md"]
+    size = len(readme.encode())
+    if size > README_MOST:
+        yield f"README.md has {size} bytes, and may have {README_MOST}"
+    if not re.search(r"!\[[^\]]+\]\(docs/[\w-]+\.svg\)", readme):
+        yield "README.md has no picture"
+    if not headline(readme) or headline(readme) != headline(pages[GUARANTEES]):
+        yield "README.md and docs/GUARANTEES.md do not have the same headline"
+
+
+def wrong_glossary(pages):
+    found = {it.lower() for heading in headings(pages["docs/GLOSSARY.md"]) for it in heading.split(", ")}
+    for it in TERMS:
+        if it not in found:
+            yield f"docs/GLOSSARY.md does not explain: {it}"
+    for name, page in pages.items():
+        if name != "docs/GLOSSARY.md" and not any("GLOSSARY.md" in target for _, target in links(page)):
+            yield f"{name} has no link to the glossary"
+
+
+def answers(sources):
+    """The lines, reasons and words on standard error that the program can answer, by its sources."""
+    texts = [read(it) for it in sorted(sources.files) if re.match(r"crates/(?:commands|audit_report)/src/.*\.rt$", it)]
+    found = {it.strip() for text in texts for it in re.findall(r'b"([a-z-]+(?: [a-z]+)*) ?(?:\\n)?"', text)} - {"end"}
+    reasons = re.findall(r'=> b"([a-z-]+)"', read("crates/audit_model/src/reasons.rt"))
+    return found, reasons
+
+
+def wrong_answers(pages, sources):
+    found, reasons = answers(sources)
+    for name in (ANSWERS, MAN1):
+        text = (pages[name] if name in pages else read(name)).replace("\\-", "-")
+        for it in sorted(found) + reasons:
+            if not re.search(rf"(?<![\w-]){re.escape(it)}(?![\w-])", text):
+                yield f"{name} says nothing of the answer {it}"
+    kinds = re.findall(r"POSTCOPY_(?!REASON_|VERSION|H\b)(\w+) = (\d+)", read("c/postcopy.h"))
+    for kind, number in kinds:
+        if f"| {number} | `{kind}` |" not in pages[ANSWERS]:
+            yield f"{ANSWERS}: no row has the kind {number}, {kind}"
+    if len(found) < 20 or len(reasons) != 12 and len(reasons) < 12 or not kinds:
+        yield "tests/pages finds no answers in the sources"
+
+
+def wrong_texts(pages):
+    """The words of the texts, by FORMATS, in the man page of the texts."""
+    text = re.sub(r"\\f[BIR]|\\", "", read(MAN5))
+    for _, cells, head in rows(pages[FORMATS]):
+        if head[:2] in (["Log", "Record"], ["Lines", "Rule"], ["Line", "Event"]):
+            for span in re.findall(r"`([a-z][\w-]+)", " ".join(cells[:2])):
+                if not re.search(rf"(?<![\w-]){re.escape(span)}(?![\w-])", text):
+                    yield f"{MAN5} says nothing of {span}"
+
+
+def wrong_silences(pages, sources):
+    """What is left out in silence, and a table that does not say that it is old."""
+    for name in sorted(it for it in sources.files if re.fullmatch(r"tests/[\w-]+", it)):
+        for number, line in lines(read(name)):
+            if re.search(r"(?:print|echo).*skipped", line):
+                yield f"{name}, line {number}: what is left out stands on the last line"
+    if "left out: " not in read("tests/library"):
+        yield "tests/library does not say what it left out"
+    hostile = pages["docs/PERFORMANCE.md"].partition("\n## Under hostile input\n")[2].partition("\n## ")[0]
+    if not re.search(r"\*\*This table is old\*\*|[Mm]easured (?:again |anew )?on 20\d\d-\d\d-\d\d", hostile):
+        yield "docs/PERFORMANCE.md does not say when the hostile table was measured, or that it is old"
+    status = read(MAN1).partition(".SH EXIT STATUS")[2].partition(".SH ")[0]
+    if "help" not in status or "version" not in status:
+        yield f"{MAN1}: help and version have status 0, too"
+
+
+def wrong_licence():
+    for name in ("LICENSE", "python/pyproject.toml", MAN1, MAN5):
+        if "the Tingaro authors" not in read(name) or "MIT" not in read(name):
+            yield f"{name} does not name the licence and the Tingaro authors"
+
+
+def wrong_installed():
+    """What installed files say of pages that are not installed with them."""
+    install = read("tools/install")
+    for name in ("c/postcopy.h", "python/postcopy/__init__.py", MAN1, MAN5):
+        text = re.sub(r"\\f[BIR]", "", read(name))
+        for page in re.findall(r"docs/\w+\.md|README\.md", text):
+            yield f"{name} names {page}, which is not installed"
+        for section in re.findall(r"postcopy\s?\((\d)\)", text):
+            if f"man{section}/postcopy.{section}" not in install:
+                yield f"{name} names postcopy({section}), which tools/install does not install"
+
+
+def wrong(pages, sources):
+    """All that is wrong with what is claimed."""
+    found = [*wrong_counts(pages, sources), *wrong_lists(pages), *wrong_sums(pages), *wrong_scripts(pages)]
+    found += [*wrong_definitions(pages), *wrong_sentences(pages), *wrong_words(pages), *wrong_ratios(pages)]
+    found += [*wrong_readme(pages), *wrong_glossary(pages), *wrong_answers(pages, sources), *wrong_texts(pages)]
+    return [*found, *wrong_silences(pages, sources), *wrong_licence(), *wrong_installed()]

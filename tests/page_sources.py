@@ -1,0 +1,77 @@
+"""What the sources define: crates, functions with their clauses, types with their members, definitions, and all words."""
+import glob
+import os
+import re
+import subprocess
+from fnmatch import fnmatch
+
+from page_text import TOP, read
+
+ITEM = r"^(?:pub(?:\(crate\))? )?(?:struct|enum|trait|type|const|static|mod) (\w+)"
+MEMBERS = r"^    (?:pub(?:\(crate\))? )?(?:fn|const) (\w+)|^    (\w+)(?:\(.*| \{.*)?,$"
+DEFINITION = r"^(?:abbrev |pub |record |data )+(\w+)"
+WORDS_IN = ("*.rt", "*.antt", "*.py", "*.c", "*.h", "*.rs", "*.toml", "*.in", "bench/*", "tests/*", "tools/*", "share/*", "postcopy", "recorders/*")
+
+
+def tree():
+    """Each file of the repository, new ones with it, and each folder."""
+    words = ["git", "ls-files", "--cached", "--others", "--exclude-standard"]
+    files = subprocess.run(words, cwd=TOP, stdout=subprocess.PIPE, text=True, check=True).stdout.split("\n")
+    files = {it for it in files if it and os.path.exists(f"{TOP}/{it}")}
+    folders = {"/".join(it.split("/")[:depth]) for it in files for depth in range(1, it.count("/") + 1)}
+    return files, folders
+
+
+class Sources:
+    def __init__(self):
+        self.files, self.folders = tree()
+        self.crates = {it.split("/")[1] for it in self.folders if re.fullmatch(r"crates/\w+/src", it)}
+        self.test_crates = {it.split("/")[2] for it in self.folders if re.fullmatch(r"tests/calls/\w+/src", it)}
+        self.functions, self.items, self.members = {}, {}, {}
+        for name in sorted(self.files):
+            if name.endswith(".rt"):
+                self.take(name.split("/")[-3 if name.count("/") == 3 else 1], read(name))
+        self.definitions = {word for name in self.files if "/specs/" in name for word in re.findall(DEFINITION, read(name), re.M)}
+        self.fields = {word for name in self.files if "/specs/" in name for word in re.findall(r"^  pub (\w+) :", read(name), re.M)}
+        self.words = set().union(*(re.findall(r"\w+", read(name)) for name in self.files if is_source(name)))
+        self.words |= self.crates | self.test_crates | {os.path.basename(it).partition(".")[0] for it in self.files}
+
+    def take(self, crate, text):
+        """Takes in what a file of a crate defines."""
+        items = self.items.setdefault(crate, set())
+        items.update(re.findall(ITEM, text, re.M))
+        for names in re.findall(r"^pub use [\w:]+::(\{[^}]*\}|\w+);", text, re.M):
+            items.update(re.findall(r"\w+", names))
+        for part in re.split(r"\n(?=(?:    )?(?:pub(?:\(crate\))? )?(?:extern \"C\" )?fn \w)", text)[1:]:
+            name = re.match(r".*?fn (\w+)", part)[1]
+            clauses = set(re.findall(r"^ +(?:ensures|requires) (\w+) \{", part, re.M))
+            self.functions.setdefault(name, []).append((crate, clauses))
+            items.add(name)
+        for owner, body in re.findall(r"^(?:pub )?(?:impl(?:<[^>]*>)? (?:[^\n]* for )?|trait |enum |struct )(\w+)[^{;]*\{\n(.*?)^\}", text, re.M | re.S):
+            found = {one or other for one, other in re.findall(MEMBERS, body, re.M)}
+            self.members.setdefault(owner, set()).update(found)
+
+    def clauses(self, names):
+        """All clauses of the functions of these names."""
+        return set().union(*(clauses for name in names for _, clauses in self.functions.get(name, ())))
+
+    def is_in_crate(self, crate, name):
+        return name in self.items.get(crate, ())
+
+    def is_member(self, owner, name):
+        return name in self.members.get(owner, ())
+
+    def mutants(self):
+        """How many mutants there are, in must-fail/ and in mutants/."""
+        tried = [it for it in self.files if re.match(r"crates/\w+/must-fail/", it)]
+        others = [it for it in self.files if re.match(r"mutants/\w+/", it)]
+        return len(tried), len(others)
+
+    def folders_in(self, folder):
+        return sum(os.path.isdir(it) for it in glob.glob(f"{TOP}/{folder}/*"))
+
+
+def is_source(name):
+    """Whether the words of a file are names of the code."""
+    is_text = not name.endswith((".md", ".svg", ".bin", ".gz", ".xz")) and not name.startswith(("examples/", "tests/cases/", "shipped/"))
+    return name.endswith(".py") or is_text and any(fnmatch(name, it) for it in WORDS_IN)
