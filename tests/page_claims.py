@@ -43,7 +43,7 @@ ALSO = (
     (GUARANTEES, r"a page is covered where", r"released", "pages that the guest released at the target are covered too"),
     (GUARANTEES, r"a record's receipt is", r"LaneRec::named", "the lane's records have receipts"),
     (GUARANTEES, r"clause `told`: \*TellsAsked\*", r"\*takes\*.*version", "told is asked only where the command line takes the words"),
-    (GUARANTEES, r"used by none of these laws", r"is_miss.*goes_down.*lane_named|is_miss.*link_named.*goes_down.*lane_named", "these rules are used by no law, too"),
+    *((GUARANTEES, r"used by none of these laws", rf"\*{it}\*", "this rule is used by no law, too") for it in ("is_miss", "goes_down", "link_named", "lane_named")),
     (GUARANTEES, r"^\| every function returns", r"once their threads have ended", "those that start threads wait for them"),
     (GUARANTEES, r"A released page comes back as zeros' stands for", r"not sent", "the headline's last claim has an exact clause"),
     (ANSWERS, r"^\| 0 \|", r"--help.*--version", "help and version have status 0"),
@@ -108,7 +108,7 @@ def wrong_scripts(pages):
     """What different pages say of how much the same test tries."""
     said = {}
     for name, page in pages.items():
-        for script, count in re.findall(r"`(tests/[\w-]+)`[^`|.;]*?\bsome ([\w, -]*?(?:\d[\d,]*|thousand|hundred))\b", page):
+        for script, count in re.findall(r"`(tests/[\w-]+)`(?: \|)?[^`|.;]*?\bsome ([\w, -]*?(?:\d[\d,]*|thousand|hundred))\b", page):
             said.setdefault(script, {}).setdefault(count, []).append(name)
     for script, counts in said.items():
         if len(counts) > 1:
@@ -214,11 +214,14 @@ def wrong_answers(pages, sources):
         for it in sorted(found) + reasons:
             if not re.search(rf"(?<![\w-]){re.escape(it)}(?![\w-])", text):
                 yield f"{name} says nothing of the answer {it}"
+    named = {span for _, cells, _ in rows(pages[ANSWERS]) for span in re.findall(r"^`([a-z-]+(?: [a-z]+)*)", cells[0])}
+    for it in sorted({*found, *reasons} - named):
+        yield f"{ANSWERS}: no row begins with the answer {it}"
     kinds = re.findall(r"POSTCOPY_(?!REASON_|VERSION|H\b)(\w+) = (\d+)", read("c/postcopy.h"))
     for kind, number in kinds:
         if f"| {number} | `{kind}` |" not in pages[ANSWERS]:
             yield f"{ANSWERS}: no row has the kind {number}, {kind}"
-    if len(found) < 20 or len(reasons) != 12 and len(reasons) < 12 or not kinds:
+    if len(found) < 20 or len(reasons) < 12 or not kinds:
         yield "tests/pages finds no answers in the sources"
 
 
