@@ -104,6 +104,20 @@ def wrong_sums(pages):
             above.append((number, cells))
 
 
+def wrong_costs(pages, sources):
+    """The table of what each crate costs: each crate has a row, and where its mutants are counted the count is the tree's."""
+    name = "docs/GATE.md"
+    table = [(number, cells, head) for number, cells, head in rows(pages[name]) if head[0] == "Crate" and len(head) > 2]
+    named = {cells[0].strip("`") for _, cells, _ in table}
+    for it in sorted(sources.crates - named) if table else ():
+        yield f"{name}: no row has the crate {it}"
+    for number, cells, head in table:
+        column = next((at for at, it in enumerate(head) if it.startswith(("Mutants", "Edits"))), None)
+        tried = sum(it.startswith(f"crates/{cells[0].strip('`')}/must-fail/") for it in sources.files)
+        if column and tried and f"({tried})" not in cells[column] and f"of {tried})" not in cells[column] and cells[column] != str(tried):
+            yield f"{name}, line {number}: {cells[0]} has {tried} mutants in must-fail/"
+
+
 def wrong_scripts(pages):
     """What different pages say of how much the same test tries."""
     said = {}
@@ -271,7 +285,7 @@ def wrong_installed():
 
 def wrong(pages, sources):
     """All that is wrong with what is claimed."""
-    found = [*wrong_counts(pages, sources), *wrong_lists(pages), *wrong_sums(pages), *wrong_scripts(pages)]
+    found = [*wrong_counts(pages, sources), *wrong_lists(pages), *wrong_sums(pages), *wrong_costs(pages, sources), *wrong_scripts(pages)]
     found += [*wrong_definitions(pages), *wrong_sentences(pages), *wrong_words(pages), *wrong_ratios(pages)]
     found += [*wrong_readme(pages), *wrong_glossary(pages), *wrong_answers(pages, sources), *wrong_texts(pages)]
     return [*found, *wrong_silences(pages, sources), *wrong_licence(), *wrong_installed()]
