@@ -5,7 +5,7 @@ import re
 from page_text import TOP, anchor, code_spans, headings, italics, links, read, rows
 
 # Pages about other programs, whose identifiers are not ours; paths are looked up there too.
-OF_OTHERS = ("docs/RECORDING.md", "docs/RECORDING-REFERENCE.md", "docs/QEMU.md")
+OF_OTHERS = ("docs/RECORDING.md", "docs/RECORDS.md", "docs/QEMU.md")
 # Files that come of a build or of a command that the page shows, and names of other people's files.
 MADE = re.compile(r"crates/\w+/out\b|.*libpostcopy\.(?:so|a)\b|postcopy\.pc|changed\.svg|(?:stale-page|fault|picture)\.svg|shipped/")
 PLACEHOLDER = re.compile(r"[A-Z]{4,}|[*<>$]|\.\.|^[/~-]|^https?:")
@@ -48,7 +48,7 @@ def is_file(span, page, sources):
     starts = ("", "crates/", f"{os.path.dirname(page)}/")
     if any(f"{start}{path}".lstrip("/") in found for start in starts):
         return True
-    return any(f"crates/{crate}/{path}" in found for crate in sources.crates)
+    return any(f"crates/{crate}/{path}" in found for crate in sources.crates) or f"/{path}/" in read("tools/install")
 
 
 def wrong_span(span, page, sources):

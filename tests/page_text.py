@@ -16,18 +16,15 @@ def page_names():
     return ["README.md", "CONTRIBUTING.md", *sorted(os.path.relpath(it, TOP) for it in glob.glob(f"{TOP}/docs/*.md"))]
 
 
-def blocks(page, language):
-    """The fenced blocks of a page that are of a language."""
-    return re.findall(rf"^```{language}\n(.*?)^```$", page, re.M | re.S)
-
-
 def commands_of(page):
-    """The commands of the `console` blocks, each with the lines that the page shows below it."""
-    found = []
-    for block in blocks(page, "console"):
-        for line in block.splitlines():
+    """The commands of the `console` blocks, each with the lines that the page shows below it, and the last Python above it."""
+    found, script = [], ""
+    for language, block in re.findall(r"^```(\w*)\n(.*?)^```$", page, re.M | re.S):
+        if language == "python":
+            script = block
+        for line in block.splitlines() if language == "console" else ():
             if line.startswith("$ "):
-                found.append((line[2:], []))
+                found.append((line[2:], [], script))
             elif found:
                 found[-1][1].append(line)
     return found
