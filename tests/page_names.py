@@ -139,6 +139,13 @@ def missing_crates(name, page, sources):
             yield f"{name}: no row has the crate {it}"
 
 
+def missing_scripts(name, page, sources):
+    """Scripts of the tree that the map lacks."""
+    for it in sorted(sources.files):
+        if re.fullmatch(r"(?:tests|tools|bench)/[^/]+", it) and f"`{it}`" not in page:
+            yield f"{name}: no row has {it}"
+
+
 def wrong_links(name, page, pages):
     for line, target in links(page):
         count()
@@ -164,4 +171,4 @@ def wrong(pages, sources):
         found += wrong_links(name, page, pages)
     for name in ("docs/MAP.md", "docs/GUARANTEES.md"):
         found += missing_crates(name, pages[name], sources)
-    return found
+    return [*found, *missing_scripts("docs/MAP.md", pages["docs/MAP.md"], sources)]
