@@ -38,12 +38,15 @@ UNTRUE = (
     (GUARANTEES, r"^\| where the status is 0 or 1, the output gained", "only where the command line takes the words"),
 )
 
+# Definitions of the right shape that no law uses, and that nothing else on the page names.
+UNUSED = ("is_miss", "goes_down", "link_named", "lane_named")
+
 # What a page has to say beside what would be untrue alone: the page, the line it is about, and what that line must have.
 ALSO = (
     (GUARANTEES, r"a page is covered where", r"released", "pages that the guest released at the target are covered too"),
     (GUARANTEES, r"a record's receipt is", r"LaneRec::named", "the lane's records have receipts"),
     (GUARANTEES, r"clause `told`: \*TellsAsked\*", r"\*takes\*.*version", "told is asked only where the command line takes the words"),
-    *((GUARANTEES, r"used by none of these laws", rf"\*{it}\*", "this rule is used by no law, too") for it in ("is_miss", "goes_down", "link_named", "lane_named")),
+    *((GUARANTEES, r"used by none of these laws", rf"\*{it}\*", "this rule is used by no law, too") for it in UNUSED),
     (GUARANTEES, r"^\| every function returns", r"once their threads have ended", "those that start threads wait for them"),
     (GUARANTEES, r"A released page comes back as zeros' stands for", r"not sent", "the headline's last claim has an exact clause"),
     (ANSWERS, r"^\| 0 \|", r"--help.*--version", "help and version have status 0"),
@@ -271,10 +274,10 @@ def wrong_licence():
             yield f"{name} does not name the licence and the Tingaro authors"
 
 
-def wrong_installed():
+def wrong_installed(sources):
     """What installed files say of pages that are not installed with them."""
     install = read("tools/install")
-    for name in ("c/postcopy.h", "python/postcopy/__init__.py", MAN1, MAN5):
+    for name in sorted(it for it in sources.files if re.fullmatch(r"c/\w+\.h|python/postcopy/\w+\.py", it)) + [MAN1, MAN5]:
         text = re.sub(r"\\f[BIR]", "", read(name))
         for page in re.findall(r"docs/\w+\.md|README\.md", text):
             yield f"{name} names {page}, which is not installed"
@@ -288,4 +291,4 @@ def wrong(pages, sources):
     found = [*wrong_counts(pages, sources), *wrong_lists(pages), *wrong_sums(pages), *wrong_costs(pages, sources), *wrong_scripts(pages)]
     found += [*wrong_definitions(pages), *wrong_sentences(pages), *wrong_words(pages), *wrong_ratios(pages)]
     found += [*wrong_readme(pages), *wrong_glossary(pages), *wrong_answers(pages, sources), *wrong_texts(pages)]
-    return [*found, *wrong_silences(pages, sources), *wrong_licence(), *wrong_installed()]
+    return [*found, *wrong_silences(pages, sources), *wrong_licence(), *wrong_installed(sources)]

@@ -10,7 +10,9 @@ from page_text import TOP, read
 ITEM = r"^(?:pub(?:\(crate\))? )?(?:struct|enum|trait|type|const|static|mod) (\w+)"
 MEMBERS = r"^    (?:pub(?:\(crate\))? )?(?:fn|const) (\w+)|^    (\w+)(?:\(.*| \{.*)?,$"
 DEFINITION = r"^(?:abbrev |pub |record |data )+(\w+)"
-WORDS_IN = ("*.rt", "*.antt", "*.py", "*.c", "*.h", "*.rs", "*.toml", "*.in", "bench/*", "tests/*", "tools/*", "share/*", "postcopy", "recorders/*")
+OWNER = r"^(?:pub )?(?:impl(?:<[^>]*>)? (?:[^\n]* for )?|trait |enum |struct )(\w+)[^{;]*\{\n(.*?)^\}"
+WORDS_IN = ("*.rt", "*.antt", "*.py", "*.c", "*.h", "*.rs", "*.toml", "*.in", "postcopy") + tuple(
+    f"{folder}/*" for folder in ("bench", "recorders", "share", "tests", "tools"))
 
 
 def tree():
@@ -47,7 +49,7 @@ class Sources:
             clauses = set(re.findall(r"^ +(?:ensures|requires) (\w+) \{", part, re.M))
             self.functions.setdefault(name, []).append((crate, clauses))
             items.add(name)
-        for owner, body in re.findall(r"^(?:pub )?(?:impl(?:<[^>]*>)? (?:[^\n]* for )?|trait |enum |struct )(\w+)[^{;]*\{\n(.*?)^\}", text, re.M | re.S):
+        for owner, body in re.findall(OWNER, text, re.M | re.S):
             found = {one or other for one, other in re.findall(MEMBERS, body, re.M)}
             self.members.setdefault(owner, set()).update(found)
 
