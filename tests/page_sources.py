@@ -32,7 +32,7 @@ class Sources:
         self.functions, self.items, self.members = {}, {}, {}
         for name in sorted(self.files):
             if name.endswith(".rt"):
-                self.take(name.split("/")[-3 if name.count("/") == 3 else 1], read(name))
+                self.take(name.split("/")[1], read(name))
         self.definitions = {word for name in self.files if "/specs/" in name for word in re.findall(DEFINITION, read(name), re.M)}
         self.fields = {word for name in self.files if "/specs/" in name for word in re.findall(r"^  pub (\w+) :", read(name), re.M)}
         self.words = set().union(*(re.findall(r"\w+", read(name)) for name in self.files if is_source(name)))
