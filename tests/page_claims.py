@@ -108,12 +108,16 @@ def wrong_sums(pages):
 
 
 def wrong_costs(pages, sources):
-    """The table of what each crate costs: each crate has a row, and where its mutants are counted the count is the tree's."""
+    """The page of the gate: each step of it is named, and where a table has what each crate costs, each crate has a row with all
+    its mutants."""
     name = "docs/GATE.md"
     table = [(number, cells, head) for number, cells, head in rows(pages[name]) if head[0] == "Crate" and len(head) > 2]
     named = {cells[0].strip("`") for _, cells, _ in table}
     for it in sorted(sources.crates - named) if table else ():
         yield f"{name}: no row has the crate {it}"
+    for it in re.findall(r"^(rt ci|(?:tests|tools)/[\w-]+)", read("tests/run"), re.M):
+        if f"`{it}" not in pages[name]:
+            yield f"{name} does not say what the gate does by {it}"
     for number, cells, head in table:
         column = next((at for at, it in enumerate(head) if it.startswith(("Mutants", "Edits"))), None)
         tried = sum(it.startswith(f"crates/{cells[0].strip('`')}/must-fail/") for it in sources.files)
