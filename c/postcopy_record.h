@@ -1,4 +1,5 @@
-/* Records what the parties of one's own migration do, for `postcopy audit`. `man 5 postcopy` has the records; compile postcopy_record.c with the program, with -pthread.
+/* Records what the parties of one's own migration do, for `postcopy audit`. `man 5 postcopy` has the records.
+   Compile postcopy_record.c with the program, with -pthread.
 
    Each party has a log, open in the process that acts for it. A call appends one record, and answers its number: the number
    goes into the message, and who takes the message names it in a record of its own. The order of a log is the order of its

@@ -8,8 +8,9 @@
     1
 
 Each party has a log, open in the process that acts for it. A call appends one record and answers its number, which goes into
-the message; who takes the message names it in a record of its own. `man 5 postcopy` has the records. A record is in the log's file when its call returns, and stays there however the process ends. Any number of threads
-may call. `postcopy-session FOLDER..` makes the session of the files, be they of this module or of the C recorder.
+the message; who takes the message names it in a record of its own. `man 5 postcopy` has the records.
+A record is in the log's file when its call returns, and stays there however the process ends. Any number of threads may call.
+`postcopy-session FOLDER..` makes the session of the files, be they of this module or of the C recorder.
 
 Where a record cannot be written the call answers LOST, the log ends there, and `error` tells why. So too in a forked child,
 in the logs that its parent opened. Nothing here needs the library.
