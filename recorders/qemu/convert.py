@@ -1,8 +1,6 @@
 """A session of what was recorded of a migration."""
-import json
-
 from contents import Contents
-from kinds import plan_from_json
+from kinds import plan_from_text
 from pipe import Pipe
 from records import Hole, Session
 from relay import Window
@@ -20,7 +18,7 @@ class Recording:
 
     def __init__(self, read):
         self.read = read
-        self.plan = plan_from_json(json.loads(read("plan.json")))
+        self.plan = plan_from_text(read("plan.json"))
         self.window = Window(self.plan.base, self.plan.pages)
         self.contents = Contents(read, self.plan.words)
         whole_lines = read("relay.log").decode().split("\n")[:-1]  # a last line that was not written to its end goes

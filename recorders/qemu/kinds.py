@@ -1,4 +1,5 @@
 """The kinds of migrations, as plans: what the guest is and how it is moved."""
+import json
 from dataclasses import asdict, dataclass, field, replace
 
 BASE = 0x400000
@@ -29,8 +30,8 @@ class Plan:
     limit: float = 40.0       # seconds for each part of the migration
     base: int = BASE
 
-    def to_json(self):
-        return asdict(self)
+    def to_text(self):
+        return json.dumps(asdict(self), indent=1)
 
 
 KINDS = {
@@ -61,5 +62,5 @@ def plan_of(kind, **changes):
     return replace(plan, cuts=list(plan.cuts))
 
 
-def plan_from_json(values):
-    return Plan(**values)
+def plan_from_text(text):
+    return Plan(**json.loads(text))

@@ -104,10 +104,10 @@ class Machine:
             lines = file.read().splitlines()
         return lines[-1] if lines else f"status {self.process.poll()}, and it said nothing"
 
-    def end(self):
-        """Ends QEMU, and reads what it told to the last."""
+    def end(self, is_well):
+        """Ends QEMU, and reads what it told to the last. One that is not well would not answer."""
         try:
-            if self.is_running():
+            if is_well and self.is_running():
                 self("quit")
                 self.process.wait(10)
         except (Gone, Refused, subprocess.TimeoutExpired):

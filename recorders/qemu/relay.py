@@ -26,6 +26,7 @@ import stream
 from faults import fault_of
 
 PC_RAM = "pc.ram"
+LONGEST_LOSS = 0.5  # seconds from the first page that is lost to the cut
 
 
 class Cut(Exception):
@@ -150,9 +151,13 @@ class Relay:
                 connection.shut()
         self.was_cut.set()
 
-    def cut_now(self):
+    def cut_losing(self):
+        """Cuts what loses pages: there may not come as many as were to be lost."""
         with self.lock:
-            self.cut()
+            if any(one.is_losing and not one.is_cut for one in self.connections):
+                if self.cuts and self.cuts[0].behind == 0:
+                    self.cuts.pop(0)
+                self.cut()
 
     def check(self, connection):
         if connection.is_cut:
@@ -171,9 +176,7 @@ class Relay:
             self.complaint = str(fault) if self.is_post else "pre-copy came to its end, and nothing was left to post-copy"
             self.copy_rest(connection, tap)
         finally:
-            with self.lock:
-                if connection.is_losing and not connection.is_cut:
-                    self.cut()  # the stream ended before all was lost that should have been
+            self.cut_losing()  # the stream may have ended before all was lost
             try:
                 connection.target.shutdown(socket.SHUT_WR)
             except OSError:
@@ -241,7 +244,11 @@ class Relay:
         if cut.behind > 0:
             cut.behind -= 1
             return False
-        connection.is_losing = True
+        if not connection.is_losing:
+            connection.is_losing = True
+            timer = threading.Timer(LONGEST_LOSS, self.cut_losing)
+            timer.daemon = True
+            timer.start()
         self.lost.append(page.offset)
         cut.lose -= 1
         if cut.lose < 0:

@@ -65,7 +65,7 @@ class Migration:
             self.remark(f"gave up: {fault}")
         finally:
             for machine in reversed(self.machines):
-                machine.end()
+                machine.end(self.outcome.is_whole)
             self.relay.end()
         if self.relay.complaint:
             self.remark(self.relay.complaint)
@@ -82,7 +82,7 @@ class Migration:
                                       "certificate", "explained", "picture", "verdict", "witness"):
                 os.unlink(f"{self.folder}/{name}")
         with open(f"{self.folder}/plan.json", "w") as out:
-            json.dump(self.plan.to_json(), out, indent=1)
+            out.write(self.plan.to_text())
 
     def start(self, name, library, trace, extra=()):
         self.machines.append(Machine(name, self.folder, self.plan, library, trace, extra))
@@ -146,7 +146,10 @@ class Migration:
         until, told = time.monotonic() + self.plan.limit, time.monotonic()
         while True:
             status, there = self.source.migration(), self.target.migration()
-            if self.relay.was_cut.is_set() or status in ENDS or "ended" in (status, there) or time.monotonic() > until:
+            if self.relay.was_cut.is_set() or status in ENDS or "ended" in (status, there):
+                return
+            if time.monotonic() > until:
+                self.remark(f"it took more than {self.plan.limit:.0f} s")
                 return
             if there in ("failed", "postcopy-paused"):
                 self.remark(f"the target went to {there} by itself")

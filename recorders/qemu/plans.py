@@ -1,0 +1,46 @@
+"""Plans of migrations, drawn at random."""
+from faults import KINDS as FAULTS
+from faults import NEED_CUT
+from kinds import plan_of
+
+DRAWN = ("live", "left", "cells", "wide", "paused", "processors", "preempt", "recovery", "preempt-recovery")
+
+
+def ram_for(plan):
+    """MiB of memory that the window fits into."""
+    return max(32, (plan.base >> 20) + (plan.pages >> 8) + 8)
+
+
+def random_plan(drawn, with_faults=False, without_flush=False):
+    """A plan. `drawn` is a random.Random."""
+    kind = drawn.choice(DRAWN)
+    plan = plan_of(kind)
+    plan.words = plan.words if kind in ("cells", "wide") else drawn.choice((1, 2, 8, 16, 32))
+    plan.pages = plan.pages if kind == "wide" else drawn.choice((64, 128, 256, 512, 1024))
+    plan.ram = ram_for(plan)
+    plan.cpus = drawn.choice((2, 3, 4)) if kind == "processors" else drawn.choice((1, 1, 1, 2, 4))
+    plan.writes = drawn.choice((1, 4, 8, 15))
+    plan.pace = drawn.choice((0, 0, 500, 2000))
+    plan.bandwidth = drawn.choice((500_000, 1_000_000, 2_000_000, 5_000_000))
+    plan.post_bandwidth = drawn.choice((500_000, 1_000_000, 2_000_000, 4_000_000))
+    if kind == "wide":
+        plan.post_bandwidth = max(plan.post_bandwidth, 4_000_000)
+    plan.warm = drawn.choice((0, 200, 2000))
+    plan.pre_pages = drawn.choice((0, plan.pages // 2, plan.pages, plan.pages * 5 // 4))
+    plan.pre = drawn.choice((0.0, 0.05, 0.3))
+    plan.after = drawn.choice((200, 2000))
+    plan.limit = 30.0
+    if "recovery" in kind:
+        plan.cuts = random_cuts(drawn, plan)
+    if without_flush and drawn.random() < 0.5:
+        plan.flush = False
+    if with_faults and drawn.random() < 0.5:
+        plan.fault = drawn.choice([fault for fault in FAULTS if plan.cuts or fault not in NEED_CUT])
+        plan.skip = drawn.choice((0, 3, 20))
+    return plan
+
+
+def random_cuts(drawn, plan):
+    """Where the connection is cut, once or twice: behind the package, at its first page, or later."""
+    first = drawn.choice((-1, 0, drawn.randrange(plan.pages), drawn.randrange(plan.pages)))
+    return [first] if drawn.random() < 0.7 else [first, drawn.randrange(plan.pages)]

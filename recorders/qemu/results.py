@@ -1,0 +1,73 @@
+"""What became of the migrations of a campaign, and the table of it."""
+import collections
+import json
+import os
+import re
+from dataclasses import dataclass
+
+
+@dataclass
+class Result:
+    plan: object
+    verdict: str
+    outcome: str
+
+    @property
+    def reason(self):
+        """The verdict without its line's number, and without what only this one has."""
+        return re.sub(r" line \d+|0x[0-9a-f]+|\d+", "", self.verdict).strip()
+
+    @property
+    def is_clean(self):
+        return self.verdict == "clean, yes" and self.outcome == "completed"
+
+    def line(self):
+        plan = self.plan
+        parts = [plan.kind, f"{plan.pages} pages of {plan.words}", f"{plan.cpus} processors"]
+        parts += [f"cut at {' '.join(map(str, plan.cuts))}"] if plan.cuts else []
+        parts += [f"fault {plan.fault}"] if plan.fault else []
+        parts += [] if plan.flush else ["no flush"]
+        return f"{', '.join(parts)}: {self.verdict}; {self.outcome}"
+
+
+def read(path):
+    if not os.path.exists(path):
+        return ""
+    with open(path) as file:
+        return file.read()
+
+
+def result_of(plan, folder, done):
+    """`done` is the process that made the migration."""
+    verdict = read(f"{folder}/verdict").strip()
+    if done.returncode or not verdict:
+        said = (done.stderr.strip().splitlines() or ["nothing"])[-1]
+        return Result(plan, f"not judged: the recorder ended with {said}", "")
+    outcome = json.loads(read(f"{folder}/outcome.json"))
+    return Result(plan, verdict, outcome_in_words(outcome))
+
+
+def outcome_in_words(outcome):
+    if outcome["source"] == outcome["target"] == "completed":
+        return "completed"
+    return "; ".join([f"source {outcome['source']}, target {outcome['target']}", *outcome["remarks"]])
+
+
+def rows(head, counts):
+    lines = [[*head, "how often"], *([*key, str(count)] for key, count in sorted(counts.items(), key=lambda one: (-one[1], one[0])))]
+    widths = [max(len(line[place]) for line in lines) for place in range(len(lines[0]))]
+    return ["  ".join(word.ljust(width) for word, width in zip(line, widths)).rstrip() for line in lines]
+
+
+def table(results, seconds):
+    """How often each kind had each verdict, and what was told of those that were not clean."""
+    counts = collections.Counter(
+        (result.plan.kind, result.plan.fault or ("no flush" if not result.plan.flush else "-"), result.reason,
+         "completed" if result.outcome == "completed" else "not completed") for result in results)
+    others = collections.Counter(
+        (result.plan.kind, re.sub(r"\d+", "N", result.outcome)) for result in results if result.outcome != "completed")
+    lines = [f"{len(results)} migrations in {seconds:.0f} s, {sum(result.is_clean for result in results)} clean", "",
+             *rows(("kind", "fault", "verdict", "QEMU"), counts)]
+    if others:
+        lines += ["", "Not completed:", *rows(("kind", "what QEMU did"), others)]
+    return "\n".join(lines)
