@@ -9,7 +9,9 @@ from qmp import Gone, Qmp, Refused
 
 EVENT_BYTES = 27  # of an access
 SOURCE_TRACE = ("runstate_set", "vm_state_notify", "ram_save_page", "migrate_handle_rp_req_pages",
-                "source_return_path_thread_shut", "postcopy_start", "migrate_set_state", "postcopy_pause_return_path_continued")
+                "source_return_path_thread_shut", "postcopy_start", "migrate_set_state", "postcopy_pause_return_path", "postcopy_pause_return_path_continued",
+                "migration_completion_postcopy_end_after_complete", "migration_return_path_end_before",
+                "await_return_path_close_on_source_joining")
 TARGET_TRACE = ("runstate_set", "vm_state_notify", "loadvm_handle_cmd_packaged", "loadvm_handle_cmd_packaged_received",
                 "loadvm_postcopy_handle_listen", "loadvm_postcopy_handle_run_bh", "ram_load_postcopy_loop",
                 "migrate_send_rp_message", "postcopy_place_page", "postcopy_place_page_zero", "migrate_set_state",

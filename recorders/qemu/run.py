@@ -175,7 +175,7 @@ class Migration:
         """Has the migration go on over a new connection. Answers whether there is more to wait for."""
         stands = {machine.name: self.paused(machine) for machine in (self.source, self.target)}
         self.relay.was_cut.clear()
-        if set(stands.values()) != {"postcopy-paused"}:
+        if stands["target"] != "postcopy-paused" or stands["source"] not in ("postcopy-paused", "postcopy-active"):
             self.remark("no recovery: " + ", ".join(f"{name} {status}" for name, status in stands.items()))
             return False
         port = free_port()
