@@ -152,6 +152,18 @@ def of_a_cut(tests):
     tests.wants("a page over the next one", told(log, "down 2 page post"), [line for line in after if " page " in line])
 
 
+def of_few_pages(tests):
+    """Fewer pages come than were to be lost: the connection is cut all the same."""
+    with tempfile.TemporaryDirectory() as room:
+        ends = Ends(room, cuts=[CutPlan(2)])
+        source, target = ends.connect()
+        source.sendall(BEFORE + SWITCH + section(*(page(at(n), filled(100 + n), "pc.ram") for n in range(3))))
+        tests.wants("what came before the loss", pages_of(read_all(target)), RIGHT[:2])
+        log = ends.end()
+        source.close()
+    tests.wants("the cut behind it", log[-2:], [f"lost 0 page post pc.ram {at(2)} 10 10", "cut 0"])
+
+
 def of_a_bitmap(tests):
     with tempfile.TemporaryDirectory() as room:
         ends = Ends(room, fault="forget", skip=0)
@@ -190,5 +202,6 @@ def wait_for(is_so, seconds=10):
 def run(tests):
     of_faults(tests)
     of_a_cut(tests)
+    of_few_pages(tests)
     of_a_bitmap(tests)
     of_what_is_strange(tests)

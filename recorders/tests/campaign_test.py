@@ -1,0 +1,56 @@
+"""Plans of a campaign, and the table of what became of them."""
+import random
+from dataclasses import replace
+
+import results
+from faults import NEED_CUT
+from kinds import Plan, plan_from_text, plan_of
+from plans import DRAWN, random_plan
+from results import Result, outcome_in_words
+
+
+def plans(seed, count=300, **options):
+    drawn = random.Random(seed)
+    return [random_plan(drawn, **options) for _ in range(count)]
+
+
+def of_plans(tests):
+    drawn = plans(1, with_faults=True, without_flush=True)
+    tests.wants("the same seed gives the same plans", plans(1, with_faults=True, without_flush=True), drawn)
+    tests.wants("another gives others", plans(2, with_faults=True, without_flush=True) == drawn, False)
+    tests.wants("all kinds are drawn", {plan.kind for plan in drawn}, set(DRAWN))
+    tests.wants("windows fit the memory", [plan for plan in drawn if plan.base + plan.pages * 4096 > plan.ram << 20], [])
+    tests.wants("and a session", [plan for plan in drawn if plan.pages * plan.words > 1 << 20 or plan.words > 512], [])
+    tests.wants("what needs a cut has one", [plan for plan in drawn if plan.fault in NEED_CUT and not plan.cuts], [])
+    tests.wants("some have a fault, and some have none", {bool(plan.fault) for plan in drawn}, {True, False})
+    tests.wants("none has one that is not asked for", {plan.fault for plan in plans(1)}, {""})
+    tests.wants("nor keeps translations", {plan.flush for plan in plans(1)}, {True})
+    tests.wants("a plan's text and back", [plan_from_text(plan.to_text()) for plan in drawn], drawn)
+    one = plan_of("recovery")
+    one.cuts.append(7)
+    tests.wants("a kind's own plan does not change", plan_of("recovery").cuts, [200])
+
+
+def of_results(tests):
+    whole = {"source": "completed", "target": "completed", "remarks": ["1 cut not reached"]}
+    ended = {"source": "postcopy-paused", "target": "ENDED", "remarks": ["no recovery: target ended"]}
+    tests.wants("both came to the end", outcome_in_words(whole), "completed")
+    tests.wants("one did not", outcome_in_words(ended), "source postcopy-paused, target ENDED; no recovery: target ended")
+    plan = Plan()
+    clean = Result(plan, "clean, yes", "completed")
+    tests.wants("clean", clean.is_clean, True)
+    tests.wants("clean, and QEMU ended", Result(plan, "clean, yes", outcome_in_words(ended)).is_clean, False)
+    tests.wants("not judged", Result(plan, "not judged: a hole", "completed").is_clean, False)
+    found = [clean, clean, Result(plan, "faulty line 7 read", "completed"), Result(plan, "faulty line 99 read", "completed"),
+             Result(replace(plan, kind="wide"), "not judged: page 7 of 9", outcome_in_words(ended))]
+    lines = [line.split() for line in results.table(found, 12).splitlines()]
+    tests.wants("the table", lines, [
+        "5 migrations in 12 s, 2 clean".split(), [], "kind fault verdict QEMU how often".split(),
+        "live - clean, yes completed 2".split(), "live - faulty read completed 2".split(),
+        "wide - not judged: page of not completed 1".split(), [], ["Not", "completed:"], "kind what QEMU did how often".split(),
+        "wide source postcopy-paused, target ENDED; no recovery: target ended 1".split()])
+
+
+def run(tests):
+    of_plans(tests)
+    of_results(tests)
