@@ -1,6 +1,8 @@
 """Builds what the recorder needs of C: the test guest's ROM and the library that is preloaded into QEMU."""
+import ctypes
 import fcntl
 import os
+import platform
 import shutil
 import struct
 import subprocess
@@ -9,6 +11,7 @@ HERE = os.path.dirname(os.path.abspath(__file__))
 OUT = f"{HERE}/out"
 ROM_LENGTH = 65536
 PACKAGES = "qemu-system-x86 binutils libc6-dev gcc"
+USERFAULTFD = {"x86_64": 323, "aarch64": 282}  # the system call's number
 TOOLS = ("qemu-system-x86_64", "gcc", "ld", "objcopy")
 
 GUEST_FLAGS = ("-m32", "-O2", "-Wall", "-Wextra", "-ffreestanding", "-Wno-array-bounds", "-fno-pic", "-fno-pie",
@@ -20,14 +23,15 @@ class Missing(Exception):
 
 
 def can_guard_memory():
-    """Whether a process of ours may guard its memory with userfaultfd against the kernel's own accesses too."""
-    if os.geteuid() == 0 or os.access("/dev/userfaultfd", os.R_OK | os.W_OK):
-        return os.path.exists("/proc/sys/vm/unprivileged_userfaultfd")
-    try:
-        with open("/proc/sys/vm/unprivileged_userfaultfd", encoding="ascii") as setting:
-            return setting.read().strip() == "1"
-    except OSError:
+    """Whether a process of ours may guard its memory with userfaultfd, against the kernel's own accesses too."""
+    number = USERFAULTFD.get(platform.machine())
+    if number is None:
         return False
+    descriptor = ctypes.CDLL(None, use_errno=True).syscall(number, os.O_CLOEXEC | os.O_NONBLOCK)
+    if descriptor < 0:
+        return False
+    os.close(descriptor)
+    return True
 
 
 def require_tools():
@@ -37,7 +41,8 @@ def require_tools():
         raise Missing(f"{', '.join(lacks)} not found. On Debian:\n"
                       f"    apt-get install --no-install-recommends {PACKAGES}")
     if not can_guard_memory():
-        raise Missing("userfaultfd cannot be used here. It needs Linux with CONFIG_USERFAULTFD, and root or\n"
+        raise Missing("userfaultfd cannot be used here. It needs Linux with CONFIG_USERFAULTFD, a container that does not\n"
+                      "forbid the call, and root or\n"
                       "    sysctl vm.unprivileged_userfaultfd=1")
 
 

@@ -6,6 +6,16 @@ import re
 from dataclasses import dataclass
 
 
+# What ends of a migration are called in the table; any other stands there in QEMU's words.
+ENDS = (
+    ("source waits for itself", "Cannot resume if there is no paused migration"),
+    ("target ended while it loaded", "target ENDED.*(load of migration failed|loadvm failed)"),
+    ("target failed by itself", "the target went to"),
+    ("pre-copy came to its end", "gave up: pre-copy: completed"),
+    ("not at its end within its limit", "it took more than"),
+)
+
+
 @dataclass
 class Result:
     plan: object
@@ -20,6 +30,12 @@ class Result:
     @property
     def is_clean(self):
         return self.verdict == "clean, yes" and self.outcome == "completed"
+
+    @property
+    def end(self):
+        """The end's name, or what was told of it."""
+        names = (name for name, form in ENDS if re.search(form, self.outcome))
+        return self.outcome if self.outcome == "completed" else next(names, re.sub(r"\d+", "N", self.outcome))
 
     def line(self):
         plan = self.plan
@@ -62,12 +78,7 @@ def rows(head, counts):
 def table(results, seconds):
     """How often each kind had each verdict, and what was told of those that were not clean."""
     counts = collections.Counter(
-        (result.plan.kind, result.plan.fault or ("no flush" if not result.plan.flush else "-"), result.reason,
-         "completed" if result.outcome == "completed" else "not completed") for result in results)
-    others = collections.Counter(
-        (result.plan.kind, re.sub(r"\d+", "N", result.outcome)) for result in results if result.outcome != "completed")
-    lines = [f"{len(results)} migrations in {seconds:.0f} s, {sum(result.is_clean for result in results)} clean", "",
-             *rows(("kind", "fault", "verdict", "QEMU"), counts)]
-    if others:
-        lines += ["", "Not completed:", *rows(("kind", "what QEMU did"), others)]
-    return "\n".join(lines)
+        (result.plan.kind, result.plan.fault or ("-" if result.plan.flush else "no flush"), result.reason, result.end)
+        for result in results)
+    return "\n".join([f"{len(results)} migrations in {seconds:.0f} s, {sum(result.is_clean for result in results)} clean", "",
+                      *rows(("kind", "fault", "verdict", "QEMU"), counts)])

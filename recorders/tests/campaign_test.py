@@ -47,8 +47,14 @@ def of_results(tests):
     tests.wants("the table", lines, [
         "5 migrations in 12 s, 2 clean".split(), [], "kind fault verdict QEMU how often".split(),
         "live - clean, yes completed 2".split(), "live - faulty read completed 2".split(),
-        "wide - not judged: page of not completed 1".split(), [], ["Not", "completed:"], "kind what QEMU did how often".split(),
-        "wide source postcopy-paused, target ENDED; no recovery: target ended 1".split()])
+        "wide - not judged: page of source postcopy-paused, target ENDED; no recovery: target ended 1".split()])
+    for name, words in (("source waits for itself", "source postcopy-active, target postcopy-paused; no recovery: migrate: Cannot resume "
+                         "if there is no paused migration"),
+                        ("target ended while it loaded", "source postcopy-paused, target ENDED; target: qemu-system-x86_64: load of migration failed: "
+                         "Input/output error"),
+                        ("not at its end within its limit", "source postcopy-active, target postcopy-active; it took more than 30 s"),
+                        ("something new, N times", "something new, 3 times")):
+        tests.wants(f"the end's name: {name}", Result(plan, "clean, yes", words).end, name)
 
 
 def run(tests):
