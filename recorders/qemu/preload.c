@@ -12,6 +12,7 @@
  *     uffd place PAGE INDEX        contents were put in place
  *     uffd zero PAGE               zeros were put in place
  *     uffd refused PAGE ERRNO      they were not
+ *     uffd early PAGE              a page was opened too early
  *
  * A placement is made without a wake, then told, and then woken; and it is made and told under the lock that the guest's bytes
  * take. So a look of the guest that comes behind the placement in the pipe came behind it in fact, and one before, before.
@@ -136,6 +137,7 @@ static int place_too_early(int fd, struct uffdio_copy *copy, long page)
     usleep(200000);
     memcpy((void *)copy->dst, (void *)copy->src, copy->len);
     pthread_mutex_lock(&lock);
+    dprintf(pipe_end, "uffd early %ld\n", page);
     dprintf(pipe_end, "uffd place %ld %ld\n", page, store((void *)copy->src));
     pthread_mutex_unlock(&lock);
     copy->copy = copy->len;

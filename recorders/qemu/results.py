@@ -21,6 +21,7 @@ class Result:
     plan: object
     verdict: str
     outcome: str
+    is_put_in: bool = False  # whether the plan's fault was put in
 
     @property
     def reason(self):
@@ -37,12 +38,22 @@ class Result:
         names = (name for name, form in ENDS if re.search(form, self.outcome))
         return self.outcome if self.outcome == "completed" else next(names, re.sub(r"\d+", "N", self.outcome))
 
+    @property
+    def is_settled(self):
+        """Whether there is nothing to look at: all went well, and no fault was put in that should have been found."""
+        return self.is_clean and not self.is_put_in
+
+    @property
+    def fault(self):
+        if not self.plan.fault:
+            return "-" if self.plan.flush else "no flush"
+        return self.plan.fault if self.is_put_in else f"{self.plan.fault}, not reached"
+
     def line(self):
         plan = self.plan
         parts = [plan.kind, f"{plan.pages} pages of {plan.words}", f"{plan.cpus} processors"]
         parts += [f"cut at {' '.join(map(str, plan.cuts))}"] if plan.cuts else []
-        parts += [f"fault {plan.fault}"] if plan.fault else []
-        parts += [] if plan.flush else ["no flush"]
+        parts += [] if self.fault == "-" else [self.fault]
         return f"{', '.join(parts)}: {self.verdict}; {self.outcome}"
 
 
@@ -60,7 +71,18 @@ def result_of(plan, folder, done):
         said = (done.stderr.strip().splitlines() or ["nothing"])[-1]
         return Result(plan, f"not judged: the recorder ended with {said}", "")
     outcome = json.loads(read(f"{folder}/outcome.json"))
-    return Result(plan, verdict, outcome_in_words(outcome))
+    return Result(plan, verdict, outcome_in_words(outcome), was_put_in(folder))
+
+
+def was_put_in(folder):
+    """Whether the relay or the preloaded library put a fault in."""
+    if any(line.startswith("fault ") for line in read(f"{folder}/relay.log").splitlines()):
+        return True
+    path = f"{folder}/target.raw"
+    if not os.path.exists(path):
+        return False
+    with open(path, "rb") as file:
+        return b"uffd early" in file.read()
 
 
 def outcome_in_words(outcome):
@@ -78,7 +100,7 @@ def rows(head, counts):
 def table(results, seconds):
     """How often each kind had each verdict, and what was told of those that were not clean."""
     counts = collections.Counter(
-        (result.plan.kind, result.plan.fault or ("-" if result.plan.flush else "no flush"), result.reason, result.end)
+        (result.plan.kind, result.fault, result.reason, result.end)
         for result in results)
     return "\n".join([f"{len(results)} migrations in {seconds:.0f} s, {sum(result.is_clean for result in results)} clean", "",
                       *rows(("kind", "fault", "verdict", "QEMU"), counts)])

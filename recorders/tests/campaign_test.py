@@ -40,6 +40,9 @@ def of_results(tests):
     clean = Result(plan, "clean, yes", "completed")
     tests.wants("clean", clean.is_clean, True)
     tests.wants("clean, and QEMU ended", Result(plan, "clean, yes", outcome_in_words(ended)).is_clean, False)
+    flipped = replace(plan, fault="flip")
+    tests.wants("clean, and a fault was put in", Result(flipped, "clean, yes", "completed", True).is_settled, False)
+    tests.wants("a fault that was not reached", Result(flipped, "clean, yes", "completed").fault, "flip, not reached")
     tests.wants("not judged", Result(plan, "not judged: a hole", "completed").is_clean, False)
     found = [clean, clean, Result(plan, "faulty line 7 read", "completed"), Result(plan, "faulty line 99 read", "completed"),
              Result(replace(plan, kind="wide"), "not judged: page 7 of 9", outcome_in_words(ended))]
