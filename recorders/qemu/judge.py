@@ -42,17 +42,17 @@ class Verdict:
         return self.line == "clean, yes"
 
 
-def session_of(folder, is_whole):
+def session_of(folder, is_whole, is_from_halt):
     """The recording's session. Where a QEMU ended early its logs are cut to a whole."""
-    session = recording_in(folder).session()
+    session = recording_in(folder).session(is_from_halt)
     left_out = 0 if is_whole else session.cut()
     return session, left_out
 
 
-def judge(folder, is_whole=True):
+def judge(folder, is_whole=True, is_from_halt=False):
     """Judges a recording, and leaves what was found in its folder."""
     try:
-        session, left_out = session_of(folder, is_whole)
+        session, left_out = session_of(folder, is_whole, is_from_halt)
         write(f"{folder}/session", session.text())
     except (Hole, OSError) as fault:
         verdict = Verdict(f"not judged: {fault}")
