@@ -1,7 +1,12 @@
-"""Recordings in one small file, and out of it again."""
+"""Recordings in one small file, and out of it again.
+
+    python3 recorders/qemu/pack.py FOLDER FILE     packs what a session of FOLDER is made from
+    python3 recorders/qemu/pack.py --out FILE FOLDER
+"""
 import io
 import lzma
 import os
+import sys
 import tarfile
 
 FILES = ("plan.json", "relay.log", "relay.pages", "source.raw", "target.raw", "target.pages", "halt.mem")
@@ -34,3 +39,12 @@ def unpack(path, folder):
     for name, data in unpacked(path).items():
         with open(f"{folder}/{name}", "wb") as out:
             out.write(data)
+
+
+if __name__ == "__main__":
+    if len(sys.argv) == 4 and sys.argv[1] == "--out":
+        unpack(*sys.argv[2:])
+    elif len(sys.argv) == 3:
+        pack(*sys.argv[1:])
+    else:
+        sys.exit(__doc__)

@@ -102,6 +102,8 @@ class Relay:
             connection.shut()
         for thread in self.threads:
             thread.join(5)
+        for connection in self.connections:
+            connection.close()
         with self.lock:
             self.contents.close()
             self.log.close()
