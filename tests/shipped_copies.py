@@ -16,7 +16,7 @@ NAMES = ("postcopy", *LIBRARIES)
 SOURCE = "crates/session_log/src/lib.rt"
 
 # The crates that a copy has: some of those that the program is built from, and one of tests.
-CRATES = ("audit_tests", "cert_check", "postcopy", "postcopy_c", "session_log")
+CRATES = ("plain_audit", "cert_check", "postcopy", "postcopy_c", "session_log")
 
 # The commands that a machine has to have: those of coreutils and findutils, awk, and what the tools take besides.
 COMMANDS = """awk cat chmod cksum cp cut date dirname find install ln mkdir mktemp mv readlink rm sed sh sha256sum sort tail

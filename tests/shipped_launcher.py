@@ -150,7 +150,7 @@ def tests_of_changes(room):
         put_back(room, copy)
         same(f"{what}, changed back", check(copy, room), YES)
     time.sleep(0.02)
-    append(f"{copy}/crates/audit_tests/src/lib.rt", b"// x\n")
+    append(f"{copy}/crates/plain_audit/src/lib.rt", b"// x\n")
     append(f"{copy}/README.md", b"x\n")
     same("a crate of tests and a page, changed", check(copy, room), YES)
     os.utime(f"{copy}/{SOURCE}")
