@@ -15,7 +15,7 @@ LIBRARIES = ("libpostcopy.so", "libpostcopy.a")
 NAMES = ("postcopy", *LIBRARIES)
 SOURCE = "crates/session_log/src/lib.rt"
 
-# The crates that a copy has: some of those that the program is built from, and one of tests.
+# The crates that a copy has: some of those that the program is built from, and one that it is not.
 CRATES = ("plain_audit", "cert_check", "postcopy", "postcopy_c", "session_log")
 
 # The commands that a machine has to have: those of coreutils and findutils, awk, and what the tools take besides.
