@@ -1,50 +1,24 @@
-"""Records by what happened, and sessions made of them: what recorders can share.
+"""Sessions of records that name one another by what their recorder calls them.
 
-A recorder appends to the log of a party what happened there, with what, and under a name that it chooses:
+A recorder appends to the log of a party what happened there, with the calls and fields of postcopy.records, and under a name
+that it chooses:
 
-    session.add("source", "page", name=("sent", 7), page=3, contents="00000000000000ff")
-    session.add("link", "down", name=("handed over", 7), source=("sent", 7))
+    session.add("source", "send", name=("sent", 7), page=3, contents="00000000000000ff")
+    session.add("link", "down", name=("handed over", 7), sent=("sent", 7))
 
-A field that is a log's name tells of a record of that log, by its name, and `of` tells of an earlier one of the same log; the
-number comes from where it stands. It need not be there yet: logs may be written in any order.
+A field that names another record has that record's name; its number comes from where the record stands. It need not be there
+yet: logs may be written in any order.
 """
+from postcopy import sessions
+from postcopy.records import LOGS, LOST, RECEIVED, RECORDS
 
-LOGS = ("guest", "source", "link", "lane", "pager")
+# By log and by call: the word, and the names of the fields. What stands for a log that nobody wrote is in no session.
+CALLS = {log: {kind.call: (kind.word, tuple(field.name for field in kind.fields))
+               for kind in kinds.values() if kind.word not in RECEIVED} for log, kinds in RECORDS.items()}
 
-# The records, by the log and by what happened.
-RECORDS = {
-    "guest": {
-        "read": "r {actor} {page} {cell} {value}",
-        "write": "w {actor} {page} {cell} {value}",
-        "release": "z {actor} {page}",
-        "miss": "miss {actor} {page}",
-        "halt": "halt",
-        "resume": "resume {pager}",
-        "see": "see {pager}",
-    },
-    "source": {
-        "halted": "halted {guest}",
-        "state": "state",
-        "page": "send {page} {contents}",
-        "again": "again {of}",
-        "request": "ask {link}",
-        "done": "done",
-    },
-    "link": {"down": "down {source}", "up": "up {pager}"},
-    "lane": {"down": "down {source}"},
-    "pager": {
-        "packet": "got {link}",
-        "pushed": "pull {lane}",
-        "ready": "ready",
-        "fault": "fault {guest}",
-        "join": "join {of}",
-        "request": "want {page}",
-        "place": "place {page} {of} {contents}",
-        "zero": "zero {page}",
-        "skip": "skip {of}",
-        "all": "all",
-    },
-}
+# By log and by word: where a record names another one, and of which log.
+NAMING = {log: {kind.word: [(place, field.log) for place, field in enumerate(kind.fields, 1) if field.log]
+                for kind in kinds.values()} for log, kinds in RECORDS.items()}
 
 
 class Hole(Exception):
@@ -52,75 +26,70 @@ class Hole(Exception):
 
 
 class Session:
-    """The logs of a migration. It is of the second version where it has a lane or is asked to be."""
+    """The logs of a migration. A record is a tuple of its word and its fields, with names in the place of numbers."""
 
-    def __init__(self, pages, cells, has_lane=False, version=None):
-        self.pages, self.cells = pages, cells
-        self.version = version or (2 if has_lane else 1)
-        self.logs = {log: [] for log in LOGS if log != "lane" or self.version == 2}
+    def __init__(self, pages, cells, has_lane=False):
+        self.pages, self.cells, self.has_lane = pages, cells, has_lane
+        self.logs = {log: [] for log in LOGS}
         self.numbers = {log: {} for log in LOGS}
         self.initial = {}  # by page, the contents that it began with
 
-    def add(self, log, what, name=None, **fields):
+    def add(self, log, call, name=None, **fields):
         """Appends a record."""
         if name is not None:
             if name in self.numbers[log]:
                 raise Hole(f"{log}: a second {name}")
             self.numbers[log][name] = len(self.logs[log])
-        self.logs[log].append((RECORDS[log][what], fields))
+        word, names = CALLS[log][call]
+        self.logs[log].append((word, *map(fields.__getitem__, names)))
 
     def name_too(self, log, name, other):
         """Gives a record another name as well."""
         self.numbers[log][other] = self.numbers[log][name]
 
+    def number(self, log, name):
+        """The number of the record of this name."""
+        return self.numbers[log].get(name, LOST)
+
     def is_last(self, log, name):
-        return self.numbers[log].get(name) == len(self.logs[log]) - 1
+        return self.number(log, name) == len(self.logs[log]) - 1
 
-    def names_in(self, log, fields):
-        """What a record's fields tell of: for each such field the log and the name."""
-        return {key: (log if key == "of" else key, fields[key]) for key in fields if key == "of" or key in RECORDS}
+    def numbered(self, log, record):
+        """The record with numbers in the place of names."""
+        places = NAMING[log][record[0]]
+        if not places:
+            return record
+        parts = list(record)
+        for place, other in places:
+            parts[place] = self.number(other, record[place])
+        return tuple(parts)
 
-    def first_hole(self, log):
-        """The number of the first record that tells of one that is not there, and what that is; or None."""
-        for number, (_form, fields) in enumerate(self.logs[log]):
-            for told in self.names_in(log, fields).values():
-                if self.numbers[told[0]].get(told[1], len(self.logs[told[0]])) >= len(self.logs[told[0]]):
-                    return number, told
-        return None
+    def with_numbers(self):
+        zeros = "0" * 16 * self.cells
+        initial = {page: contents for page, contents in self.initial.items() if contents != zeros}
+        logs = {log: [self.numbered(log, record) for record in records] for log, records in self.logs.items()}
+        return sessions.Session(self.pages, self.cells, initial, logs, self.has_lane)
 
     def cut(self):
-        """Cuts each log in front of the first record that tells of one that is not there. Answers how many were left out.
+        """Cuts the logs to a whole. Answers how many records were left out.
 
         So are logs judged that end early: what is found in what is left is a fault of the migration.
         """
-        before, has_hole = sum(map(len, self.logs.values())), True
-        while has_hole:
-            has_hole = False
-            for log in self.logs:
-                if hole := self.first_hole(log):
-                    has_hole = True
-                    del self.logs[log][hole[0]:]
-            if len(self.logs["source"]) == 1:
-                self.logs["source"].clear()  # a `halted` that is alone is of no right shape
-                has_hole = True
-        return before - sum(map(len, self.logs.values()))
+        whole, left_out = self.with_numbers(), 0
+        whole.cut()
+        for log, records in self.logs.items():
+            left_out += len(records) - len(whole.logs[log])
+            del records[len(whole.logs[log]):]
+        return left_out
 
     def check(self):
-        """Raises Hole where a record tells of one that is not there."""
-        for log in self.logs:
-            if hole := self.first_hole(log):
-                raise Hole(f"the {log}'s record {hole[0]} tells of the {hole[1][0]}'s {hole[1][1]}, which was not recorded")
-
-    def line(self, log, form, fields):
-        numbers = {key: self.numbers[told[0]][told[1]] for key, told in self.names_in(log, fields).items()}
-        return form.format(**{**fields, **numbers})
+        """Raises Hole where a record names one that is not there."""
+        for log, records in self.logs.items():
+            for number, record in enumerate(records):
+                for place, other in NAMING[log][record[0]]:
+                    if self.number(other, record[place]) >= len(self.logs[other]):
+                        raise Hole(f"the {log}'s record {number} tells of the {other}'s {record[place]}, which was not recorded")
 
     def text(self):
         self.check()
-        zeros = "0" * 16 * self.cells
-        initial = sorted((page, contents) for page, contents in self.initial.items() if contents != zeros)
-        lines = [f"postcopy-session {self.version}", f"pages {self.pages}", f"cells {self.cells}", f"init {len(initial)}",
-                 *(f"page {page} {contents}" for page, contents in initial)]
-        for log, records in self.logs.items():
-            lines += [f"{log} {len(records)}", *(self.line(log, *record) for record in records)]
-        return "\n".join([*lines, "end", ""])
+        return self.with_numbers().text()

@@ -2,13 +2,12 @@
 from contents import Contents
 from kinds import plan_from_text
 from pipe import Pipe
+from postcopy.records import MOST_RECORDS
 from records import Hole, Session
 from relay import Window
 from source_side import SourceSide
 from target_side import TargetSide
 from wire import Wire
-
-MOST_RECORDS = 1 << 20
 
 
 class Recording:
@@ -42,12 +41,12 @@ class Recording:
         """The logs of the link and of the lane, in the relay's order."""
         for log, what, name in self.wire.order:
             if what == "up":
-                session.add(log, "up", name=name, pager=name)
+                session.add(log, "up", name=name, sent=name)
             elif name[0] == "page":
                 _, connection, taken, handed = name
-                session.add(log, "down", name=("handed", connection, handed), source=("page", connection, taken))
+                session.add(log, "down", name=("handed", connection, handed), sent=("page", connection, taken))
             else:
-                session.add(log, "down", name=name, source=name)
+                session.add(log, "down", name=name, sent=name)
 
 
 def recording_in(folder):

@@ -3,7 +3,7 @@ import os
 import sys
 
 HERE = os.path.dirname(os.path.realpath(__file__))
-sys.path[:0] = [HERE, os.path.dirname(HERE)]
+sys.path[:0] = [HERE, f"{HERE}/..", f"{HERE}/../../python"]
 import judge  # noqa: E402
 from kinds import plan_from_text  # noqa: E402
 from run import Migration  # noqa: E402

@@ -21,7 +21,7 @@ class SourceSide:
     def read(self, tokens):
         for token in tokens:
             if isinstance(token, Access):
-                self.session.add("guest", token.what, actor=token.actor, page=token.page, cell=token.cell, value=token.value)
+                self.session.add("guest", token.what, vcpu=token.actor, page=token.page, cell=token.cell, value=token.value)
             elif isinstance(token, str):
                 for moment, fields in self.moments.of(token):
                     self.act(moment, fields)
@@ -54,12 +54,12 @@ class SourceSide:
             self.session.logs["guest"].clear()
             self.session.initial = {page: self.contents.cells("halt.mem", page) for page in range(self.session.pages)}
         self.session.add("guest", "halt", name=("halt",))
-        self.add("halted", guest=("halt",))
+        self.add("halted", halt=("halt",))
         if not self.wire.has_state:
             return
         self.add("state", name=("state",))
         for page in self.wire.left:
-            self.add("page", name=("left", page), page=page, contents=self.contents.cells("halt.mem", page))
+            self.add("send", name=("left", page), page=page, contents=self.contents.cells("halt.mem", page))
         self.send_untraced()
 
     # Pages go in the order of each connection; between them, and among the requests, in that of the trace.
@@ -80,10 +80,10 @@ class SourceSide:
             return
         name = ("page", connection.number, place)
         if taken.page in self.sent:
-            self.add("again", name=name, of=("sent", taken.page))
+            self.add("again", name=name, sent=("sent", taken.page))
             return
         self.sent.add(taken.page)
-        self.add("page", name=name, page=taken.page, contents=self.contents.cells("relay.pages", taken.contents))
+        self.add("send", name=name, page=taken.page, contents=self.contents.cells("relay.pages", taken.contents))
         self.session.name_too("source", name, ("sent", taken.page))
 
     def send_untraced(self):
@@ -121,11 +121,11 @@ class SourceSide:
         connection = self.wire.of(False, self.asks_over)
         place, self.asked = self.asked, self.asked + 1
         if connection and place < len(connection.requests) and connection.requests[place] is not None:
-            self.add("request", link=("request", connection.number, place))
+            self.add("ask", up=("request", connection.number, place))
 
     def done(self):
         if self.wire.is_shut and not self.is_done:
             self.is_done = True
             self.send_rest()
-            self.add("request", link=("shut",))
+            self.add("ask", up=("shut",))
             self.add("done")

@@ -30,7 +30,7 @@ class TargetSide:
             elif isinstance(token, Look):
                 self.look(token)
             elif isinstance(token, Access):
-                self.session.add("guest", token.what, actor=token.actor, page=token.page, cell=token.cell, value=token.value)
+                self.session.add("guest", token.what, vcpu=token.actor, page=token.page, cell=token.cell, value=token.value)
         if not self.is_ready:
             raise Hole("target.raw: the target never listened")
 
@@ -41,7 +41,7 @@ class TargetSide:
         if moment == "state":
             if not self.has_state:
                 self.has_state = True
-                self.add("packet", link=("state",))
+                self.add("got", down=("state",))
         elif moment == "ready":
             self.ready()
         elif moment == "resume":
@@ -59,12 +59,12 @@ class TargetSide:
             self.have.append((int(fields["page"]), fields["place"]))
         elif moment == "fault":
             if int(fields["page"]) in self.missed:
-                self.add("fault", guest=self.missed[int(fields["page"])])
+                self.add("fault", miss=self.missed[int(fields["page"])])
         elif moment in ("place", "zero"):
             self.place(int(fields["page"]), fields.get("place", ZERO))
         elif moment == "refused":
             if int(fields["page"]) in self.arrived:
-                self.add("skip", of=self.arrived[int(fields["page"])])
+                self.add("skip", got=self.arrived[int(fields["page"])])
 
     # The guest
 
@@ -77,18 +77,18 @@ class TargetSide:
             return  # the second look of one access
         self.misses += 1
         self.missed[look.page] = name = ("miss", self.misses)
-        self.session.add("guest", "miss", name=name, actor=look.actor, page=look.page)
+        self.session.add("guest", "miss", name=name, vcpu=look.actor, page=look.page)
 
     def see(self, placement):
         if placement > self.seen:
             self.seen = placement
-            self.session.add("guest", "see", pager=("placement", placement))
+            self.session.add("guest", "see", placement=("placement", placement))
 
     def resume(self):
         if self.is_resumed:
             return
         self.is_resumed = True
-        self.session.add("guest", "resume", pager=("ready",))
+        self.session.add("guest", "resume", ready=("ready",))
         if self.placements:
             self.see(self.placements)
 
@@ -101,7 +101,7 @@ class TargetSide:
         for page, place in self.have:
             if page in left:
                 self.arrived[page] = ("left", page)
-                self.add("packet", name=("left", page), link=("left", page))
+                self.add("got", name=("left", page), down=("left", page))
                 self.place(page, place)
 
     def take(self, is_lane, offset, flags):
@@ -119,8 +119,7 @@ class TargetSide:
             raise Hole(f"target.raw: page {place} of connection {connection.number} is at {offset:#x}, and {page} was handed over")
         name = ("packet", connection.number, place)
         self.arrived[page] = name
-        handed = ("handed", connection.number, place)
-        self.add("pushed" if is_lane else "packet", name=name, **{connection.log: handed})
+        self.add("pull" if is_lane else "got", name=name, down=("handed", connection.number, place))
 
     def message(self, kind):
         """The n-th request that the target makes is the n-th that its connection hands over; those behind a cut are lost."""
@@ -134,12 +133,12 @@ class TargetSide:
         connection = self.wire.of(False, self.messages_over)
         place, self.requested = self.requested, self.requested + 1
         if connection and place < len(connection.requests) and connection.requests[place] is not None:
-            self.add("request", name=("request", connection.number, place), page=connection.requests[place])
+            self.add("want", name=("request", connection.number, place), page=connection.requests[place])
 
     def place(self, page, contents):
         if page not in self.arrived:
             raise Hole(f"target.raw: page {page} is put in place, and no packet with it was taken")
         self.placements += 1
         self.placed.setdefault(page, self.placements)
-        self.add("place", name=("placement", self.placements), page=page, of=self.arrived[page],
+        self.add("place", name=("placement", self.placements), page=page, got=self.arrived[page],
                  contents=self.contents.cells("target.pages", contents))

@@ -142,11 +142,11 @@ class SecondRequestJoins(TargetSide):
         before = len(self.session.logs["pager"])
         super().message(kind)
         new = self.session.logs["pager"][before:]
-        if new and new[0][0].startswith("want"):
-            page = new[0][1]["page"]
+        if new and new[0][0] == "want":
+            page = new[0][1]
             self.wanted = getattr(self, "wanted", {})
             if page in self.wanted:
-                self.session.logs["pager"][-1] = ("join {of}", {"of": self.wanted[page]})
+                self.session.logs["pager"][-1] = ("join", self.wanted[page])
             else:
                 self.wanted[page] = [name for name, number in self.session.numbers["pager"].items() if number == before][0]
 
@@ -185,14 +185,18 @@ def of_examples(tests):
         tests.wants("the picture of examples/qemu-lost-write", picture == file.read(), True)
 
 
+def of_word(records, word):
+    return [record for record in records if record[0] == word]
+
+
 def of_witness(tests):
     """A lost write is seen without the auditor too: what went over the wire last is not what the source had at the halt."""
     found = {name: pages_that_differ(convert.Recording(files_of(name).__getitem__))[0] for name, _, _ in kept()}
     tests.wants("pages that differ from the source's memory", {name for name in found if found[name]}, {"lost-write"})
     session = session_of(files_of("lost-write"))
     tests.wants("how many", len(found["lost-write"]), 7)
-    contents = {fields["page"]: fields["contents"] for form, fields in session.logs["source"] if form.startswith("send")}
-    placed = {fields["page"]: fields["contents"] for form, fields in session.logs["pager"] if form.startswith("place")}
+    contents = {page: contents for word, page, contents in of_word(session.logs["source"], "send")}
+    placed = {page: contents for word, page, _packet, contents in of_word(session.logs["pager"], "place")}
     tests.wants("and they are those that were placed otherwise than sent",
                 [page for page in sorted(placed) if placed[page] != contents[page]], found["lost-write"])
 
