@@ -27,6 +27,7 @@ class Plan:
     cuts: list = field(default_factory=list)  # the connection is cut behind so many pages; -1: behind the package
     fault: str = ""
     skip: int = 3             # of the pages that the fault could take
+    linger: int = 0           # milliseconds by which a QEMU that ends with an error ends later
     limit: float = 40.0       # seconds for each part of the migration
     base: int = BASE
 

@@ -58,6 +58,7 @@ class Machine:
         environment = dict(
             os.environ, LD_PRELOAD=library, RECORD_PIPE=self.pipe, RECORD_CONTENTS=f"{folder}/{name}.pages",
             RECORD_RAM=str(plan.ram << 20), RECORD_BASE=str(plan.base), RECORD_PAGES=str(plan.pages),
+            RECORD_LINGER=str(plan.linger),
             RECORD_EARLY=str(plan.skip + 1 if plan.fault == "early" and name == "target" else 0))
         command = [
             "qemu-system-x86_64", "-name", name, "-machine", "pc,accel=tcg", "-m", f"{plan.ram}M", "-smp", str(plan.cpus),

@@ -4,7 +4,8 @@
  * RECORD_PIPE is the pipe to which the guest's port and QEMU's trace go as well, so all that this process tells is in one
  * order. RECORD_RAM is the length of the guest's memory, by which its range is known; RECORD_BASE and RECORD_PAGES are the
  * window. RECORD_CONTENTS is the file for the contents of pages, one after another. With RECORD_EARLY=N the N-th page that is
- * waited for is open to the guest 0.2 s before its contents are there, as by a pager with a fault. The lines are
+ * waited for is open to the guest 0.2 s before its contents are there, as by a pager with a fault. With RECORD_LINGER=N a
+ * process that ends with an error ends N ms later, as on a busy machine. The lines are
  *
  *     uffd guard START LENGTH      memory from START on is guarded
  *     uffd have PAGE INDEX         a page of the window was there when it was guarded, and its contents
@@ -44,13 +45,14 @@ static int pipe_end = -1, contents_file = -1;
 static ino_t pipe_inode;
 static uint64_t ram, base, pages;
 static uint64_t window; /* where the window is in this process, 0 before it is guarded */
-static long stored, early;
+static long stored, early, linger;
 static char use_of[DESCRIPTORS], is_waited_for[MOST_PAGES];
 
 static int (*real_ioctl)(int, unsigned long, ...);
 static ssize_t (*real_read)(int, void *, size_t);
 static ssize_t (*real_writev)(int, const struct iovec *, int);
 static int (*real_close)(int);
+static void (*real_exit)(int) __attribute__((noreturn));
 
 static uint64_t number(const char *name)
 {
@@ -65,6 +67,7 @@ __attribute__((constructor)) static void begin(void)
     real_read = dlsym(RTLD_NEXT, "read");
     real_writev = dlsym(RTLD_NEXT, "writev");
     real_close = dlsym(RTLD_NEXT, "close");
+    real_exit = dlsym(RTLD_NEXT, "exit");
     const char *path = getenv("RECORD_PIPE"), *contents = getenv("RECORD_CONTENTS");
     if (!path || !contents)
         return;
@@ -79,6 +82,7 @@ __attribute__((constructor)) static void begin(void)
     base = number("RECORD_BASE");
     pages = number("RECORD_PAGES") < MOST_PAGES ? number("RECORD_PAGES") : MOST_PAGES;
     early = number("RECORD_EARLY");
+    linger = number("RECORD_LINGER");
 }
 
 static int is_known(int fd, enum use use)
@@ -238,4 +242,11 @@ int close(int fd)
     if (fd >= 0 && fd < DESCRIPTORS)
         use_of[fd] = UNKNOWN;
     return real_close(fd);
+}
+
+void exit(int status)
+{
+    if (status)
+        usleep(linger * 1000);
+    real_exit(status);
 }
