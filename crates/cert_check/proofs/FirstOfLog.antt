@@ -16,8 +16,8 @@ use Rattle.migration_types.specs.declared.records.PagerRec.{PagerRec}
 use Rattle.audit_model.specs.Names.{log_length}
 use Rattle.page_tables.specs.Tables.{Values, values, IsWith}
 use Rattle.std.specs.Option.{MatchOption}
-use Rattle.log_passes.specs.declared.Found.{Found}
-use Rattle.log_passes.specs.Passes.{HaveNone, IsFirstFrom}
+use Rattle.cert_check.specs.declared.log_passes.Found.{Found}
+use Rattle.cert_check.specs.inner.Passes.{HaveNone, IsFirstFrom}
 use Rattle.audit_model.specs.Flat.{changed}
 use Rattle.audit_model.specs.Shape.{keeps, earlier, is_send_of, in_phase, guest_named, source_named, source_start, is_first_send, link_named, lane_named, pager_named, pager_start}
 use Rattle.cert_check.specs.inner.FirstOfLog.{first_reason, is_unmarked, marked_by, sent_before, AreSent, reason_at, IsRightBelow, IsRightLog, IsFirstOfLog}

@@ -4,3 +4,4 @@ pub mod Phases
 pub mod CertTexts
 pub mod WrongEntries
 pub mod Promises
+pub mod Passes

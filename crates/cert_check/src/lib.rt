@@ -3,6 +3,7 @@
 
 mod bad_page;
 mod judge;
+mod log_passes;
 mod passes;
 mod shape_fault;
 mod texts;

@@ -9,11 +9,11 @@ ghost use Rattle.page_facts.specs.Moved.{SourcePage};
 ghost use Rattle.cert_check.specs.inner.FirstOfLog.{first_reason, is_unmarked, marked_by, reason_at, AreSent};
 ghost use Rattle.cert_check.specs.inner.Phases.{ArePhases, ArePhasesAfter};
 
+use crate::log_passes::Pass;
 use audit_model::{
     ShapeReason, guest_named, in_phase, is_halt, is_resume, lane_named, link_named, pager_named,
     pager_start, source_named, source_start,
 };
-use log_passes::Pass;
 use migration_types::{GuestRec, PagerRec, Session, SourceRec};
 use page_tables::Table;
 

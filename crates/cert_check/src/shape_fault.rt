@@ -7,10 +7,10 @@ ghost use Rattle.audit_model.specs.Shape.{IsRightShape};
 ghost use Rattle.cert_check.specs.inner.FirstOfLog.{IsRightLog, IsFirstOfLog};
 ghost use Rattle.cert_check.specs.Verdicts.{IsShapeFault};
 
+use crate::log_passes::{Found, first_found};
 use crate::passes::{GuestPass, LanePass, LinkPass, PagerPass, Phases, SourcePass};
 use crate::verdict::ShapeFault;
 use audit_model::ShapeReason;
-use log_passes::{Found, first_found};
 use migration_types::{LogName, Session};
 use page_tables::Table;
 use session_log::line_of;

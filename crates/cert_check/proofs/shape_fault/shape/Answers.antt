@@ -7,7 +7,7 @@ use Rattle.migration_types.specs.Receipts.{log_index}
 use Rattle.migration_types.specs.Sessions.{Recorded, IsSession}
 use Rattle.audit_model.specs.declared.reasons.ShapeReason.{ShapeReason}
 use Rattle.audit_model.specs.FirstFault.{IsFirstFault}
-use Rattle.log_passes.specs.declared.Found.{Found}
+use Rattle.cert_check.specs.declared.log_passes.Found.{Found}
 use Rattle.cert_check.specs.inner.FirstOfLog.{IsRightLog, IsFirstOfLog}
 use Rattle.cert_check.proofs.FirstOfAll.{AreRightLogs, no_logs, one_more_log, log_first, shape_right}
 use Rattle.cert_check.proofs.shape_fault.shape.Goals as goal

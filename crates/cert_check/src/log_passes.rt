@@ -2,16 +2,15 @@
 //!
 //! A judge of shapes and a judge of pages both go over one log after the other, keep a little of what they saw, and ask
 //! at each record why it is a fault. [`first_found`] is that pass; what varies is in [`Pass`].
-#![tactic(auto)]
 
 ghost use Rattle.std.specs.Prelude.{◌≡◌, ◌+◌, ◌<◌, ◌≤◌, ℕ, Option, MatchOption, IfSome};
 ghost use Rattle.migration_types.specs.Sessions.{IsSession, Recorded};
-ghost use Rattle.log_passes.specs.Passes.{HaveNone, IsFirstFrom};
+ghost use Rattle.cert_check.specs.inner.Passes.{HaveNone, IsFirstFrom};
 
 use migration_types::Session;
 
 /// How the records of a log are judged, one after the other.
-pub trait Pass {
+pub(crate) trait Pass {
     /// What is kept from one record to the next.
     type State;
     /// Why a record is a fault.
@@ -37,14 +36,14 @@ pub trait Pass {
 
 /// A record with a reason.
 #[derive(Drop)]
-pub struct Found<R> {
+pub(crate) struct Found<R> {
     /// The record's number in its log.
     pub place: usize,
     pub reason: R,
 }
 
 /// The first record from one place up to another that has a reason. Where there is one, what is kept is as before it.
-pub fn first_found<P: Pass>(
+pub(crate) fn first_found<P: Pass>(
     session: &Session,
     state: &mut P::State,
     from: usize,

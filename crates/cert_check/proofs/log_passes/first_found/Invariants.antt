@@ -1,5 +1,5 @@
-use Rattle.log_passes.specs.Passes.{HaveNone}
-use Rattle.log_passes.proofs.first_found.Given as goal
+use Rattle.cert_check.specs.inner.Passes.{HaveNone}
+use Rattle.cert_check.proofs.log_passes.first_found.Given as goal
 
 abbrev pub invariant-loop-n : goal.invariant-loop-n
 invariant-loop-n g l = record {
