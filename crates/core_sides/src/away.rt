@@ -16,9 +16,12 @@ use book_events::logs_of;
 use guest_script::Script;
 use link_book::LinkBook;
 use migration_events::{Direction, Event, Fate};
-use migration_types::{GuestRec, LaneRec, LinkRec, Logs, PagerRec, Seq, Session, SourceRec};
+use migration_types::{
+    GuestRec, InitPage, LaneRec, LinkRec, Logs, PagerRec, Seq, Session, SourceRec,
+};
 use std::alloc::{AllocError, Global};
 use std::marker::Model;
+use std::mem::drop;
 use target_side::{Access, PagerBook, TargetBook};
 
 /// A migration from its halt on: the books of the source, the link, the pager and the target, and what each virtual
@@ -251,19 +254,26 @@ impl<'a> Away<'a> {
         requires { IsSession (away_session (away_of self)) }
         ensures { IfOk result (λ s. s ≡ away_session (away_of self.entry)) }
     {
-        let init = self.script.copied_init(self.alloc)?;
-        let Away {
-            script,
-            source,
-            link,
-            pager,
-            target,
-            ..
-        } = self;
-        let geometry = source.geometry();
-        let (guest, _) = target.into_parts();
-        let logs = logs_of(guest, source, link, pager);
-        Ok(Session::new(script.version(), geometry, init, logs))
+        match self.script.copied_init(self.alloc) {
+            Ok(init) => Ok(self.into_recorded(init)),
+            Err(fault) => {
+                drop(self);
+                Err(fault)
+            }
+        }
+    }
+
+    /// The same, with the initial pages that the script says. Takes no memory.
+    fn into_recorded(self, init: Seq<InitPage>) -> Session
+        requires init { init ≡ self.script.init }
+        requires limits { IsSession (away_session (away_of self)) }
+        ensures { result ≡ away_session (away_of self.entry) }
+    {
+        let version = self.script.version();
+        let geometry = self.source.geometry();
+        let (guest, _) = self.target.into_parts();
+        let logs = logs_of(guest, self.source, self.link, self.pager);
+        Session::new(version, geometry, init, logs)
     }
 
     /// Tells callers what it keeps: all is of the script's machine, and each log is within its limit.

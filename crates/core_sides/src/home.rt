@@ -4,6 +4,8 @@ ghost use Rattle.std.specs.Prelude.{◌≡◌, true, false, [], slice_get, IfOk,
 ghost use Rattle.migration_types.specs.Sessions.{IsSession};
 ghost use Rattle.migration_model.specs.Machine.{Before, IsScript, home_session, away_session};
 ghost use Rattle.migration_model.specs.Events.{start, home_step, all_at_move, halted, has_room};
+ghost use Rattle.target_side.specs.PagerLists.{part_of as pager_of};
+ghost use Rattle.target_side.specs.PagerPart.{new_pager};
 ghost use Rattle.core_sides.specs.Sides.{home_of, away_of, scripted_of, IsHome};
 
 use crate::CoreFault;
@@ -91,9 +93,20 @@ impl<'a> Home<'a> {
         ensures full { IfErr result (λ e. e.1 ≡ CoreFault.LogFull → has_room (away_session (halted (home_of self.entry))) ≡ false) }
         ensures err { IfErr result (λ e. e.0 ≡ self.entry) }
     {
-        let Ok(pager) = PagerBook::new(self.alloc, self.script.geometry()) else {
-            return Err((self, CoreFault::Memory));
-        };
+        match PagerBook::new(self.alloc, self.script.geometry()) {
+            Ok(pager) => self.halted(pager),
+            Err(_) => Err((self, CoreFault::Memory)),
+        }
+    }
+
+    /// The same, with the pager's book before its first event.
+    fn halted(self, pager: PagerBook) -> Result<Away<'a>, (Home<'a>, CoreFault)>
+        requires { pager_of pager ≡ new_pager self.script.geometry }
+        ensures ok { IfOk result (λ a. away_of a ≡ halted (home_of self.entry)) }
+        ensures script { IfOk result (λ a. a.script ≡ self.entry.script) }
+        ensures full { IfErr result (λ e. e.1 ≡ CoreFault.LogFull → has_room (away_session (halted (home_of self.entry))) ≡ false) }
+        ensures err { IfErr result (λ e. e.0 ≡ self.entry) }
+    {
         let Home {
             alloc,
             script,
