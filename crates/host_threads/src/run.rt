@@ -1,6 +1,6 @@
 //! A run: its threads, and what is made of the books when they have ended.
 
-ghost use Rattle.std.specs.Prelude.{◌≡◌, IfOk, IfErr};
+ghost use Rattle.std.specs.Prelude.{◌≡◌, IfOk, IfErr, IfSome};
 ghost use Rattle.std.specs.List.{AllByRecursion};
 ghost use Rattle.page_store.specs.Frames.{IsPageOf};
 ghost use Rattle.guest_script.specs.Scenarios.{IsScenario};
@@ -24,17 +24,20 @@ use crate::side::TargetSide;
 use crate::source::run_source;
 use crate::vcpu::run_vcpu;
 use crate::way::{NoRelay, Way};
+use active_push::SourceBook;
 use book_events::logs_of;
 use guest_book::GuestBook;
 use guest_script::Script;
 use host_checks::{Migrated, RunFault, Transcript, settle};
 use link_book::LinkBook;
-use migration_types::Seq;
+use migration_types::{Logs, Seq};
+use page_store::Store;
 use std::alloc::{AllocError, Global};
+use std::mem::drop;
 use std::net::{Net, TcpListener, TcpStream};
 use std::sync::{Mutex, Wait};
 use std::thread;
-use std::thread::Threads;
+use std::thread::{JoinHandle, Scope, Threads};
 use target_side::PagerBook;
 
 /// The books before the first event.
@@ -51,6 +54,46 @@ fn books_of(alloc: Global, script: &Script) -> Result<Shared, AllocError> {
     })
 }
 
+/// Starts a thread for each virtual processor. Where one cannot be made, the run stops.
+fn start_vcpus<'s, E, R: Threads + Wait + Sync, G: Gate>(
+    rt: &'s R,
+    alloc: Global,
+    scope: &Scope<'s, E>,
+    shared: &'s Shared,
+    script: &'s Script,
+    gate: &'s G,
+) -> Vec<JoinHandle<Transcript>> {
+    let mut threads = Vec::new(alloc);
+    for (number, vcpu) in script.vcpus().iter().enumerate() {
+        let number = u8::try_from(number).unwrap_or(u8::MAX);
+        if threads.reserve(1).is_err() {
+            shared.bell.stop(rt, Fault::Memory);
+            break;
+        }
+        match scope.spawn(move || run_vcpu(rt, alloc, shared, gate, number, vcpu)) {
+            Ok(thread) => threads.push_reserved(thread),
+            Err(_) => shared.bell.stop(rt, Fault::Memory),
+        }
+    }
+    threads
+}
+
+/// Joins the threads of the virtual processors, and puts what they did behind the transcripts. Where there is no memory
+/// for it, the run stops.
+fn join_vcpus<R: Threads + Wait>(
+    rt: &R,
+    shared: &Shared,
+    threads: Vec<JoinHandle<Transcript>>,
+    transcripts: &mut Vec<Transcript>,
+) {
+    for thread in threads {
+        let transcript = thread.join(rt);
+        if transcripts.push(transcript).is_err() {
+            shared.bell.stop(rt, Fault::Memory);
+        }
+    }
+}
+
 /// Starts a thread for each virtual processor and one each for the source, the link and the pager, and joins them all.
 /// A thread that cannot be made stops the run.
 fn run_threads<R: Threads + Wait + Sync, G: Gate, L: Relay + Drop>(
@@ -64,18 +107,7 @@ fn run_threads<R: Threads + Wait + Sync, G: Gate, L: Relay + Drop>(
     let count = script.vcpus().len();
     let mut transcripts = Vec::with_capacity(alloc, count)?;
     thread::scope(thread::scope_env(), rt, |scope| {
-        let mut threads = Vec::new(alloc);
-        for (number, vcpu) in script.vcpus().iter().enumerate() {
-            let number = u8::try_from(number).unwrap_or(u8::MAX);
-            if threads.reserve(1).is_err() {
-                shared.bell.stop(rt, Fault::Memory);
-                break;
-            }
-            match scope.spawn(move || run_vcpu(rt, alloc, shared, gate, number, vcpu)) {
-                Ok(thread) => threads.push_reserved(thread),
-                Err(_) => shared.bell.stop(rt, Fault::Memory),
-            }
-        }
+        let threads = start_vcpus(rt, alloc, scope, shared, script, gate);
         let source = scope
             .spawn(move || run_source(rt, shared, gate, script))
             .ok();
@@ -84,12 +116,7 @@ fn run_threads<R: Threads + Wait + Sync, G: Gate, L: Relay + Drop>(
         if source.is_none() || link.is_none() || pager.is_none() {
             shared.bell.stop(rt, Fault::Memory);
         }
-        for thread in threads {
-            let transcript = thread.join(rt);
-            if transcripts.push(transcript).is_err() {
-                shared.bell.stop(rt, Fault::Memory);
-            }
-        }
+        join_vcpus(rt, shared, threads, &mut transcripts);
         for thread in [source, link, pager] {
             if let Some(thread) = thread {
                 thread.join(rt);
@@ -97,6 +124,55 @@ fn run_threads<R: Threads + Wait + Sync, G: Gate, L: Relay + Drop>(
         }
     });
     Ok(transcripts)
+}
+
+/// Why a run is refused whose threads met this fault, before anything is checked.
+fn refusal(fault: Fault) -> Option<RunFault>
+    ensures { IfSome result IsRunFault }
+{
+    match fault {
+        Fault::LogFull => Some(RunFault::LogFull),
+        Fault::Memory => Some(RunFault::Memory),
+        Fault::Link => Some(RunFault::Link),
+        Fault::Astray => None,
+    }
+}
+
+/// The logs that the books have, and the frames at the target. None: the guest has not halted.
+fn left_of(
+    source: Option<SourceBook>,
+    link: LinkBook,
+    pager: PagerBook,
+    target: TargetSide,
+) -> Option<(Logs, Store)> {
+    match (source, target) {
+        (Some(source), TargetSide::Target(target)) => {
+            let (guest, store) = target.into_parts();
+            Some((logs_of(guest, source, link, pager), store))
+        }
+        (source, target) => {
+            drop((source, link, pager, target));
+            None
+        }
+    }
+}
+
+/// The fault that the threads met, and what they left, as `left_of` says.
+fn left_by(shared: Shared) -> (Option<Fault>, Option<(Logs, Store)>) {
+    let Shared {
+        source,
+        link,
+        pager,
+        target,
+        bell,
+    } = shared;
+    let left = left_of(
+        source.into_inner(),
+        link.into_inner(),
+        pager.into_inner(),
+        target.into_inner(),
+    );
+    (bell.into_fault(), left)
 }
 
 /// The checks of what the threads left.
@@ -110,28 +186,14 @@ fn checked<R: Threads + Sync>(
     ensures whole { IfOk result (HasMigrated script.now) }
     ensures refused { IfErr result IsRunFault }
 {
-    let Shared {
-        source,
-        link,
-        pager,
-        target,
-        bell,
-    } = shared;
-    match bell.into_fault() {
-        Some(Fault::LogFull) => return Err(RunFault::LogFull),
-        Some(Fault::Memory) => return Err(RunFault::Memory),
-        Some(Fault::Link) => return Err(RunFault::Link),
-        Some(Fault::Astray) | None => {}
+    let (fault, left) = left_by(shared);
+    match (fault.and_then(refusal), left) {
+        (Some(fault), _) => Err(fault),
+        (None, Some((logs, store))) => {
+            settle(rt, alloc, script, logs, store, Seq::from_vec(transcripts))
+        }
+        (None, None) => Err(RunFault::TranscriptDiffers),
     }
-    let TargetSide::Target(target) = target.into_inner() else {
-        return Err(RunFault::TranscriptDiffers);
-    };
-    let Some(source) = source.into_inner() else {
-        return Err(RunFault::TranscriptDiffers);
-    };
-    let (guest, store) = target.into_parts();
-    let logs = logs_of(guest, source, link.into_inner(), pager.into_inner());
-    settle(rt, alloc, script, logs, store, Seq::from_vec(transcripts))
 }
 
 /// A run over this way, and the checks of what it left.
