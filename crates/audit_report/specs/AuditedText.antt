@@ -23,8 +23,8 @@ certificate_refusal_text line = codes "certificate-text line " ++ decimal line +
 abbrev pub certificate_text : Report → List ℕ
 certificate_text (report.Clean cert) = ended (cert_lines cert)
 certificate_text (report.Shape fault) = ended (first_line (report.Shape fault) ∷ [])
-certificate_text (report.Knot line) = ended (first_line (report.Knot line) ∷ [])
-certificate_text (report.Faulty line reason order) = ended (first_line (report.Faulty line reason order) ∷ [])
+certificate_text (report.Knot left) = ended (first_line (report.Knot left) ∷ [])
+certificate_text (report.Faulty line fault order) = ended (first_line (report.Faulty line fault order) ∷ [])
 
 -- what is wanted of a report
 abbrev pub wanted_text : Wanted → Report → List ℕ

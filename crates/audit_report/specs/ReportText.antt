@@ -29,15 +29,15 @@ faulty_line line reason = at_line (codes "faulty line ") line ++ 32 ∷ page_wor
 -- the first line of a report
 abbrev pub first_line : Report → List ℕ
 first_line (Shape fault) = shape_line fault
-first_line (Knot line) = knot_line line
-first_line (Faulty line reason order) = faulty_line line reason
+first_line (Knot left) = knot_line left.line
+first_line (Faulty line fault order) = faulty_line line fault.reason
 first_line (Clean cert) = codes "clean"
 
 -- what stands behind it: the text of the order's runs, or of the certificate
 abbrev pub lines_behind : Report → List (List ℕ)
 lines_behind (Shape fault) = []
-lines_behind (Knot line) = []
-lines_behind (Faulty line reason order) = runs_text_header ∷ runs_lines order
+lines_behind (Knot left) = []
+lines_behind (Faulty line fault order) = runs_text_header ∷ runs_lines order
 lines_behind (Clean cert) = cert_lines cert
 
 -- the lines of a report

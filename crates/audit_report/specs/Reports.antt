@@ -19,6 +19,7 @@ use Rattle.audit_model.specs.FirstFault.{IsFirstPageFault}
 use Rattle.audit_model.specs.FoundOrder.{IsFound}
 use Rattle.audit_model.specs.Delayed.{IsFirstPlacement, IsDelayedOrder}
 use Rattle.audit_model.specs.Laws.{BreaksAt}
+use Rattle.page_facts.specs.declared.page_fault.PageFault.{PageFault}
 use Rattle.cert_check.specs.Verdicts.{IsShapeFault}
 use Rattle.cert_maker.specs.Orders.{IsTied}
 use Rattle.cert_maker.specs.Made.{IsMade}
@@ -76,12 +77,11 @@ pub record ShowsFault (s : Recorded) (reason : PageReason) (name : Name) (runs :
   pub breaks : BreaksAt s (spelled runs) name
   pub is_order : IsOrderFor s reason name (spelled runs)
 
--- the session's first fault of a page, at this line, and runs that show it
-pub record IsFaulty (s : Recorded) (line : ℕ) (reason : PageReason) (runs : List Run) : Type 0 where
-  pub name : Name
-  pub is_line : line ≡ line_of s name
-  pub is_first : IsFirstPageFault s reason name
-  pub shows : ShowsFault s reason name runs
+-- the session's first fault of a page, with its line, and runs that show it
+pub record IsFaulty (s : Recorded) (line : ℕ) (fault : PageFault) (runs : List Run) : Type 0 where
+  pub is_line : line ≡ line_of s (fault.log, fault.place)
+  pub is_first : IsFirstPageFault s fault.reason (fault.log, fault.place)
+  pub shows : ShowsFault s fault.reason (fault.log, fault.place) runs
 
 -- no page has a fault, and the certificate is right, with the earliest looks, and over the found order
 pub record IsCleanWith (s : Recorded) (cert : Certified) : Type 0 where
@@ -93,8 +93,8 @@ pub record IsCleanWith (s : Recorded) (cert : Certified) : Type 0 where
 -- the session is clean.
 abbrev pub IsReport : Recorded → Report → Type 0
 IsReport s (Shape fault) = IsShapeFault s fault
-IsReport s (Knot line) = IsRightShape s × IsTied s line
-IsReport s (Faulty line reason order) = IsRightShape s × IsFaulty s line reason order
+IsReport s (Knot left) = IsRightShape s × IsTied s left
+IsReport s (Faulty line fault order) = IsRightShape s × IsFaulty s line fault order
 IsReport s (Clean cert) = IsRightShape s × IsCleanWith s cert
 
 -- the report says that the session is clean
@@ -104,5 +104,5 @@ IsClean _ = ⊥
 
 -- the runs of a fault's order are within the limits of their text, which are those of the second version
 abbrev pub ReportFits : Report → Type 0
-ReportFits (Faulty line reason order) = AreRuns Two order
+ReportFits (Faulty line fault order) = AreRuns Two order
 ReportFits _ = Unit {0}

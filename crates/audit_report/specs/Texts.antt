@@ -30,8 +30,8 @@ FindsClean (Reported report) = IsClean report
 abbrev pub FindsFault : Audited → Type 0
 FindsFault (Refused line) = ⊥
 FindsFault (Reported (Shape fault)) = ⊥
-FindsFault (Reported (Knot line)) = ⊥
-FindsFault (Reported (Faulty line reason order)) = Unit {0}
+FindsFault (Reported (Knot left)) = ⊥
+FindsFault (Reported (Faulty line fault order)) = Unit {0}
 FindsFault (Reported (Clean cert)) = ⊥
 
 -- some merging has a record whose demand fails

@@ -62,7 +62,7 @@ fn faulty(
     let order = order_for(alloc, session, found, fault)?;
     Ok(Report::Faulty {
         line,
-        reason: fault.reason,
+        fault: *fault,
         order,
     })
 }
@@ -79,7 +79,7 @@ fn report<J: Judges>(judges: &J, alloc: Global, session: &Session) -> Result<Rep
     }
     let found = match find_order(alloc, session)? {
         Order::Found(found) => found,
-        Order::Knot(line) => return Ok(Report::Knot(line)),
+        Order::Knot(left) => return Ok(Report::Knot(left)),
     };
     let pages = judges.findings(alloc, session)?;
     match first_fault_in(session, &pages) {

@@ -52,9 +52,9 @@ pub fn push_first_line(out: &mut Vec<u8>, report: &Report) -> Result<(), AllocEr
     match report {
         Report::Clean(_) => push_line(out, CLEAN),
         Report::Shape(fault) => push_shape(out, fault),
-        Report::Knot(line) => push_keyed(out, KNOT, *line),
-        Report::Faulty { line, reason, .. } => {
-            push_keyed_word(out, FAULTY, *line, reason.word())
+        Report::Knot(left) => push_keyed(out, KNOT, left.line),
+        Report::Faulty { line, fault, .. } => {
+            push_keyed_word(out, FAULTY, *line, fault.reason.word())
         }
     }
 }

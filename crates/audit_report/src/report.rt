@@ -1,8 +1,9 @@
 //! Reports.
 
-use audit_model::PageReason;
 use cert_check::ShapeFault;
+use cert_maker::Left;
 use migration_types::{Cert, Run, Seq};
+use page_facts::PageFault;
 
 /// What the audit of a session answers. A line is one of the session's text, and lines count from 1.
 #[derive(Drop)]
@@ -11,14 +12,14 @@ pub enum Report {
     Clean(Cert),
     /// The session has not the right shape.
     Shape(ShapeFault),
-    /// The session's logs have no merging. Of the records that can never be taken this is the line of the first that is
-    /// next in its log.
-    Knot(u32),
-    /// The session is not safe: the line and the reason of the first fault of a page, and the runs of a merging in
-    /// which the demand of the record at this line fails.
+    /// The session's logs have no merging. Of the records that can never be taken this is the first that is next in its
+    /// log.
+    Knot(Left),
+    /// The session is not safe: the first fault of a page, the line of the faulty record, and the runs of a merging in
+    /// which the demand of this record fails.
     Faulty {
         line: u32,
-        reason: PageReason,
+        fault: PageFault,
         order: Seq<Run>,
     },
 }

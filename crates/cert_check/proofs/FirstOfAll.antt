@@ -103,6 +103,14 @@ within s log n t e = go (cases_lt n (log_length s log))
     go (inl l) = l
     go (inr l) = let none = past_end s log n l in absurd (cc)
 
+-- and so is a record that has not the right shape
+pub wrong_there : (s : Recorded) (r : ShapeReason) (log : LogName) (n : ℕ) → is_right s r (log, n) ≡ false → n < log_length s log
+wrong_there s r log n e = go (cases_lt n (log_length s log))
+  where
+    go : (n < log_length s log) ⊎ (log_length s log ≤ n) → n < log_length s log
+    go (inl l) = l
+    go (inr l) = none_wrong s (log, n) r (past_end s log n l) e
+
 abbrev IsAfter : Recorded → ShapeReason → Name → ShapeReason → Name → Type 0
 IsAfter s reason name r other = (line_of s name < line_of s other) ⊎ ((line_of s name ≡ line_of s other) × (rank reason ≤ rank r))
 

@@ -2,7 +2,6 @@
 use Rattle.std.specs.Prelude.{◌≡◌, ℕ, ◌+◌, ◌<◌, List, length, Some, slice_get}
 use Rattle.migration_types.specs.declared.cert.Entry.{Entry}
 use Rattle.migration_types.specs.Certs.{Certified}
-use Rattle.migration_types.specs.Receipts.{Name}
 use Rattle.migration_types.specs.Sessions.{Recorded, line_of}
 use Rattle.audit_model.specs.Mergings.{IsMerging, spelled}
 use Rattle.audit_model.specs.Shape.{IsRightShape}
@@ -14,8 +13,9 @@ use Rattle.cert_check.specs.declared.verdict.Verdict.{Verdict}
 use Rattle.cert_check.specs.declared.verdict.Verdict.TheVariants.{SessionText, CertText, Shape, Pages, Runs, Page, Yes}
 
 -- the shape's fault of least line, and then of least reason
-abbrev pub IsShapeFault : Recorded → ShapeFault → Type 0
-IsShapeFault s fault = (name : Name) × (fault.line ≡ line_of s name) × IsFirstFault s fault.reason name
+pub record IsShapeFault (s : Recorded) (fault : ShapeFault) : Type 0 where
+  pub is_line : fault.line ≡ line_of s (fault.log, fault.place)
+  pub is_first : IsFirstFault s fault.reason (fault.log, fault.place)
 
 -- each entry is right for its page
 abbrev pub AreRightEntries : Recorded → List Entry → Type 0

@@ -100,5 +100,6 @@ pub fn check_par<R: Threads + Sync>(
     ensures placed_untouched { result ≡ Ok Verdict.Yes → PlacedUntouched session.now }
     ensures released_as_zeros { result ≡ Ok Verdict.Yes → ReleasedAsZeros session.now }
 {
+    session.keeps_limits();
     check_by(&InThreads { rt }, alloc, session, cert)
 }

@@ -67,10 +67,15 @@ fn told(session: &Session, log: LogName, fault: Found<ShapeReason>) -> ShapeFaul
     requires limits { IsSession session.now }
     requires first { IsFirstOfLog session.now log fault.place fault.reason }
     ensures line { result.line ≡ line_of session.now (log, fault.place) }
+    ensures log { result.log ≡ log }
+    ensures place { result.place ≡ fault.place }
     ensures reason { result.reason ≡ fault.reason }
 {
+    let place = fault.place as u32;
     ShapeFault {
-        line: line_of(session, log, fault.place as u32),
+        line: line_of(session, log, place),
+        log,
+        place,
         reason: fault.reason,
     }
 }

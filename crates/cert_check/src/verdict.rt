@@ -1,12 +1,18 @@
 //! Verdicts.
 
 use audit_model::ShapeReason;
+use migration_types::LogName;
 
-/// The first fault of a session's shape: the line of the session's text that has the faulty record, and the first reason
-/// for which it is faulty. Lines count from 1.
+/// The first fault of a session's shape.
 #[derive(Clone, Copy, Debug, PartialEq, Eq)]
 pub struct ShapeFault {
+    /// The line of the session's text that has the faulty record. Lines count from 1.
     pub line: u32,
+    /// The log of this record.
+    pub log: LogName,
+    /// Its number there.
+    pub place: u32,
+    /// The first reason for which it is faulty.
     pub reason: ShapeReason,
 }
 

@@ -32,7 +32,7 @@ use Rattle.commands.proofs.Recorded.{audited_clean}
 yes_alone : (s : Recorded) (c : Certified) → IsRightShape s → IsRightCertificate s c → (v : Verdict) → IsVerdict s c v → verdict_status v ≡ 0
 yes_alone s c shape right (verdict.SessionText line) is = absurd is
 yes_alone s c shape right (verdict.CertText line) is = absurd is
-yes_alone s c shape right (verdict.Shape fault) is = let fine = shape fault.reason is.0 in let wrong = is.2.is_wrong in absurd cc
+yes_alone s c shape right (verdict.Shape fault) is = let fine = shape fault.reason (fault.log, fault.place) in let wrong = is.is_first.is_wrong in absurd cc
 yes_alone s c shape right verdict.Pages is = absurd (is.1 right.pages)
 yes_alone s c shape right (verdict.Runs line) is = absurd (no_whole_walk s c.runs is.2 is.3 (merging_is_walk s (spelled c.runs) right.merging))
 yes_alone s c shape right (verdict.Page line) is = absurd (is.4.is_wrong (right.entries is.3 is.4.entry is.4.is))

@@ -19,9 +19,9 @@ use Rattle.commands.specs.Steps.{AreSteps, EventsText, IsStepsAnswer, LogFull, R
 -- the report on a session with no fault and with a merging
 clean_status : (s : Recorded) → IsFaultless s → HasMerging s → (r : Report) → IsReport s r → report_status r ≡ 0
 clean_status s f merges (report.Clean cert) is = refl
-clean_status s f merges (report.Shape fault) is = let right = f.shape fault.reason is.0 in let wrong = is.2.is_wrong in absurd cc
-clean_status s f merges (report.Knot line) is = absurd (is.1.has_no_merging merges)
-clean_status s f merges (report.Faulty line reason order) is = absurd (f.clean reason is.1.name is.1.is_first.is_fault)
+clean_status s f merges (report.Shape fault) is = let right = f.shape fault.reason (fault.log, fault.place) in let wrong = is.is_first.is_wrong in absurd cc
+clean_status s f merges (report.Knot left) is = absurd (is.1.has_no_merging merges)
+clean_status s f merges (report.Faulty line fault order) is = absurd (f.clean fault.reason (fault.log, fault.place) is.1.is_first.is_fault)
 
 -- and the audit of its text
 pub audited_clean : (s : Recorded) (text : List ℕ) → IsFaultless s → HasMerging s → IsSpelling SpellsSession s text → (a : Audited) → IsAudited text a → audited_status a ≡ 0

@@ -36,8 +36,8 @@ verdict_few verdict.Yes = omega arith
 report_few : (r : Report) → report_status r < 2
 report_few (report.Clean cert) = omega arith
 report_few (report.Shape fault) = omega arith
-report_few (report.Knot line) = omega arith
-report_few (report.Faulty line reason order) = omega arith
+report_few (report.Knot left) = omega arith
+report_few (report.Faulty line fault order) = omega arith
 
 audited_few : (a : Audited) → audited_status a < 2
 audited_few (Refused line) = omega arith

@@ -67,8 +67,8 @@ IsVerdictAnswer session cert = IsAnswer (IsTextVerdict session cert) verdict_lin
 abbrev pub report_status : Report → ℕ
 report_status (report.Clean cert) = 0
 report_status (report.Shape fault) = 1
-report_status (report.Knot line) = 1
-report_status (report.Faulty line reason order) = 1
+report_status (report.Knot left) = 1
+report_status (report.Faulty line fault order) = 1
 
 -- and 1 for a text that is refused
 abbrev pub audited_status : Audited → ℕ

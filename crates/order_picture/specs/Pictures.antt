@@ -1,7 +1,6 @@
 -- The picture of a session's records in the order of a report, or along given runs.
-use Rattle.std.specs.Prelude.{◌≡◌, ℕ, ◌≤◌, List, Option, None, length, map, option_and_then}
+use Rattle.std.specs.Prelude.{◌≡◌, ℕ, ◌≤◌, List, Option, Some, None, length, map, option_and_then}
 use Rattle.std.specs.List.{list_any}
-use Rattle.std.specs.Option.{MatchOption}
 use Rattle.migration_types.specs.declared.cert.Run.{Run}
 use Rattle.migration_types.specs.Receipts.{Name}
 use Rattle.migration_types.specs.Sessions.{Recorded}
@@ -14,25 +13,20 @@ use Rattle.audit_report.specs.declared.report.Report.TheVariants as report
 use Rattle.merge_runs.specs.Taken.{cursors_of}
 use Rattle.order_picture.specs.declared.focus.Focus.{Focus}
 use Rattle.order_picture.specs.declared.picture.Picture.{Picture}
-use Rattle.session_story.specs.Places.{IsAtLine, HasNoRecord}
 use Rattle.order_picture.specs.Subjects.{is_one, mark_of, page_of}
 use Rattle.order_picture.specs.Drawn.{IsDrawn}
 use Rattle.order_picture.specs.Rows.{Covers, shows_fault, sender_of}
 
--- the record at this line is faulty
-abbrev pub IsFaultAt : Recorded → ℕ → Option Name → Type 0
-IsFaultAt s line fault = MatchOption fault (HasNoRecord s line) (IsAtLine s line)
-
--- the faulty record of a report: the one at its line
-abbrev pub IsFault : Recorded → Report → Option Name → Type 0
-IsFault s (report.Shape fault) name = IsFaultAt s fault.line name
-IsFault s (report.Faulty line reason order) name = IsFaultAt s line name
-IsFault s (report.Knot line) name = name ≡ None
-IsFault s (report.Clean cert) name = name ≡ None
+-- the faulty record of a report
+abbrev pub fault_of : Report → Option Name
+fault_of (report.Shape fault) = Some (fault.log, fault.place)
+fault_of (report.Faulty line fault order) = Some (fault.log, fault.place)
+fault_of (report.Knot left) = None
+fault_of (report.Clean cert) = None
 
 -- what a picture is about: the faulty record, and its page
 pub record IsFocus (s : Recorded) (r : Report) (focus : Focus) : Type 0 where
-  pub fault : IsFault s r focus.fault
+  pub fault : focus.fault ≡ fault_of r
   pub page : focus.page ≡ option_and_then (page_of s) focus.fault
 
 -- A picture of the records that the runs take, as far as they can be taken: each record has its place in one row, there
@@ -50,8 +44,8 @@ pub record IsPictureOf (s : Recorded) (r : Report) (runs : List Run) (p : Pictur
 -- the runs that a report is shown along: those that show its fault, or those of the found order
 abbrev pub IsShownAlong : Recorded → Report → List Run → Type 0
 IsShownAlong s (report.Shape fault) runs = IsFoundOrder s (spelled runs)
-IsShownAlong s (report.Knot line) runs = IsFoundOrder s (spelled runs)
-IsShownAlong s (report.Faulty line reason order) runs = runs ≡ order
+IsShownAlong s (report.Knot left) runs = IsFoundOrder s (spelled runs)
+IsShownAlong s (report.Faulty line fault order) runs = runs ≡ order
 IsShownAlong s (report.Clean cert) runs = runs ≡ cert.runs
 
 -- the picture of a report

@@ -2,14 +2,14 @@
 
 ghost use Rattle.std.specs.Prelude.{◌≡◌, option_and_then};
 ghost use Rattle.order_picture.specs.Subjects.{is_page, mark_of, page_of};
-ghost use Rattle.order_picture.specs.Pictures.{IsFault, IsFocus};
+ghost use Rattle.order_picture.specs.Pictures.{fault_of, IsFocus};
 
 use crate::records::{Name, is_one};
 use crate::subjects::page_of;
 use audit_model::{PageReason, is_placement_of};
 use audit_report::Report;
 use migration_types::{GuestRec, LogName, PageNo, Session};
-use session_story::{handover_of, last_change, record_at, send_of};
+use session_story::{handover_of, last_change, send_of};
 
 /// Why a record stands out.
 #[derive(Clone, Copy, Debug, PartialEq, Eq)]
@@ -63,12 +63,12 @@ pub(crate) fn mark_of(session: &Session, focus: &Focus, name: Name) -> Mark
 }
 
 /// The faulty record of a report.
-fn fault_of(session: &Session, report: &Report) -> Option<Name>
-    ensures { IsFault session.now report.now result }
+fn fault_of(report: &Report) -> Option<Name>
+    ensures { result ≡ fault_of report.now }
 {
     match report {
-        Report::Shape(fault) => record_at(session, fault.line),
-        Report::Faulty { line, .. } => record_at(session, *line),
+        Report::Shape(fault) => Some((fault.log, fault.place)),
+        Report::Faulty { fault, .. } => Some((fault.log, fault.place)),
         Report::Knot(_) => None,
         Report::Clean(_) => None,
     }
@@ -86,7 +86,7 @@ fn first_placement(session: &Session, page: PageNo) -> Option<Name> {
 /// Whether the report is of a placement over a release.
 fn is_over(report: &Report) -> bool {
     match report {
-        Report::Faulty { reason, .. } => match reason {
+        Report::Faulty { fault, .. } => match fault.reason {
             PageReason::Over => true,
             PageReason::Read
             | PageReason::Early
@@ -135,7 +135,7 @@ fn concerned_by(session: &Session, fault: Name, page: PageNo) -> Option<Name> {
 pub(crate) fn focus_of(session: &Session, report: &Report) -> Focus
     ensures { IsFocus session.now report.now result }
 {
-    let fault = fault_of(session, report);
+    let fault = fault_of(report);
     let Some(name) = fault else {
         return Focus {
             fault,

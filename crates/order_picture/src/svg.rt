@@ -182,7 +182,7 @@ fn push_wrong(
     picture: &Picture,
 ) -> Result<(), AllocError> {
     let reason: &[u8] = match report {
-        Report::Faulty { reason, .. } => page_reason(*reason),
+        Report::Faulty { fault, .. } => page_reason(fault.reason),
         Report::Shape(fault) => shape_reason(fault.reason),
         Report::Knot(_) => return push(
             out,

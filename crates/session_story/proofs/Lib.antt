@@ -1,5 +1,4 @@
 pub mod Scanning
-pub mod Sectioning
 pub mod Looking
 pub mod Paged
 pub mod Causing

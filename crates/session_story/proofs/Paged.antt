@@ -1,5 +1,5 @@
 -- The page and the place of a record that is a fault.
-use Rattle.std.proofs.Common.{◌≡◌, ℕ, ◌<◌, Bool, false, List, length, Option, Some, None, refl}
+use Rattle.std.proofs.Common.{◌≡◌, ℕ, ◌<◌, List, Option, Some, None, refl}
 use Rattle.std.specs.Prelude.{slice_get}
 use Rattle.migration_types.specs.declared.records.LogName.TheVariants.{Guest, Source, Link, Lane, Pager}
 use Rattle.migration_types.specs.declared.records.GuestRec.{GuestRec}
@@ -9,18 +9,11 @@ use Rattle.migration_types.specs.declared.records.SourceRec.TheVariants.{Halted,
 use Rattle.migration_types.specs.declared.records.PagerRec.{PagerRec}
 use Rattle.migration_types.specs.declared.records.PagerRec.TheVariants.{Got, Pull, Ready, Fault, Join, Want, Place, Zero, Skip, All}
 use Rattle.migration_types.specs.Receipts.{Name}
-use Rattle.migration_types.specs.Sessions.{Recorded, IsSession, line_of, log_length}
+use Rattle.migration_types.specs.Sessions.{Recorded, IsSession}
 use Rattle.audit_model.specs.declared.reasons.PageReason.{PageReason}
 use Rattle.audit_model.specs.declared.reasons.PageReason.TheVariants.{Read as WrongRead, Early, Given, Stale, Twice, Altered, Unfit, Over}
 use Rattle.audit_model.specs.Names.{if_there}
 use Rattle.audit_model.specs.Faults.{GuestFault, SourceFault, PagerFault, if_fault, IsPageFault}
-use Rattle.std.proofs.lemmas.Option.{slice_get_within}
-use Rattle.audit_model.specs.FirstFault.{IsFirstPageFault}
-use Rattle.audit_model.specs.declared.reasons.ShapeReason.{ShapeReason}
-use Rattle.audit_model.specs.declared.reasons.ShapeReason.TheVariants.{Phases, Named, Start, SecondSend}
-use Rattle.audit_model.specs.Shape.{keeps, in_phase, guest_named, source_named, link_named, lane_named, pager_named, source_start, pager_start, is_first_send, is_right}
-use Rattle.audit_report.proofs.Showing.{fault_there}
-use Rattle.session_story.specs.Lines.{IsRecordAt}
 use Rattle.page_lists.specs.Paged.{guest_page, source_page, pager_page}
 use Rattle.page_facts.specs.PageFaults.{page_at}
 use Rattle.page_facts.proofs.Within.{guest_within, source_within, pager_within}
@@ -197,10 +190,6 @@ page_below s fits (Link, n) p e = absurd (cc)
 page_below s fits (Lane, n) p e = absurd (cc)
 page_below s fits (Pager, n) p e = below_at pager_page s.geometry.pages s.pager n p (pager_within s.version s.geometry s.pager fits.pager).each (slice_get s.pager n) refl e
 
--- the record that stands at the line of the first fault is the first fault
-pub at_line : (s : Recorded) (line : ℕ) (reason : PageReason) (found : Option Name) → IsRecordAt s line found → (name : Name) → line ≡ line_of s name → IsFirstPageFault s reason name → found ≡ Some name
-at_line s line reason found at (log, n) e first = at (log, n) (fault_there s reason log n first.is_fault) e
-
 -- a wrong read, and an early access, is a record of the guest
 pub guest_read : (s : Recorded) (name : Name) → IsPageFault s WrongRead name → name.0 ≡ Guest
 guest_read s (Guest, n) f = refl
@@ -231,33 +220,3 @@ guest_early s (Pager, n) f = go (slice_get s.pager n) f
     go : (o : Option PagerRec) → if_fault (PagerFault s Early n) o → Pager ≡ Guest
     go None f = absurd f
     go (Some r) f = absurd f
-
-kept_there : {A : Type 0} (test : A → Bool) (log : List A) (n : ℕ) → keeps test (slice_get log n) ≡ false → n < length log
-kept_there test log n e = go (slice_get log n) refl e
-  where
-    go : (o : Option _) → slice_get log n ≡ o → keeps test o ≡ false → n < length log
-    go None is f = absurd (cc)
-    go (Some r) is f = slice_get_within log n r is
-
--- a record that has not the right shape is there
-pub wrong_there : (s : Recorded) (reason : ShapeReason) (name : Name) → is_right s reason name ≡ false → name.1 < log_length s name.0
-wrong_there s Phases (Guest, n) e = kept_there (in_phase s n) s.guest n e
-wrong_there s Named (Guest, n) e = kept_there (guest_named s) s.guest n e
-wrong_there s Named (Source, n) e = kept_there (source_named s n) s.source n e
-wrong_there s Named (Link, n) e = kept_there (link_named s) s.link n e
-wrong_there s Named (Lane, n) e = kept_there (lane_named s) s.lane n e
-wrong_there s Named (Pager, n) e = kept_there (pager_named s n) s.pager n e
-wrong_there s Start (Source, n) e = kept_there (source_start s n) s.source n e
-wrong_there s Start (Pager, n) e = kept_there (pager_start s n) s.pager n e
-wrong_there s SecondSend (Source, n) e = kept_there (is_first_send s n) s.source n e
-wrong_there s Phases (Source, n) e = absurd (cc)
-wrong_there s Phases (Link, n) e = absurd (cc)
-wrong_there s Phases (Lane, n) e = absurd (cc)
-wrong_there s Phases (Pager, n) e = absurd (cc)
-wrong_there s Start (Guest, n) e = absurd (cc)
-wrong_there s Start (Link, n) e = absurd (cc)
-wrong_there s Start (Lane, n) e = absurd (cc)
-wrong_there s SecondSend (Guest, n) e = absurd (cc)
-wrong_there s SecondSend (Link, n) e = absurd (cc)
-wrong_there s SecondSend (Lane, n) e = absurd (cc)
-wrong_there s SecondSend (Pager, n) e = absurd (cc)

@@ -11,6 +11,7 @@ use Rattle.audit_model.specs.Flat.{flat, at_halt}
 use Rattle.audit_model.specs.FirstFault.{IsFirstFault, IsFirstPageFault}
 use Rattle.audit_model.specs.Shape.{is_send_of, is_placement_of}
 use Rattle.page_facts.specs.declared.findings.Findings.{Findings}
+use Rattle.page_facts.specs.declared.page_fault.PageFault.{PageFault}
 use Rattle.page_facts.specs.Judged.{is_late_touch, releases_at}
 use Rattle.page_facts.specs.PageFaults.{page_at}
 use Rattle.page_facts.specs.Tables.{first_before}
@@ -119,10 +120,12 @@ pub record IsCause (s : Recorded) (reason : PageReason) (n page : ℕ) (c : Caus
 abbrev pub IsToldCause : Recorded → PageReason → ℕ → ℕ → Option Cause → Type 0
 IsToldCause s reason n page cause = MatchOption cause ((c : Cause) → IsCause s reason n page c → ⊥) (IsCause s reason n page)
 
--- the session's first fault of a page, at this line, with its page's story
-pub record IsFaultStory (s : Recorded) (line : ℕ) (reason : PageReason) (f : FaultStory) : Type 0 where
+-- the report's fault, which is the session's first of a page and stands at this line, with its page's story
+pub record IsFaultStory (s : Recorded) (line : ℕ) (fault : PageFault) (f : FaultStory) : Type 0 where
   pub is_line : line ≡ line_of s (f.log, f.place)
-  pub is_reason : f.reason ≡ reason
+  pub is_log : f.log ≡ fault.log
+  pub is_place : f.place ≡ fault.place
+  pub is_reason : f.reason ≡ fault.reason
   pub is_first : IsFirstPageFault s f.reason (f.log, f.place)
   pub is_of : page_at s (f.log, f.place) ≡ Some f.page.page
   pub page : IsPageStory s f.page.page f.page
@@ -133,6 +136,8 @@ pub record IsFaultStory (s : Recorded) (line : ℕ) (reason : PageReason) (f : F
 -- the first record that has not the right shape, and what was of its kind before
 pub record IsShapeStory (s : Recorded) (fault : ShapeFault) (t : ShapeStory) : Type 0 where
   pub is_line : fault.line ≡ line_of s (t.log, t.place)
+  pub is_log : t.log ≡ fault.log
+  pub is_place : t.place ≡ fault.place
   pub is_reason : t.reason ≡ fault.reason
   pub is_first : IsFirstFault s t.reason (t.log, t.place)
   pub handover : IsHandover s t.handover
@@ -141,7 +146,7 @@ pub record IsShapeStory (s : Recorded) (fault : ShapeFault) (t : ShapeStory) : T
 -- what is told of a session with this report
 abbrev pub IsExplanation : Recorded → Report → Explanation → Type 0
 IsExplanation s (report.Shape fault) (told.Shape story) = IsShapeStory s fault story
-IsExplanation s (report.Knot line) (told.Knot knot) = MatchOption knot (TakesAll s) (IsCircle s)
-IsExplanation s (report.Faulty line reason order) (told.Faulty story) = IsFaultStory s line reason story
+IsExplanation s (report.Knot left) (told.Knot knot) = MatchOption knot (TakesAll s) (IsCircle s)
+IsExplanation s (report.Faulty line fault order) (told.Faulty story) = IsFaultStory s line fault story
 IsExplanation s (report.Clean cert) (told.Clean counts) = IsCounts s cert.entries counts
 IsExplanation s _ _ = ⊥

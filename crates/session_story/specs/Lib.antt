@@ -1,5 +1,4 @@
 pub mod Scans
-pub mod Lines
 pub mod Places
 pub mod Pages
 pub mod Values

@@ -43,9 +43,7 @@ pub fn explain(alloc: Global, session: &Session, report: &Report) -> Result<Expl
     match report {
         Report::Shape(fault) => Ok(Explanation::Shape(shape_at(session, fault))),
         Report::Knot(_) => Ok(Explanation::Knot(circle_of(alloc, session)?)),
-        Report::Faulty { line, reason, .. } => Ok(Explanation::Faulty(fault_at(
-            alloc, session, *line, *reason,
-        )?)),
+        Report::Faulty { fault, .. } => Ok(Explanation::Faulty(fault_at(alloc, session, fault)?)),
         Report::Clean(cert) => Ok(Explanation::Clean(clean_counts(session, cert))),
     }
 }

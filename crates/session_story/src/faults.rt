@@ -1,19 +1,18 @@
 //! The story of a faulty record.
 
 ghost use Rattle.std.specs.Prelude.{◌≡◌, ◌<◌, ℕ, IfOk, MatchOption};
-ghost use Rattle.migration_types.specs.Receipts.{Name};
 ghost use Rattle.migration_types.specs.Sessions.{log_length, line_of};
 ghost use Rattle.audit_model.specs.FirstFault.{IsFirstPageFault};
 ghost use Rattle.page_facts.specs.PageFaults.{page_at};
 ghost use Rattle.session_story.specs.Pages.{IsPageStory};
 ghost use Rattle.session_story.specs.Explained.{IsDetail, IsFaultStory, IsLookBeforeTouch, IsPlacedRight, IsSentRight, IsToldCause, IsWrongPlacement, IsWrongSend, is_read, is_unplaced, is_used_by};
 
-use crate::lines::record_at;
 use crate::looks::{Look, greatest_look};
 use crate::pages::{Handover, PageStory, handover_of, story_of};
 use crate::values::{Held, instead_of, other_of};
 use audit_model::PageReason;
 use migration_types::{LogName, PageNo, PagerRec, Session, SourceRec};
+use page_facts::PageFault;
 use page_lists::Paged;
 use std::alloc::{AllocError, Global};
 
@@ -262,21 +261,18 @@ fn cause_of(
     }
 }
 
-/// The first fault of a session, which stands at this line, with the story of its page. Takes a few passes over each
-/// log, and as much memory as judging does and one machine more, which is the only error.
+/// The first fault of a session, with the story of its page. Takes a few passes over each log, and as much memory as
+/// judging does and one machine more, which is the only error.
 pub(crate) fn fault_at(
     alloc: Global,
     session: &Session,
-    line: u32,
-    reason: PageReason,
+    fault: &PageFault,
 ) -> Result<FaultStory, AllocError>
-    requires { (name : Name) × (line ≡ line_of session.now name) × IsFirstPageFault session.now reason name }
-    ensures { IfOk result (IsFaultStory session.now line reason) }
+    requires { IsFirstPageFault session.now fault.now.reason (fault.now.log, fault.now.place) }
+    ensures { IfOk result (λ story. (line : ℕ) → line ≡ line_of session.now (fault.now.log, fault.now.place) → IsFaultStory session.now line fault.now story) }
 {
     session.keeps_limits();
-    let Some((log, place)) = record_at(session, line) else {
-        unreachable!()
-    };
+    let PageFault { log, place, reason } = *fault;
     let Some(page) = page_at(session, log, place) else {
         unreachable!()
     };

@@ -19,7 +19,7 @@ mod words;
 pub use counting::{Counts, counts_of};
 pub use explaining::{Explanation, explain};
 pub use faults::{Cause, Detail, FaultStory, Wrong};
-pub use lines::{line_at, record_at};
+pub use lines::line_at;
 pub use looks::{Look, greatest_look};
 pub use pages::{Handover, PageStory, handover_of, last_change, send_of, story_of};
 pub use shapes::ShapeStory;

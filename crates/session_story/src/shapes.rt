@@ -5,7 +5,6 @@ ghost use Rattle.cert_check.specs.Verdicts.{IsShapeFault};
 ghost use Rattle.session_story.specs.Explained.{IsShapeStory};
 ghost use Rattle.session_story.specs.Pages.{first_send};
 
-use crate::lines::record_at;
 use crate::pages::{Handover, handover_of, send_of};
 use audit_model::ShapeReason;
 use cert_check::ShapeFault;
@@ -42,14 +41,11 @@ pub(crate) fn shape_at(session: &Session, fault: &ShapeFault) -> ShapeStory
     requires { IsShapeFault session.now fault.now }
     ensures { IsShapeStory session.now fault.now result }
 {
-    let Some((log, place)) = record_at(session, fault.line) else {
-        unreachable!()
-    };
     ShapeStory {
-        log,
-        place,
+        log: fault.log,
+        place: fault.place,
         reason: fault.reason,
         handover: handover_of(session),
-        sent: first_send(session, log, place),
+        sent: first_send(session, fault.log, fault.place),
     }
 }

@@ -150,14 +150,18 @@ fn agrees_on_report<R: Threads + Sync>(
     report: &Report,
 ) -> bool {
     match report {
-        Report::Shape(fault) => shape_fault(session) == Some((fault.line, fault.reason)),
-        Report::Knot(_) => shape_fault(session) == None,
+        Report::Shape(fault) => {
+            shape_fault(session) == Some((fault.line, fault.reason))
+                && line_of(session, fault.log, fault.place) == fault.line
+        }
+        Report::Knot(left) => {
+            shape_fault(session) == None && line_of(session, left.log, left.place) == left.line
+        }
         Report::Clean(cert) => is_clean(rt, alloc, session, cert),
-        Report::Faulty {
-            line,
-            reason,
-            order,
-        } => is_faulty(alloc, session, (*line, *reason), order),
+        Report::Faulty { line, fault, order } => {
+            is_faulty(alloc, session, (*line, fault.reason), order)
+                && line_of(session, fault.log, fault.place) == *line
+        }
     }
 }
 
@@ -182,7 +186,7 @@ fn count_report(report: &Report, answers: &mut Answers) {
         Report::Shape(fault) => count(&mut answers.shape[fault.reason as usize]),
         Report::Knot(_) => count(&mut answers.knots),
         Report::Clean(_) => count(&mut answers.clean),
-        Report::Faulty { reason, .. } => count(&mut answers.page[*reason as usize]),
+        Report::Faulty { fault, .. } => count(&mut answers.page[fault.reason as usize]),
     }
 }
 

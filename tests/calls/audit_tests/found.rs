@@ -4,6 +4,7 @@ use crate::texts::{Logs, session_of};
 use cert_maker::{MakeFault, Order, find_order, make};
 use cert_text::write_cert;
 use migration_types::{Cert, Seq, Session};
+use session_log::line_of;
 use std::alloc::Global;
 
 /// Page 1 is written, sent, missed, placed, seen twice and read.
@@ -65,7 +66,9 @@ fn is_certified(alloc: Global, session: &Session, text: &str) -> bool {
 /// Whether a session's logs are told as a knot, which shows at this line.
 fn is_knot(alloc: Global, session: &Session, line: u32) -> bool {
     match find_order(alloc, session) {
-        Ok(Order::Knot(told)) => told == line,
+        Ok(Order::Knot(left)) => {
+            left.line == line && line_of(session, left.log, left.place) == line
+        }
         _ => false,
     }
 }

@@ -4,7 +4,7 @@ use crate::texts::{FRESH, HANDOVER, PULLED, RELEASED, SEEN};
 use audit_model::ShapeReason;
 use cert_check::{ShapeFault, Verdict, check, check_par, check_texts, check_texts_alone, shape};
 use cert_text::read_cert;
-use migration_types::{Cert, Session};
+use migration_types::{Cert, LogName, Session};
 use session_log::read_session;
 use std::alloc::Global;
 use std::marker::Sync;
@@ -63,6 +63,8 @@ static TABLES: [Table; 10] = [
                 new: "fault 4",
                 verdict: Verdict::Shape(ShapeFault {
                     line: 30,
+                    log: LogName::Pager,
+                    place: 2,
                     reason: ShapeReason::Named,
                 }),
             },
@@ -71,6 +73,8 @@ static TABLES: [Table; 10] = [
                 new: "resume 0",
                 verdict: Verdict::Shape(ShapeFault {
                     line: 9,
+                    log: LogName::Guest,
+                    place: 2,
                     reason: ShapeReason::Named,
                 }),
             },
@@ -79,6 +83,8 @@ static TABLES: [Table; 10] = [
                 new: "resume 9",
                 verdict: Verdict::Shape(ShapeFault {
                     line: 9,
+                    log: LogName::Guest,
+                    place: 2,
                     reason: ShapeReason::Named,
                 }),
             },
@@ -87,6 +93,8 @@ static TABLES: [Table; 10] = [
                 new: "see 4",
                 verdict: Verdict::Shape(ShapeFault {
                     line: 11,
+                    log: LogName::Guest,
+                    place: 4,
                     reason: ShapeReason::Named,
                 }),
             },
@@ -95,6 +103,8 @@ static TABLES: [Table; 10] = [
                 new: "ask 0",
                 verdict: Verdict::Shape(ShapeFault {
                     line: 19,
+                    log: LogName::Source,
+                    place: 2,
                     reason: ShapeReason::Named,
                 }),
             },
@@ -103,6 +113,8 @@ static TABLES: [Table; 10] = [
                 new: "again 2",
                 verdict: Verdict::Shape(ShapeFault {
                     line: 19,
+                    log: LogName::Source,
+                    place: 2,
                     reason: ShapeReason::Named,
                 }),
             },
@@ -111,6 +123,8 @@ static TABLES: [Table; 10] = [
                 new: "down 2",
                 verdict: Verdict::Shape(ShapeFault {
                     line: 25,
+                    log: LogName::Link,
+                    place: 2,
                     reason: ShapeReason::Named,
                 }),
             },
@@ -119,6 +133,8 @@ static TABLES: [Table; 10] = [
                 new: "up 2",
                 verdict: Verdict::Shape(ShapeFault {
                     line: 24,
+                    log: LogName::Link,
+                    place: 1,
                     reason: ShapeReason::Named,
                 }),
             },
@@ -127,6 +143,8 @@ static TABLES: [Table; 10] = [
                 new: "got 1",
                 verdict: Verdict::Shape(ShapeFault {
                     line: 32,
+                    log: LogName::Pager,
+                    place: 4,
                     reason: ShapeReason::Named,
                 }),
             },
@@ -135,6 +153,8 @@ static TABLES: [Table; 10] = [
                 new: "join 2",
                 verdict: Verdict::Shape(ShapeFault {
                     line: 34,
+                    log: LogName::Pager,
+                    place: 6,
                     reason: ShapeReason::Named,
                 }),
             },
@@ -143,6 +163,8 @@ static TABLES: [Table; 10] = [
                 new: "skip 6",
                 verdict: Verdict::Shape(ShapeFault {
                     line: 34,
+                    log: LogName::Pager,
+                    place: 6,
                     reason: ShapeReason::Named,
                 }),
             },
@@ -151,6 +173,8 @@ static TABLES: [Table; 10] = [
                 new: "place 1 4",
                 verdict: Verdict::Shape(ShapeFault {
                     line: 35,
+                    log: LogName::Pager,
+                    place: 7,
                     reason: ShapeReason::Named,
                 }),
             },
@@ -159,6 +183,8 @@ static TABLES: [Table; 10] = [
                 new: "halted 0",
                 verdict: Verdict::Shape(ShapeFault {
                     line: 17,
+                    log: LogName::Source,
+                    place: 0,
                     reason: ShapeReason::Named,
                 }),
             },
@@ -167,6 +193,8 @@ static TABLES: [Table; 10] = [
                 new: "halt",
                 verdict: Verdict::Shape(ShapeFault {
                     line: 10,
+                    log: LogName::Guest,
+                    place: 3,
                     reason: ShapeReason::Phases,
                 }),
             },
@@ -175,6 +203,8 @@ static TABLES: [Table; 10] = [
                 new: "resume 1",
                 verdict: Verdict::Shape(ShapeFault {
                     line: 10,
+                    log: LogName::Guest,
+                    place: 3,
                     reason: ShapeReason::Phases,
                 }),
             },
@@ -183,6 +213,8 @@ static TABLES: [Table; 10] = [
                 new: "resume 1\nhalt",
                 verdict: Verdict::Shape(ShapeFault {
                     line: 8,
+                    log: LogName::Guest,
+                    place: 1,
                     reason: ShapeReason::Phases,
                 }),
             },
@@ -191,6 +223,8 @@ static TABLES: [Table; 10] = [
                 new: "miss 0 0\nresume 1",
                 verdict: Verdict::Shape(ShapeFault {
                     line: 9,
+                    log: LogName::Guest,
+                    place: 2,
                     reason: ShapeReason::Phases,
                 }),
             },
@@ -199,6 +233,8 @@ static TABLES: [Table; 10] = [
                 new: "w 0 0 0 3\nresume 1",
                 verdict: Verdict::Shape(ShapeFault {
                     line: 9,
+                    log: LogName::Guest,
+                    place: 2,
                     reason: ShapeReason::Phases,
                 }),
             },
@@ -207,6 +243,8 @@ static TABLES: [Table; 10] = [
                 new: "z 0 1",
                 verdict: Verdict::Shape(ShapeFault {
                     line: 15,
+                    log: LogName::Guest,
+                    place: 8,
                     reason: ShapeReason::Phases,
                 }),
             },
@@ -215,6 +253,8 @@ static TABLES: [Table; 10] = [
                 new: "ask 1\nstate",
                 verdict: Verdict::Shape(ShapeFault {
                     line: 18,
+                    log: LogName::Source,
+                    place: 1,
                     reason: ShapeReason::Start,
                 }),
             },
@@ -223,6 +263,8 @@ static TABLES: [Table; 10] = [
                 new: "state",
                 verdict: Verdict::Shape(ShapeFault {
                     line: 19,
+                    log: LogName::Source,
+                    place: 2,
                     reason: ShapeReason::Start,
                 }),
             },
@@ -231,6 +273,8 @@ static TABLES: [Table; 10] = [
                 new: "ready\ngot 0",
                 verdict: Verdict::Shape(ShapeFault {
                     line: 9,
+                    log: LogName::Guest,
+                    place: 2,
                     reason: ShapeReason::Named,
                 }),
             },
@@ -239,6 +283,8 @@ static TABLES: [Table; 10] = [
                 new: "got 2",
                 verdict: Verdict::Shape(ShapeFault {
                     line: 28,
+                    log: LogName::Pager,
+                    place: 0,
                     reason: ShapeReason::Start,
                 }),
             },
@@ -247,6 +293,8 @@ static TABLES: [Table; 10] = [
                 new: "ready",
                 verdict: Verdict::Shape(ShapeFault {
                     line: 24,
+                    log: LogName::Link,
+                    place: 1,
                     reason: ShapeReason::Named,
                 }),
             },
@@ -255,6 +303,8 @@ static TABLES: [Table; 10] = [
                 new: "ready",
                 verdict: Verdict::Shape(ShapeFault {
                     line: 34,
+                    log: LogName::Pager,
+                    place: 6,
                     reason: ShapeReason::Start,
                 }),
             },
@@ -263,6 +313,8 @@ static TABLES: [Table; 10] = [
                 new: "send 0 0000000000000005",
                 verdict: Verdict::Shape(ShapeFault {
                     line: 21,
+                    log: LogName::Source,
+                    place: 4,
                     reason: ShapeReason::SecondSend,
                 }),
             },
@@ -294,6 +346,8 @@ static TABLES: [Table; 10] = [
                 new: "see 5\nmiss 0 0",
                 verdict: Verdict::Shape(ShapeFault {
                     line: 30,
+                    log: LogName::Pager,
+                    place: 2,
                     reason: ShapeReason::Named,
                 }),
             },
@@ -349,6 +403,8 @@ static TABLES: [Table; 10] = [
                 new: "guest 7\nz 0 1\nw 0 1 0 0\nhalt",
                 verdict: Verdict::Shape(ShapeFault {
                     line: 16,
+                    log: LogName::Source,
+                    place: 0,
                     reason: ShapeReason::Named,
                 }),
             },
@@ -368,6 +424,8 @@ static TABLES: [Table; 10] = [
             new: "halted 1",
             verdict: Verdict::Shape(ShapeFault {
                 line: 10,
+                log: LogName::Source,
+                place: 0,
                 reason: ShapeReason::Start,
             }),
         }],
@@ -480,6 +538,8 @@ static TABLES: [Table; 10] = [
                 new: "z 0 0\nresume 1",
                 verdict: Verdict::Shape(ShapeFault {
                     line: 8,
+                    log: LogName::Guest,
+                    place: 1,
                     reason: ShapeReason::Phases,
                 }),
             },
@@ -546,6 +606,8 @@ static TABLES: [Table; 10] = [
                 new: "pull 1",
                 verdict: Verdict::Shape(ShapeFault {
                     line: 22,
+                    log: LogName::Pager,
+                    place: 2,
                     reason: ShapeReason::Named,
                 }),
             },
@@ -554,6 +616,8 @@ static TABLES: [Table; 10] = [
                 new: "lane 1\ndown 0",
                 verdict: Verdict::Shape(ShapeFault {
                     line: 18,
+                    log: LogName::Lane,
+                    place: 0,
                     reason: ShapeReason::Named,
                 }),
             },

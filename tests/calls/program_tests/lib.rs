@@ -3,6 +3,7 @@
 use audit_model::ShapeReason;
 use cert_check::{ShapeFault, Verdict};
 use commands::{TextSource, push_verdict, run, verdict_status};
+use migration_types::LogName;
 use std::alloc::Global;
 use std::cell::Cell;
 use std::io;
@@ -708,6 +709,8 @@ static LINES: [(Verdict, &[u8], u8); 7] = [
     (
         Verdict::Shape(ShapeFault {
             line: 9,
+            log: LogName::Source,
+            place: 2,
             reason: ShapeReason::SecondSend,
         }),
         b"shape line 9 second-send\n",

@@ -1,0 +1,12 @@
+use Rattle.std.proofs.Common.{sym, subst}
+use Rattle.audit_report.specs.declared.report.Report.{Report}
+use Rattle.audit_report.specs.Reports.{IsReport}
+use Rattle.session_story.specs.declared.explaining.Explanation.TheVariants as told
+use Rattle.session_story.specs.Explained.{IsExplanation}
+use Rattle.session_story.proofs.explaining.explain.Goals as goal
+
+pub returns-in_ok-fault_at-in-Faulty : goal.returns-in_ok-fault_at-in-Faulty
+returns-in_ok-fault_at-in-Faulty c =
+    let s = c.args.session.now in
+    let at = c.in_ok-fault_at-in-Faulty in
+    subst (λ (r : Report). IsReport s r → IsExplanation s r (told.Faulty at.field-0)) (sym c.in-Faulty.is) (λ is. at.ensures c.in-Faulty.line is.1.is_line) c.requires
