@@ -3,4 +3,3 @@ pub mod Cutting
 pub mod Blocks
 pub mod Splitting
 pub mod Showing
-pub mod Read

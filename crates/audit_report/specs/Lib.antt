@@ -1,5 +1,2 @@
 pub mod Reports
-pub mod ReportText
-pub mod Texts
-pub mod AuditedText
 pub mod inner

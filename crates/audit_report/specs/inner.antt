@@ -1,4 +1,3 @@
 -- What serves proofs alone.
 pub mod Cuts
 pub mod Parts
-pub mod Read

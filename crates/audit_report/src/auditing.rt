@@ -88,8 +88,9 @@ fn report<J: Judges>(judges: &J, alloc: Global, session: &Session) -> Result<Rep
     }
 }
 
-/// The report on a session, whoever judges the pages.
-pub(crate) fn audit_by<J: Judges>(
+/// The report on a session that [`audit`] answers, whoever judges the pages. It promises what `audit` promises, and takes
+/// the memory that these judges take.
+pub fn audit_by<J: Judges>(
     judges: &J,
     alloc: Global,
     session: &Session,

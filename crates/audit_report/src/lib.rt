@@ -7,16 +7,8 @@ mod cuts;
 mod orders;
 mod parts;
 mod placements;
-mod printing;
 mod report;
-mod texts;
-mod wanted;
 
-pub use auditing::audit;
+pub use auditing::{audit, audit_by};
 pub use placements::first_placement;
-pub use printing::{
-    print_report, push_first_line, push_refused_certificate, push_refused_session, push_shape,
-};
 pub use report::Report;
-pub use texts::{Audited, audit_text};
-pub use wanted::{Wanted, print_audited};

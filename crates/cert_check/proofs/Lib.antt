@@ -3,6 +3,5 @@ pub mod FirstOfLog
 pub mod FirstOfAll
 pub mod RightEntries
 pub mod Promised
-pub mod Spelled
 pub mod FirstTrue
 pub mod OneVerdict

@@ -1,7 +1,7 @@
 -- What a yes promises of a session, by what its certificate does, and what it promises of whatever else says the same.
 use Rattle.migration_types.specs.Sessions.{Recorded}
 use Rattle.audit_model.specs.Laws.{IsMigrated}
-use Rattle.cert_check.specs.inner.Promises.{Promises}
+use Rattle.cert_check.specs.Promises.{Promises}
 
 pub promised : {IsYes : Type 0} (s : Recorded) (Replays : Recorded → Type 0) → IsMigrated s → Replays s → Promises IsYes (λ Has. Has s) Replays
 promised s Replays is replays = record {

@@ -1,3 +1,3 @@
 pub mod Verdicts
-pub mod Texts
+pub mod Promises
 pub mod inner

@@ -23,7 +23,7 @@ use std::thread::Threads;
 const WORTH_A_THREAD: usize = 2048;
 
 /// Who looks for the first page whose entry is not right. What is answered is the same whoever does.
-pub(crate) trait EntryJudges {
+pub trait EntryJudges {
     // What lets them work.
     ghost ready: { Type 0 } = { ⊤ };
 

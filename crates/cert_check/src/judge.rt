@@ -5,7 +5,7 @@ ghost use Rattle.audit_model.specs.Mergings.{HasMerging, spelled};
 ghost use Rattle.audit_model.specs.World.{IsSafe, IsSafeOrder};
 ghost use Rattle.audit_model.specs.Laws.{FindsResident, ReadsFlat, PlacedOnce, PlacedUntouched, ReleasedAsZeros};
 ghost use Rattle.cert_check.specs.Verdicts.{IsVerdict, IsTheOneVerdict};
-ghost use Rattle.cert_check.specs.inner.Promises.{Promises, IsReplayedBy};
+ghost use Rattle.cert_check.specs.Promises.{Promises, IsReplayedBy};
 
 use crate::bad_page::EntryJudges;
 use crate::shape_fault::shape;
@@ -24,8 +24,9 @@ const BEFORE_ENTRIES: u32 = 3;
 /// A run's line is so many after the number of pages and its place.
 const BEFORE_RUNS: u32 = 4;
 
-/// The verdict on a session and its certificate, whoever judges the pages.
-pub(crate) fn check_by<J: EntryJudges>(
+/// The verdict on a session and its certificate that [`check`] answers, whoever judges the pages. It promises what
+/// `check` promises, and takes the memory that these judges take.
+pub fn check_by<J: EntryJudges>(
     judges: &J,
     alloc: Global,
     session: &Session,

@@ -1,4 +1,4 @@
-//! The checker: the shape of a session, and the verdict on a session and its certificate, as values and as texts.
+//! The checker: the shape of a session, and the verdict on a session and its certificate, as values.
 #![tactic(auto)]
 
 mod bad_page;
@@ -6,10 +6,9 @@ mod judge;
 mod log_passes;
 mod passes;
 mod shape_fault;
-mod texts;
 mod verdict;
 
-pub use judge::{check, check_par};
+pub use bad_page::EntryJudges;
+pub use judge::{check, check_by, check_par};
 pub use shape_fault::shape;
-pub use texts::{check_read, check_texts, check_texts_alone};
 pub use verdict::{ShapeFault, Verdict};

@@ -17,10 +17,10 @@ use Rattle.audit_model.proofs.Unsafe.{safe_exactly_if_clean}
 use Rattle.audit_model.proofs.Walked.{merging_is_walk}
 use Rattle.merge_runs.proofs.Walking.{no_whole_walk}
 use Rattle.cert_check.specs.Verdicts.{IsVerdict}
-use Rattle.cert_check.specs.Texts.{IsJudged, IsTextVerdict}
+use Rattle.judged_texts.specs.Checked.{IsJudged, IsTextVerdict}
 use Rattle.cert_check.specs.declared.verdict.Verdict.{Verdict}
 use Rattle.cert_check.specs.declared.verdict.Verdict.TheVariants as verdict
-use Rattle.audit_report.specs.declared.wanted.Wanted.{Wanted}
+use Rattle.judged_texts.specs.declared.wanted.Wanted.{Wanted}
 use Rattle.commands.specs.Answers.{IsAuditAnswer, IsVerdictAnswer, verdict_status}
 use Rattle.commands.specs.Cutting.{HasNoEnd, IsCutAtEnd}
 use Rattle.commands.specs.Migrations.{AuditRefused, IsMigrateAnswer, IsMigration, LogFull, Migration, Records, ScriptText, TranscriptDiffers, certified_text, migration_status, migration_text}

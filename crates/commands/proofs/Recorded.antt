@@ -9,10 +9,10 @@ use Rattle.audit_model.specs.Mergings.{HasMerging}
 use Rattle.audit_report.specs.Reports.{IsReport}
 use Rattle.audit_report.specs.declared.report.Report.{Report}
 use Rattle.audit_report.specs.declared.report.Report.TheVariants as report
-use Rattle.audit_report.specs.Texts.{IsAudited}
-use Rattle.audit_report.specs.declared.texts.Audited.{Audited}
-use Rattle.audit_report.specs.declared.texts.Audited.TheVariants.{Refused, Reported}
-use Rattle.audit_report.specs.declared.wanted.Wanted.{Wanted}
+use Rattle.judged_texts.specs.Audited.{IsAudited}
+use Rattle.judged_texts.specs.declared.auditing.Audited.{Audited}
+use Rattle.judged_texts.specs.declared.auditing.Audited.TheVariants.{Refused, Reported}
+use Rattle.judged_texts.specs.declared.wanted.Wanted.{Wanted}
 use Rattle.commands.specs.Answers.{IsAuditAnswer, audited_status, report_status}
 use Rattle.commands.specs.Steps.{AreSteps, EventsText, IsStepsAnswer, LogFull, Records, ScriptText, Steps as Stepped, steps_status, steps_text}
 

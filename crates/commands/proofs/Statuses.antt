@@ -15,8 +15,8 @@ use Rattle.commands.specs.declared.answer.Fault.{Fault}
 use Rattle.commands.specs.declared.answer.Fault.TheVariants.{File, Link, Output, Memory}
 use Rattle.commands.specs.declared.replaying.Outcome.{Outcome}
 use Rattle.commands.specs.declared.replaying.Outcome.TheVariants as outcome
-use Rattle.audit_report.specs.declared.texts.Audited.{Audited}
-use Rattle.audit_report.specs.declared.texts.Audited.TheVariants.{Refused, Reported}
+use Rattle.judged_texts.specs.declared.auditing.Audited.{Audited}
+use Rattle.judged_texts.specs.declared.auditing.Audited.TheVariants.{Refused, Reported}
 use Rattle.commands.specs.Answers.{audited_status, fault_status, report_status, verdict_status}
 use Rattle.commands.specs.Replayed.{outcome_status}
 use Rattle.commands.specs.Migrations.{IsMigrateAnswer}

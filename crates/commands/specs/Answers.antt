@@ -2,15 +2,15 @@
 use Rattle.std.specs.Prelude.{◌≡◌, ℕ, List, [], ◌∷◌, ◌++◌, codes}
 use Rattle.std.specs.Fmt.{decimal}
 use Rattle.text_lines.specs.Text.{ended}
-use Rattle.cert_check.specs.Texts.{IsTextVerdict}
+use Rattle.judged_texts.specs.Checked.{IsTextVerdict}
 use Rattle.cert_check.specs.declared.verdict.Verdict.{Verdict}
 use Rattle.cert_check.specs.declared.verdict.Verdict.TheVariants.{SessionText, CertText, Shape, Pages, Runs, Page, Yes}
-use Rattle.audit_report.specs.ReportText.{shape_line}
-use Rattle.audit_report.specs.Texts.{IsAudited}
-use Rattle.audit_report.specs.AuditedText.{audited_text}
-use Rattle.audit_report.specs.declared.wanted.Wanted.{Wanted}
-use Rattle.audit_report.specs.declared.texts.Audited.{Audited}
-use Rattle.audit_report.specs.declared.texts.Audited.TheVariants.{Refused, Reported}
+use Rattle.judged_texts.specs.ReportText.{shape_line}
+use Rattle.judged_texts.specs.Audited.{IsAudited}
+use Rattle.judged_texts.specs.AuditedText.{audited_text}
+use Rattle.judged_texts.specs.declared.wanted.Wanted.{Wanted}
+use Rattle.judged_texts.specs.declared.auditing.Audited.{Audited}
+use Rattle.judged_texts.specs.declared.auditing.Audited.TheVariants.{Refused, Reported}
 use Rattle.audit_report.specs.declared.report.Report.{Report}
 use Rattle.audit_report.specs.declared.report.Report.TheVariants as report
 use Rattle.commands.specs.declared.answer.Answer.{Answer}

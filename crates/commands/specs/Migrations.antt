@@ -10,7 +10,7 @@ use Rattle.audit_model.specs.World.{IsSafe}
 use Rattle.cert_check.specs.Verdicts.{IsVerdict}
 use Rattle.cert_check.specs.declared.verdict.Verdict.TheVariants.{Yes}
 use Rattle.audit_report.specs.Reports.{IsReport, IsClean}
-use Rattle.audit_report.specs.ReportText.{report_text}
+use Rattle.judged_texts.specs.ReportText.{report_text}
 use Rattle.audit_report.specs.declared.report.Report.{Report}
 use Rattle.guest_script.specs.Scenarios.{Scenario}
 use Rattle.guest_script.specs.Scripts.{SpellsScript}

@@ -8,7 +8,7 @@ use Rattle.command_words.specs.declared.asked.OneText.{OneText}
 use Rattle.command_words.specs.declared.asked.OneText.TheVariants.{Certify, Audit, Explain}
 use Rattle.command_words.specs.declared.asked.TwoTexts.{TwoTexts}
 use Rattle.command_words.specs.declared.asked.TwoTexts.TheVariants.{Check, Replay, Steps}
-use Rattle.audit_report.specs.declared.wanted.Wanted.TheVariants as wanted
+use Rattle.judged_texts.specs.declared.wanted.Wanted.TheVariants as wanted
 use Rattle.commands.specs.Answers.{IsAuditAnswer, IsVerdictAnswer}
 use Rattle.commands.specs.Cutting.{IsCutAtEnd}
 use Rattle.commands.specs.Drawings.{IsDrawAnswer, IsDrawAlongAnswer}

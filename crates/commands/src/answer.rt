@@ -3,8 +3,10 @@
 ghost use Rattle.std.specs.Prelude.{◌≡◌, [], ◌∷◌, Ok, IfOk};
 ghost use Rattle.std.specs.Io.KnownBytes.{Appends};
 ghost use Rattle.text_lines.specs.Text.{ended};
+ghost use Rattle.judged_texts.specs.AuditedText.{refusal_text};
 ghost use Rattle.commands.specs.Answers.{Says, fault_status, numbered};
 
+use judged_texts::push_refused_session;
 use std::alloc::{AllocError, Global};
 use std::io::Write;
 use text_lines::{push_keyed, push_line};
@@ -96,6 +98,18 @@ pub fn refused(alloc: Global, key: &[u8], line: u32) -> Result<Answer, AllocErro
 {
     let mut text = Vec::new(alloc);
     push_keyed(&mut text, key, line)?;
+    Ok(Answer {
+        text,
+        status: REFUSED,
+    })
+}
+
+/// The answer where the text of a session is refused at this line.
+pub fn refused_session(alloc: Global, line: u32) -> Result<Answer, AllocError>
+    ensures { IfOk result (λ answer. Says answer (refusal_text line) 1) }
+{
+    let mut text = Vec::new(alloc);
+    push_refused_session(&mut text, line)?;
     Ok(Answer {
         text,
         status: REFUSED,

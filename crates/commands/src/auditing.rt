@@ -3,13 +3,14 @@
 ghost use Rattle.std.specs.Prelude.{ℕ, List, IfOk};
 ghost use Rattle.text_lines.specs.Answer.{IsRead};
 ghost use Rattle.session_log.specs.Grammar.{SpellsSession};
-ghost use Rattle.audit_report.specs.Texts.{AuditedFits, IsAudited};
-ghost use Rattle.audit_report.specs.AuditedText.{audited_text};
+ghost use Rattle.judged_texts.specs.Audited.{AuditedFits, IsAudited};
+ghost use Rattle.judged_texts.specs.AuditedText.{audited_text};
 ghost use Rattle.commands.specs.Answers.{IsAuditAnswer, Says, audited_status};
 
 use crate::answer::Answer;
 use crate::status::audited_status;
-use audit_report::{Audited, Wanted, audit, print_audited};
+use audit_report::audit;
+use judged_texts::{Audited, Wanted, print_audited};
 use migration_types::Session;
 use std::alloc::{AllocError, Global};
 use std::thread::Threads;

@@ -8,8 +8,8 @@ ghost use Rattle.commands.specs.Answers.{IsVerdictAnswer, verdict_line};
 
 use crate::answer::Answer;
 use crate::status::verdict_status;
-use audit_report::push_shape;
-use cert_check::{Verdict, check_read};
+use cert_check::Verdict;
+use judged_texts::{check_read, push_refused_certificate, push_refused_session, push_shape};
 use migration_types::{Cert, Session};
 use std::alloc::{AllocError, Global};
 use std::thread::Threads;
@@ -20,8 +20,8 @@ pub fn push_verdict(out: &mut Vec<u8>, verdict: Verdict) -> Result<(), AllocErro
     ensures { OnOk result (out.new.items ≡ out.old.items ++ verdict_line verdict) }
 {
     match verdict {
-        Verdict::SessionText(line) => push_keyed(out, b"session-text line ", line),
-        Verdict::CertText(line) => push_keyed(out, b"certificate-text line ", line),
+        Verdict::SessionText(line) => push_refused_session(out, line),
+        Verdict::CertText(line) => push_refused_certificate(out, line),
         Verdict::Shape(fault) => push_shape(out, &fault),
         Verdict::Pages => push_line(out, b"pages"),
         Verdict::Runs(line) => push_keyed(out, b"runs line ", line),

@@ -7,7 +7,7 @@ ghost use Rattle.cert_text.specs.Runs.{SpellsRuns};
 ghost use Rattle.order_picture.specs.Svg.{IsSvg};
 ghost use Rattle.commands.specs.Drawings.{IsDrawAnswer, IsDrawAlongAnswer};
 
-use crate::answer::{ACCEPTED, Answer, refused};
+use crate::answer::{ACCEPTED, Answer, refused, refused_session};
 use audit_report::audit;
 use migration_types::{Run, Seq, Session};
 use order_picture::{Shown, picture_text, plan, plan_along};
@@ -53,7 +53,7 @@ pub fn draw_read<R: Threads + Sync>(
                 status: ACCEPTED,
             })
         }
-        Err(line) => refused(alloc, b"session-text line ", *line),
+        Err(line) => refused_session(alloc, *line),
     }
 }
 
@@ -77,6 +77,6 @@ pub fn draw_along_read<R: Threads + Sync>(
             }
             Err(line) => refused(alloc, b"runs-text line ", *line),
         },
-        Err(line) => refused(alloc, b"session-text line ", *line),
+        Err(line) => refused_session(alloc, *line),
     }
 }

@@ -9,8 +9,8 @@ ghost use Rattle.commands.specs.Replayed.{IsAlong, IsOutcome, IsReplayAnswer, Is
 
 use crate::answer::Answer;
 use crate::status::outcome_status;
-use audit_report::push_shape;
 use cert_check::{ShapeFault, shape};
+use judged_texts::{push_refused_session, push_shape};
 use merge_runs::{MergeFault, replay};
 use migration_types::{Run, Seq, Session};
 use session_log::line_of;
@@ -92,7 +92,7 @@ fn push_outcome(out: &mut Vec<u8>, outcome: Outcome) -> Result<(), AllocError>
     ensures { OnOk result (out.new.items ≡ out.old.items ++ outcome_line outcome) }
 {
     match outcome {
-        Outcome::SessionText(line) => push_keyed(out, b"session-text line ", line),
+        Outcome::SessionText(line) => push_refused_session(out, line),
         Outcome::RunsText(line) => push_keyed(out, b"runs-text line ", line),
         Outcome::Shape(fault) => push_shape(out, &fault),
         Outcome::NoMerging => push_line(out, b"no-merging"),

@@ -6,8 +6,9 @@ ghost use Rattle.commands.specs.Replayed.{outcome_status};
 
 use crate::answer::{ACCEPTED, REFUSED};
 use crate::replaying::Outcome;
-use audit_report::{Audited, Report};
+use audit_report::Report;
 use cert_check::Verdict;
+use judged_texts::Audited;
 
 /// The status of a verdict.
 pub fn verdict_status(verdict: Verdict) -> u8

@@ -5,7 +5,7 @@ ghost use Rattle.text_lines.specs.Text.{ended, IsSpelling};
 ghost use Rattle.session_log.specs.Grammar.{session_lines};
 ghost use Rattle.guest_script.specs.Events.{SpellsEvents};
 ghost use Rattle.guest_script.specs.Scripts.{SpellsScript};
-ghost use Rattle.audit_report.specs.declared.wanted.Wanted.{Wanted as Asked};
+ghost use Rattle.judged_texts.specs.declared.wanted.Wanted.{Wanted as Asked};
 ghost use Rattle.commands.specs.Answers.{IsAuditAnswer, Says};
 ghost use Rattle.commands.specs.Steps.{IsStepsAnswer};
 

@@ -12,7 +12,8 @@ use crate::shapes::{
     push_column, push_stub, row_class, top_of,
 };
 use crate::words::{page_reason, push, push_log, push_name, push_title, push_with, shape_reason};
-use audit_report::{Report, push_first_line};
+use audit_report::Report;
+use judged_texts::push_first_line;
 use merge_runs::{Taken, all_of, records_of};
 use migration_types::{LogName, Session, logs};
 use session_story::line_at;

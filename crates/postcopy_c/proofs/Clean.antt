@@ -2,10 +2,10 @@
 -- finds a fault of a page.
 use Rattle.std.proofs.Common.{◌≡◌, ◌≢◌, ℕ, List, refl, ap, arith}
 use Rattle.audit_report.specs.declared.report.Report.TheVariants as report
-use Rattle.audit_report.specs.declared.texts.Audited.{Audited}
-use Rattle.audit_report.specs.declared.texts.Audited.TheVariants.{Refused, Reported}
-use Rattle.audit_report.specs.Texts.{HasReport, FindsClean, FindsFault, IsSafeExactlyIf}
-use Rattle.cert_check.specs.Texts.{OfSpelled}
+use Rattle.judged_texts.specs.declared.auditing.Audited.{Audited}
+use Rattle.judged_texts.specs.declared.auditing.Audited.TheVariants.{Refused, Reported}
+use Rattle.judged_texts.specs.Audited.{HasReport, FindsClean, FindsFault, IsSafeExactlyIf}
+use Rattle.judged_texts.specs.Checked.{OfSpelled}
 use Rattle.postcopy_c.specs.declared.answer.PostcopyAnswer.{PostcopyAnswer}
 use Rattle.postcopy_c.specs.declared.kinds.TheConstants.{SESSION_TEXT, CLEAN, FAULTY}
 use Rattle.postcopy_c.specs.Numbers.{audited_numbers}

@@ -2,11 +2,11 @@
 use Rattle.std.specs.Prelude.{◌≡◌, ℕ, ◌<◌, ◌≤◌, ◌⊎◌, List, ◌++◌, length, drop, Result, IfOk}
 use Rattle.std.specs.declared.alloc.AllocError.{AllocError}
 use Rattle.cert_check.specs.declared.verdict.Verdict.{Verdict}
-use Rattle.cert_check.specs.Texts.{IsTextVerdict}
-use Rattle.audit_report.specs.declared.texts.Audited.{Audited}
-use Rattle.audit_report.specs.declared.wanted.Wanted.{Wanted}
-use Rattle.audit_report.specs.Texts.{IsAudited}
-use Rattle.audit_report.specs.AuditedText.{audited_text}
+use Rattle.judged_texts.specs.Checked.{IsTextVerdict}
+use Rattle.judged_texts.specs.declared.auditing.Audited.{Audited}
+use Rattle.judged_texts.specs.declared.wanted.Wanted.{Wanted}
+use Rattle.judged_texts.specs.Audited.{IsAudited}
+use Rattle.judged_texts.specs.AuditedText.{audited_text}
 use Rattle.postcopy_c.specs.declared.answer.PostcopyAnswer.{PostcopyAnswer}
 use Rattle.postcopy_c.specs.Numbers.{verdict_numbers, audited_numbers, no_memory}
 

@@ -8,8 +8,8 @@ use Rattle.audit_model.specs.declared.reasons.PageReason.TheVariants as page
 use Rattle.cert_check.specs.declared.verdict.Verdict.{Verdict}
 use Rattle.cert_check.specs.declared.verdict.Verdict.TheVariants as verdict
 use Rattle.audit_report.specs.declared.report.Report.TheVariants as report
-use Rattle.audit_report.specs.declared.texts.Audited.{Audited}
-use Rattle.audit_report.specs.declared.texts.Audited.TheVariants.{Refused, Reported}
+use Rattle.judged_texts.specs.declared.auditing.Audited.{Audited}
+use Rattle.judged_texts.specs.declared.auditing.Audited.TheVariants.{Refused, Reported}
 use Rattle.postcopy_c.specs.declared.answer.PostcopyAnswer.{PostcopyAnswer}
 use Rattle.postcopy_c.specs.declared.kinds.TheConstants.{YES, CLEAN, SESSION_TEXT, CERT_TEXT, SHAPE, PAGES, RUNS, PAGE, KNOT, FAULTY, NO_MEMORY}
 use Rattle.postcopy_c.specs.declared.reasons.TheConstants.{PHASES, NAMED, START, SECOND_SEND, READ, EARLY, GIVEN, STALE, TWICE, ALTERED, UNFIT, OVER}

@@ -7,8 +7,9 @@ use crate::kinds::{
     CERT_TEXT, CLEAN, FAULTY, KNOT, NO_MEMORY, PAGE, PAGES, RUNS, SESSION_TEXT, SHAPE, YES,
 };
 use crate::reasons::{number_of_page, number_of_shape};
-use audit_report::{Audited, Report};
+use audit_report::Report;
 use cert_check::{ShapeFault, Verdict};
+use judged_texts::Audited;
 use std::alloc::AllocError;
 
 /// An answer as C has it.

@@ -5,8 +5,8 @@ ghost use Rattle.std.specs.Prelude.{◌≡◌, ◌≢◌};
 ghost use Rattle.audit_model.specs.Mergings.{HasMerging};
 ghost use Rattle.audit_model.specs.World.{IsSafe};
 ghost use Rattle.audit_model.specs.Laws.{FindsResident, ReadsFlat, PlacedOnce, PlacedUntouched, ReleasedAsZeros};
-ghost use Rattle.cert_check.specs.Texts.{SpellsOneSession, OfSpelled, ReplaysClean};
-ghost use Rattle.audit_report.specs.Texts.{IsSafeExactlyIf, IsUnsafe};
+ghost use Rattle.judged_texts.specs.Checked.{SpellsOneSession, OfSpelled, ReplaysClean};
+ghost use Rattle.judged_texts.specs.Audited.{IsSafeExactlyIf, IsUnsafe};
 ghost use Rattle.postcopy_c.specs.Answers.{IsVerdictAnswer, IsAuditAnswer};
 
 mod answer;
@@ -17,14 +17,13 @@ mod telling;
 use crate::answer::{PostcopyAnswer, verdict_answer};
 use crate::kinds::{CLEAN, FAULTY, NO_MEMORY, SESSION_TEXT, YES};
 use crate::telling::tell_audit;
-use audit_report::Wanted;
-use cert_check::check_texts_alone;
+use judged_texts::{Wanted, check_texts_alone};
 use std::alloc::Global;
 
 /// The version: 10,000 for each of its first number, 100 for each of its second, and its third.
 pub const VERSION: u32 = 10_000;
 
-/// The verdict on the bytes of a session and of its certificate, as `cert_check::check_texts_alone` has it.
+/// The verdict on the bytes of a session and of its certificate, as `judged_texts::check_texts_alone` has it.
 #[unsafe(no_mangle)]
 pub extern "C" fn postcopy_check(alloc: Global, session: &[u8], cert: &[u8]) -> PostcopyAnswer
     ensures verdict { IsVerdictAnswer session.now cert.now result }

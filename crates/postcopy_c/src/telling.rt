@@ -2,13 +2,13 @@
 
 ghost use Rattle.std.specs.Prelude.{◌≡◌, ◌≢◌, IfOk, IfErr};
 ghost use Rattle.audit_model.specs.World.{IsSafe};
-ghost use Rattle.cert_check.specs.Texts.{SpellsOneSession, OfSpelled};
-ghost use Rattle.audit_report.specs.Texts.{AuditedFits, IsSafeExactlyIf, IsUnsafe};
+ghost use Rattle.judged_texts.specs.Checked.{SpellsOneSession, OfSpelled};
+ghost use Rattle.judged_texts.specs.Audited.{AuditedFits, IsSafeExactlyIf, IsUnsafe};
 ghost use Rattle.postcopy_c.specs.Answers.{IsPut, IsTold, IsAuditAnswer};
 
 use crate::answer::{PostcopyAnswer, audited_answer, out_of_memory};
 use crate::kinds::{CLEAN, FAULTY, NO_MEMORY, SESSION_TEXT};
-use audit_report::{Audited, Wanted, audit_text, print_audited};
+use judged_texts::{Audited, Wanted, audit_text, print_audited};
 use std::alloc::{AllocError, Global};
 
 /// Puts a text at the front of the room where it fits; where it does not the room stays as it was.

@@ -1,10 +1,10 @@
 -- The text that tells what happened in a session: what it begins with.
 use Rattle.std.specs.Prelude.{◌≡◌, ℕ, List, [], ◌∷◌, ◌++◌}
 use Rattle.text_lines.specs.Text.{ended}
-use Rattle.audit_report.specs.declared.texts.Audited.{Audited}
-use Rattle.audit_report.specs.declared.texts.Audited.TheVariants.{Refused, Reported}
-use Rattle.audit_report.specs.ReportText.{first_line}
-use Rattle.audit_report.specs.AuditedText.{refusal_text}
+use Rattle.judged_texts.specs.declared.auditing.Audited.{Audited}
+use Rattle.judged_texts.specs.declared.auditing.Audited.TheVariants.{Refused, Reported}
+use Rattle.judged_texts.specs.ReportText.{first_line}
+use Rattle.judged_texts.specs.AuditedText.{refusal_text}
 
 -- the text begins so
 abbrev pub BeginsWith : List ℕ → List ℕ → Type 0

@@ -1,18 +1,18 @@
 //! The text that tells what happened in a session.
 
-ghost use Rattle.std.specs.Prelude.{[], ◌∷◌, ◌++◌, ◌≡◌, IfOk, OnOk};
+ghost use Rattle.std.specs.Prelude.{[], ◌∷◌, IfOk};
 ghost use Rattle.text_lines.specs.Text.{ended};
 ghost use Rattle.audit_report.specs.Reports.{IsReport};
-ghost use Rattle.audit_report.specs.ReportText.{first_line};
-ghost use Rattle.audit_report.specs.AuditedText.{refusal_text};
+ghost use Rattle.judged_texts.specs.ReportText.{first_line};
+ghost use Rattle.judged_texts.specs.AuditedText.{refusal_text};
 ghost use Rattle.session_story.specs.Told.{BeginsWith};
 
 use crate::explaining::explain;
 use crate::words::words_of;
-use audit_report::{Report, push_first_line};
+use audit_report::Report;
+use judged_texts::{push_first_line, push_refused_session};
 use migration_types::Session;
 use std::alloc::{AllocError, Global};
-use text_lines::push_keyed;
 
 /// What happened in a session, in words, behind the first line of the report on it. Each line ends with LF. Takes a few
 /// passes over each log, and as much memory as an audit does and one machine more, which is the only error.
@@ -36,19 +36,12 @@ pub fn print_explained(
 const NO_TEXT: &[u8] =
     b"This is no text of a session: no such text begins as this one does up to that line, or this one ends there too early.\n";
 
-/// Adds the line of a text that is refused.
-fn push_refusal(text: &mut Vec<u8>, line: u32) -> Result<(), AllocError>
-    ensures { OnOk result (text.new.items ≡ text.old.items ++ refusal_text line) }
-{
-    push_keyed(text, b"session-text line ", line)
-}
-
 /// That a text is refused at this line, as an audit tells it, and what that means. An error: there is no memory for it.
 pub fn print_refused(alloc: Global, line: u32) -> Result<Vec<u8>, AllocError>
     ensures { IfOk result (λ text. BeginsWith (refusal_text line) text.items) }
 {
     let mut text = Vec::new(alloc);
-    push_refusal(&mut text, line)?;
+    push_refused_session(&mut text, line)?;
     text.extend_from_slice(NO_TEXT)?;
     Ok(text)
 }

@@ -1,7 +1,8 @@
 //! Reports on recorded sessions, against the rules.
 
 use crate::texts::{FRESH, HANDOVER, OVER, PULLED, SEEN};
-use audit_report::{Report, audit, print_report};
+use audit_report::{Report, audit};
+use judged_texts::print_report;
 use migration_types::Session;
 use session_log::read_session;
 use std::alloc::{AllocError, Global};

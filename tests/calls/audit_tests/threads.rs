@@ -1,8 +1,9 @@
 //! Sessions of many pages, which threads judge side by side, beside the calling thread alone.
 
-use audit_report::{Report, audit, print_report};
-use cert_check::{Verdict, check, check_par, check_texts};
+use audit_report::{Report, audit};
+use cert_check::{Verdict, check, check_par};
 use cert_text::read_cert;
+use judged_texts::{check_texts, print_report};
 use migration_types::{Cert, Session};
 use session_log::read_session;
 use std::alloc::{AllocError, Global};

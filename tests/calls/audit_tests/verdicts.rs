@@ -2,8 +2,9 @@
 
 use crate::texts::{FRESH, HANDOVER, PULLED, RELEASED, SEEN};
 use audit_model::ShapeReason;
-use cert_check::{ShapeFault, Verdict, check, check_par, check_texts, check_texts_alone, shape};
+use cert_check::{ShapeFault, Verdict, check, check_par, shape};
 use cert_text::read_cert;
+use judged_texts::{check_texts, check_texts_alone};
 use migration_types::{Cert, LogName, Session};
 use session_log::read_session;
 use std::alloc::Global;

@@ -7,7 +7,7 @@ use Rattle.audit_model.specs.Mergings.{IsMerging, spelled}
 use Rattle.audit_model.specs.Shape.{IsRightShape}
 use Rattle.audit_model.specs.Laws.{IsCertified}
 use Rattle.cert_check.specs.Verdicts.{IsShapeFault, SamePages, AreRightEntries, IsFirstBadPage}
-use Rattle.cert_check.specs.inner.Promises.{IsReplayedBy}
+use Rattle.cert_check.specs.Promises.{IsReplayedBy}
 use Rattle.cert_check.proofs.Promised.{promised}
 use Rattle.cert_check.proofs.judge.check_by.Goals.{In-None}
 use Rattle.cert_check.proofs.judge.check_by.Given.{Over}

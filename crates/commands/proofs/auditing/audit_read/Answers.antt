@@ -1,5 +1,5 @@
-use Rattle.audit_report.specs.Texts.{IsAudited}
-use Rattle.audit_report.specs.AuditedText.{audited_text}
+use Rattle.judged_texts.specs.Audited.{IsAudited}
+use Rattle.judged_texts.specs.AuditedText.{audited_text}
 use Rattle.commands.specs.Answers.{audited_status}
 use Rattle.commands.proofs.Said.{says_right}
 use Rattle.commands.proofs.auditing.audit_read.Goals as goal

@@ -8,4 +8,4 @@ pub returns-in-Err-runs : goal.returns-in-Err-runs
 returns-in-Err-runs g c = λ first second read other. refused_runs first c.args.session.now read second c.args.runs.now other c.in-Ok.session c.in-Err-runs.line c.refused.result c.in-Ok.is c.in-Err-runs.is c.refused.ensures
 
 pub returns-in-Err : goal.returns-in-Err
-returns-in-Err g c = λ first second read other. refused_along first c.args.session.now read second c.in-Err.line c.refused-in-Err.result c.in-Err.is c.refused-in-Err.ensures
+returns-in-Err g c = λ first second read other. refused_along first c.args.session.now read second c.in-Err.line c.refused_session.result c.in-Err.is c.refused_session.ensures

@@ -5,4 +5,4 @@ pub returns-in_ok-text-in-Ok : goal.returns-in_ok-text-in-Ok
 returns-in_ok-text-in-Ok g c = λ text read. drawn text c.args.session.now read c.in-Ok.session _ c.in-Ok.is c.in_ok-text-in-Ok.ensures
 
 pub returns-in-Err : goal.returns-in-Err
-returns-in-Err g c = λ text read. refused_session text c.args.session.now read c.in-Err.line c.refused.result c.in-Err.is c.refused.ensures
+returns-in-Err g c = λ text read. refused_session text c.args.session.now read c.in-Err.line c.refused_session.result c.in-Err.is c.refused_session.ensures

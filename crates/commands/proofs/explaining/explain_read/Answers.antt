@@ -4,7 +4,7 @@ use Rattle.text_lines.specs.Text.{IsRefusalLine}
 use Rattle.text_lines.specs.Answer.{IsRead}
 use Rattle.migration_types.specs.Sessions.{Recorded}
 use Rattle.session_log.specs.Grammar.{SpellsSession}
-use Rattle.audit_report.specs.declared.texts.Audited.TheVariants.{Refused, Reported}
+use Rattle.judged_texts.specs.declared.auditing.Audited.TheVariants.{Refused, Reported}
 use Rattle.commands.specs.declared.answer.Answer.{Answer}
 use Rattle.commands.specs.Explained.{IsExplainAnswer, TellsReport}
 use Rattle.commands.proofs.explaining.explain_read.Goals as goal

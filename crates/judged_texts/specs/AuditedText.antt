@@ -5,11 +5,11 @@ use Rattle.text_lines.specs.Text.{ended}
 use Rattle.cert_text.specs.Grammar.{cert_lines}
 use Rattle.audit_report.specs.declared.report.Report.{Report}
 use Rattle.audit_report.specs.declared.report.Report.TheVariants as report
-use Rattle.audit_report.specs.declared.texts.Audited.{Audited}
-use Rattle.audit_report.specs.declared.texts.Audited.TheVariants.{Refused, Reported}
-use Rattle.audit_report.specs.declared.wanted.Wanted.{Wanted}
-use Rattle.audit_report.specs.declared.wanted.Wanted.TheVariants as wanted
-use Rattle.audit_report.specs.ReportText.{first_line, report_text}
+use Rattle.judged_texts.specs.declared.auditing.Audited.{Audited}
+use Rattle.judged_texts.specs.declared.auditing.Audited.TheVariants.{Refused, Reported}
+use Rattle.judged_texts.specs.declared.wanted.Wanted.{Wanted}
+use Rattle.judged_texts.specs.declared.wanted.Wanted.TheVariants as wanted
+use Rattle.judged_texts.specs.ReportText.{first_line, report_text}
 
 -- as in "session-text line 7"
 abbrev pub refusal_text : ℕ → List ℕ

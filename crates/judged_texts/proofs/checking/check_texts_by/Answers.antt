@@ -1,8 +1,8 @@
 use Rattle.migration_types.specs.Sessions.{Recorded}
-use Rattle.cert_check.specs.Texts.{OfSpelled, ReplaysClean}
+use Rattle.judged_texts.specs.Checked.{OfSpelled, ReplaysClean}
 use Rattle.cert_check.proofs.Promised.{promised_on}
-use Rattle.cert_check.proofs.Spelled.{of_spelled, text_verdict}
-use Rattle.cert_check.proofs.texts.check_texts_by.Goals as goal
+use Rattle.judged_texts.proofs.Spelled.{of_spelled, text_verdict}
+use Rattle.judged_texts.proofs.checking.check_texts_by.Goals as goal
 
 pub returns-in-Ok-clause-verdict : goal.returns-in-Ok-clause-verdict
 returns-in-Ok-clause-verdict g c = text_verdict c.args.session.now c.args.cert.now c.in-Ok.recorded c.judged.result c.in-Ok.ensures c.judged.ensures.verdict

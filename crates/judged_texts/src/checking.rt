@@ -7,13 +7,11 @@ ghost use Rattle.cert_text.specs.Grammar.{SpellsCert};
 ghost use Rattle.audit_model.specs.Mergings.{HasMerging};
 ghost use Rattle.audit_model.specs.World.{IsSafe};
 ghost use Rattle.audit_model.specs.Laws.{FindsResident, ReadsFlat, PlacedOnce, PlacedUntouched, ReleasedAsZeros};
-ghost use Rattle.cert_check.specs.Texts.{IsTextVerdict, SpellsOneSession, OfSpelled, ReplaysClean};
-ghost use Rattle.cert_check.specs.inner.CertTexts.{IsCertTextVerdict};
-ghost use Rattle.cert_check.specs.inner.Promises.{Promises};
+ghost use Rattle.judged_texts.specs.Checked.{IsTextVerdict, SpellsOneSession, OfSpelled, ReplaysClean};
+ghost use Rattle.judged_texts.specs.inner.CertTexts.{IsCertTextVerdict};
+ghost use Rattle.cert_check.specs.Promises.{Promises};
 
-use crate::bad_page::EntryJudges;
-use crate::judge::{check_by, check_par};
-use crate::verdict::Verdict;
+use cert_check::{EntryJudges, Verdict, check_by, check_par};
 use cert_text::{cert_texts_are_unambiguous, read_cert};
 use migration_types::{Cert, Session};
 use page_facts::{Alone, InThreads};

@@ -1,7 +1,7 @@
 -- The audit of a session that was read from a text.
 use Rattle.migration_types.specs.Sessions.{Recorded}
-use Rattle.audit_report.specs.declared.texts.Audited.{Audited}
-use Rattle.audit_report.specs.declared.texts.Audited.TheVariants.{Refused, Reported}
+use Rattle.judged_texts.specs.declared.auditing.Audited.{Audited}
+use Rattle.judged_texts.specs.declared.auditing.Audited.TheVariants.{Refused, Reported}
 use Rattle.audit_report.specs.Reports.{IsReport}
 
 -- the report on this session

@@ -6,8 +6,8 @@ use Rattle.session_log.specs.Grammar.{SpellsSession}
 use Rattle.audit_model.specs.Mergings.{HasMerging}
 use Rattle.audit_model.specs.World.{IsSafe}
 use Rattle.audit_model.specs.Shape.{IsRightShape}
-use Rattle.audit_report.specs.declared.texts.Audited.{Audited}
-use Rattle.audit_report.specs.declared.texts.Audited.TheVariants.{Refused, Reported}
+use Rattle.judged_texts.specs.declared.auditing.Audited.{Audited}
+use Rattle.judged_texts.specs.declared.auditing.Audited.TheVariants.{Refused, Reported}
 use Rattle.audit_report.specs.declared.report.Report.TheVariants.{Clean, Shape, Knot, Faulty}
 use Rattle.audit_report.specs.Reports.{IsReport, IsClean, ReportFits}
 

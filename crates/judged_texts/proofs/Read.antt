@@ -8,12 +8,12 @@ use Rattle.text_lines.specs.declared.FaultKind.TheVariants.{Form, Range, Ended, 
 use Rattle.migration_types.specs.Sessions.{Recorded}
 use Rattle.session_log.specs.Grammar.{SpellsSession}
 use Rattle.audit_model.specs.World.{IsSafe}
-use Rattle.cert_check.specs.Texts.{SpellsOneSession, OfSpelled}
-use Rattle.cert_check.proofs.Spelled.{of_spelled}
-use Rattle.audit_report.specs.declared.texts.Audited.{Audited}
-use Rattle.audit_report.specs.declared.texts.Audited.TheVariants.{Refused, Reported}
-use Rattle.audit_report.specs.Texts.{IsAudited, HasReport, FindsClean, FindsFault, IsSafeExactlyIf, IsUnsafe}
-use Rattle.audit_report.specs.inner.Read.{IsReportOn}
+use Rattle.judged_texts.specs.Checked.{SpellsOneSession, OfSpelled}
+use Rattle.judged_texts.proofs.Spelled.{of_spelled}
+use Rattle.judged_texts.specs.declared.auditing.Audited.{Audited}
+use Rattle.judged_texts.specs.declared.auditing.Audited.TheVariants.{Refused, Reported}
+use Rattle.judged_texts.specs.Audited.{IsAudited, HasReport, FindsClean, FindsFault, IsSafeExactlyIf, IsUnsafe}
+use Rattle.judged_texts.specs.inner.Read.{IsReportOn}
 
 pub audited_of : (text : List ℕ) (s : Recorded) (r : Result Audited AllocError) → IsSpelling SpellsSession s text → IfOk r (IsReportOn s) → IfOk r (IsAudited text)
 audited_of text s (Ok (Refused line)) spells is = absurd is

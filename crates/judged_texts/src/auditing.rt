@@ -2,12 +2,11 @@
 
 ghost use Rattle.std.specs.Prelude.{IfOk};
 ghost use Rattle.audit_model.specs.World.{IsSafe};
-ghost use Rattle.cert_check.specs.Texts.{SpellsOneSession, OfSpelled};
-ghost use Rattle.audit_report.specs.Texts.{IsAudited, HasReport, FindsClean, FindsFault, IsSafeExactlyIf, IsUnsafe, AuditedFits};
-ghost use Rattle.audit_report.specs.inner.Read.{IsReportOn};
+ghost use Rattle.judged_texts.specs.Checked.{SpellsOneSession, OfSpelled};
+ghost use Rattle.judged_texts.specs.Audited.{IsAudited, HasReport, FindsClean, FindsFault, IsSafeExactlyIf, IsUnsafe, AuditedFits};
+ghost use Rattle.judged_texts.specs.inner.Read.{IsReportOn};
 
-use crate::auditing::audit_by;
-use crate::report::Report;
+use audit_report::{Report, audit_by};
 use migration_types::Session;
 use page_facts::Alone;
 use session_log::{read_session, session_texts_are_unambiguous};

@@ -9,8 +9,8 @@ use Rattle.migration_types.specs.Certs.{Certified}
 use Rattle.cert_text.specs.Grammar.{SpellsCert}
 use Rattle.audit_model.specs.Mergings.{spelled}
 use Rattle.audit_model.specs.World.{IsSafeOrder}
-use Rattle.cert_check.specs.Texts.{IsJudged, IsTextVerdict, OfSpelled, ReplaysClean}
-use Rattle.cert_check.specs.inner.CertTexts.{IsCertJudged, IsCertTextVerdict}
+use Rattle.judged_texts.specs.Checked.{IsJudged, IsTextVerdict, OfSpelled, ReplaysClean}
+use Rattle.judged_texts.specs.inner.CertTexts.{IsCertJudged, IsCertTextVerdict}
 use Rattle.cert_check.specs.Verdicts.{IsVerdict}
 use Rattle.cert_check.specs.declared.verdict.Verdict.{Verdict}
 use Rattle.cert_check.specs.declared.verdict.Verdict.TheVariants.{SessionText, CertText, Shape, Pages, Runs, Page, Yes}

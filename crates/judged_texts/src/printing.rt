@@ -3,10 +3,10 @@
 ghost use Rattle.std.specs.Prelude.{◌≡◌, [], ◌∷◌, ◌++◌, IfOk, OnOk};
 ghost use Rattle.text_lines.specs.Text.{ended};
 ghost use Rattle.audit_report.specs.Reports.{ReportFits};
-ghost use Rattle.audit_report.specs.AuditedText.{refusal_text, certificate_refusal_text};
-ghost use Rattle.audit_report.specs.ReportText.{shape_line, first_line, lines_behind, report_text};
+ghost use Rattle.judged_texts.specs.AuditedText.{refusal_text, certificate_refusal_text};
+ghost use Rattle.judged_texts.specs.ReportText.{shape_line, first_line, lines_behind, report_text};
 
-use crate::report::Report;
+use audit_report::Report;
 use cert_check::ShapeFault;
 use cert_text::{write_cert, write_runs};
 use std::alloc::{AllocError, Global};

@@ -1,6 +1,6 @@
-use Rattle.audit_report.specs.Texts.{IsSafeExactlyIf}
-use Rattle.audit_report.proofs.Read.{audited_of, one_session_of, safe_of_text, exactly_of_text, faulty_of_text, of_refused}
-use Rattle.audit_report.proofs.texts.audit_text.Goals as goal
+use Rattle.judged_texts.specs.Audited.{IsSafeExactlyIf}
+use Rattle.judged_texts.proofs.Read.{audited_of, one_session_of, safe_of_text, exactly_of_text, faulty_of_text, of_refused}
+use Rattle.judged_texts.proofs.auditing.audit_text.Goals as goal
 
 pub returns-in-Ok-clause-audited : goal.returns-in-Ok-clause-audited
 returns-in-Ok-clause-audited c = audited_of c.args.session.now c.in-Ok.recorded c.reported.result c.in-Ok.ensures c.reported.ensures.report

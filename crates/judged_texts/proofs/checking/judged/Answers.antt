@@ -1,8 +1,8 @@
-use Rattle.cert_check.specs.Texts.{ReplaysClean}
-use Rattle.cert_check.specs.inner.Promises.{IsReplayedBy}
+use Rattle.judged_texts.specs.Checked.{ReplaysClean}
+use Rattle.cert_check.specs.Promises.{IsReplayedBy}
 use Rattle.cert_check.proofs.Promised.{promised_on}
-use Rattle.cert_check.proofs.Spelled.{replays, cert_verdict}
-use Rattle.cert_check.proofs.texts.judged.Goals as goal
+use Rattle.judged_texts.proofs.Spelled.{replays, cert_verdict}
+use Rattle.judged_texts.proofs.checking.judged.Goals as goal
 
 pub returns-in-Ok-clause-verdict : goal.returns-in-Ok-clause-verdict
 returns-in-Ok-clause-verdict g c = cert_verdict c.args.cert.now c.args.session.now c.in-Ok.certified c.check_by.result c.in-Ok.ensures c.check_by.ensures.verdict
