@@ -1,7 +1,7 @@
 //! The shape of a session: its first fault.
 
 ghost use Rattle.std.specs.Prelude.{◌≡◌, MatchOption, IfOk};
-ghost use Rattle.migration_types.specs.declared.records.LogName.TheVariants.{Guest, Source, Link, Lane, Pager};
+ghost use Rattle.migration_types.specs.declared.records.LogName.TheVariants.{Guest, Source};
 ghost use Rattle.migration_types.specs.Sessions.{IsSession, line_of};
 ghost use Rattle.audit_model.specs.Shape.{IsRightShape};
 ghost use Rattle.cert_check.specs.inner.FirstOfLog.{IsRightLog, IsFirstOfLog};
@@ -11,7 +11,7 @@ use crate::log_passes::{Found, first_found};
 use crate::passes::{GuestPass, LanePass, LinkPass, PagerPass, Phases, SourcePass};
 use crate::verdict::ShapeFault;
 use audit_model::ShapeReason;
-use migration_types::{LogName, Session};
+use migration_types::{LogName, Session, logs};
 use page_tables::Table;
 use session_log::line_of;
 use std::alloc::{AllocError, Global};
@@ -38,28 +38,31 @@ fn source_fault(alloc: Global, session: &Session) -> Result<Option<Found<ShapeRe
     Ok(fault)
 }
 
-/// The first fault of the link's log.
-fn link_fault(session: &Session) -> Option<Found<ShapeReason>>
+/// The first fault of a log.
+fn fault_of(
+    alloc: Global,
+    session: &Session,
+    log: LogName,
+) -> Result<Option<Found<ShapeReason>>, AllocError>
     requires { IsSession session.now }
-    ensures { MatchOption result (IsRightLog session.now Link) (λ f. IsFirstOfLog session.now Link f.place f.reason) }
+    ensures { IfOk result (λ o. MatchOption o (IsRightLog session.now log) (λ f. IsFirstOfLog session.now log f.place f.reason)) }
 {
-    first_found::<LinkPass>(session, &mut (), 0, session.link().len())
-}
-
-/// The first fault of the lane's log.
-fn lane_fault(session: &Session) -> Option<Found<ShapeReason>>
-    requires { IsSession session.now }
-    ensures { MatchOption result (IsRightLog session.now Lane) (λ f. IsFirstOfLog session.now Lane f.place f.reason) }
-{
-    first_found::<LanePass>(session, &mut (), 0, session.lane().len())
-}
-
-/// The first fault of the pager's log.
-fn pager_fault(session: &Session) -> Option<Found<ShapeReason>>
-    requires { IsSession session.now }
-    ensures { MatchOption result (IsRightLog session.now Pager) (λ f. IsFirstOfLog session.now Pager f.place f.reason) }
-{
-    first_found::<PagerPass>(session, &mut (), 0, session.pager().len())
+    match log {
+        LogName::Guest => Ok(guest_fault(session)),
+        LogName::Source => source_fault(alloc, session),
+        LogName::Link => {
+            let fault = first_found::<LinkPass>(session, &mut (), 0, session.link().len());
+            Ok(fault)
+        }
+        LogName::Lane => {
+            let fault = first_found::<LanePass>(session, &mut (), 0, session.lane().len());
+            Ok(fault)
+        }
+        LogName::Pager => {
+            let fault = first_found::<PagerPass>(session, &mut (), 0, session.pager().len());
+            Ok(fault)
+        }
+    }
 }
 
 /// The fault of a log as a fault of the session.
@@ -86,21 +89,11 @@ pub fn shape(alloc: Global, session: &Session) -> Result<Option<ShapeFault>, All
     ensures { IfOk result (λ fault. MatchOption fault (IsRightShape session.now) (IsShapeFault session.now)) }
 {
     session.keeps_limits();
-    if let Some(fault) = guest_fault(session) {
-        return Ok(Some(told(session, LogName::Guest, fault)));
-    }
-    let source = source_fault(alloc, session)?;
-    if let Some(fault) = source {
-        return Ok(Some(told(session, LogName::Source, fault)));
-    }
-    if let Some(fault) = link_fault(session) {
-        return Ok(Some(told(session, LogName::Link, fault)));
-    }
-    if let Some(fault) = lane_fault(session) {
-        return Ok(Some(told(session, LogName::Lane, fault)));
-    }
-    if let Some(fault) = pager_fault(session) {
-        return Ok(Some(told(session, LogName::Pager, fault)));
+    for log in logs() {
+        let found = fault_of(alloc, session, log)?;
+        if let Some(fault) = found {
+            return Ok(Some(told(session, log, fault)));
+        }
     }
     Ok(None)
 }
