@@ -1,24 +1,10 @@
-//! What is asked of a log, how many records it has, and of a record: of which kind it is, which page it sends or places,
+//! What is asked of a record: of which kind it is, which page it sends or places,
 //! what it delivers.
 
 ghost use Rattle.std.specs.Prelude.{◌≡◌, slice_get};
-ghost use Rattle.audit_model.specs.Names.{log_length};
 ghost use Rattle.audit_model.specs.Shape.{is_halt, is_resume, is_miss, is_state, is_send_of, is_sending, goes_down, is_down, is_up, is_ready, is_taking, is_want, goes_up, is_placement, is_placement_of, taken_sending, delivery, is_or_repeats, delivers, passes};
 
-use migration_types::{GuestRec, LaneRec, LinkRec, LogName, PageNo, PagerRec, Session, SourceRec};
-
-/// How many records a log has.
-pub fn records_of(session: &Session, log: LogName) -> usize
-    ensures { result ≡ log_length session.now log }
-{
-    match log {
-        LogName::Guest => session.guest().len(),
-        LogName::Source => session.source().len(),
-        LogName::Link => session.link().len(),
-        LogName::Lane => session.lane().len(),
-        LogName::Pager => session.pager().len(),
-    }
-}
+use migration_types::{GuestRec, LaneRec, LinkRec, PageNo, PagerRec, SourceRec};
 
 /// Whether it is a halt.
 pub fn is_halt(rec: &GuestRec) -> bool

@@ -14,7 +14,7 @@ mod reasons;
 pub use asked::{
     delivers_send, delivers_state, delivery, goes_down, goes_up, is_down, is_halt, is_miss,
     is_placement, is_placement_of, is_ready, is_resume, is_send_of, is_sending, is_state, is_up,
-    is_want, records_of, sends,
+    is_want, sends,
 };
 pub use home::Home;
 pub use laws::{

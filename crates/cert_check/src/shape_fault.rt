@@ -13,7 +13,6 @@ use crate::verdict::ShapeFault;
 use audit_model::ShapeReason;
 use migration_types::{LogName, Session, logs};
 use page_tables::Table;
-use session_log::line_of;
 use std::alloc::{AllocError, Global};
 
 /// The first fault of the guest's log.

@@ -2,12 +2,11 @@
 use Rattle.std.specs.Prelude.{◌≡◌, ℕ, List, [], ◌∷◌, ◌++◌, codes}
 use Rattle.std.specs.Fmt.{decimal}
 use Rattle.text_lines.specs.Counted.{counted}
-use Rattle.migration_types.specs.declared.records.LogName.{LogName}
-use Rattle.migration_types.specs.declared.records.LogName.TheVariants.{Guest, Source, Link, Lane, Pager}
 use Rattle.migration_types.specs.declared.cert.Run.{Run}
 use Rattle.migration_types.specs.declared.version.Version.{Version}
 use Rattle.migration_types.specs.declared.version.Version.TheVariants.{Two}
 use Rattle.migration_types.specs.Certs.{AreRuns}
+pub use Rattle.migration_types.specs.Receipts.{log_word}
 
 abbrev pub runs_text_header : List ℕ
 runs_text_header = codes "postcopy-runs 1"
@@ -17,14 +16,6 @@ runs_key = codes "runs "
 
 abbrev pub closing : List ℕ
 closing = codes "end"
-
--- a log's name
-abbrev pub log_word : LogName → List ℕ
-log_word Guest = codes "guest"
-log_word Source = codes "source"
-log_word Link = codes "link"
-log_word Lane = codes "lane"
-log_word Pager = codes "pager"
 
 abbrev pub run_key : List ℕ
 run_key = codes "run "

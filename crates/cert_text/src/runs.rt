@@ -1,7 +1,7 @@
 //! Lines of runs.
 
 ghost use Rattle.std.specs.Prelude.{◌≡◌, ◌≢◌, [], ◌++◌, ◌↔◌, IsTrue, IfSome, IsSomeAnd, OnOk};
-ghost use Rattle.migration_types.specs.Certs.{LogFits, RunFits};
+ghost use Rattle.migration_types.specs.Certs.{RunFits};
 ghost use Rattle.migration_types.specs.declared.cert.Run.{Run as Told};
 ghost use Rattle.text_lines.specs.Text.{ended};
 ghost use Rattle.cert_text.specs.Runs.{run_line, runs_lines};
@@ -16,14 +16,6 @@ use text_lines::{
     push_keyed, push_line, take_parts,
 };
 
-/// Whether a version has runs of a log.
-#[inline(always)]
-fn has_log(version: Version, log: LogName) -> bool
-    ensures { IsTrue result ↔ LogFits version log }
-{
-    log != LogName::Lane || version == Version::Two
-}
-
 /// The run of a version at the front, and what follows. Nothing follows where the text is its line alone.
 #[inline(always)]
 fn run_then(text: &[u8], version: Version) -> Option<(Run, &[u8])>
@@ -31,7 +23,7 @@ fn run_then(text: &[u8], version: Version) -> Option<(Run, &[u8])>
     ensures whole { (run : Told) → RunFits version run → text.now ≡ run_line run → IsSomeAnd result (λ found. found.1.now ≡ []) }
 {
     let (log, text) = log_then(after_key(text, RUN_KEY)?)?;
-    if !has_log(version, log) {
+    if !log.is_in(version) {
         return None;
     }
     let (count, rest) = front_number(text)?;

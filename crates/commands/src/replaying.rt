@@ -12,8 +12,7 @@ use crate::status::outcome_status;
 use cert_check::{ShapeFault, shape};
 use judged_texts::{push_refused_session, push_shape};
 use merge_runs::{MergeFault, replay};
-use migration_types::{Run, Seq, Session};
-use session_log::line_of;
+use migration_types::{Run, Seq, Session, line_of};
 use std::alloc::{AllocError, Global};
 use text_lines::{push_keyed, push_line};
 

@@ -2,7 +2,7 @@
 
 ghost use Rattle.std.specs.Prelude.{◌≡◌, ◌<◌, ◌≤◌, IfOk, IfErr, IsTrue};
 ghost use Rattle.std.specs.List.{AllByRecursion};
-ghost use Rattle.text_lines.specs.Contents.{IsContent};
+ghost use Rattle.migration_types.specs.Contents.{IsContent};
 ghost use Rattle.migration_types.specs.Sessions.{GuestRecFits, SourceRecFits, LinkRecFits, LaneRecFits, PagerRecFits, HasLane, recorded, IsNumber};
 ghost use Rattle.host_checks.specs.Outcomes.{IsRefused};
 ghost use Rattle.host_checks.specs.inner.Limits.{AreShort, AreOfMachine};

@@ -27,7 +27,7 @@ use Rattle.std.proofs.lemmas.Bool.{ltb-true}
 use Rattle.std.proofs.lemmas.Option.{slice_get_within}
 use Rattle.std.specs.List.{AllByRecursion, range_with_len}
 use Rattle.std.specs.Prelude.{is_some, map, nat_lt, slice_get, slice_index, ◌==◌, ◌^◌}
-use Rattle.text_lines.specs.Contents.{IsContent}
+use Rattle.migration_types.specs.Contents.{IsContent}
 
 -- what must be seen of a record when it is made: its own numbers, and not those of other records
 abbrev pub GuestWithin : Extent → GuestRec → Type 0

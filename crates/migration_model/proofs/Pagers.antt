@@ -43,7 +43,7 @@ use Rattle.target_side.specs.PagerPart.{PagerPart, deliver, delivers_at, deliver
 use Rattle.target_book.specs.TargetPart.{resumes}
 use Rattle.target_side.specs.declared.Incoming.{Incoming}
 use Rattle.target_book.specs.declared.Missing.{Missing}
-use Rattle.text_lines.specs.Contents.{IsContent}
+use Rattle.migration_types.specs.Contents.{IsContent}
 
 listed_released : (ledger : Pages) (xs : List ℕ) (p : ℕ) → is_listed p (filter ledger xs) ≡ true → ledger p ≡ true
 listed_released ledger [] p e = absurd (cc)

@@ -6,11 +6,10 @@ use Rattle.migration_types.specs.declared.cert.First.{First}
 use Rattle.migration_types.specs.declared.cert.Entry.{Entry}
 use Rattle.migration_types.specs.declared.cert.Entry.TheVariants.{Nothing, Fresh, Source, Balloon}
 use Rattle.migration_types.specs.declared.records.LogName.{LogName}
-use Rattle.migration_types.specs.declared.records.LogName.TheVariants.{Lane}
 use Rattle.migration_types.specs.declared.version.Version.{Version}
 use Rattle.migration_types.specs.declared.version.Version.TheVariants.{One, Two}
 use Rattle.migration_types.specs.Limits.{most_pages, most_records, most_runs}
-use Rattle.migration_types.specs.Sessions.{IsNumber, HasLane}
+use Rattle.migration_types.specs.Sessions.{IsNumber, HasLog}
 
 -- what a certificate says, and in which version: an entry for each page, and the runs of a merging
 pub record Certified : Type 0 where
@@ -32,8 +31,7 @@ EntryFits version (Balloon place first) = IsNumber place × FirstFits first
 
 -- the logs of which a version has runs
 abbrev pub LogFits : Version → LogName → Type 0
-LogFits version Lane = HasLane version
-LogFits version _ = Unit {0}
+LogFits version log = HasLog version log
 
 -- a run takes some records, and no more than a log has
 pub record RunFits (version : Version) (run : Run) : Type 0 where

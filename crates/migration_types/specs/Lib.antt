@@ -1,8 +1,10 @@
 pub mod Limits
 pub mod Extents
+pub mod Contents
 pub mod Pages
 pub mod Receipts
 pub mod Sessions
+pub mod Names
 pub mod Memory
 pub mod PageSets
 pub mod Certs

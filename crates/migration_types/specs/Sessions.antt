@@ -1,7 +1,7 @@
 -- Recorded sessions and their limits.
 use Rattle.std.specs.Prelude.{ℕ, ◌+◌, ◌<◌, ◌≤◌, ◌^◌, List, length}
 use Rattle.std.specs.List.{AllByRecursion}
-use Rattle.text_lines.specs.Contents.{IsContent}
+use Rattle.migration_types.specs.Contents.{IsContent}
 use Rattle.migration_types.specs.declared.pages.InitPage.{InitPage}
 use Rattle.migration_types.specs.declared.version.Version.{Version}
 use Rattle.migration_types.specs.declared.version.Version.TheVariants.{One, Two}
@@ -46,6 +46,11 @@ IsNumber n = n < most_records
 abbrev pub HasLane : Version → Type 0
 HasLane One = ⊥
 HasLane Two = Unit {0}
+
+-- the logs that a version has
+abbrev pub HasLog : Version → LogName → Type 0
+HasLog version Lane = HasLane version
+HasLog version _ = Unit {0}
 
 -- a record's numbers are those of a machine of this extent
 abbrev pub GuestRecFits : Extent → GuestRec → Type 0

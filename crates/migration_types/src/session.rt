@@ -1,11 +1,12 @@
 //! Recorded sessions.
 
-ghost use Rattle.std.specs.Prelude.{◌≡◌};
-ghost use Rattle.migration_types.specs.Sessions.{recorded, IsSession};
+ghost use Rattle.std.specs.Prelude.{◌≡◌, ◌≤◌};
+ghost use Rattle.migration_types.specs.Limits.{most_records};
+ghost use Rattle.migration_types.specs.Sessions.{recorded, log_length, IsSession};
 
 use crate::geometry::Geometry;
 use crate::pages::InitPage;
-use crate::records::{GuestRec, LaneRec, LinkRec, PagerRec, SourceRec};
+use crate::records::{GuestRec, LaneRec, LinkRec, LogName, PagerRec, SourceRec};
 use crate::seq::Seq;
 use crate::version::Version;
 use std::marker::Model;
@@ -108,6 +109,21 @@ impl Session {
         ensures { result.now ≡ self.now.pager }
     {
         self.logs.pager.as_slice()
+    }
+
+    /// How many records a log has.
+    pub fn len(&self, log: LogName) -> usize
+        ensures value { result ≡ log_length self.now log }
+        ensures few { result ≤ most_records }
+    {
+        self.keeps_limits();
+        match log {
+            LogName::Guest => self.guest().len(),
+            LogName::Source => self.source().len(),
+            LogName::Link => self.link().len(),
+            LogName::Lane => self.lane().len(),
+            LogName::Pager => self.pager().len(),
+        }
     }
 
     /// Tells callers that it is within all limits.

@@ -14,7 +14,7 @@ use crate::shapes::{
 use crate::words::{page_reason, push, push_log, push_name, push_title, push_with, shape_reason};
 use audit_report::Report;
 use judged_texts::push_first_line;
-use merge_runs::{Taken, all_of, records_of};
+use merge_runs::{Taken, all_of};
 use migration_types::{LogName, Session, logs};
 use session_story::line_at;
 use std::alloc::{AllocError, Global};
@@ -73,7 +73,7 @@ const LEGEND: &[u8] =
 /// The next record of a log, where the order does not take it.
 fn left_of(session: &Session, taken: &Taken, log: LogName) -> Option<Name> {
     let at = taken.of(log);
-    if at < records_of(session, log) {
+    if at < session.len(log) {
         Some((log, u32::try_from(at).ok()?))
     } else {
         None

@@ -3,7 +3,7 @@
 use crate::records::Name;
 use audit_model::{PageReason, ShapeReason};
 use migration_types::{LogName, Session};
-use session_story::{log_word, push_place, push_record};
+use session_story::{push_place, push_record};
 use std::alloc::AllocError;
 use text_lines::push_number;
 
@@ -20,7 +20,7 @@ pub(crate) fn push_with(out: &mut Vec<u8>, text: &[u8], number: u64) -> Result<(
 
 /// Adds the word of a log.
 pub(crate) fn push_log(out: &mut Vec<u8>, log: LogName) -> Result<(), AllocError> {
-    push(out, log_word(log).as_bytes())
+    push(out, log.word().as_bytes())
 }
 
 /// Adds where a record stands, as in "line 27 (pager 5)".

@@ -9,7 +9,6 @@ ghost use Rattle.page_facts.specs.inner.Parts.{IsPart};
 use crate::findings::{Findings, findings_of, judge_page};
 use crate::frame::{Frame, frame_for};
 use crate::session_lists::{SessionLists, lists_par};
-use audit_model::records_of;
 use migration_types::{PageNo, Session, logs};
 use rayon::iter::plumbing::{Consumer, Folder, drive};
 use rayon::prelude::*;
@@ -122,7 +121,7 @@ fn work_of(session: &Session) -> usize
     session.keeps_limits();
     let mut work = session.geometry().pages() as usize;
     for log in logs() {
-        work += records_of(session, log);
+        work += session.len(log);
     }
     work
 }

@@ -5,7 +5,7 @@ use Rattle.std.proofs.lemmas.List.{append-nil}
 use Rattle.std.specs.Int.{w64, from_be_bytes}
 use Rattle.std.proofs.Math.Seq.{take-append_seam, drop-append_seam}
 use Rattle.std.proofs.lemmas.Nat.{from_be_bytes-to_be_bytes_4, from_be_bytes-to_be_bytes_8}
-use Rattle.text_lines.specs.Contents.{IsContent}
+use Rattle.migration_types.specs.Contents.{IsContent}
 use Rattle.migration_types.specs.Extents.{Extent, IsExtent}
 use Rattle.page_stream.specs.Packets.{number_of}
 use Rattle.page_stream.specs.Bytes.{number_bytes, cell_bytes, kind_of, fields_of, body_of, packet_bytes, Rises, Fits, IsShort}

@@ -7,7 +7,7 @@ use Rattle.page_stream.specs.Bytes.{number_bytes, cell_bytes, kind_of, fields_of
 use Rattle.page_stream.specs.inner.Fronts.{AreFields, IsNoFields}
 use Rattle.page_stream.specs.Packets.{number_of}
 use Rattle.migration_types.specs.Extents.{Extent}
-use Rattle.text_lines.specs.Contents.{IsContent}
+use Rattle.migration_types.specs.Contents.{IsContent}
 use Rattle.page_stream.specs.declared.Packet.{Packet}
 use Rattle.page_stream.specs.declared.Packet.TheVariants.{State as StatePacket, Page as PagePacket, Want as WantPacket, All as AllPacket}
 

@@ -2,7 +2,7 @@
 use Rattle.std.specs.Prelude.{◌≡◌, ℕ, ◌+◌, ◌<◌, ◌≤◌, List, [], ◌∷◌, ◌++◌, length}
 use Rattle.std.specs.List.{flat_map}
 use Rattle.std.specs.Int.{w32, w64, to_be_bytes}
-use Rattle.text_lines.specs.Contents.{IsContent}
+use Rattle.migration_types.specs.Contents.{IsContent}
 use Rattle.migration_types.specs.Limits.{most_pages, most_cells, most_records}
 use Rattle.migration_types.specs.Extents.{Extent}
 use Rattle.page_stream.specs.Packets.{number_of}

@@ -2,7 +2,7 @@
 
 ghost use Rattle.std.specs.Prelude.{◌≡◌, ◌++◌, ◌<◌, ◌≤◌, ◌^◌, ℕ, List, length, IfOk, MatchOption};
 ghost use Rattle.std.specs.List.{flat_map};
-ghost use Rattle.text_lines.specs.Contents.{IsContent};
+ghost use Rattle.migration_types.specs.Contents.{IsContent};
 ghost use Rattle.migration_types.specs.Limits.{most_cells, most_records};
 ghost use Rattle.migration_types.specs.Extents.{Extent};
 ghost use Rattle.page_stream.specs.Bytes.{number_bytes, cell_bytes, body_of, Rises, Fits, IsNoBody};

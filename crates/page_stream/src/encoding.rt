@@ -2,7 +2,7 @@
 
 ghost use Rattle.std.specs.Prelude.{true, ◌≡◌, ◌∷◌, ◌++◌, ◌≤◌, length, OnOk, IfOk, MatchBool};
 ghost use Rattle.std.specs.List.{flat_map};
-ghost use Rattle.text_lines.specs.Contents.{IsContent};
+ghost use Rattle.migration_types.specs.Contents.{IsContent};
 ghost use Rattle.migration_types.specs.Limits.{most_pages, most_cells};
 ghost use Rattle.page_stream.specs.Bytes.{number_bytes, cell_bytes, packet_bytes, Rises, Fits, IsShort};
 ghost use Rattle.page_stream.specs.declared.Packet.TheVariants.{State as StatePacket, Page as PagePacket};

@@ -8,7 +8,6 @@ ghost use Rattle.audit_model.specs.Walks.{cursors_from};
 ghost use Rattle.audit_model.specs.FoundOrder.{is_received};
 ghost use Rattle.audit_model.specs.inner.MergingTests.{may, all_taken};
 
-use audit_model::records_of;
 use migration_types::{LogName, Record, Session};
 
 /// What the record at a place is a receipt for.
@@ -69,7 +68,7 @@ fn may_follow(session: &Session, order: &[(LogName, u32)], log: LogName, place: 
     ensures { result ≡ may session.now (cursors_from at_start order.now) (log, place) }
 {
     place as usize == taken(order, log)
-        && (place as usize) < records_of(session, log)
+        && (place as usize) < session.len(log)
         && is_received(order, receipt(session, log, place))
 }
 
@@ -77,11 +76,11 @@ fn may_follow(session: &Session, order: &[(LogName, u32)], log: LogName, place: 
 fn takes_all(session: &Session, order: &[(LogName, u32)]) -> bool
     ensures { result ≡ all_taken session.now (cursors_from at_start order.now) }
 {
-    taken(order, LogName::Guest) == records_of(session, LogName::Guest)
-        && taken(order, LogName::Source) == records_of(session, LogName::Source)
-        && taken(order, LogName::Link) == records_of(session, LogName::Link)
-        && taken(order, LogName::Lane) == records_of(session, LogName::Lane)
-        && taken(order, LogName::Pager) == records_of(session, LogName::Pager)
+    taken(order, LogName::Guest) == session.len(LogName::Guest)
+        && taken(order, LogName::Source) == session.len(LogName::Source)
+        && taken(order, LogName::Link) == session.len(LogName::Link)
+        && taken(order, LogName::Lane) == session.len(LogName::Lane)
+        && taken(order, LogName::Pager) == session.len(LogName::Pager)
 }
 
 /// Whether a list of names is a merging of the session's logs. Counts what is before each name.

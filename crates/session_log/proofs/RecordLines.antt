@@ -58,12 +58,9 @@ behind_link s i k e = behind_source s i (1 + length s.link + k) (omega arith) �
 behind_lane : (s : Recorded) (i k : ℕ) → i ≡ 7 + length s.init + length s.guest + length s.source + length s.link + lines_of_lane s.version (length s.lane) + k → slice_get (session_lines s) i ≡ slice_get (pager_lines s) k
 behind_lane s i k e = behind_link s i (lines_of_lane s.version (length s.lane) + k) (omega arith) ∙ past_lane s.version s.lane (pager_lines s) k
 
-line_at : (s : Recorded) → IsSession s → (log : LogName) (n : ℕ) → n < log_length s log → slice_get (session_lines s) (line_of s (log, n) - 1) ≡ record_line s (log, n)
+pub line_at : (s : Recorded) → IsSession s → (log : LogName) (n : ℕ) → n < log_length s log → slice_get (session_lines s) (line_of s (log, n) - 1) ≡ record_line s (log, n)
 line_at s fits Guest n lt = behind_init s (line_of s (Guest, n) - 1) (1 + n) (omega arith) ∙ in_list guest_key guest_line s.guest (source_lines s) (1 + n) n (omega arith) lt
 line_at s fits Source n lt = behind_guest s (line_of s (Source, n) - 1) (1 + n) (omega arith) ∙ in_list source_key source_line s.source (link_lines s) (1 + n) n (omega arith) lt
 line_at s fits Link n lt = behind_source s (line_of s (Link, n) - 1) (1 + n) (omega arith) ∙ in_list link_key link_line s.link (lane_lines s) (1 + n) n (omega arith) lt
 line_at s fits Lane n lt = behind_link s (line_of s (Lane, n) - 1) (1 + n) (omega arith) ∙ in_lane s.version s.lane (pager_lines s) n fits.lane lt
 line_at s fits Pager n lt = behind_lane s (line_of s (Pager, n) - 1) (1 + n) (omega arith) ∙ in_list pager_key pager_line s.pager (closing ∷ []) (1 + n) n (omega arith) lt
-
-pub line_is : (s : Recorded) → IsSession s → (log : LogName) (n line : ℕ) → n < log_length s log → line ≡ line_of s (log, n) → slice_get (session_lines s) (line - 1) ≡ record_line s (log, n)
-line_is s fits log n line lt is = ap (λ (k : ℕ). slice_get (session_lines s) (k - 1)) is ∙ line_at s fits log n lt

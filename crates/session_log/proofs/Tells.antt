@@ -4,7 +4,8 @@ use Rattle.std.specs.Prelude.{codes}
 use Rattle.std.specs.Fmt.{decimal}
 use Rattle.std.proofs.lemmas.List.{append_cancel_left}
 use Rattle.std.proofs.lemmas.Fmt.{decimal_injective}
-use Rattle.text_lines.specs.Contents.{contents_text, IsContent}
+use Rattle.text_lines.specs.Contents.{contents_text}
+use Rattle.migration_types.specs.Contents.{IsContent}
 use Rattle.text_lines.proofs.Cells.{contents_same}
 use Rattle.text_lines.proofs.Fronts.{numbers_same, no_digit-space}
 use Rattle.migration_types.specs.declared.records.GuestRec.{GuestRec}

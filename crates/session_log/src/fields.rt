@@ -2,11 +2,13 @@
 
 ghost use Rattle.std.specs.Prelude.{◌≡◌, ◌≢◌, ◌<◌, ◌≤◌, [], ◌++◌, List, ℕ, IfSome, IsSomeAnd, IfOk, IfErr};
 ghost use Rattle.std.specs.Fmt.{decimal};
-ghost use Rattle.text_lines.specs.Contents.{contents_text, IsContent};
+ghost use Rattle.text_lines.specs.Contents.{contents_text};
+ghost use Rattle.migration_types.specs.Contents.{IsContent};
 
+use crate::contents::read_contents;
 use migration_types::{Contents, LAST_RECORD, PageNo};
 use std::alloc::Global;
-use text_lines::{FaultKind, after_key, number_last, read_cell, read_contents};
+use text_lines::{FaultKind, after_key, number_last, read_cell};
 
 /// The number of a record behind a key at the front, and what follows. Nothing follows where the text is theirs alone.
 #[inline(always)]

@@ -1,6 +1,6 @@
 -- A page's contents: sixteen lower-case hexadecimal digits a cell.
-use Rattle.std.specs.Prelude.{◌≡◌, ℕ, ◌+◌, ◌*◌, ◌%◌, ◌^◌, ◌<◌, nat_lt, if◌then◌else◌, List, [], ◌∷◌, length}
-use Rattle.std.specs.List.{AllByRecursion, flat_map}
+use Rattle.std.specs.Prelude.{ℕ, ◌+◌, ◌*◌, ◌%◌, nat_lt, if◌then◌else◌, List, [], ◌∷◌}
+use Rattle.std.specs.List.{flat_map}
 use Rattle.std.specs.Int.{w64, to_be_bytes}
 use Rattle.hex.specs.Hex.{encode_lower}
 
@@ -11,11 +11,6 @@ cell_text x = encode_lower (to_be_bytes w64 x)
 -- the text of a page's content, cell 0 first
 abbrev pub contents_text : List ℕ → List ℕ
 contents_text cells = flat_map cell_text cells
-
--- a page's content: a value of 64 bits for each of its cells
-pub record IsContent (cells : ℕ) (content : List ℕ) : Type 0 where
-  pub count : length content ≡ cells
-  pub each : AllByRecursion (λ x. x < 2 ^ 64) content
 
 -- the number of a lower-case hexadecimal digit, and 255 for another byte
 abbrev pub digit_number : ℕ → ℕ

@@ -1,11 +1,9 @@
-//! A page's contents in hexadecimal.
+//! A cell's value in hexadecimal.
 
-ghost use Rattle.std.specs.Prelude.{◌≡◌, ◌≢◌, ◌^◌, ◌<◌, ◌*◌, length, List, ℕ, MatchOption, IsTrue, ◌↔◌, map, take, IfOk, IfErr};
+ghost use Rattle.std.specs.Prelude.{◌≡◌, ◌≢◌, ◌^◌, ◌<◌, ◌*◌, length, List, ℕ, MatchOption, IsTrue, ◌↔◌, map, take};
 ghost use Rattle.std.specs.List.{AllByRecursion};
-ghost use Rattle.text_lines.specs.Contents.{cell_text, contents_text, IsContent, digit_number, pairs_of};
+ghost use Rattle.text_lines.specs.Contents.{cell_text, digit_number, pairs_of};
 
-use crate::FaultKind;
-use std::alloc::Global;
 use std::simd::prelude::*;
 
 /// The number of each digit, and 255 for each byte that is no lower-case hexadecimal digit.
@@ -57,30 +55,4 @@ pub fn read_cell(text: &[u8]) -> Option<u64>
         return None;
     }
     Some(u64::from_be_bytes(pairs(numbers).to_array()))
-}
-
-/// The values of a page's cells that a text spells, cell 0 first. A text of another length takes no memory.
-pub fn read_contents(alloc: Global, text: &[u8], cells: u32) -> Result<Vec<u64>, FaultKind>
-    ensures found { IfOk result (λ v. IsContent cells v.items × (text.now ≡ contents_text v.items)) }
-    ensures refused { IfErr result (λ kind. kind ≢ FaultKind.Memory → (xs : List ℕ) → IsContent cells xs → text.now ≢ contents_text xs) }
-{
-    let count = cells as usize;
-    if text.len() != 16 * count {
-        return Err(FaultKind::Form);
-    }
-    let Ok(mut items) = Vec::with_capacity(alloc, count) else {
-        return Err(FaultKind::Memory);
-    };
-    let mut rest = text;
-    for _ in 0..cells {
-        let (word, after) = rest.split_at(16);
-        let Some(x) = read_cell(word) else {
-            return Err(FaultKind::Form);
-        };
-        let Ok(()) = items.push(x) else {
-            return Err(FaultKind::Memory);
-        };
-        rest = after;
-    }
-    Ok(items)
 }

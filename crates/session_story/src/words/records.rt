@@ -6,13 +6,7 @@ use std::alloc::AllocError;
 
 /// The word of a log, as its section of a session's text has it.
 pub fn log_word(log: LogName) -> &'static str {
-    match log {
-        LogName::Guest => "guest",
-        LogName::Source => "source",
-        LogName::Link => "link",
-        LogName::Lane => "lane",
-        LogName::Pager => "pager",
-    }
+    log.word()
 }
 
 /// Adds where a record stands, as in "line 13 (guest 6)"; of one that is not there its log and its number alone. An

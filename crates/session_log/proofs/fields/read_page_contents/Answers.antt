@@ -1,6 +1,7 @@
 use Rattle.std.proofs.Common.{◌≡◌, ℕ, ◌<◌, ◌^◌, List, [], ◌∷◌, length, ◌∙◌, arith}
 use Rattle.std.proofs.lemmas.List.{append-nil}
-use Rattle.text_lines.specs.Contents.{cell_text, contents_text, IsContent}
+use Rattle.text_lines.specs.Contents.{cell_text, contents_text}
+use Rattle.migration_types.specs.Contents.{IsContent}
 use Rattle.session_log.proofs.fields.read_page_contents.Goals as goal
 
 -- the text of one cell is that cell's

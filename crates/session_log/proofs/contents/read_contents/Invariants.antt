@@ -1,7 +1,7 @@
 use Rattle.std.proofs.Common.{◌≡◌, ℕ, ◌<◌, ◌+◌, ◌*◌, ◌^◌, ◌++◌, length}
 use Rattle.std.specs.List.{AllByRecursion}
 use Rattle.text_lines.specs.Contents.{contents_text}
-use Rattle.text_lines.proofs.contents.read_contents.Given as goal
+use Rattle.session_log.proofs.contents.read_contents.Given as goal
 
 abbrev pub invariant-loop : goal.invariant-loop
 invariant-loop l = record {

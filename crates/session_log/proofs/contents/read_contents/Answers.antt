@@ -4,7 +4,7 @@ use Rattle.std.proofs.lemmas.Bool.Decides.{nat_tests}
 use Rattle.text_lines.specs.Contents.{contents_text}
 use Rattle.text_lines.proofs.Cut.{nil_from_test}
 use Rattle.text_lines.proofs.Cells.{contents_length, contents_next}
-use Rattle.text_lines.proofs.contents.read_contents.Goals as goal
+use Rattle.session_log.proofs.contents.read_contents.Goals as goal
 
 pub returns-then-text-count-clause-refused : goal.returns-then-text-count-clause-refused
 returns-then-text-count-clause-refused c = λ _ xs fits e.

@@ -1,0 +1,34 @@
+//! A page's contents in hexadecimal, where they take memory.
+
+ghost use Rattle.std.specs.Prelude.{◌≡◌, ◌≢◌, ◌*◌, List, ℕ, IfOk, IfErr};
+ghost use Rattle.text_lines.specs.Contents.{contents_text};
+ghost use Rattle.migration_types.specs.Contents.{IsContent};
+
+use std::alloc::Global;
+use text_lines::{FaultKind, read_cell};
+
+/// The values of a page's cells that a text spells, cell 0 first. A text of another length takes no memory.
+pub fn read_contents(alloc: Global, text: &[u8], cells: u32) -> Result<Vec<u64>, FaultKind>
+    ensures found { IfOk result (λ v. IsContent cells v.items × (text.now ≡ contents_text v.items)) }
+    ensures refused { IfErr result (λ kind. kind ≢ FaultKind.Memory → (xs : List ℕ) → IsContent cells xs → text.now ≢ contents_text xs) }
+{
+    let count = cells as usize;
+    if text.len() != 16 * count {
+        return Err(FaultKind::Form);
+    }
+    let Ok(mut items) = Vec::with_capacity(alloc, count) else {
+        return Err(FaultKind::Memory);
+    };
+    let mut rest = text;
+    for _ in 0..cells {
+        let (word, after) = rest.split_at(16);
+        let Some(x) = read_cell(word) else {
+            return Err(FaultKind::Form);
+        };
+        let Ok(()) = items.push(x) else {
+            return Err(FaultKind::Memory);
+        };
+        rest = after;
+    }
+    Ok(items)
+}
