@@ -1,1 +1,2 @@
 pub mod Sectioned
+pub mod Fitting

@@ -5,6 +5,8 @@ pub mod Pages
 pub mod Receipts
 pub mod Sessions
 pub mod Names
+pub mod Rows
+pub mod Follow
 pub mod Memory
 pub mod PageSets
 pub mod Certs

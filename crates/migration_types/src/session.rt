@@ -1,12 +1,17 @@
 //! Recorded sessions.
 
-ghost use Rattle.std.specs.Prelude.{◌≡◌, ◌≤◌};
+ghost use Rattle.std.specs.Prelude.{◌≡◌, ◌≤◌, slice_get};
+ghost use Rattle.std.specs.Option.{option_map};
 ghost use Rattle.migration_types.specs.Limits.{most_records};
+ghost use Rattle.migration_types.specs.Names.{receipt};
+ghost use Rattle.migration_types.specs.Rows.{row_of};
 ghost use Rattle.migration_types.specs.Sessions.{recorded, log_length, IsSession};
 
 use crate::geometry::Geometry;
+use crate::laws::receipts_follow;
 use crate::pages::InitPage;
-use crate::records::{GuestRec, LaneRec, LinkRec, LogName, PagerRec, SourceRec};
+use crate::records::{GuestRec, LaneRec, LinkRec, LogName, PagerRec, Record, SourceRec};
+use crate::rows::Row;
 use crate::seq::Seq;
 use crate::version::Version;
 use std::marker::Model;
@@ -39,6 +44,16 @@ impl Model for Session {
     ghost view = { λ a. recorded a.version a.geometry a.init a.logs };
 
     ghost invariant = { λ a. IsSession (recorded a.version a.geometry a.init a.logs) };
+}
+
+/// The row of the record at a place.
+fn row_in<R: Record>(records: &[R], place: u32) -> Option<Row>
+    ensures { result ≡ option_map R.consists (slice_get records.now place) }
+{
+    match records.get(place as usize) {
+        Some(rec) => Some(rec.row()),
+        None => None,
+    }
 }
 
 impl Session {
@@ -123,6 +138,31 @@ impl Session {
             LogName::Link => self.link().len(),
             LogName::Lane => self.lane().len(),
             LogName::Pager => self.pager().len(),
+        }
+    }
+
+    /// What the record of this log and number consists of, without contents, if there is such a record. Takes no memory.
+    pub fn row(&self, name: (LogName, u32)) -> Option<Row>
+        ensures { result ≡ row_of self.now name }
+    {
+        let (log, place) = name;
+        match log {
+            LogName::Guest => row_in(self.guest(), place),
+            LogName::Source => row_in(self.source(), place),
+            LogName::Link => row_in(self.link(), place),
+            LogName::Lane => row_in(self.lane(), place),
+            LogName::Pager => row_in(self.pager(), place),
+        }
+    }
+
+    /// The record of another log that the record of this log and number is a receipt for. Takes no memory.
+    pub fn named(&self, name: (LogName, u32)) -> Option<(LogName, u32)>
+        ensures { result ≡ receipt self.now name }
+    {
+        receipts_follow();
+        match self.row(name) {
+            Some(row) => row.receipt(name.0),
+            None => None,
         }
     }
 
