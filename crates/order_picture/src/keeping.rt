@@ -3,8 +3,8 @@
 //! a placement is over.
 
 use crate::focus::{Focus, Mark, mark_of};
-use crate::records::{Name, is_one, receipt};
-use migration_types::{GuestRec, LogName, Session};
+use crate::records::{Name, is_one};
+use migration_types::{GuestRec, LOG_COUNT, LOGS, LogName, Session};
 use std::alloc::{AllocError, Global};
 
 /// So many are kept at each end of the order.
@@ -13,20 +13,18 @@ const MOST_AT_ENDS: usize = 8;
 /// So many are kept on each side of the middle.
 const MOST_BESIDE: usize = 40;
 
+/// How many records the first so many logs of a session have.
+fn records_before(session: &Session, count: usize) -> usize {
+    let mut before: usize = 0;
+    for log in LOGS.iter().take(count) {
+        before = before.saturating_add(session.len(*log));
+    }
+    before
+}
+
 /// The place of a record among all of a session.
 fn place_among(session: &Session, name: Name) -> usize {
-    let guest = session.guest().len();
-    let source = guest.saturating_add(session.source().len());
-    let link = source.saturating_add(session.link().len());
-    let lane = link.saturating_add(session.lane().len());
-    let before = match name.0 {
-        LogName::Guest => 0,
-        LogName::Source => guest,
-        LogName::Link => source,
-        LogName::Lane => link,
-        LogName::Pager => lane,
-    };
-    before.saturating_add(name.1 as usize)
+    records_before(session, name.0.index()).saturating_add(name.1 as usize)
 }
 
 /// Says of a place that it is wanted, if it is there.
@@ -56,7 +54,7 @@ fn concerns(session: &Session, focus: &Focus, name: Name) -> bool {
         return true;
     }
     match mark_of(session, focus, name) {
-        Mark::Plain => focus.page.is_none() && receipt(session, name).is_some(),
+        Mark::Plain => focus.page.is_none() && session.named(name).is_some(),
         _ => true,
     }
 }
@@ -68,13 +66,11 @@ fn concerned(
     focus: &Focus,
     order: &[Name],
 ) -> Result<Vec<bool>, AllocError> {
-    let before = place_among(session, (LogName::Pager, 0));
-    let count = before.saturating_add(session.pager().len());
-    let mut flags = vec![in alloc; false; count]?;
+    let mut flags = vec![in alloc; false; records_before(session, LOG_COUNT)]?;
     for name in order {
         if concerns(session, focus, *name) {
             want(&mut flags, place_among(session, *name));
-            if let Some(sent) = receipt(session, *name) {
+            if let Some(sent) = session.named(*name) {
                 want(&mut flags, place_among(session, sent));
             }
         }

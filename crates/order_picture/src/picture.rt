@@ -7,7 +7,7 @@ ghost use Rattle.order_picture.specs.Pictures.{IsPicture, IsPictureOf};
 use crate::focus::{Focus, Mark, focus_of};
 use crate::keeping::kept_in;
 use crate::order::{Drawn, draw_along};
-use crate::records::{Name, is_one, receipt};
+use crate::records::{Name, is_one};
 use crate::rows::rows_of;
 use audit_report::Report;
 use cert_maker::found_runs;
@@ -62,7 +62,7 @@ fn row_receipt(session: &Session, row: &Row) -> Option<Name>
     ensures { result ≡ row_receipt session.now row.now }
 {
     match row {
-        Row::Record { log, place, .. } => receipt(session, (*log, *place)),
+        Row::Record { log, place, .. } => session.named((*log, *place)),
         Row::Fold(_) => None,
     }
 }

@@ -6,7 +6,7 @@ ghost use Rattle.order_picture.specs.Svg.{IsSvg};
 use crate::focus::Mark;
 use crate::labels::push_label;
 use crate::picture::{Picture, Row};
-use crate::records::{Name, receipt};
+use crate::records::Name;
 use crate::shapes::{
     Columns, Look, begin_fold, begin_label, begin_margin, push_arrow, push_attribute, push_box,
     push_column, push_stub, row_class, top_of,
@@ -289,7 +289,7 @@ fn push_received(
     else {
         return Ok(());
     };
-    let Some(sent) = receipt(session, (*log, *number)) else {
+    let Some(sent) = session.named((*log, *number)) else {
         return Ok(());
     };
     let columns = Columns::of(session);
@@ -378,7 +378,7 @@ fn push_left_row(
     row: usize,
 ) -> Result<(), AllocError> {
     begin_record(out, session, name, Look::Stuck)?;
-    let named = receipt(session, name);
+    let named = session.named(name);
     if taken.received(named) {
         push(out, b"; not taken")?;
     } else {

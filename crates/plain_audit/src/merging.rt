@@ -2,36 +2,13 @@
 
 ghost use Rattle.std.specs.Prelude.{◌≡◌, ◌<◌, ◌↔◌, IsTrue, length, take, slice_index_or};
 ghost use Rattle.migration_types.specs.Receipts.{Name};
-ghost use Rattle.audit_model.specs.Names.{receipt, receipt_in, same_log};
+ghost use Rattle.audit_model.specs.Names.{receipt, same_log};
 ghost use Rattle.audit_model.specs.Mergings.{IsMerging, at_start};
 ghost use Rattle.audit_model.specs.Walks.{cursors_from};
 ghost use Rattle.audit_model.specs.FoundOrder.{is_received};
 ghost use Rattle.audit_model.specs.inner.MergingTests.{may, all_taken};
 
-use migration_types::{LogName, Record, Session};
-
-/// What the record at a place is a receipt for.
-fn receipt_in<R: Record>(records: &[R], place: u32) -> Option<(LogName, u32)>
-    ensures { result ≡ receipt_in R.receipt records.now place }
-{
-    match records.get(place as usize) {
-        Some(logged) => logged.named(),
-        None => None,
-    }
-}
-
-/// The record of another log that the record of this log and place is a receipt for.
-fn receipt(session: &Session, log: LogName, place: u32) -> Option<(LogName, u32)>
-    ensures { result ≡ receipt session.now (log, place) }
-{
-    match log {
-        LogName::Guest => receipt_in(session.guest(), place),
-        LogName::Source => receipt_in(session.source(), place),
-        LogName::Link => receipt_in(session.link(), place),
-        LogName::Lane => receipt_in(session.lane(), place),
-        LogName::Pager => receipt_in(session.pager(), place),
-    }
-}
+use migration_types::{LogName, Session};
 
 /// Whether the two are the same log.
 fn same_log(one: LogName, other: LogName) -> bool
@@ -69,7 +46,7 @@ fn may_follow(session: &Session, order: &[(LogName, u32)], log: LogName, place: 
 {
     place as usize == taken(order, log)
         && (place as usize) < session.len(log)
-        && is_received(order, receipt(session, log, place))
+        && is_received(order, session.named((log, place)))
 }
 
 /// Whether these names are as many of each log as it has records.

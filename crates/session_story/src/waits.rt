@@ -11,7 +11,7 @@ ghost use Rattle.session_story.specs.inner.Waits.{IsNext, IsCircleAt};
 
 use cert_maker::taken_in_order;
 use merge_runs::{Taken, first_left};
-use migration_types::{LogName, Record, Session};
+use migration_types::{LogName, Session};
 use std::alloc::{AllocError, Global};
 
 /// A record that waits for one of another log: it is a receipt for it.
@@ -35,30 +35,17 @@ pub struct Knot {
     pub back: usize,
 }
 
-/// What a record is a receipt for.
-fn receipt_at(session: &Session, log: LogName, place: usize) -> Option<(LogName, u32)>
-    ensures { result ≡ receipt session.now (log, place) }
-{
-    match log {
-        LogName::Guest => session.guest().get(place)?.named(),
-        LogName::Source => session.source().get(place)?.named(),
-        LogName::Link => session.link().get(place)?.named(),
-        LogName::Lane => session.lane().get(place)?.named(),
-        LogName::Pager => session.pager().get(place)?.named(),
-    }
-}
-
 /// The next record of a log, where it is a receipt.
 fn next_of(session: &Session, taken: &Taken, log: LogName) -> Option<Waiting>
     requires limits { IsSession session.now }
     requires left { cursors_of taken.now log < log_length session.now log }
     ensures { MatchOption result (receipt session.now (log, cursors_of taken.now log) ≡ None) (IsNext session.now (cursors_of taken.now) log) }
 {
-    let place = taken.of(log);
-    match receipt_at(session, log, place) {
+    let place = taken.of(log) as u32;
+    match session.named((log, place)) {
         Some((sent_log, sent_place)) => Some(Waiting {
             log,
-            place: place as u32,
+            place,
             sent_log,
             sent_place,
         }),
