@@ -4,7 +4,7 @@
 ghost use Rattle.std.specs.Prelude.{◌≡◌, slice_get};
 ghost use Rattle.audit_model.specs.Shape.{is_halt, is_resume, is_miss, is_state, is_send_of, is_sending, goes_down, is_down, is_up, is_ready, is_taking, is_want, goes_up, is_placement, is_placement_of, taken_sending, delivery, is_or_repeats, delivers, passes};
 
-use migration_types::{GuestRec, LaneRec, LinkRec, PageNo, PagerRec, SourceRec};
+use migration_types::{GuestRec, LaneRec, LinkRec, PageNo, PagerRec, Session, SourceRec};
 
 /// Whether it is a halt.
 pub fn is_halt(rec: &GuestRec) -> bool
@@ -52,7 +52,7 @@ pub fn is_sending(rec: &SourceRec) -> bool
 }
 
 /// Whether it is something that the link or the lane delivers down.
-pub fn goes_down(rec: &SourceRec) -> bool
+pub(crate) fn goes_down(rec: &SourceRec) -> bool
     ensures { result ≡ goes_down rec.now }
 {
     matches!(
@@ -62,21 +62,21 @@ pub fn goes_down(rec: &SourceRec) -> bool
 }
 
 /// Whether it is a delivery down.
-pub fn is_down(rec: &LinkRec) -> bool
+pub(crate) fn is_down(rec: &LinkRec) -> bool
     ensures { result ≡ is_down rec.now }
 {
     matches!(rec, LinkRec::Down { .. })
 }
 
 /// Whether it is a delivery up.
-pub fn is_up(rec: &LinkRec) -> bool
+pub(crate) fn is_up(rec: &LinkRec) -> bool
     ensures { result ≡ is_up rec.now }
 {
     matches!(rec, LinkRec::Up { .. })
 }
 
 /// Whether it is the pager's readiness.
-pub fn is_ready(rec: &PagerRec) -> bool
+pub(crate) fn is_ready(rec: &PagerRec) -> bool
     ensures { result ≡ is_ready rec.now }
 {
     matches!(rec, PagerRec::Ready)
@@ -90,14 +90,14 @@ pub fn is_taking(rec: &PagerRec) -> bool
 }
 
 /// Whether it is a question for a page.
-pub fn is_want(rec: &PagerRec) -> bool
+pub(crate) fn is_want(rec: &PagerRec) -> bool
     ensures { result ≡ is_want rec.now }
 {
     matches!(rec, PagerRec::Want { .. })
 }
 
 /// Whether it is something that the link delivers up.
-pub fn goes_up(rec: &PagerRec) -> bool
+pub(crate) fn goes_up(rec: &PagerRec) -> bool
     ensures { result ≡ goes_up rec.now }
 {
     matches!(rec, PagerRec::Want { .. } | PagerRec::All)
@@ -122,7 +122,7 @@ pub fn is_placement_of(rec: &PagerRec, page: PageNo) -> bool
 }
 
 /// The source's record that was sent, of which a record of the pager takes the delivery.
-pub fn taken_sending(session: &Session, rec: &PagerRec) -> Option<u32>
+fn taken_sending(session: &Session, rec: &PagerRec) -> Option<u32>
     ensures { result ≡ taken_sending session.now rec.now }
 {
     match rec {
@@ -145,7 +145,7 @@ pub fn delivery(session: &Session, got: u32) -> Option<u32>
 }
 
 /// Whether the delivery of a `got` or a `pull` is the processor state, or a repeat of it.
-pub fn delivers_state(session: &Session, got: u32) -> bool
+pub(crate) fn delivers_state(session: &Session, got: u32) -> bool
     ensures { result ≡ delivers session.now is_state got }
 {
     let Some(sending) = delivery(session, got) else {

@@ -12,9 +12,8 @@ mod naming;
 mod reasons;
 
 pub use asked::{
-    delivers_send, delivers_state, delivery, goes_down, goes_up, is_down, is_halt, is_miss,
-    is_placement, is_placement_of, is_ready, is_resume, is_send_of, is_sending, is_state, is_up,
-    is_want, sends,
+    delivers_send, delivery, is_halt, is_miss, is_placement, is_placement_of, is_resume,
+    is_send_of, is_sending, is_state, sends,
 };
 pub use home::Home;
 pub use laws::{
