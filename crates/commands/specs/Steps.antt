@@ -5,9 +5,9 @@ use Rattle.migration_types.specs.Sessions.{Recorded}
 use Rattle.session_log.specs.Grammar.{session_lines}
 use Rattle.migration_events.specs.declared.events.Event.{Event}
 use Rattle.migration_model.specs.Events.{run, start}
-use Rattle.guest_script.specs.Events.{SpellsEvents}
-use Rattle.guest_script.specs.Scenarios.{Scenario}
-use Rattle.guest_script.specs.Scripts.{SpellsScript}
+use Rattle.script_text.specs.Events.{SpellsEvents}
+use Rattle.script.specs.Scenarios.{Scenario}
+use Rattle.script_text.specs.Scripts.{SpellsScript}
 use Rattle.core_sides.specs.Sides.{scripted_of}
 use Rattle.session_core.specs.Promised.{IsRecordedBy}
 use Rattle.commands.specs.Answers.{IsAnswer, numbered}

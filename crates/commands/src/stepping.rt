@@ -3,16 +3,17 @@
 ghost use Rattle.std.specs.Prelude.{◌≡◌, ℕ, List, IfOk};
 ghost use Rattle.text_lines.specs.Text.{ended, IsSpelling};
 ghost use Rattle.session_log.specs.Grammar.{session_lines};
-ghost use Rattle.guest_script.specs.Events.{SpellsEvents};
-ghost use Rattle.guest_script.specs.Scripts.{SpellsScript};
+ghost use Rattle.script_text.specs.Events.{SpellsEvents};
+ghost use Rattle.script_text.specs.Scripts.{SpellsScript};
 ghost use Rattle.judged_texts.specs.declared.wanted.Wanted.{Wanted as Asked};
 ghost use Rattle.commands.specs.Answers.{IsAuditAnswer, Says};
 ghost use Rattle.commands.specs.Steps.{IsStepsAnswer};
 
 use crate::answer::{ACCEPTED, Answer, refused, remark};
-use guest_script::{Script, read_events, read_script};
 use migration_events::Event;
 use migration_types::Session;
+use script::Script;
+use script_text::{read_events, read_script};
 use session_core::{CoreFault, run};
 use session_log::write_session;
 use std::alloc::{AllocError, Global};

@@ -1,7 +1,7 @@
 -- The limits of a session, from its logs'.
 use Rattle.migration_types.specs.declared.session.Logs.{Logs}
 use Rattle.migration_types.specs.Sessions.{recorded, IsSession}
-use Rattle.guest_script.specs.Scenarios.{Scenario, IsScenario}
+use Rattle.script.specs.Scenarios.{Scenario, IsScenario}
 use Rattle.host_checks.specs.inner.Limits.{AreShort, AreOfMachine}
 
 pub is_session : (s : Scenario) (logs : Logs) → IsScenario s → AreShort logs → AreOfMachine s.version s.geometry logs → IsSession (recorded s.version s.geometry s.init logs)

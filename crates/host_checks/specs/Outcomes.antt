@@ -10,7 +10,7 @@ use Rattle.migration_events.specs.declared.ops.Op.{Op}
 use Rattle.migration_events.specs.declared.ops.Op.TheVariants.{Read as ReadCell, Write as WriteCell, Release as ReleasePage}
 use Rattle.page_store.specs.Frames.{Frames, memory_of}
 use Rattle.audit_model.specs.Flat.{flat}
-use Rattle.guest_script.specs.declared.vcpus.Vcpu.{Vcpu}
+use Rattle.script.specs.declared.vcpus.Vcpu.{Vcpu}
 use Rattle.audit_report.specs.Reports.{IsReport, IsClean}
 use Rattle.host_checks.specs.declared.transcript.Answered.{Answered}
 use Rattle.host_checks.specs.declared.outcome.RunFault.{RunFault}

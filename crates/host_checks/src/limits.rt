@@ -8,11 +8,11 @@ ghost use Rattle.host_checks.specs.Outcomes.{IsRefused};
 ghost use Rattle.host_checks.specs.inner.Limits.{AreShort, AreOfMachine};
 
 use crate::outcome::RunFault;
-use guest_script::Script;
 use migration_types::{
     Contents, Geometry, GuestRec, LAST_RECORD, LAST_VCPU, LaneRec, LinkRec, Logs, MOST_RECORDS,
     PageNo, PagerRec, Session, SourceRec, Version,
 };
+use script::Script;
 use std::alloc::Global;
 
 /// Whether a record's number is within the limit.

@@ -4,7 +4,7 @@ use Rattle.audit_model.specs.Mergings.{spelled}
 use Rattle.audit_model.specs.World.{IsSafe}
 use Rattle.cert_check.specs.Verdicts.{IsVerdict}
 use Rattle.cert_check.specs.declared.verdict.Verdict.TheVariants.{Yes}
-use Rattle.guest_script.specs.Scenarios.{Scenario}
+use Rattle.script.specs.Scenarios.{Scenario}
 use Rattle.migration_model.specs.Promise.{HasEachOwed}
 use Rattle.host_checks.specs.declared.outcome.Migrated.{Migrated}
 use Rattle.host_checks.specs.Outcomes.{AreOfScript, AreOfLog, IsDone, IsFlatStore}

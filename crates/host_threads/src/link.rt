@@ -8,9 +8,9 @@ ghost use Rattle.host_threads.specs.Ways.{HasPassed, arrives};
 use crate::relay::Relay;
 use crate::shared::{Shared, Turn, of_link};
 use crate::way::Way;
-use guest_script::Script;
 use link_book::LinkBook;
 use migration_events::{Direction, Fate};
+use script::Script;
 use std::sync::Wait;
 
 /// What becomes of the packets of a direction, one after another. Behind the last of the fates each is delivered.

@@ -12,10 +12,10 @@ use crate::shared::{Shared, Turn, of_event, told};
 use crate::side::TargetSide;
 use active_push::SourceBook;
 use book_events::{push, serve, source_tick};
-use guest_script::Script;
 use link_book::LinkBook;
 use migration_events::Event;
 use migration_types::PageNo;
+use script::Script;
 use std::mem::{self, drop};
 use std::sync::Wait;
 

@@ -11,9 +11,9 @@ ghost use Rattle.session_core.specs.Promised.{IsPromised};
 use crate::side::Side;
 use crate::stepping::step_books;
 use core_sides::{CoreFault, Home};
-use guest_script::Script;
 use migration_events::Event;
 use migration_types::{LogName, Session};
+use script::Script;
 use std::alloc::{AllocError, Global};
 use std::marker::Model;
 

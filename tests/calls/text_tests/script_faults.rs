@@ -1,8 +1,9 @@
 //! Scripts that are made by hand, and those that are none.
 
-use guest_script::{Script, ScriptFault, Vcpu, VcpuFault, write_script};
 use migration_events::{Fate, Op};
 use migration_types::{Contents, Geometry, InitPage, PageNo, Seq, Version};
+use script::{Script, ScriptFault, Vcpu, VcpuFault};
+use script_text::write_script;
 use std::alloc::{AllocError, Global};
 use std::test::Fail;
 

@@ -1,8 +1,9 @@
 //! Texts of worked scripts and of their events, read and written, and lines at which texts are refused.
 
-use guest_script::{Script, read_events, read_script, write_events, write_script};
 use migration_events::{Direction, Event, Fate, Op};
 use migration_types::{PageNo, TextFault, Version};
+use script::Script;
+use script_text::{read_events, read_script, write_events, write_script};
 use std::alloc::{AllocError, Global};
 use std::test::Fail;
 

@@ -1,6 +1,6 @@
 use Rattle.std.proofs.Common.{subst, sym}
 use Rattle.text_lines.specs.Text.{IsRefusalLine}
-use Rattle.guest_script.specs.Scripts.{SpellsScript}
+use Rattle.script_text.specs.Scripts.{SpellsScript}
 use Rattle.commands.specs.Steps.{AreSteps, ScriptText, steps_status, steps_text}
 use Rattle.commands.proofs.WhatIsRead.{refused_at}
 use Rattle.commands.proofs.Said.{says_right}

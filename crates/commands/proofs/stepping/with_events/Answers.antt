@@ -1,7 +1,7 @@
 use Rattle.std.proofs.Common.{List, subst, sym}
 use Rattle.text_lines.specs.Text.{IsRefusalLine, IsSpelling}
 use Rattle.migration_events.specs.declared.events.Event.{Event}
-use Rattle.guest_script.specs.Events.{SpellsEvents}
+use Rattle.script_text.specs.Events.{SpellsEvents}
 use Rattle.commands.specs.Steps.{AreSteps, EventsText, steps_status, steps_text}
 use Rattle.commands.proofs.WhatIsRead.{refused_at}
 use Rattle.commands.proofs.Said.{says_right}

@@ -1,7 +1,7 @@
 use Rattle.std.proofs.Common.{◌∙◌, sym, ap, subst, List}
 use Rattle.std.specs.List.{AllByRecursion}
 use Rattle.guest_book.specs.GuestPart.{GuestPart}
-use Rattle.guest_script.specs.declared.vcpus.Vcpu.{Vcpu as Scheduled}
+use Rattle.script.specs.declared.vcpus.Vcpu.{Vcpu as Scheduled}
 use Rattle.std.specs.Prelude.{map}
 use Rattle.core_sides.specs.Sides.{vcpu_of, LeftFits}
 use Rattle.core_sides.proofs.Steps.{all_left_fits, init_is}

@@ -1,0 +1,12 @@
+pub mod Exactly
+pub mod Lists
+pub mod ByVersion
+pub mod LateOps
+pub mod Tells
+pub mod EventSteps
+pub mod ScriptTells
+pub mod Letters
+pub mod ScriptSteps
+pub mod ScriptVcpus
+pub mod ScriptGoes
+pub mod ScriptLaws

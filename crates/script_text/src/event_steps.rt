@@ -1,0 +1,65 @@
+//! What a reader of events makes of each line.
+
+ghost use Rattle.script_text.specs.inner.EventHeld.{EventsLive, EventsStep};
+
+use crate::event_form::EventForm;
+use crate::keys::{CLOSING, EVENTS_HEADER, EVENTS_KEY};
+use migration_events::Event;
+use migration_types::MOST_RECORDS;
+use std::alloc::Global;
+use text_lines::{Counted, FaultKind, is_line};
+
+/// Which line is due.
+#[derive(Clone, Copy)]
+pub enum EventStage {
+    /// The header.
+    Header,
+    /// The number of events.
+    Count,
+    /// An event, or the closing line after the last.
+    Events,
+    /// None.
+    Done,
+}
+
+/// Takes the next line, and answers the stage after it.
+pub fn take_event_line(
+    events: &mut Counted<Event>,
+    alloc: Global,
+    stage: EventStage,
+    line: &[u8],
+) -> Result<EventStage, FaultKind>
+    requires { EventsLive stage events.old }
+    ensures { EventsStep stage events.old line.now events.new result }
+{
+    match stage {
+        EventStage::Header => {
+            if !is_line(line, EVENTS_HEADER) {
+                return Err(FaultKind::Form);
+            }
+            Ok(EventStage::Count)
+        }
+        EventStage::Count => {
+            let announced = Counted::announced(alloc, line, EVENTS_KEY, MOST_RECORDS)?;
+            *events = announced;
+            Ok(EventStage::Events)
+        }
+        EventStage::Events => take_event(events, line),
+        EventStage::Done => Err(FaultKind::Ended),
+    }
+}
+
+/// Takes the line of an event, or the closing line.
+fn take_event(events: &mut Counted<Event>, line: &[u8]) -> Result<EventStage, FaultKind>
+    requires { EventsLive EventStage.Events events.old }
+    ensures { EventsStep EventStage.Events events.old line.now events.new result }
+{
+    if events.is_whole() {
+        if !is_line(line, CLOSING) {
+            return Err(FaultKind::Form);
+        }
+        return Ok(EventStage::Done);
+    }
+    events.line(&EventForm, line)?;
+    Ok(EventStage::Events)
+}
