@@ -13,7 +13,7 @@ use Rattle.commands.specs.Told.{Tells}
 use Rattle.commands.specs.inner.Found.{AnswersTo}
 use Rattle.commands.proofs.Said.{given_holds}
 
--- a text that is refused, and not for want of memory, is refused at that line
+-- a text that is refused, and not because there is no memory for it, is refused at that line
 pub refused_at : {V : Type 0} (Spells : V → List (List ℕ) → Type 0) (text : List ℕ) (line : ℕ) (kind : FaultKind) → Refused Spells text line kind → kind ≢ Memory → IsRefusalLine Spells text line
 refused_at Spells text line Form h ne = h
 refused_at Spells text line Range h ne = h

@@ -17,7 +17,7 @@ use Rattle.commands.specs.declared.answer.Answer.{Answer}
 use Rattle.commands.specs.declared.answer.Fault.{Fault}
 use Rattle.commands.specs.declared.answer.Fault.TheVariants.{File, Link, Output, Memory}
 
--- 4 for want of memory, and 3 for a text, a link or an output that failed
+-- 4 where there is no memory for it, and 3 for a text, a link or an output that failed
 abbrev pub fault_status : Fault → ℕ
 fault_status (File name) = 3
 fault_status Link = 3
