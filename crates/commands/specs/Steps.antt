@@ -8,7 +8,7 @@ use Rattle.migration_model.specs.Events.{run, start}
 use Rattle.script_text.specs.Events.{SpellsEvents}
 use Rattle.script.specs.Scenarios.{Scenario}
 use Rattle.script_text.specs.Scripts.{SpellsScript}
-use Rattle.core_sides.specs.Sides.{scripted_of}
+use Rattle.session_core.specs.States.{scripted_of}
 use Rattle.session_core.specs.Promised.{IsRecordedBy}
 use Rattle.commands.specs.Answers.{IsAnswer, numbered}
 

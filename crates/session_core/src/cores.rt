@@ -1,16 +1,17 @@
 //! The core.
 
 ghost use Rattle.std.specs.Prelude.{◌≡◌, Some, None, IfOk, OnOk, OnErr, IsErrOf};
-ghost use Rattle.core_sides.specs.Sides.{scripted_of};
+ghost use Rattle.session_core.specs.States.{scripted_of};
 ghost use Rattle.migration_model.specs.Machine.{session_of};
 ghost use Rattle.migration_model.specs.Events.{start, step};
 ghost use Rattle.migration_model.specs.Promise.{IsReached};
 ghost use Rattle.session_core.specs.Cores.{machine_of};
 ghost use Rattle.session_core.specs.Promised.{IsPromised};
 
-use crate::side::Side;
+use crate::CoreFault;
+use crate::before::BeforeHalt;
+use crate::state::State;
 use crate::stepping::step_books;
-use core_sides::{CoreFault, Home};
 use migration_events::Event;
 use migration_types::{LogName, Session};
 use script::Script;
@@ -24,7 +25,7 @@ use std::marker::Model;
 /// limits, of the right shape and with no fault of a page, and its recorded order is a merging of it.
 #[derive(Drop)]
 pub struct Core<'a> {
-    side: Side<'a>,
+    state: State<'a>,
     order: Vec<(LogName, u32)>,
 }
 
@@ -34,9 +35,9 @@ impl<'a> Model for Core<'a> {
 
     ghost Value = { Cored };
 
-    ghost view = { λ core. record { side = core.side; order = core.order.items } };
+    ghost view = { λ core. record { state = core.state; order = core.order.items } };
 
-    ghost invariant = { λ core. IsHeld core.side × IsReached (machine core.side core.order.items) };
+    ghost invariant = { λ core. IsHeld core.state × IsReached (machine core.state core.order.items) };
 }
 
 impl<'a> Core<'a> {
@@ -44,9 +45,9 @@ impl<'a> Core<'a> {
     pub fn start(alloc: Global, script: &'a Script) -> Result<Core<'a>, AllocError>
         ensures { IfOk result (λ core. machine_of core ≡ start (scripted_of script.now)) }
     {
-        let home = Home::start(alloc, script)?;
+        let before = BeforeHalt::start(alloc, script)?;
         Ok(Core {
-            side: Side::Home(home),
+            state: State::Before(before),
             order: Vec::new(alloc),
         })
     }
@@ -59,7 +60,7 @@ impl<'a> Core<'a> {
         ensures full { IsErrOf result CoreFault.LogFull → step event (machine_of self.old) ≡ None }
         ensures err { OnErr result (machine_of self.new ≡ machine_of self.old) }
     {
-        step_books(&mut self.side, &mut self.order, event)
+        step_books(&mut self.state, &mut self.order, event)
     }
 
     /// What was recorded so far, copied. An error: there is no memory for it.
@@ -68,7 +69,7 @@ impl<'a> Core<'a> {
         ensures promised { IfOk result (λ s. IsPromised s (machine_of self.now).order) }
     {
         self.keeps_promise();
-        self.side.session()
+        self.state.session()
     }
 
     /// What was recorded; nothing of it is copied but the initial pages. An error: there is no memory for these.
@@ -77,7 +78,7 @@ impl<'a> Core<'a> {
         ensures promised { IfOk result (λ s. IsPromised s (machine_of self.entry).order) }
     {
         self.keeps_promise();
-        self.side.into_session()
+        self.state.into_session()
     }
 
     /// Tells callers what every core keeps: some script and events lead to it, and so what it has recorded is

@@ -2,12 +2,16 @@
 //! core has recorded is faultless, whatever a script says and whatever events come.
 #![tactic(auto)]
 
+mod after;
+mod before;
+mod copies;
 mod cores;
+mod left;
 mod names;
 mod running;
-mod side;
+mod state;
 mod stepping;
 
-pub use core_sides::CoreFault;
+pub use book_events::EventFault as CoreFault;
 pub use cores::Core;
 pub use running::run;

@@ -1,13 +1,13 @@
 //! A script with a list of events.
 
 ghost use Rattle.std.specs.Prelude.{◌≡◌, Some, None, IfOk, OnOk, IsErrOf};
-ghost use Rattle.core_sides.specs.Sides.{scripted_of};
+ghost use Rattle.session_core.specs.States.{scripted_of};
 ghost use Rattle.migration_model.specs.Events.{run as outcome, start};
 ghost use Rattle.session_core.specs.Cores.{machine_of};
 ghost use Rattle.session_core.specs.Promised.{IsRecordedBy};
 
+use crate::CoreFault;
 use crate::cores::Core;
-use core_sides::CoreFault;
 use migration_events::Event;
 use migration_types::Session;
 use script::Script;

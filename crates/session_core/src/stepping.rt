@@ -5,31 +5,31 @@ ghost use Rattle.migration_model.specs.Events.{step};
 ghost use Rattle.migration_model.specs.Promise.{IsReached};
 ghost use Rattle.session_core.specs.Cores.{machine, IsHeld};
 
+use crate::CoreFault;
 use crate::names::push_names;
-use crate::side::Side;
-use core_sides::CoreFault;
+use crate::state::State;
 use migration_events::Event;
 use migration_types::LogName;
 
 /// An event on the books; the names of the records that it appends are appended to the order. On an error nothing
 /// changes.
 pub fn step_books(
-    side: &mut Side<'_>,
+    state: &mut State<'_>,
     order: &mut Vec<(LogName, u32)>,
     event: Event,
 ) -> Result<(), CoreFault>
-    requires held { IsHeld side.old }
-    requires reached { IsReached (machine side.old order.old.items) }
-    ensures held { IsHeld side.new }
-    ensures ok { OnOk result (step event (machine side.old order.old.items) ≡ Some (machine side.new order.new.items)) }
-    ensures full { IsErrOf result CoreFault.LogFull → step event (machine side.old order.old.items) ≡ None }
-    ensures err { OnErr result (machine side.new order.new.items ≡ machine side.old order.old.items) }
+    requires held { IsHeld state.old }
+    requires reached { IsReached (machine state.old order.old.items) }
+    ensures held { IsHeld state.new }
+    ensures ok { OnOk result (step event (machine state.old order.old.items) ≡ Some (machine state.new order.new.items)) }
+    ensures full { IsErrOf result CoreFault.LogFull → step event (machine state.old order.old.items) ≡ None }
+    ensures err { OnErr result (machine state.new order.new.items ≡ machine state.old order.old.items) }
 {
     // No event appends more than two records to a log.
     order.reserve(10)?;
-    let old = side.lengths();
-    side.event(event)?;
-    side.keeps_limits();
-    push_names(order, old, side.lengths());
+    let old = state.lengths();
+    state.event(event)?;
+    state.keeps_limits();
+    push_names(order, old, state.lengths());
     Ok(())
 }

@@ -6,11 +6,11 @@ use Rattle.session_core.proofs.stepping.step_books.Goals as goal
 use Rattle.std.proofs.Common.{ap, arith, subst, sym}
 
 pub event-requires-clause-orderly : goal.event-requires-clause-orderly
-event-requires-clause-orderly c = reached_orderly (machine c.args.side.now c.args.order.now.items) c.requires.reached
+event-requires-clause-orderly c = reached_orderly (machine c.args.state.now c.args.order.now.items) c.requires.reached
 
-grows : (c : goal.After-lengths) → GrowsByTwo (session_of (books_of c.args.side.now)) (session_of (books_of c.event.new.self))
+grows : (c : goal.After-lengths) → GrowsByTwo (session_of (books_of c.args.state.now)) (session_of (books_of c.event.new.self))
 grows c =
-    let old = books_of c.args.side.now in
+    let old = books_of c.args.state.now in
     subst (λ (new : Books). GrowsByTwo (session_of old) (session_of new)) (sym c.in_ok-event.ensures.ok) (event_grows_by_two c.args.event old)
 
 pub push_names-requires-clause-guest : goal.push_names-requires-clause-guest

@@ -1,6 +1,0 @@
-use Rattle.std.proofs.Common.{◌≡◌, take, map}
-use Rattle.core_sides.specs.Sides.{vcpu_of}
-use Rattle.core_sides.proofs.left.all_left.Given as goal
-
-abbrev pub invariant-loop-vcpu : goal.invariant-loop-vcpu
-invariant-loop-vcpu l = l.left.items ≡ map vcpu_of (take l.vcpu-index l.vcpus)

@@ -1,0 +1,214 @@
+//! A migration from its halt on.
+
+ghost use Rattle.std.specs.Prelude.{◌≡◌, true, false, IfOk, OnOk, OnErr, IsErrOf};
+ghost use Rattle.migration_types.specs.Sessions.{IsSession};
+ghost use Rattle.migration_model.specs.Machine.{away_session};
+ghost use Rattle.migration_model.specs.Events.{away_event, has_room};
+ghost use Rattle.migration_model.specs.Orderly.{IsOrderly};
+ghost use Rattle.session_core.specs.States.{away_of, IsAfter};
+
+use crate::CoreFault;
+use crate::copies::copies;
+use crate::left::Left;
+use active_push::SourceBook;
+use book_events::logs_of;
+use script::Script;
+use link_book::LinkBook;
+use migration_events::Event;
+use migration_types::{
+    GuestRec, InitPage, LaneRec, LinkRec, Logs, PagerRec, Seq, Session, SourceRec,
+};
+use std::alloc::{AllocError, Global};
+use std::marker::Model;
+use std::mem::drop;
+use target_side::{Access, PagerBook, TargetBook};
+
+/// A migration from its halt on: the books of the source, the link, the pager and the target, and what each virtual
+/// processor has left to do of a script. Contracts see the script, what is left, and the books.
+#[derive(Drop)]
+pub struct AfterHalt<'a> {
+    pub(crate) alloc: Global,
+    pub(crate) script: &'a Script,
+    pub(crate) vcpus: Vec<Left<'a>>,
+    pub(crate) source: SourceBook,
+    pub(crate) link: LinkBook,
+    pub(crate) pager: PagerBook,
+    pub(crate) target: TargetBook,
+}
+
+impl<'a> Model for AfterHalt<'a> {
+    ghost use Rattle.session_core.specs.States.{AfterLists, IsAfter};
+
+    ghost Value = { AfterLists };
+
+    ghost view = { λ a. record { script = a.script.now; vcpus = a.vcpus.items; source = a.source; link = a.link; pager = a.pager; target = a.target } };
+
+    ghost invariant = { λ a. IsAfter (record { script = a.script.now; vcpus = a.vcpus.items; source = a.source; link = a.link; pager = a.pager; target = a.target }) };
+}
+
+impl<'a> AfterHalt<'a> {
+    /// An event on these books, which are then what the definition of the event makes of them; what arrived is of the
+    /// script's machine, and no page is missed before the state has come. One that finds nothing to do, as a halt once
+    /// more, changes nothing. `CoreFault::LogFull` only where a log has no room for the event's records, and
+    /// `CoreFault::Memory` where memory is refused; on an error nothing changes.
+    pub fn event(&mut self, event: Event) -> Result<(), CoreFault>
+        requires { IsOrderly (away_of self.old) }
+        ensures ok { OnOk result (away_of self.new ≡ away_event event (away_of self.old)) }
+        ensures script { self.new.script ≡ self.old.script }
+        ensures full { IsErrOf result CoreFault.LogFull → has_room (away_session (away_event event (away_of self.old))) ≡ false }
+        ensures err { OnErr result (away_of self.new ≡ away_of self.old) }
+    {
+        match event {
+            Event::GuestStep { vcpu } => return self.guest_step(vcpu),
+            Event::Halt => {}
+            Event::Push => {
+                let has_lane = self.script.lane().is_some();
+                let window = self.script.window();
+                book_events::push(&mut self.source, &mut self.link, window, has_lane)?;
+            }
+            Event::Serve => {
+                book_events::serve(&mut self.source, &mut self.link)?;
+            }
+            Event::SourceTick => {
+                book_events::source_tick(&mut self.source, &mut self.link)?;
+            }
+            Event::LinkTurn { direction, fate } => self.link.turn(direction, fate)?,
+            Event::PagerPop => {
+                book_events::pager_pop(&mut self.link, &mut self.pager)?;
+            }
+            Event::PagerPull => {
+                book_events::pager_pull(&mut self.link, &mut self.pager)?;
+            }
+            Event::PagerFault => {
+                book_events::pager_fault(&mut self.pager, &mut self.target)?;
+            }
+            Event::PagerFlush => {
+                book_events::pager_flush(&mut self.link, &mut self.pager)?;
+            }
+            Event::PagerDeliver => {
+                book_events::pager_deliver(&mut self.pager, &mut self.target)?;
+            }
+            Event::PagerTick => {
+                book_events::pager_tick(&mut self.link, &mut self.pager)?;
+            }
+        }
+        Ok(())
+    }
+
+    /// A virtual processor's next operation after its move: once the guest has resumed it is done, or a read or a write
+    /// misses its page.
+    fn guest_step(&mut self, vcpu: u8) -> Result<(), CoreFault>
+        ensures ok { OnOk result (away_of self.new ≡ away_event (Event.GuestStep vcpu) (away_of self.old)) }
+        ensures script { self.new.script ≡ self.old.script }
+        ensures full { IsErrOf result CoreFault.LogFull → has_room (away_session (away_event (Event.GuestStep vcpu) (away_of self.old))) ≡ false }
+        ensures err { OnErr result (away_of self.new ≡ away_of self.old) }
+    {
+        let Some(left) = self.vcpus.get(usize::from(vcpu)) else {
+            return Ok(());
+        };
+        let Some((op, rest)) = left.late() else {
+            return Ok(());
+        };
+        match self.target.access(vcpu, op)? {
+            Access::Done(_) => self.vcpus[usize::from(vcpu)] = rest,
+            Access::Missed | Access::Waiting => {}
+        }
+        Ok(())
+    }
+
+    /// The guest's log.
+    pub fn guest_log(&self) -> &[GuestRec]
+        ensures { result.now ≡ (away_of self.now).target.log }
+    {
+        self.target.guest_log()
+    }
+
+    /// The source's log.
+    pub fn source_log(&self) -> &[SourceRec]
+        ensures { result.now ≡ (away_of self.now).source.log }
+    {
+        self.source.source_log()
+    }
+
+    /// The link's log.
+    pub fn link_log(&self) -> &[LinkRec]
+        ensures { result.now ≡ (away_of self.now).link.log }
+    {
+        self.link.link_log()
+    }
+
+    /// The lane's log.
+    pub fn lane_log(&self) -> &[LaneRec]
+        ensures { result.now ≡ (away_of self.now).link.lane_log }
+    {
+        self.link.lane_log()
+    }
+
+    /// The pager's log.
+    pub fn pager_log(&self) -> &[PagerRec]
+        ensures { result.now ≡ (away_of self.now).pager.log }
+    {
+        self.pager.pager_log()
+    }
+
+    /// What was recorded so far, copied, where it is within the limits of a session. An error: there is no memory for
+    /// it.
+    pub fn session(&self) -> Result<Session, AllocError>
+        requires { IsSession (away_session (away_of self.now)) }
+        ensures { IfOk result (λ s. s ≡ away_session (away_of self.now)) }
+    {
+        let init = self.script.copied_init(self.alloc)?;
+        let guest = Vec::from_slice(self.alloc, self.guest_log())?;
+        let source = copies(self.alloc, self.source_log())?;
+        let link = Vec::from_slice(self.alloc, self.link_log())?;
+        let lane = Vec::from_slice(self.alloc, self.lane_log())?;
+        let pager = copies(self.alloc, self.pager_log())?;
+        let logs = Logs {
+            guest: Seq::from_vec(guest),
+            source,
+            link: Seq::from_vec(link),
+            lane: Seq::from_vec(lane),
+            pager,
+        };
+        Ok(Session::new(self.script.version(), self.source.geometry(), init, logs))
+    }
+
+    /// What was recorded, where it is within the limits of a session; nothing of it is copied but the initial pages. An
+    /// error: there is no memory for these.
+    pub fn into_session(self) -> Result<Session, AllocError>
+        requires { IsSession (away_session (away_of self)) }
+        ensures { IfOk result (λ s. s ≡ away_session (away_of self.entry)) }
+    {
+        match self.script.copied_init(self.alloc) {
+            Ok(init) => Ok(self.into_recorded(init)),
+            Err(fault) => {
+                drop(self);
+                Err(fault)
+            }
+        }
+    }
+
+    /// The same, with the initial pages that the script says. Takes no memory.
+    fn into_recorded(self, init: Seq<InitPage>) -> Session
+        requires init { init ≡ self.script.init }
+        requires limits { IsSession (away_session (away_of self)) }
+        ensures { result ≡ away_session (away_of self.entry) }
+    {
+        let version = self.script.version();
+        let geometry = self.source.geometry();
+        let (guest, _) = self.target.into_parts();
+        let logs = logs_of(guest, self.source, self.link, self.pager);
+        Session::new(version, geometry, init, logs)
+    }
+
+    /// Tells callers what it keeps: all is of the script's machine, and each log is within its limit.
+    pub fn keeps_limits(&self)
+        ensures kept { IsAfter self.now }
+        ensures room { has_room (away_session (away_of self.now)) ≡ true }
+    {
+        self.source.keeps_limits();
+        self.link.keeps_limits();
+        self.pager.keeps_limits();
+        self.target.keeps_history();
+    }
+}

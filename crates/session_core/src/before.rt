@@ -1,0 +1,212 @@
+//! A migration before its halt.
+
+ghost use Rattle.std.specs.Prelude.{◌≡◌, true, false, [], slice_get, IfOk, IfErr, OnOk, OnErr, IsErrOf};
+ghost use Rattle.migration_types.specs.Sessions.{IsSession};
+ghost use Rattle.migration_model.specs.Machine.{Before, IsScript, session_of, home_session, away_session};
+ghost use Rattle.migration_model.specs.Events.{start, home_step, home_event, all_at_move, halted, has_room};
+ghost use Rattle.target_side.specs.PagerLists.{part_of as pager_of};
+ghost use Rattle.target_side.specs.PagerPart.{new_pager};
+ghost use Rattle.session_core.specs.States.{home_of, away_of, scripted_of, IsBefore};
+
+use crate::CoreFault;
+use crate::after::AfterHalt;
+use crate::left::{Left, all_left};
+use guest_book::GuestBook;
+use link_book::LinkBook;
+use migration_events::Event;
+use migration_types::{GuestRec, Logs, Seq, Session};
+use script::Script;
+use std::alloc::{AllocError, Global};
+use std::marker::Model;
+use target_side::PagerBook;
+
+/// A migration before its halt: the guest's book, and what each virtual processor has left to do of a script. Contracts
+/// see the script, what is left, and the guest's book.
+#[derive(Drop)]
+pub struct BeforeHalt<'a> {
+    alloc: Global,
+    script: &'a Script,
+    vcpus: Vec<Left<'a>>,
+    guest: GuestBook,
+}
+
+impl<'a> Model for BeforeHalt<'a> {
+    ghost use Rattle.session_core.specs.States.{BeforeLists, IsBefore};
+
+    ghost Value = { BeforeLists };
+
+    ghost view = { λ h. record { script = h.script.now; vcpus = h.vcpus.items; guest = h.guest } };
+
+    ghost invariant = { λ h. IsBefore (record { script = h.script.now; vcpus = h.vcpus.items; guest = h.guest }) };
+}
+
+impl<'a> BeforeHalt<'a> {
+    /// The guest of a script before its first operation. An error: there is no memory for it.
+    #[tactic(auto, using(crate::proofs::Operations::script_is))]
+    pub fn start(alloc: Global, script: &'a Script) -> Result<BeforeHalt<'a>, AllocError>
+        ensures books { IfOk result (λ h. Before (home_of h) ≡ (start (scripted_of script.now)).books) }
+        ensures script { IfOk result (λ h. h.script ≡ script.now) }
+        ensures fits { IsScript (scripted_of script.now) }
+    {
+        script.keeps_limits();
+        let vcpus = all_left(alloc, script.vcpus())?;
+        let guest = GuestBook::new(alloc, script.geometry(), script.init())?;
+        Ok(BeforeHalt {
+            alloc,
+            script,
+            vcpus,
+            guest,
+        })
+    }
+
+    /// An event other than the halt: a virtual processor's next operation before its move; all others change nothing.
+    /// `CoreFault::LogFull` where the guest's log has no room for the record. On an error nothing changes.
+    pub fn event(&mut self, event: Event) -> Result<(), CoreFault>
+        requires { event ≡ Event.Halt → ⊥ }
+        ensures ok { OnOk result (Before (home_of self.new) ≡ home_event event (home_of self.old)) }
+        ensures full { IsErrOf result CoreFault.LogFull → has_room (session_of (home_event event (home_of self.old))) ≡ false }
+        ensures err { OnErr result (home_of self.new ≡ home_of self.old) }
+    {
+        match event {
+            Event::GuestStep { vcpu } => self.guest_step(vcpu),
+            _ => Ok(()),
+        }
+    }
+
+    /// A virtual processor does its next operation before its move, which is recorded. One that is at its move, and a
+    /// number that is none of the script's virtual processors, does nothing. `CoreFault::LogFull` where the guest's log
+    /// has no room for the record. On an error nothing changes.
+    fn guest_step(&mut self, vcpu: u8) -> Result<(), CoreFault>
+        ensures ok { OnOk result (home_of self.new ≡ home_step vcpu (slice_get (home_of self.old).vcpus vcpu) (home_of self.old)) }
+        ensures script { self.new.script ≡ self.old.script }
+        ensures full { IsErrOf result CoreFault.LogFull → has_room (home_session (home_step vcpu (slice_get (home_of self.old).vcpus vcpu) (home_of self.old))) ≡ false }
+        ensures err { OnErr result (home_of self.new ≡ home_of self.old) }
+    {
+        let Some(left) = self.vcpus.get(usize::from(vcpu)) else {
+            return Ok(());
+        };
+        let Some((op, rest)) = left.early() else {
+            return Ok(());
+        };
+        self.guest.access(vcpu, op)?;
+        self.vcpus[usize::from(vcpu)] = rest;
+        Ok(())
+    }
+
+    /// Whether each virtual processor is at its move, and so the guest may be halted.
+    pub fn all_at_move(&self) -> bool
+        ensures { result ≡ all_at_move (home_of self.now).vcpus }
+    {
+        self.vcpus.iter().all(|left| left.before_move.is_empty())
+    }
+
+    /// The guest is halted, which is recorded, and the source tells the target of it. `CoreFault::LogFull` where the
+    /// guest's log has no room for the record. On an error all comes back as it was.
+    pub fn halt(self) -> Result<AfterHalt<'a>, (BeforeHalt<'a>, CoreFault)>
+        ensures ok { IfOk result (λ a. away_of a ≡ halted (home_of self.entry)) }
+        ensures script { IfOk result (λ a. a.script ≡ self.entry.script) }
+        ensures full { IfErr result (λ e. e.1 ≡ CoreFault.LogFull → has_room (away_session (halted (home_of self.entry))) ≡ false) }
+        ensures err { IfErr result (λ e. e.0 ≡ self.entry) }
+    {
+        match PagerBook::new(self.alloc, self.script.geometry()) {
+            Ok(pager) => self.halted(pager),
+            Err(_) => Err((self, CoreFault::Memory)),
+        }
+    }
+
+    /// The same, with the pager's book before its first event.
+    fn halted(self, pager: PagerBook) -> Result<AfterHalt<'a>, (BeforeHalt<'a>, CoreFault)>
+        requires { pager_of pager ≡ new_pager self.script.geometry }
+        ensures ok { IfOk result (λ a. away_of a ≡ halted (home_of self.entry)) }
+        ensures script { IfOk result (λ a. a.script ≡ self.entry.script) }
+        ensures full { IfErr result (λ e. e.1 ≡ CoreFault.LogFull → has_room (away_session (halted (home_of self.entry))) ≡ false) }
+        ensures err { IfErr result (λ e. e.0 ≡ self.entry) }
+    {
+        let BeforeHalt {
+            alloc,
+            script,
+            vcpus,
+            guest,
+        } = self;
+        script.keeps_limits();
+        let mut link = LinkBook::new(alloc);
+        match book_events::halt(guest, &mut link, script.pivots()) {
+            Ok((source, target)) => Ok(AfterHalt {
+                alloc,
+                script,
+                vcpus,
+                source,
+                link,
+                pager,
+                target,
+            }),
+            Err((guest, fault)) => {
+                let home = BeforeHalt {
+                    alloc,
+                    script,
+                    vcpus,
+                    guest,
+                };
+                Err((home, fault))
+            }
+        }
+    }
+
+    /// The guest's log.
+    pub fn guest_log(&self) -> &[GuestRec]
+        ensures { result.now ≡ (home_of self.now).guest.log }
+    {
+        self.guest.guest_log()
+    }
+
+    /// What was recorded so far, copied, where it is within the limits of a session. An error: there is no memory for
+    /// it.
+    pub fn session(&self) -> Result<Session, AllocError>
+        requires { IsSession (home_session (home_of self.now)) }
+        ensures { IfOk result (λ s. s ≡ home_session (home_of self.now)) }
+    {
+        let init = self.script.copied_init(self.alloc)?;
+        let guest = Vec::from_slice(self.alloc, self.guest.guest_log())?;
+        let logs = guest_logs(self.alloc, guest);
+        Ok(Session::new(self.script.version(), self.guest.geometry(), init, logs))
+    }
+
+    /// What was recorded, where it is within the limits of a session; nothing of it is copied but the initial pages. An
+    /// error: there is no memory for these.
+    pub fn into_session(self) -> Result<Session, AllocError>
+        requires { IsSession (home_session (home_of self)) }
+        ensures { IfOk result (λ s. s ≡ home_session (home_of self.entry)) }
+    {
+        let init = self.script.copied_init(self.alloc)?;
+        let BeforeHalt {
+            alloc,
+            script,
+            guest,
+            ..
+        } = self;
+        let geometry = guest.geometry();
+        let logs = guest_logs(alloc, guest.into_log());
+        Ok(Session::new(script.version(), geometry, init, logs))
+    }
+
+    /// Tells callers what it keeps: all is of the script's machine, and the log is within its limit.
+    pub fn keeps_limits(&self)
+        ensures kept { IsBefore self.now }
+        ensures room { has_room (home_session (home_of self.now)) ≡ true }
+    {
+        self.guest.keeps_limits();
+    }
+}
+
+/// The logs where nobody but the guest recorded anything. Takes no memory.
+fn guest_logs(alloc: Global, guest: Vec<GuestRec>) -> Logs
+    ensures { result ≡ record { guest = guest.items; source = []; link = []; lane = []; pager = [] } }
+{
+    Logs {
+        guest: Seq::from_vec(guest),
+        source: Seq::from_vec(Vec::new(alloc)),
+        link: Seq::from_vec(Vec::new(alloc)),
+        lane: Seq::from_vec(Vec::new(alloc)),
+        pager: Seq::from_vec(Vec::new(alloc)),
+    }
+}

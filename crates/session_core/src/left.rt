@@ -1,0 +1,77 @@
+//! What virtual processors have left to do.
+
+ghost use Rattle.std.specs.Prelude.{◌≡◌, map, IfOk};
+ghost use Rattle.std.specs.Option.{option_map};
+ghost use Rattle.session_core.specs.States.{vcpu_of};
+ghost use Rattle.session_core.specs.inner.Steps.{next, early, late};
+
+use migration_events::Op;
+use script::Vcpu;
+use std::alloc::{AllocError, Global};
+use std::marker::Model;
+
+/// What a virtual processor has left to do before its move and after it, of a script that is borrowed.
+#[derive(Drop)]
+pub(crate) struct Left<'a> {
+    pub(crate) before_move: &'a [Op],
+    pub(crate) after_move: &'a [Op],
+}
+
+impl<'a> Model for Left<'a> {
+    ghost use Rattle.migration_model.specs.Machine.{Vcpu};
+
+    ghost Value = { Vcpu };
+
+    ghost view = { λ l. record { before_move = l.before_move.now; after_move = l.after_move.now } };
+}
+
+impl<'a> Left<'a> {
+    /// Nothing was done.
+    fn whole(vcpu: &'a Vcpu) -> Left<'a>
+        ensures { result ≡ vcpu_of vcpu.now }
+    {
+        Left {
+            before_move: vcpu.before_move.as_slice(),
+            after_move: vcpu.after_move.as_slice(),
+        }
+    }
+
+    /// The next operation before the move, and what is left behind it. `None`: it is at its move.
+    pub(crate) fn early(&self) -> Option<(Op, Left<'a>)>
+        ensures { option_map (λ n. next n.0 n.1) result ≡ early self.now }
+    {
+        let (op, rest) = self.before_move.split_first()?;
+        Some((
+            *op,
+            Left {
+                before_move: rest,
+                after_move: self.after_move,
+            },
+        ))
+    }
+
+    /// The next operation after the move, and what is left behind it. `None`: there is none.
+    pub(crate) fn late(&self) -> Option<(Op, Left<'a>)>
+        ensures { option_map (λ n. next n.0 n.1) result ≡ late self.now }
+    {
+        let (op, rest) = self.after_move.split_first()?;
+        Some((
+            *op,
+            Left {
+                before_move: self.before_move,
+                after_move: rest,
+            },
+        ))
+    }
+}
+
+/// At the start all is left. An error: there is no memory for it.
+pub(crate) fn all_left<'a>(alloc: Global, vcpus: &'a [Vcpu]) -> Result<Vec<Left<'a>>, AllocError>
+    ensures { IfOk result (λ left. left.items ≡ map vcpu_of vcpus.now) }
+{
+    let mut left = Vec::with_capacity(alloc, vcpus.len())?;
+    for vcpu in vcpus {
+        left.push(Left::whole(vcpu))?;
+    }
+    Ok(left)
+}

@@ -1,0 +1,164 @@
+//! A migration before its halt or from it on, and each event on it.
+
+ghost use Rattle.std.specs.Prelude.{◌≡◌, true, false, IfOk, OnOk, OnErr, IsErrOf};
+ghost use Rattle.migration_types.specs.Sessions.{IsSession};
+ghost use Rattle.session_core.specs.States.{home_of};
+ghost use Rattle.migration_model.specs.Machine.{Before, session_of};
+ghost use Rattle.migration_model.specs.Events.{books_event, home_event, has_room};
+ghost use Rattle.session_core.specs.Cores.{books_of, IsHeld};
+ghost use Rattle.session_core.specs.Names.{lengths_of};
+ghost use Rattle.migration_model.specs.Orderly.{AreOrderly};
+
+use crate::CoreFault;
+use crate::after::AfterHalt;
+use crate::before::BeforeHalt;
+use crate::names::Lengths;
+use migration_events::Event;
+use migration_types::Session;
+use std::alloc::AllocError;
+use std::mem::{self, drop};
+
+/// A migration before its halt, or from it on.
+#[derive(Drop)]
+pub enum State<'a> {
+    /// The guest has not halted.
+    Before(BeforeHalt<'a>),
+    /// The guest has halted at the source.
+    After(AfterHalt<'a>),
+    /// Nothing is held, which is so inside a halt alone.
+    Halting,
+}
+
+impl<'a> State<'a> {
+    /// An event on the books, which are then what the event makes of them. `CoreFault::LogFull` where a log has no room
+    /// for its records. On an error nothing changes.
+    pub fn event(&mut self, event: Event) -> Result<(), CoreFault>
+        requires held { IsHeld self.old }
+        requires orderly { AreOrderly (books_of self.old) }
+        ensures held { IsHeld self.new }
+        ensures ok { OnOk result (books_of self.new ≡ books_event event (books_of self.old)) }
+        ensures full { IsErrOf result CoreFault.LogFull → has_room (session_of (books_event event (books_of self.old))) ≡ false }
+        ensures err { OnErr result (books_of self.new ≡ books_of self.old) }
+    {
+        if matches!(event, Event::Halt) {
+            return self.halt();
+        }
+        match self {
+            State::Before(before) => before.event(event),
+            State::After(after) => after.event(event),
+            State::Halting => Ok(()),
+        }
+    }
+
+    /// The guest's halt, where it has not halted.
+    fn halt(&mut self) -> Result<(), CoreFault>
+        requires held { IsHeld self.old }
+        ensures held { IsHeld self.new }
+        ensures ok { OnOk result (books_of self.new ≡ books_event Event.Halt (books_of self.old)) }
+        ensures full { IsErrOf result CoreFault.LogFull → has_room (session_of (books_event Event.Halt (books_of self.old))) ≡ false }
+        ensures err { OnErr result (books_of self.new ≡ books_of self.old) }
+    {
+        let (state, answer) = halted(mem::replace(self, State::Halting));
+        drop(mem::replace(self, state));
+        answer
+    }
+
+    /// How many records each log has.
+    pub fn lengths(&self) -> Lengths
+        ensures { result ≡ lengths_of (session_of (books_of self.now)) }
+    {
+        match self {
+            State::Before(before) => Lengths {
+                guest: before.guest_log().len(),
+                source: 0,
+                link: 0,
+                lane: 0,
+                pager: 0,
+            },
+            State::After(after) => Lengths {
+                guest: after.guest_log().len(),
+                source: after.source_log().len(),
+                link: after.link_log().len(),
+                lane: after.lane_log().len(),
+                pager: after.pager_log().len(),
+            },
+            State::Halting => Lengths {
+                guest: 0,
+                source: 0,
+                link: 0,
+                lane: 0,
+                pager: 0,
+            },
+        }
+    }
+
+    /// What was recorded so far, copied, where it is within the limits of a session. An error: there is no memory for
+    /// it.
+    pub fn session(&self) -> Result<Session, AllocError>
+        requires held { IsHeld self.now }
+        requires limits { IsSession (session_of (books_of self.now)) }
+        ensures { IfOk result (λ s. s ≡ session_of (books_of self.now)) }
+    {
+        match self {
+            State::Before(before) => before.session(),
+            State::After(after) => after.session(),
+            State::Halting => unreachable!(),
+        }
+    }
+
+    /// What was recorded, where it is within the limits of a session; nothing of it is copied but the initial pages. An
+    /// error: there is no memory for these.
+    pub fn into_session(self) -> Result<Session, AllocError>
+        requires held { IsHeld self }
+        requires limits { IsSession (session_of (books_of self)) }
+        ensures { IfOk result (λ s. s ≡ session_of (books_of self.entry)) }
+    {
+        match self {
+            State::Before(before) => before.into_session(),
+            State::After(after) => after.into_session(),
+            State::Halting => unreachable!(),
+        }
+    }
+
+    /// Tells callers that each log is within its limit.
+    pub fn keeps_limits(&self)
+        ensures { has_room (session_of (books_of self.now)) ≡ true }
+    {
+        match self {
+            State::Before(before) => before.keeps_limits(),
+            State::After(after) => after.keeps_limits(),
+            State::Halting => {}
+        }
+    }
+}
+
+/// What is there after the guest's halt, and whether the halt was refused, which leaves what was there.
+fn halted<'a>(state: State<'a>) -> (State<'a>, Result<(), CoreFault>)
+    requires held { IsHeld state }
+    ensures held { IsHeld result.0 }
+    ensures ok { OnOk result.1 (books_of result.0 ≡ books_event Event.Halt (books_of state.entry)) }
+    ensures full { IsErrOf result.1 CoreFault.LogFull → has_room (session_of (books_event Event.Halt (books_of state.entry))) ≡ false }
+    ensures err { OnErr result.1 (books_of result.0 ≡ books_of state.entry) }
+{
+    match state {
+        State::Before(before) => halted_before(before),
+        State::After(after) => (State::After(after), Ok(())),
+        State::Halting => (State::Halting, Ok(())),
+    }
+}
+
+/// The same, where the guest has not halted.
+fn halted_before<'a>(before: BeforeHalt<'a>) -> (State<'a>, Result<(), CoreFault>)
+    ensures held { IsHeld result.0 }
+    ensures ok { OnOk result.1 (books_of result.0 ≡ home_event Event.Halt (home_of before.entry)) }
+    ensures full { IsErrOf result.1 CoreFault.LogFull → has_room (session_of (home_event Event.Halt (home_of before.entry))) ≡ false }
+    ensures err { OnErr result.1 (books_of result.0 ≡ Before (home_of before.entry)) }
+{
+    if !before.all_at_move() {
+        return (State::Before(before), Ok(()));
+    }
+    match before.halt() {
+        Ok(after) => (State::After(after), Ok(())),
+        Err((before, fault)) => (State::Before(before), Err(fault)),
+    }
+}
