@@ -1,3 +1,4 @@
 pub mod Telling
 pub mod Owing
 pub mod Fitting
+pub mod RowLimits
