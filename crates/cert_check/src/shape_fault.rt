@@ -11,7 +11,7 @@ use crate::log_passes::{Found, first_found};
 use crate::passes::{GuestPass, LanePass, LinkPass, PagerPass, Phases, SourcePass};
 use crate::verdict::ShapeFault;
 use audit_model::ShapeReason;
-use migration_types::{LogName, Session, logs};
+use migration_types::{LogName, Session, line_of, logs};
 use page_tables::Table;
 use std::alloc::{AllocError, Global};
 

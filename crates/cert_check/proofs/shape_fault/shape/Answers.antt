@@ -24,8 +24,8 @@ in_log s log f told line of place same limits before first =
     }
 
 -- the log of this number
-at_place : (k : ℕ) (ls : List LogName) → ls ≡ logs → k < length ls → log_index (get_or ls k Guest) ≡ k
-at_place k ls list lt = ap (λ (xs : List LogName). log_index (get_or xs k Guest)) list ∙ index_of_place k Guest (omega (arith, lt, ap (λ (xs : List LogName). length xs) list))
+at_place : (k : ℕ) (ls : List LogName) → ls ≡ logs → k < length logs → log_index (get_or ls k Guest) ≡ k
+at_place k ls list lt = ap (λ (xs : List LogName). log_index (get_or xs k Guest)) list ∙ index_of_place k Guest lt
 
 pub loop-log-preserved : goal.loop-log-preserved
 loop-log-preserved c =
