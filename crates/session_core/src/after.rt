@@ -12,12 +12,12 @@ use crate::copies::copies;
 use crate::left::Left;
 use active_push::SourceBook;
 use book_events::logs_of;
-use script::Script;
 use link_book::LinkBook;
 use migration_events::Event;
 use migration_types::{
     GuestRec, InitPage, LaneRec, LinkRec, Logs, PagerRec, Seq, Session, SourceRec,
 };
+use script::Script;
 use std::alloc::{AllocError, Global};
 use std::marker::Model;
 use std::mem::drop;
