@@ -149,6 +149,30 @@ def wrong_definitions(pages):
             yield f"{GUARANTEES}: the list of trusted definitions lacks {it}"
 
 
+def dependencies():
+    """What each crate of the repository stands on, of its own crates, by crates.txt."""
+    found = dict(re.findall(r"^(\w+)(?: staticlib)?:(.*)$", read("crates.txt"), re.M))
+    return {crate: {it for it in others.split() if it in found} for crate, others in found.items()}
+
+
+def wrong_house(pages):
+    """The drawing of the crates by floors: each has its place, and stands on those of floors below it alone."""
+    floors = {}
+    for number, cells, head in rows(pages[MAP]):
+        if head[0] == "Floor":
+            for crate in re.findall(r"`(\w+)`", " ".join(cells[1:])):
+                if crate in floors:
+                    yield f"{MAP}, line {number}: {crate} stands on two floors"
+                floors[crate] = int(cells[0])
+    needed = dependencies()
+    for crate in sorted(needed.keys() ^ floors.keys()):
+        yield f"{MAP}: {crate} is {'on no floor' if crate in needed else 'no crate of crates.txt'}"
+    for crate in sorted(needed.keys() & floors.keys()):
+        for other in sorted(needed[crate] & floors.keys()):
+            if floors[other] >= floors[crate]:
+                yield f"{MAP}: {crate} of floor {floors[crate]} stands on {other} of floor {floors[other]}"
+
+
 def wrong_sentences(pages):
     for where, pattern, truth in UNTRUE:
         for name, page in pages.items():
@@ -293,6 +317,6 @@ def wrong_installed(sources):
 def wrong(pages, sources):
     """All that is wrong with what is claimed."""
     found = [*wrong_counts(pages, sources), *wrong_lists(pages), *wrong_sums(pages), *wrong_costs(pages, sources), *wrong_scripts(pages)]
-    found += [*wrong_definitions(pages), *wrong_sentences(pages), *wrong_words(pages), *wrong_ratios(pages)]
+    found += [*wrong_definitions(pages), *wrong_house(pages), *wrong_sentences(pages), *wrong_words(pages), *wrong_ratios(pages)]
     found += [*wrong_readme(pages), *wrong_glossary(pages), *wrong_answers(pages, sources), *wrong_texts(pages)]
     return [*found, *wrong_silences(pages, sources), *wrong_licence(), *wrong_installed(sources)]
