@@ -3,8 +3,7 @@
 use crate::texts::{Logs, session_of};
 use cert_maker::{MakeFault, Order, find_order, make};
 use cert_text::write_cert;
-use migration_types::{Cert, Seq, Session};
-use session_log::line_of;
+use migration_types::{Cert, Seq, Session, line_of};
 use std::alloc::Global;
 
 /// Page 1 is written, sent, missed, placed, seen twice and read.

@@ -1,17 +1,15 @@
 //! What the plain programs say of a whole session.
 
 use audit_model::{PageReason, ShapeReason};
-use merge_runs::records_of;
-use migration_types::{LOG_COUNT, LogName, Run, Session, logs};
+use migration_types::{LOG_COUNT, LogName, Run, Session, line_of, logs};
 use plain_audit::{demand_holds, is_page_fault, is_right};
-use session_log::line_of;
 use std::alloc::{AllocError, Global};
 
 /// The first fault of shape: its line and its reason.
 pub fn shape_fault(session: &Session) -> Option<(u32, ShapeReason)> {
     session.keeps_limits();
     for log in logs() {
-        for place in 0..records_of(session, log) {
+        for place in 0..session.len(log) {
             for reason in ShapeReason::ALL {
                 if !is_right(session, reason, log, place) {
                     return Some((line_of(session, log, place as u32), reason));
@@ -26,7 +24,7 @@ pub fn shape_fault(session: &Session) -> Option<(u32, ShapeReason)> {
 pub fn page_fault(session: &Session) -> Option<(u32, PageReason)> {
     session.keeps_limits();
     for log in logs() {
-        for place in 0..records_of(session, log) {
+        for place in 0..session.len(log) {
             for reason in PageReason::ALL {
                 if is_page_fault(session, reason, log, place) {
                     return Some((line_of(session, log, place as u32), reason));
@@ -55,7 +53,7 @@ pub fn names_of(alloc: Global, runs: &[Run]) -> Result<Vec<(LogName, u32)>, Allo
 pub fn breaks_at(session: &Session, names: &[(LogName, u32)], line: u32) -> bool {
     for at in 0..names.len() {
         let (log, place) = names[at];
-        if (place as usize) < records_of(session, log) && line_of(session, log, place) == line {
+        if (place as usize) < session.len(log) && line_of(session, log, place) == line {
             return !demand_holds(session, &names[..at], log, place);
         }
     }

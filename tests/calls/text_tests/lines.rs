@@ -2,12 +2,13 @@
 
 use crate::formats::none_is_wrong;
 use crate::{fault_of, refusal_line};
+use session_log::read_contents;
 use std::alloc::{AllocError, Global};
 use std::marker::Model;
 use text_lines::{
     FaultKind, LineReader, Rewind, TextFault, TextReader, after_key, front_number, is_line,
     next_line, number_last, number_then, push_keyed, push_keyed_word, push_line, push_number,
-    push_then, read, read_cell, read_contents, read_decimal, read_keyed,
+    push_then, read, read_cell, read_decimal, read_keyed,
 };
 
 /// Reads a text of one line of one byte. Its ghost members are left open, since nothing of it is proved.

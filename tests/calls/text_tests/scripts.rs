@@ -1,11 +1,12 @@
 //! Texts of worked scripts and of their events, read and written, and lines at which texts are refused.
 
 use migration_events::{Direction, Event, Fate, Op};
-use migration_types::{PageNo, TextFault, Version};
+use migration_types::{PageNo, Version};
 use script::Script;
 use script_text::{read_events, read_script, write_events, write_script};
 use std::alloc::{AllocError, Global};
 use std::test::Fail;
+use text_lines::TextFault;
 
 /// Two virtual processors that read one page.
 const OF_TWO: &[u8] =
