@@ -7,8 +7,8 @@ use Rattle.residency.specs.Placements.{is_resident}
 use Rattle.fault_queue.specs.Waiting.{is_asked, is_waiting, without}
 use Rattle.target_book.specs.TargetPart.{TargetPart, settled as with_settled}
 use Rattle.target_book.specs.declared.Missing.{Missing}
-use Rattle.target_side.specs.declared.Incoming.{Incoming}
-use Rattle.target_side.specs.PagerPart.{PagerPart, Paged, settles, is_released, fault_join, faults, next_fault, delivers_next, delivers_by, deliver}
+use Rattle.pager_book.specs.declared.Incoming.{Incoming}
+use Rattle.pager_book.specs.PagerPart.{PagerPart, Paged, settles, is_released, fault_join, faults, next_fault, delivers_next, delivers_by, deliver}
 
 abbrev IsOn : Extent → Paged → Type 0
 IsOn e r = r.pager.geometry ≡ e

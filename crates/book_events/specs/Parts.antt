@@ -1,42 +1,42 @@
 -- An event as a change of the one or two books that it names.
 use Rattle.std.specs.Prelude.{◌≡◌, ℕ, ◌⊎◌, Bool, false, List, [], ◌∷◌, ◌++◌, length}
-use Rattle.active_push.specs.SourcePart.{SourcePart, halted_source, state_packet}
+use Rattle.source_book.specs.SourcePart.{SourcePart, halted_source, state_packet}
 use Rattle.guest_book.specs.GuestPart.{GuestPart}
 use Rattle.link_book.specs.LinkPart.{LinkPart, with_back}
 use Rattle.page_stream.specs.declared.Packet.{Packet}
 use Rattle.page_stream.specs.declared.Packet.TheVariants.{Page as PagePacket}
 use Rattle.target_book.specs.TargetPart.{TargetPart, halted_target}
-use Rattle.target_side.specs.PagerPart.{PagerPart}
+use Rattle.pager_book.specs.PagerPart.{PagerPart}
 use Rattle.migration_events.specs.declared.events.Event.{Event}
-use Rattle.migration_model.specs.Machine.{Away, away_session}
+use Rattle.migration_model.specs.Books.{BooksAfter, session_after}
 use Rattle.migration_model.specs.Events.{away_event, has_room}
 use Rattle.book_events.specs.declared.came.Came.{Came}
 use Rattle.book_events.specs.declared.came.Came.TheVariants.{Nothing, Made, Offered}
 
 -- a migration with these books
-abbrev pub pushing : ℕ → Bool → SourcePart → LinkPart → Away → Away
+abbrev pub pushing : ℕ → Bool → SourcePart → LinkPart → BooksAfter → BooksAfter
 pushing window has_lane source link a = record a { window = window; has_lane = has_lane; source = source; link = link }
 
-abbrev pub sending : SourcePart → LinkPart → Away → Away
+abbrev pub sending : SourcePart → LinkPart → BooksAfter → BooksAfter
 sending source link a = record a { source = source; link = link }
 
-abbrev pub receiving : LinkPart → PagerPart → Away → Away
+abbrev pub receiving : LinkPart → PagerPart → BooksAfter → BooksAfter
 receiving link pager a = record a { link = link; pager = pager }
 
-abbrev pub placing : PagerPart → TargetPart → Away → Away
+abbrev pub placing : PagerPart → TargetPart → BooksAfter → BooksAfter
 placing pager target a = record a { pager = pager; target = target }
 
 -- in each migration with the old books the event makes the new ones of them, and leaves all else as it was
-pub record IsMade (e : Event) (old new : Away → Away) : Type 0 where
-  pub made : (a : Away) → away_event e (old a) ≡ new a
+pub record IsMade (e : Event) (old new : BooksAfter → BooksAfter) : Type 0 where
+  pub made : (a : BooksAfter) → away_event e (old a) ≡ new a
 
 -- the event has no room in a log
-pub record IsFull (e : Event) (old : Away → Away) : Type 0 where
-  pub full : (a : Away) → has_room (away_session (away_event e (old a))) ≡ false
+pub record IsFull (e : Event) (old : BooksAfter → BooksAfter) : Type 0 where
+  pub full : (a : BooksAfter) → has_room (session_after (away_event e (old a))) ≡ false
 
 -- nothing has changed
-pub record IsSame (old new : Away → Away) : Type 0 where
-  pub same : (a : Away) → new a ≡ old a
+pub record IsSame (old new : BooksAfter → BooksAfter) : Type 0 where
+  pub same : (a : BooksAfter) → new a ≡ old a
 
 -- a line has gained a packet of this page, behind the others or before them
 pub record HasGained (page : ℕ) (old new : List Packet) : Type 0 where
@@ -44,12 +44,12 @@ pub record HasGained (page : ℕ) (old new : List Packet) : Type 0 where
   pub contents : List ℕ
   pub gained : (new ≡ old ++ PagePacket number page contents ∷ []) ⊎ (new ≡ PagePacket number page contents ∷ old)
 
-pub record IsOffered (page : ℕ) (old new : Away → Away) : Type 0 where
-  pub offered : (a : Away) → HasGained page (old a).link.down (new a).link.down ⊎ HasGained page (old a).link.lane (new a).link.lane
+pub record IsOffered (page : ℕ) (old new : BooksAfter → BooksAfter) : Type 0 where
+  pub offered : (a : BooksAfter) → HasGained page (old a).link.down (new a).link.down ⊎ HasGained page (old a).link.lane (new a).link.lane
 
 -- what is told of an event: that there was nothing to do only where nothing has changed, and a page where the line down
 -- or the lane's has gained a packet of it
-abbrev pub Tells : Came → (Away → Away) → (Away → Away) → Type 0
+abbrev pub Tells : Came → (BooksAfter → BooksAfter) → (BooksAfter → BooksAfter) → Type 0
 Tells Nothing old new = IsSame old new
 Tells Made old new = Unit {0}
 Tells (Offered page) old new = IsOffered page old new

@@ -2,10 +2,10 @@
 
 ghost use Rattle.std.specs.Prelude.{◌≡◌};
 
-use active_push::SourceBook;
 use link_book::LinkBook;
 use migration_types::{GuestRec, Logs, Seq};
-use target_side::PagerBook;
+use pager_book::PagerBook;
+use source_book::SourceBook;
 
 /// The logs of books that are given up, beside the guest's. Takes no memory.
 pub fn logs_of(guest: Vec<GuestRec>, source: SourceBook, link: LinkBook, pager: PagerBook) -> Logs

@@ -3,15 +3,15 @@
 ghost use Rattle.std.specs.Prelude.{◌≡◌, [], None, Some, slice_get, IsTrue, IfOk, OnOk, OnErr, IsErrOf};
 ghost use Rattle.link_book.specs.declared.Arrival.{Arrival};
 ghost use Rattle.target_book.specs.Kept.{geometry_of, part_of as target_of};
-ghost use Rattle.target_side.specs.PagerPart.{delivers_by};
-ghost use Rattle.target_side.specs.PagerLists.{part_of, IsPacketOf};
+ghost use Rattle.pager_book.specs.PagerPart.{delivers_by};
+ghost use Rattle.pager_book.specs.PagerLists.{part_of, IsPacketOf};
 ghost use Rattle.migration_events.specs.declared.events.Event.{Event};
 ghost use Rattle.book_events.specs.Parts.{receiving, placing, IsMade, IsFull, Tells};
 
 use crate::came::Came;
 use link_book::LinkBook;
 use migration_events::EventFault;
-use target_side::{PagerBook, TargetBook};
+use pager_book::{PagerBook, TargetBook};
 
 /// PagerPop: the pager takes the oldest packet that has arrived, if there is one, which is one that the source of such
 /// a machine sends. `EventFault::LogFull` only where its log has no room for the records. On an error nothing changes.

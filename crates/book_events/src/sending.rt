@@ -1,17 +1,17 @@
 //! The events on the source's and the link's books.
 
 ghost use Rattle.std.specs.Prelude.{◌≡◌, IsTrue, IfOk, OnOk, OnErr, IsErrOf, if◌then◌else◌};
-ghost use Rattle.active_push.specs.Books.{part_of};
+ghost use Rattle.source_book.specs.Books.{part_of};
 ghost use Rattle.link_book.specs.LinkPart.{with_back, with_front};
 ghost use Rattle.migration_events.specs.declared.events.Event.{Event};
 ghost use Rattle.book_events.specs.Parts.{pushing, sending, IsMade, IsFull, Tells};
 ghost use Rattle.book_events.specs.inner.Offers.{Carries};
 
 use crate::came::Came;
-use active_push::SourceBook;
 use link_book::LinkBook;
 use migration_events::EventFault;
 use page_stream::Packet;
+use source_book::SourceBook;
 
 /// Push: the source sends the page that bubbling chooses, over the lane, if there is one, or else down the link, where
 /// fewer packets than the window are under way. `EventFault::LogFull` only where the source's log has no room for the

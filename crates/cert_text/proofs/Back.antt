@@ -12,7 +12,7 @@ use Rattle.cert_text.specs.declared.run_lines.RunStage.{RunStage}
 use Rattle.cert_text.specs.declared.run_lines.RunStage.TheVariants.{Count, Runs, Done}
 use Rattle.cert_text.specs.Runs.{runs_key, closing, run_line}
 use Rattle.cert_text.specs.Grammar.{entry_line, entry_lines}
-use Rattle.cert_text.specs.inner.Held.{Draft, runs_onto, runs_held, RunsFit, entries_onto, held_by, EntriesFit, Live}
+use Rattle.cert_text.specs.inner.Held.{CertDraft, runs_onto, runs_held, RunsFit, entries_onto, held_by, EntriesFit, Live}
 use Rattle.cert_text.proofs.RunGoes.{run_held}
 use Rattle.cert_text.specs.declared.cert_lines.Stage.{Stage}
 use Rattle.cert_text.specs.declared.cert_lines.Stage.TheVariants.{Header, Pages, Entries}
@@ -90,7 +90,7 @@ entry_undone Entries version pages old new runs held e is none lost = (
 
 -- ---- how many lines came
 
-pub lines_came : (stage : Stage) (d : Draft) (held : List (List ℕ)) → held_by stage d ≡ held → stage ≡ Entries → length held ≡ length d.entries + length d.runs + 2
+pub lines_came : (stage : Stage) (d : CertDraft) (held : List (List ℕ)) → held_by stage d ≡ held → stage ≡ Entries → length held ≡ length d.entries + length d.runs + 2
 lines_came Header d held e is = absurd cc
 lines_came Pages d held e is = absurd cc
 lines_came Entries d held e is = sym (ap length e) ∙ omega (arith, length-append (entry_lines 0 d.entries) d.runs, entries_length 0 d.entries)

@@ -13,18 +13,18 @@ use Rattle.cert_text.specs.declared.cert_lines.Stage.{Stage}
 use Rattle.cert_text.specs.declared.cert_lines.Stage.TheVariants.{Header, Pages, Entries}
 use Rattle.cert_text.specs.Runs.{runs_lines, SpellsRunLines}
 use Rattle.cert_text.specs.Grammar.{header, pages_key, entry_line, entry_lines, cert_lines, SpellsCert}
-use Rattle.cert_text.specs.inner.Held.{Draft, entries_onto, held_by, EntriesFit, Live}
+use Rattle.cert_text.specs.inner.Held.{CertDraft, entries_onto, held_by, EntriesFit, Live}
 use Rattle.cert_text.proofs.EntryLaws.{entries_length}
 use Rattle.cert_text.proofs.RunGoes.{one_list_of_runs}
 use Rattle.cert_text.proofs.Laws.{entries_onto_append, runs_of_version, runs_at, entries_agree, entry_held, entry_push}
 
-abbrev cert_of : Draft → List Run → Certified
+abbrev cert_of : CertDraft → List Run → Certified
 cert_of d runs = record { version = d.version; entries = d.entries; runs = runs }
 
 -- ---- each state goes on
 
 -- all the entries came
-full_begins : (d : Draft) → EntriesFit d → d.pages ≡ length d.entries → Begins (SpellsRunLines d.version) d.runs → Begins SpellsCert (entries_onto d.version d.pages d.entries d.runs)
+full_begins : (d : CertDraft) → EntriesFit d → d.pages ≡ length d.entries → Begins (SpellsRunLines d.version) d.runs → Begins SpellsCert (entries_onto d.version d.pages d.entries d.runs)
 full_begins d f full b =
     let some = f.some_pages in
     let few = f.few_pages in (
@@ -37,11 +37,11 @@ full_begins d f full b =
     )
 
 -- with so many entries to come
-entries_begin : (m : ℕ) (d : Draft) → EntriesFit d → d.pages ≡ length d.entries + m → Begins (SpellsRunLines d.version) d.runs → Begins SpellsCert (entries_onto d.version d.pages d.entries d.runs)
+entries_begin : (m : ℕ) (d : CertDraft) → EntriesFit d → d.pages ≡ length d.entries + m → Begins (SpellsRunLines d.version) d.runs → Begins SpellsCert (entries_onto d.version d.pages d.entries d.runs)
 entries_begin zero d f e b = full_begins d f (omega arith) b
 entries_begin (suc m) d f e b =
     let none : d.runs ≡ [] = f.runs (omega arith) in
-    let next : Draft = record d { entries = d.entries ++ Nothing ∷ [] } in
+    let next : CertDraft = record d { entries = d.entries ++ Nothing ∷ [] } in
     let goes = entries_begin m next (entry_push d Nothing f (omega arith) tt) (omega (arith, length-append d.entries (Nothing ∷ []))) b in
     let same : entries_onto d.version d.pages next.entries d.runs ≡ entries_onto d.version d.pages d.entries d.runs ++ entry_line (length d.entries) Nothing ∷ [] =
     ap (λ (t : List (List ℕ)). entries_onto d.version d.pages next.entries t) none ∙ (sym (entry_held d Nothing) ∙ ap (λ (t : List (List ℕ)). entries_onto d.version d.pages d.entries t ++ entry_line (length d.entries) Nothing ∷ []) (sym none)) in
@@ -50,18 +50,18 @@ entries_begin (suc m) d f e b =
 -- a text of one page begins with the header
 header_begins : (version : Version) → Begins (SpellsRunLines version) [] → Begins SpellsCert (header version ∷ [])
 header_begins version b =
-    let first : Draft = record { version = version; pages = 1; entries = []; runs = [] } in
+    let first : CertDraft = record { version = version; pages = 1; entries = []; runs = [] } in
     let fits : EntriesFit first = record { some_pages = omega arith; few_pages = omega arith; count = omega arith; each = tt; runs = λ _. refl } in
     Begins-front SpellsCert (header version ∷ []) ((pages_key ++ decimal 1) ∷ []) (entries_begin 1 first fits (omega arith) b)
 
-pub live_begins : (stage : Stage) (d : Draft) → Live stage d → Begins (SpellsRunLines d.version) d.runs → Begins SpellsCert (held_by stage d)
+pub live_begins : (stage : Stage) (d : CertDraft) → Live stage d → Begins (SpellsRunLines d.version) d.runs → Begins SpellsCert (held_by stage d)
 live_begins Header d live b = Begins-front SpellsCert [] (header d.version ∷ []) (header_begins d.version (subst (Begins (SpellsRunLines d.version)) live.runs b))
 live_begins Pages d live b = header_begins d.version (subst (Begins (SpellsRunLines d.version)) live.runs b)
 live_begins Entries d live b = let count = live.count in entries_begin (d.pages - length d.entries) d live (omega arith) b
 
 -- ---- what is not whole is no text
 
-few_entries : (d : Draft) (c : Certified) → EntriesFit d → length d.entries < d.pages → IsCert c → entries_onto d.version d.pages d.entries d.runs ≡ cert_lines c → ⊥
+few_entries : (d : CertDraft) (c : Certified) → EntriesFit d → length d.entries < d.pages → IsCert c → entries_onto d.version d.pages d.entries d.runs ≡ cert_lines c → ⊥
 few_entries d c f less fits e =
     let few = f.few_pages in
     let none = f.runs less in
@@ -69,7 +69,7 @@ few_entries d c f less fits e =
     let l : length (entry_lines 0 c.entries ++ runs_lines c.runs) ≡ length (entry_lines 0 d.entries ++ d.runs) = ap (λ (t : List (List ℕ)). length t) a.rest in
     absurd (omega (arith, l, ap (λ (t : List (List ℕ)). length t) none, length-append (entry_lines 0 c.entries) (runs_lines c.runs), length-append (entry_lines 0 d.entries) d.runs, entries_length 0 c.entries, entries_length 0 d.entries, a.count))
 
-no_runs : (d : Draft) (c : Certified) → EntriesFit d → ((runs : List Run) → SpellsRunLines d.version runs d.runs → ⊥) → IsCert c → entries_onto d.version d.pages d.entries d.runs ≡ cert_lines c → ⊥
+no_runs : (d : CertDraft) (c : Certified) → EntriesFit d → ((runs : List Run) → SpellsRunLines d.version runs d.runs → ⊥) → IsCert c → entries_onto d.version d.pages d.entries d.runs ≡ cert_lines c → ⊥
 no_runs d c f stops fits e =
     let count = f.count in
     elim (cases_lt (length d.entries) d.pages) [
@@ -80,17 +80,17 @@ no_runs d c f stops fits e =
           stops c.runs (runs_of_version d.version c a.told fits, r.1)
     ]
 
-not_whole_at : (stage : Stage) (d : Draft) (c : Certified) → Live stage d → ((runs : List Run) → SpellsRunLines d.version runs d.runs → ⊥) → IsCert c → held_by stage d ≡ cert_lines c → ⊥
+not_whole_at : (stage : Stage) (d : CertDraft) (c : Certified) → Live stage d → ((runs : List Run) → SpellsRunLines d.version runs d.runs → ⊥) → IsCert c → held_by stage d ≡ cert_lines c → ⊥
 not_whole_at Header d c live stops fits e = absurd cc
 not_whole_at Pages d c live stops fits e = absurd cc
 not_whole_at Entries d c live stops fits e = no_runs d c live stops fits e
 
-pub not_whole : (stage : Stage) (d : Draft) (held : List (List ℕ)) → held_by stage d ≡ held → Live stage d → ((runs : List Run) → SpellsRunLines d.version runs d.runs → ⊥) → (c : Certified) → SpellsCert c held → ⊥
+pub not_whole : (stage : Stage) (d : CertDraft) (held : List (List ℕ)) → held_by stage d ≡ held → Live stage d → ((runs : List Run) → SpellsRunLines d.version runs d.runs → ⊥) → (c : Certified) → SpellsCert c held → ⊥
 not_whole stage d held e live stops c s = not_whole_at stage d c live stops s.0 (e ∙ s.1)
 
 -- ---- the lines are few
 
-pub live_few : (stage : Stage) (d : Draft) → Live stage d → length d.runs < 2 ^ 31 → length (held_by stage d) + 1 < 2 ^ 32
+pub live_few : (stage : Stage) (d : CertDraft) → Live stage d → length d.runs < 2 ^ 31 → length (held_by stage d) + 1 < 2 ^ 32
 live_few Header d live lt = omega arith
 live_few Pages d live lt = omega arith
 live_few Entries d live lt =

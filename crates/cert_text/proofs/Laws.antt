@@ -16,7 +16,7 @@ use Rattle.cert_text.specs.declared.cert_lines.Stage.{Stage}
 use Rattle.cert_text.specs.declared.cert_lines.Stage.TheVariants.{Header, Pages, Entries}
 use Rattle.cert_text.specs.Runs.{runs_lines, SpellsRunLines}
 use Rattle.cert_text.specs.Grammar.{header, pages_key, entry_line, entry_lines, cert_lines, SpellsCert}
-use Rattle.cert_text.specs.inner.Held.{Draft, entries_onto, held_by, EntriesFit, Live}
+use Rattle.cert_text.specs.inner.Held.{CertDraft, entries_onto, held_by, EntriesFit, Live}
 use Rattle.cert_text.specs.inner.Taken.{TakesEntries, TakesEntry}
 use Rattle.cert_text.proofs.EntryLaws.{entries_length, entries_append, next_entry, entries_end, entries_push}
 use Rattle.cert_text.proofs.RunLaws.{all_push}
@@ -25,17 +25,17 @@ pub entries_onto_append : (version : Version) (pages : ℕ) (entries : List Entr
 entries_onto_append version pages entries a b = ap (λ (t : List (List ℕ)). header version ∷ (pages_key ++ decimal pages) ∷ t) (append_assoc (entry_lines 0 entries) a b)
 
 -- a fact about a stage that is known
-pub live_at : (stage at : Stage) (d : Draft) → stage ≡ at → Live stage d → Live at d
+pub live_at : (stage at : Stage) (d : CertDraft) → stage ≡ at → Live stage d → Live at d
 live_at stage at d is live = subst (λ (s : Stage). Live s d) is live
 
 -- a text that begins with a line more than is held
-pub record Goes (stage : Stage) (d : Draft) (line : List ℕ) : Type 0 where
+pub record Goes (stage : Stage) (d : CertDraft) (line : List ℕ) : Type 0 where
   pub c : Certified
   pub more : List (List ℕ)
   pub fits : IsCert c
   pub whole : held_by stage d ++ (line ∷ more) ≡ cert_lines c
 
-pub goes_from : (stage at : Stage) (d : Draft) (held : List (List ℕ)) (line : List ℕ) → held_by stage d ≡ held → stage ≡ at → Begins SpellsCert (held ++ line ∷ []) → Goes at d line
+pub goes_from : (stage at : Stage) (d : CertDraft) (held : List (List ℕ)) (line : List ℕ) → held_by stage d ≡ held → stage ≡ at → Begins SpellsCert (held ++ line ∷ []) → Goes at d line
 goes_from stage at d held line e is b = subst (λ (s : Stage). Goes s d line) is (record {
   c = b.0;
   more = b.1;
@@ -82,7 +82,7 @@ runs_at version pages entries more c le full each fits e =
     let s = entries_end version 0 c.entries entries (runs_lines c.runs) more (of_version version c a.told fits) each a.rest (full ∙ a.count) in
     (s.0, sym s.1)
 
-pub entry_at : (d : Draft) (line : List ℕ) → EntriesFit d → length d.entries < d.pages → Goes Entries d line → (entry : Entry) × EntryFits d.version entry × (line ≡ entry_line (length d.entries) entry)
+pub entry_at : (d : CertDraft) (line : List ℕ) → EntriesFit d → length d.entries < d.pages → Goes Entries d line → (entry : Entry) × EntryFits d.version entry × (line ≡ entry_line (length d.entries) entry)
 entry_at d line f less g =
     let few = f.few_pages in
     let none = f.runs less in
@@ -93,7 +93,7 @@ entry_at d line f less g =
     (n.0, n.1, n.2 ∙ ap (λ (i : ℕ). entry_line i n.0) k)
 
 -- what stands behind all the entries begins the lines of runs
-behind_entries : (d : Draft) (lines : List (List ℕ)) → EntriesFit d → length d.entries ≡ d.pages → Begins SpellsCert (entries_onto d.version d.pages d.entries lines) → Begins (SpellsRunLines d.version) lines
+behind_entries : (d : CertDraft) (lines : List (List ℕ)) → EntriesFit d → length d.entries ≡ d.pages → Begins SpellsCert (entries_onto d.version d.pages d.entries lines) → Begins (SpellsRunLines d.version) lines
 behind_entries d lines f full b =
     let whole = sym (entries_onto_append d.version d.pages d.entries lines b.1) ∙ b.2.1 in
     let a = entries_agree d.version d.pages d.entries (lines ++ b.1) b.0 f.few_pages b.2.0 whole in
@@ -101,25 +101,25 @@ behind_entries d lines f full b =
     (b.0.runs, b.1, (runs_of_version d.version b.0 a.told b.2.0, r.1))
 
 -- so a line that no runs' lines go on with is refused
-no_run_line : (stage : Stage) (d : Draft) (held : List (List ℕ)) (line : List ℕ) → held_by stage d ≡ held → stage ≡ Entries → Live stage d → length d.entries ≡ d.pages → (Begins (SpellsRunLines d.version) (d.runs ++ line ∷ []) → ⊥) → Begins SpellsCert (held ++ line ∷ []) → ⊥
+no_run_line : (stage : Stage) (d : CertDraft) (held : List (List ℕ)) (line : List ℕ) → held_by stage d ≡ held → stage ≡ Entries → Live stage d → length d.entries ≡ d.pages → (Begins (SpellsRunLines d.version) (d.runs ++ line ∷ []) → ⊥) → Begins SpellsCert (held ++ line ∷ []) → ⊥
 no_run_line stage d held line e is live full stops b =
     let here : held_by Entries d ≡ held = subst (λ (s : Stage). held_by s d ≡ held) is e in
     let joined : held ++ line ∷ [] ≡ entries_onto d.version d.pages d.entries (d.runs ++ line ∷ []) = ap (λ (t : List (List ℕ)). t ++ line ∷ []) (sym here) ∙ entries_onto_append d.version d.pages d.entries d.runs (line ∷ []) in
     stops (behind_entries d (d.runs ++ line ∷ []) (live_at stage Entries d is live) full (subst (Begins SpellsCert) joined b))
 
-pub run_line_refused : (stage : Stage) (d : Draft) (held : List (List ℕ)) (line : List ℕ) (r : Result (Unit {0}) FaultKind) → held_by stage d ≡ held → stage ≡ Entries → Live stage d → length d.entries ≡ d.pages → IfErr r (λ kind. kind ≢ Memory → Begins (SpellsRunLines d.version) (d.runs ++ line ∷ []) → ⊥) → IfErr r (λ kind. kind ≢ Memory → Begins SpellsCert (held ++ line ∷ []) → ⊥)
+pub run_line_refused : (stage : Stage) (d : CertDraft) (held : List (List ℕ)) (line : List ℕ) (r : Result (Unit {0}) FaultKind) → held_by stage d ≡ held → stage ≡ Entries → Live stage d → length d.entries ≡ d.pages → IfErr r (λ kind. kind ≢ Memory → Begins (SpellsRunLines d.version) (d.runs ++ line ∷ []) → ⊥) → IfErr r (λ kind. kind ≢ Memory → Begins SpellsCert (held ++ line ∷ []) → ⊥)
 run_line_refused stage d held line (Ok done) e is live full h = tt
 run_line_refused stage d held line (Err kind) e is live full h = λ other. no_run_line stage d held line e is live full (h other)
 
 -- ---- one more entry
 
-pub entry_held : (d : Draft) (entry : Entry) → entries_onto d.version d.pages d.entries [] ++ entry_line (length d.entries) entry ∷ [] ≡ entries_onto d.version d.pages (d.entries ++ entry ∷ []) []
+pub entry_held : (d : CertDraft) (entry : Entry) → entries_onto d.version d.pages d.entries [] ++ entry_line (length d.entries) entry ∷ [] ≡ entries_onto d.version d.pages (d.entries ++ entry ∷ []) []
 entry_held d entry =
     let k : length d.entries ≡ 0 + length d.entries = omega arith in
     entries_onto_append d.version d.pages d.entries [] (entry_line (length d.entries) entry ∷ [])
     ∙ ap (λ (t : List (List ℕ)). header d.version ∷ (pages_key ++ decimal d.pages) ∷ t) (ap (λ (i : ℕ). entry_lines 0 d.entries ++ entry_line i entry ∷ []) k ∙ sym (entries_push 0 d.entries entry []))
 
-pub entry_push : (d : Draft) (entry : Entry) → EntriesFit d → length d.entries < d.pages → EntryFits d.version entry → EntriesFit (record d { entries = d.entries ++ entry ∷ [] })
+pub entry_push : (d : CertDraft) (entry : Entry) → EntriesFit d → length d.entries < d.pages → EntryFits d.version entry → EntriesFit (record d { entries = d.entries ++ entry ∷ [] })
 entry_push d entry f less fits = record {
   some_pages = f.some_pages;
   few_pages = f.few_pages;
@@ -129,7 +129,7 @@ entry_push d entry f less fits = record {
 }
 
 -- the lines after an entry's
-pub entry_taken : (stage : Stage) (d : Draft) (held : List (List ℕ)) (line : List ℕ) (entry : Entry) → stage ≡ Entries → held_by stage d ≡ held → Live stage d → length d.entries < d.pages → line ≡ entry_line (length d.entries) entry → held_by stage (record d { entries = d.entries ++ entry ∷ [] }) ≡ held ++ line ∷ []
+pub entry_taken : (stage : Stage) (d : CertDraft) (held : List (List ℕ)) (line : List ℕ) (entry : Entry) → stage ≡ Entries → held_by stage d ≡ held → Live stage d → length d.entries < d.pages → line ≡ entry_line (length d.entries) entry → held_by stage (record d { entries = d.entries ++ entry ∷ [] }) ≡ held ++ line ∷ []
 entry_taken Header d held line entry is e live less spelled = absurd cc
 entry_taken Pages d held line entry is e live less spelled = absurd cc
 entry_taken Entries d held line entry is e live less spelled =
@@ -141,27 +141,27 @@ entry_taken Entries d held line entry is e live less spelled =
     ∙ ap (λ (t : List (List ℕ)). t ++ line ∷ []) e)))
 
 -- an entry came
-pub entry_line_taken : (stage : Stage) (d : Draft) (version : Version) (held : List (List ℕ)) (line : List ℕ) (new : List Entry) (r : Result (Unit {0}) FaultKind) → version ≡ d.version → stage ≡ Entries → held_by stage d ≡ held → Live stage d → length d.entries < d.pages → OnOk r (TakesEntry version d.entries new line) → OnOk r (held_by stage (record d { entries = new }) ≡ held ++ line ∷ [])
+pub entry_line_taken : (stage : Stage) (d : CertDraft) (version : Version) (held : List (List ℕ)) (line : List ℕ) (new : List Entry) (r : Result (Unit {0}) FaultKind) → version ≡ d.version → stage ≡ Entries → held_by stage d ≡ held → Live stage d → length d.entries < d.pages → OnOk r (TakesEntry version d.entries new line) → OnOk r (held_by stage (record d { entries = new }) ≡ held ++ line ∷ [])
 entry_line_taken stage d version held line new (Ok done) same is e live less t =
     ap (λ (entries : List Entry). held_by stage (record d { entries = entries })) t.grown ∙ entry_taken stage d held line t.entry is e live less t.spelled
 entry_line_taken stage d version held line new (Err kind) same is e live less t = tt
 
 -- a line that is not the next page's entry is refused
-pub entry_line_refused : (stage : Stage) (d : Draft) (version : Version) (held : List (List ℕ)) (line : List ℕ) (r : Result (Unit {0}) FaultKind) → version ≡ d.version → stage ≡ Entries → held_by stage d ≡ held → Live stage d → length d.entries < d.pages → IfErr r (λ kind. kind ≢ Memory → (entry : Entry) → EntryFits version entry → line ≢ entry_line (length d.entries) entry) → IfErr r (λ kind. kind ≢ Memory → Begins SpellsCert (held ++ line ∷ []) → ⊥)
+pub entry_line_refused : (stage : Stage) (d : CertDraft) (version : Version) (held : List (List ℕ)) (line : List ℕ) (r : Result (Unit {0}) FaultKind) → version ≡ d.version → stage ≡ Entries → held_by stage d ≡ held → Live stage d → length d.entries < d.pages → IfErr r (λ kind. kind ≢ Memory → (entry : Entry) → EntryFits version entry → line ≢ entry_line (length d.entries) entry) → IfErr r (λ kind. kind ≢ Memory → Begins SpellsCert (held ++ line ∷ []) → ⊥)
 entry_line_refused stage d version held line (Ok done) same is e live less h = tt
 entry_line_refused stage d version held line (Err kind) same is e live less h = λ other b.
     let n = entry_at d line (live_at stage Entries d is live) less (goes_from stage Entries d held line e is b) in
     h other n.0 (subst (λ (v : Version). EntryFits v n.0) (sym same) n.1) n.2
 
 -- many entries more
-entries_held : (d : Draft) (taken : List Entry) → entries_onto d.version d.pages (d.entries ++ taken) [] ≡ entries_onto d.version d.pages d.entries [] ++ entry_lines (length d.entries) taken
+entries_held : (d : CertDraft) (taken : List Entry) → entries_onto d.version d.pages (d.entries ++ taken) [] ≡ entries_onto d.version d.pages d.entries [] ++ entry_lines (length d.entries) taken
 entries_held d taken =
     let k : 0 + length d.entries ≡ length d.entries = omega arith in
     let lines : entry_lines 0 (d.entries ++ taken) ≡ entry_lines 0 d.entries ++ entry_lines (length d.entries) taken = entries_append 0 d.entries taken ∙ ap (λ (i : ℕ). entry_lines 0 d.entries ++ entry_lines i taken) k in
     ap (λ (t : List (List ℕ)). header d.version ∷ (pages_key ++ decimal d.pages) ∷ t) (append-nil (entry_lines 0 (d.entries ++ taken)) ∙ lines)
     ∙ sym (entries_onto_append d.version d.pages d.entries [] (entry_lines (length d.entries) taken))
 
-entries_grown : (stage : Stage) (d : Draft) (held : List (List ℕ)) (taken : List Entry) → stage ≡ Entries → held_by stage d ≡ held → Live stage d → length d.entries < d.pages → held_by stage (record d { entries = d.entries ++ taken }) ≡ held ++ entry_lines (length d.entries) taken
+entries_grown : (stage : Stage) (d : CertDraft) (held : List (List ℕ)) (taken : List Entry) → stage ≡ Entries → held_by stage d ≡ held → Live stage d → length d.entries < d.pages → held_by stage (record d { entries = d.entries ++ taken }) ≡ held ++ entry_lines (length d.entries) taken
 entries_grown Header d held taken is e live less = absurd cc
 entries_grown Pages d held taken is e live less = absurd cc
 entries_grown Entries d held taken is e live less =
@@ -171,7 +171,7 @@ entries_grown Entries d held taken is e live less =
     ∙ (ap (λ (t : List (List ℕ)). entries_onto d.version d.pages d.entries t ++ entry_lines (length d.entries) taken) (sym none)
     ∙ ap (λ (t : List (List ℕ)). t ++ entry_lines (length d.entries) taken) e))
 
-pub entries_taken : (stage : Stage) (d : Draft) (held : List (List ℕ)) (new : List Entry) (bytes rest : List ℕ) (n : ℕ) → stage ≡ Entries → held_by stage d ≡ held → Live stage d → length d.entries < d.pages → TakesEntries d.version d.entries new bytes rest n → TakesLines held (held_by stage (record d { entries = new })) bytes rest n
+pub entries_taken : (stage : Stage) (d : CertDraft) (held : List (List ℕ)) (new : List Entry) (bytes rest : List ℕ) (n : ℕ) → stage ≡ Entries → held_by stage d ≡ held → Live stage d → length d.entries < d.pages → TakesEntries d.version d.entries new bytes rest n → TakesLines held (held_by stage (record d { entries = new })) bytes rest n
 entries_taken stage d held new bytes rest n is e live less t = record {
   taken = entry_lines (length d.entries) t.taken;
   parts = t.parts;

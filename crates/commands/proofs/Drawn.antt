@@ -10,7 +10,7 @@ use Rattle.std.specs.declared.alloc.AllocError.{AllocError}
 use Rattle.text_lines.specs.Answer.{IsRead}
 use Rattle.migration_types.specs.declared.cert.Run.{Run}
 use Rattle.migration_types.specs.Sessions.{Recorded}
-use Rattle.session_log.specs.Grammar.{SpellsSession}
+use Rattle.session_text.specs.Grammar.{SpellsSession}
 use Rattle.cert_text.specs.Runs.{SpellsRuns}
 use Rattle.order_picture.specs.Svg.{IsSvg}
 use Rattle.commands.specs.declared.answer.Answer.{Answer}

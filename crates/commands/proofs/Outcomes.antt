@@ -4,7 +4,7 @@ use Rattle.std.specs.Prelude.{Result, Ok, Err, IfOk}
 use Rattle.std.specs.declared.alloc.AllocError.{AllocError}
 use Rattle.text_lines.specs.Answer.{IsRead}
 use Rattle.migration_types.specs.Sessions.{Recorded}
-use Rattle.session_log.specs.Grammar.{SpellsSession}
+use Rattle.session_text.specs.Grammar.{SpellsSession}
 use Rattle.commands.specs.declared.replaying.Outcome.{Outcome}
 use Rattle.commands.specs.declared.replaying.Outcome.TheVariants.{SessionText, RunsText, Shape, NoMerging, Broken, Safe}
 use Rattle.commands.specs.Replayed.{IsAlong, IsOutcome}

@@ -2,8 +2,8 @@
 use Rattle.std.proofs.Common.{◌≡◌, ◌∙◌, ℕ, List, refl, subst}
 use Rattle.text_lines.specs.Text.{IsSpelling}
 use Rattle.migration_types.specs.Sessions.{Recorded}
-use Rattle.session_log.specs.Grammar.{SpellsSession, session_lines}
-use Rattle.session_log.proofs.Values.{sessions_unambiguous}
+use Rattle.session_text.specs.Grammar.{SpellsSession, session_lines}
+use Rattle.session_text.proofs.Values.{sessions_unambiguous}
 use Rattle.audit_model.specs.Laws.{IsFaultless}
 use Rattle.audit_model.specs.Mergings.{HasMerging}
 use Rattle.audit_report.specs.Reports.{IsReport}

@@ -3,7 +3,7 @@ use Rattle.std.specs.Prelude.{ℕ, List, codes}
 use Rattle.text_lines.specs.Text.{IsSpelling, IsRefusalLine}
 use Rattle.migration_types.specs.declared.cert.Run.{Run}
 use Rattle.migration_types.specs.Sessions.{Recorded}
-use Rattle.session_log.specs.Grammar.{SpellsSession}
+use Rattle.session_text.specs.Grammar.{SpellsSession}
 use Rattle.cert_text.specs.Runs.{SpellsRuns}
 use Rattle.order_picture.specs.Svg.{IsSvg}
 use Rattle.commands.specs.Answers.{IsAnswer, numbered}

@@ -3,7 +3,7 @@ use Rattle.std.specs.Prelude.{◌≡◌, ℕ, List, ◌++◌, codes}
 use Rattle.text_lines.specs.Text.{ended, IsSpelling, IsRefusalLine}
 use Rattle.migration_types.specs.Certs.{Certified, IsCert}
 use Rattle.migration_types.specs.Sessions.{Recorded, IsSession}
-use Rattle.session_log.specs.Grammar.{session_lines}
+use Rattle.session_text.specs.Grammar.{session_lines}
 use Rattle.cert_text.specs.Grammar.{cert_lines}
 use Rattle.audit_model.specs.Mergings.{spelled}
 use Rattle.audit_model.specs.World.{IsSafe}

@@ -2,7 +2,7 @@
 use Rattle.std.specs.Prelude.{◌≡◌, ℕ, List, None, codes}
 use Rattle.text_lines.specs.Text.{ended, IsSpelling, IsRefusalLine}
 use Rattle.migration_types.specs.Sessions.{Recorded}
-use Rattle.session_log.specs.Grammar.{session_lines}
+use Rattle.session_text.specs.Grammar.{session_lines}
 use Rattle.migration_events.specs.declared.events.Event.{Event}
 use Rattle.migration_model.specs.Events.{run, start}
 use Rattle.script_text.specs.Events.{SpellsEvents}

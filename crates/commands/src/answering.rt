@@ -2,7 +2,7 @@
 
 ghost use Rattle.std.specs.Prelude.{ℕ, List, IfOk};
 ghost use Rattle.text_lines.specs.Answer.{IsRead};
-ghost use Rattle.session_log.specs.Grammar.{SpellsSession};
+ghost use Rattle.session_text.specs.Grammar.{SpellsSession};
 ghost use Rattle.commands.specs.Drawings.{IsDrawAnswer, IsDrawAlongAnswer};
 ghost use Rattle.commands.specs.Migrations.{IsMigrateAnswer};
 ghost use Rattle.commands.specs.Told.{AreNamed, IsNamed, IsOneAnswer, IsTwoAnswer};
@@ -22,7 +22,7 @@ use cert_text::{CertReader, RunsReader};
 use command_words::{Carrier, OneText, TwoTexts};
 use judged_texts::Wanted;
 use migration_types::Session;
-use session_log::SessionReader;
+use session_text::SessionReader;
 use std::alloc::{AllocError, Global};
 use std::io::Read;
 use std::net::{Net, TcpListener, TcpStream};

@@ -2,7 +2,7 @@
 
 ghost use Rattle.std.specs.Prelude.{ℕ, List, IfOk};
 ghost use Rattle.text_lines.specs.Answer.{IsRead};
-ghost use Rattle.session_log.specs.Grammar.{SpellsSession};
+ghost use Rattle.session_text.specs.Grammar.{SpellsSession};
 ghost use Rattle.judged_texts.specs.Audited.{AuditedFits, IsAudited};
 ghost use Rattle.judged_texts.specs.AuditedText.{audited_text};
 ghost use Rattle.commands.specs.Answers.{IsAuditAnswer, Says, audited_status};

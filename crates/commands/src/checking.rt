@@ -2,7 +2,7 @@
 
 ghost use Rattle.std.specs.Prelude.{◌≡◌, ◌++◌, ℕ, List, IfOk, OnOk};
 ghost use Rattle.text_lines.specs.Answer.{IsRead};
-ghost use Rattle.session_log.specs.Grammar.{SpellsSession};
+ghost use Rattle.session_text.specs.Grammar.{SpellsSession};
 ghost use Rattle.cert_text.specs.Grammar.{SpellsCert};
 ghost use Rattle.commands.specs.Answers.{IsVerdictAnswer, verdict_line};
 

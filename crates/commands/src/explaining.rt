@@ -2,7 +2,7 @@
 
 ghost use Rattle.std.specs.Prelude.{ℕ, List, IfOk};
 ghost use Rattle.text_lines.specs.Answer.{IsRead};
-ghost use Rattle.session_log.specs.Grammar.{SpellsSession};
+ghost use Rattle.session_text.specs.Grammar.{SpellsSession};
 ghost use Rattle.commands.specs.Explained.{IsExplainAnswer, TellsReport};
 
 use crate::answer::{Answer, REFUSED};

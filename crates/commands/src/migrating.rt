@@ -21,7 +21,7 @@ use host_threads::{Migrated, Open, RunFault, migrate, migrate_tcp};
 use judged_texts::print_report;
 use script::Script;
 use script_text::read_script;
-use session_log::write_session;
+use session_text::write_session;
 use std::alloc::{AllocError, Global};
 use std::net::{Net, TcpListener, TcpStream};
 use std::sync::Wait;

@@ -2,7 +2,7 @@
 
 ghost use Rattle.std.specs.Prelude.{◌≡◌, ℕ, List, IfOk};
 ghost use Rattle.text_lines.specs.Text.{ended, IsSpelling};
-ghost use Rattle.session_log.specs.Grammar.{session_lines};
+ghost use Rattle.session_text.specs.Grammar.{session_lines};
 ghost use Rattle.script_text.specs.Events.{SpellsEvents};
 ghost use Rattle.script_text.specs.Scripts.{SpellsScript};
 ghost use Rattle.judged_texts.specs.declared.wanted.Wanted.{Wanted as Asked};
@@ -15,7 +15,7 @@ use migration_types::Session;
 use script::Script;
 use script_text::{read_events, read_script};
 use session_core::{CoreFault, run};
-use session_log::write_session;
+use session_text::write_session;
 use std::alloc::{AllocError, Global};
 
 /// The answer that a session is.

@@ -1,5 +1,5 @@
 pub mod Echoes
-pub mod Ways
+pub mod Passages
 pub mod Turns
 pub mod Runs
 pub mod Sides

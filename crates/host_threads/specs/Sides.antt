@@ -1,6 +1,6 @@
 -- What stands behind the target's lock.
 use Rattle.std.specs.Prelude.{◌≡◌, ℕ, Option, Some, None}
-use Rattle.active_push.specs.Books.{SourceKept, part_of as source_of}
+use Rattle.source_book.specs.Books.{SourceKept, part_of as source_of}
 use Rattle.guest_book.specs.Books.{part_of as guest_of}
 use Rattle.link_book.specs.LinkPart.{LinkPart}
 use Rattle.target_book.specs.Kept.{part_of as target_of}

@@ -8,13 +8,13 @@ mod gate;
 mod link;
 mod loopback;
 mod pager;
+mod passage;
 mod relay;
 mod run;
 mod shared;
 mod side;
 mod source;
 mod vcpu;
-mod way;
 
 pub use gate::{Gate, Open};
 pub use host_checks::{Answered, Migrated, RunFault, Transcript};

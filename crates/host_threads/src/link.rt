@@ -3,11 +3,11 @@
 ghost use Rattle.std.specs.Prelude.{◌≡◌, ◌≢◌, true, Some, None, slice_get, slice_index_or};
 ghost use Rattle.link_book.specs.LinkPart.{line_of, turned};
 ghost use Rattle.page_stream.specs.declared.Packet.{Packet as Sent};
-ghost use Rattle.host_threads.specs.Ways.{HasPassed, arrives};
+ghost use Rattle.host_threads.specs.Passages.{HasPassed, arrives};
 
+use crate::passage::Passage;
 use crate::relay::Relay;
 use crate::shared::{Shared, Turn, of_link};
-use crate::way::Way;
 use link_book::LinkBook;
 use migration_events::{Direction, Fate};
 use script::Script;
@@ -55,15 +55,15 @@ fn arrives(fate: Fate) -> bool
     }
 }
 
-/// The packet at the head of a line, if there is one, meets its fate. Where it is to arrive, it has passed the way before.
+/// The packet at the head of a line, if there is one, meets its fate. Where it is to arrive, it has come through the passage before.
 fn turn_head<L: Relay>(
     link: &mut LinkBook,
-    way: &mut Way<L>,
+    passage: &mut Passage<L>,
     direction: Direction,
     fate: Fate,
 ) -> Turn
     ensures did { result ≡ Turn.Did → link.new ≡ record link.old { part = turned direction fate link.old.part } }
-    ensures passed { result ≡ Turn.Did → arrives fate ≡ true → (packet : Sent) → slice_get (line_of direction link.old.part) 0 ≡ Some packet → HasPassed way.new packet }
+    ensures passed { result ≡ Turn.Did → arrives fate ≡ true → (packet : Sent) → slice_get (line_of direction link.old.part) 0 ≡ Some packet → HasPassed passage.new packet }
     ensures idle { result ≡ Turn.Idle → slice_get (line_of direction link.old.part) 0 ≡ None }
     ensures stays { result ≢ Turn.Did → link.new ≡ link.old }
 {
@@ -71,7 +71,7 @@ fn turn_head<L: Relay>(
         return Turn::Idle;
     };
     if arrives(fate) {
-        if let Err(fault) = way.pass(packet) {
+        if let Err(fault) = passage.pass(packet) {
             return Turn::Stops(fault);
         }
     }
@@ -85,11 +85,11 @@ fn turn_head<L: Relay>(
 fn turn<R: Wait, L: Relay>(
     rt: &R,
     shared: &Shared,
-    way: &mut Way<L>,
+    passage: &mut Passage<L>,
     fates: &mut Fates<'_>,
 ) -> Turn {
     let mut link = shared.link.lock(rt);
-    let turn = turn_head(&mut link, way, fates.direction, fates.next());
+    let turn = turn_head(&mut link, passage, fates.direction, fates.next());
     if let Turn::Did = turn {
         fates.met = fates.met.saturating_add(1);
     }
@@ -100,12 +100,12 @@ fn turn<R: Wait, L: Relay>(
 fn turn_each<R: Wait, L: Relay>(
     rt: &R,
     shared: &Shared,
-    way: &mut Way<L>,
+    passage: &mut Passage<L>,
     lines: &mut [Fates<'_>],
 ) -> Option<bool> {
     let mut has_turned = false;
     for fates in lines.iter_mut() {
-        let turned = turn(rt, shared, way, fates);
+        let turned = turn(rt, shared, passage, fates);
         if shared.tell(rt, turned)? {
             has_turned = true;
         }
@@ -114,12 +114,12 @@ fn turn_each<R: Wait, L: Relay>(
 }
 
 /// The link and the lane: the turns of the lines down, up and over the lane, one after another, until the run is over.
-/// Where there is no lane, nothing is ever under way there. A packet passes the way before it is delivered.
+/// Where there is no lane, nothing is ever under way there. A packet goes through the passage before it is delivered.
 pub(crate) fn run_link<R: Wait, L: Relay + Drop>(
     rt: &R,
     shared: &Shared,
     script: &Script,
-    mut way: Way<L>,
+    mut passage: Passage<L>,
 ) {
     let vcpus = script.vcpus().len();
     let mut lines = [
@@ -132,7 +132,7 @@ pub(crate) fn run_link<R: Wait, L: Relay + Drop>(
         if seen.is_over(vcpus) {
             break;
         }
-        let Some(has_turned) = turn_each(rt, shared, &mut way, &mut lines) else {
+        let Some(has_turned) = turn_each(rt, shared, &mut passage, &mut lines) else {
             break;
         };
         if !has_turned {

@@ -5,7 +5,7 @@ ghost use Rattle.std.specs.Option.{option_map};
 ghost use Rattle.link_book.specs.Links.{arrival};
 ghost use Rattle.link_book.specs.declared.Arrival.{Arrival as Arrived};
 ghost use Rattle.target_book.specs.Kept.{part_of as target_of};
-ghost use Rattle.target_side.specs.PagerLists.{part_of, IsPacketOf};
+ghost use Rattle.pager_book.specs.PagerLists.{part_of, IsPacketOf};
 ghost use Rattle.book_events.specs.Parts.{receiving, placing};
 ghost use Rattle.host_threads.specs.Turns.{IsTurn};
 
@@ -18,8 +18,8 @@ use link_book::LinkBook;
 use migration_events::Event;
 use migration_types::{Geometry, PageNo};
 use page_stream::{Packet, fits};
+use pager_book::{PagerBook, TargetBook};
 use std::sync::Wait;
-use target_side::{PagerBook, TargetBook};
 
 /// Whether it is a packet of the machine.
 fn is_packet_of(geometry: Geometry, packet: &Packet) -> bool

@@ -18,27 +18,27 @@ use crate::gate::Gate;
 use crate::link::run_link;
 use crate::loopback::loopback;
 use crate::pager::run_pager;
+use crate::passage::{NoRelay, Passage};
 use crate::relay::Relay;
 use crate::shared::Shared;
 use crate::side::TargetSide;
 use crate::source::run_source;
 use crate::vcpu::run_vcpu;
-use crate::way::{NoRelay, Way};
-use active_push::SourceBook;
 use book_events::logs_of;
 use guest_book::GuestBook;
 use host_checks::{Migrated, RunFault, Transcript, settle};
 use link_book::LinkBook;
 use migration_types::{Logs, Seq};
 use page_store::Store;
+use pager_book::PagerBook;
 use script::Script;
+use source_book::SourceBook;
 use std::alloc::{AllocError, Global};
 use std::mem::drop;
 use std::net::{Net, TcpListener, TcpStream};
 use std::sync::{Mutex, Wait};
 use std::thread;
 use std::thread::{JoinHandle, Scope, Threads};
-use target_side::PagerBook;
 
 /// The books before the first event.
 fn books_of(alloc: Global, script: &Script) -> Result<Shared, AllocError> {
@@ -102,7 +102,7 @@ fn run_threads<R: Threads + Wait + Sync, G: Gate, L: Relay + Drop>(
     shared: &Shared,
     script: &Script,
     gate: &G,
-    way: Way<L>,
+    passage: Passage<L>,
 ) -> Result<Vec<Transcript>, AllocError> {
     let count = script.vcpus().len();
     let mut transcripts = Vec::with_capacity(alloc, count)?;
@@ -111,7 +111,9 @@ fn run_threads<R: Threads + Wait + Sync, G: Gate, L: Relay + Drop>(
         let source = scope
             .spawn(move || run_source(rt, shared, gate, script))
             .ok();
-        let link = scope.spawn(move || run_link(rt, shared, script, way)).ok();
+        let link = scope
+            .spawn(move || run_link(rt, shared, script, passage))
+            .ok();
         let pager = scope.spawn(move || run_pager(rt, shared, gate, count)).ok();
         if source.is_none() || link.is_none() || pager.is_none() {
             shared.bell.stop(rt, Fault::Memory);
@@ -196,13 +198,13 @@ fn checked<R: Threads + Sync>(
     }
 }
 
-/// A run over this way, and the checks of what it left.
+/// A run over this passage, and the checks of what it left.
 fn run<R: Threads + Wait + Sync, G: Gate, L: Relay + Drop>(
     rt: &R,
     alloc: Global,
     script: &Script,
     gate: &G,
-    way: Way<L>,
+    passage: Passage<L>,
 ) -> Result<Migrated, RunFault>
     ensures whole { IfOk result (HasMigrated script.now) }
     ensures refused { IfErr result IsRunFault }
@@ -210,7 +212,7 @@ fn run<R: Threads + Wait + Sync, G: Gate, L: Relay + Drop>(
     let Ok(shared) = books_of(alloc, script) else {
         return Err(RunFault::Memory);
     };
-    let Ok(transcripts) = run_threads(rt, alloc, &shared, script, gate, way) else {
+    let Ok(transcripts) = run_threads(rt, alloc, &shared, script, gate, passage) else {
         return Err(RunFault::Memory);
     };
     checked(rt, alloc, script, shared, transcripts)
@@ -251,7 +253,7 @@ pub fn migrate<R: Threads + Wait + Sync, G: Gate>(
     ensures store { IfOk result (λ m. IsFlatStore m.session m.store) }
     ensures refused { IfErr result IsRunFault }
 {
-    run(rt, alloc, script, gate, Way::<NoRelay>::InMemory)
+    run(rt, alloc, script, gate, Passage::<NoRelay>::InMemory)
 }
 
 /// The same as [`migrate`] over a relay, one for the packets of the link in both directions and of the lane. Under the
@@ -284,7 +286,7 @@ pub fn migrate_over<R: Threads + Wait + Sync, G: Gate, L: Relay + Drop>(
     ensures refused { IfErr result IsRunFault }
 {
     let echo = Echo::new(alloc, script.geometry());
-    run(rt, alloc, script, gate, Way::Over(relay, echo))
+    run(rt, alloc, script, gate, Passage::Over(relay, echo))
 }
 
 /// The same as [`migrate_over`], over the two ends of a connection over the loopback address. `Link` too where there is

@@ -2,18 +2,18 @@
 
 ghost use Rattle.std.specs.Prelude.{◌≢◌, IfOk, OnOk, OnErr};
 ghost use Rattle.migration_events.specs.declared.events.Event.{Event};
-ghost use Rattle.migration_model.specs.Machine.{Away};
+ghost use Rattle.migration_model.specs.Books.{BooksAfter};
 ghost use Rattle.book_events.specs.Parts.{IsMade, IsSame, Tells};
 ghost use Rattle.host_threads.specs.Turns.{IsTurn};
 
 use crate::bell::{Bell, Fault};
 use crate::side::TargetSide;
-use active_push::SourceBook;
 use book_events::{Came, EventFault};
 use link_book::{LinkBook, LinkFault};
 use migration_types::PageNo;
+use pager_book::{PagerBook, TargetFault};
+use source_book::SourceBook;
 use std::sync::{Mutex, Wait};
-use target_side::{PagerBook, TargetFault};
 
 /// The books, in the order in which their locks are taken, and what wakes the threads, whose lock is taken last.
 #[derive(Drop)]
@@ -64,7 +64,7 @@ impl Shared {
 
 /// What is told of an event.
 pub(crate) fn told(came: Result<Came, EventFault>) -> Turn
-    ensures { (e : Event) (old new : Away → Away) → OnOk came (IsMade e old new) → IfOk came (λ c. Tells c old new) → OnErr came (IsSame old new) → IsTurn result e old new }
+    ensures { (e : Event) (old new : BooksAfter → BooksAfter) → OnOk came (IsMade e old new) → IfOk came (λ c. Tells c old new) → OnErr came (IsSame old new) → IsTurn result e old new }
 {
     match came {
         Ok(came) => turn_of(came),
@@ -74,7 +74,7 @@ pub(crate) fn told(came: Result<Came, EventFault>) -> Turn
 
 /// What is told of an event that was not refused.
 fn turn_of(came: Came) -> Turn
-    ensures { (e : Event) (old new : Away → Away) → IsMade e old new → Tells came old new → IsTurn result e old new }
+    ensures { (e : Event) (old new : BooksAfter → BooksAfter) → IsMade e old new → Tells came old new → IsTurn result e old new }
 {
     match came {
         Came::Nothing => Turn::Idle,
@@ -85,7 +85,7 @@ fn turn_of(came: Came) -> Turn
 
 /// The same of an event on the pager's and the target's books.
 pub(crate) fn told_to_all(came: Result<Came, EventFault>) -> Turn
-    ensures { (e : Event) (old new : Away → Away) → OnOk came (IsMade e old new) → IfOk came (λ c. Tells c old new) → OnErr came (IsSame old new) → IsTurn result e old new }
+    ensures { (e : Event) (old new : BooksAfter → BooksAfter) → OnOk came (IsMade e old new) → IfOk came (λ c. Tells c old new) → OnErr came (IsSame old new) → IsTurn result e old new }
 {
     match told(came) {
         Turn::Did => Turn::Served,

@@ -1,7 +1,7 @@
 //! The source's thread.
 
 ghost use Rattle.std.specs.Prelude.{◌≡◌, ◌≢◌, ◌≤◌};
-ghost use Rattle.active_push.specs.Books.{part_of};
+ghost use Rattle.source_book.specs.Books.{part_of};
 ghost use Rattle.book_events.specs.Parts.{pushing};
 ghost use Rattle.host_threads.specs.Turns.{IsTurn};
 ghost use Rattle.host_threads.specs.Sides.{Halts};
@@ -10,12 +10,12 @@ use crate::bell::Fault;
 use crate::gate::Gate;
 use crate::shared::{Shared, Turn, of_event, told};
 use crate::side::TargetSide;
-use active_push::SourceBook;
 use book_events::{push, serve, source_tick};
 use link_book::LinkBook;
 use migration_events::Event;
 use migration_types::PageNo;
 use script::Script;
+use source_book::SourceBook;
 use std::mem::{self, drop};
 use std::sync::Wait;
 

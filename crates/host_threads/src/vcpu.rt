@@ -14,10 +14,10 @@ use guest_book::GuestBook;
 use host_checks::{Answered, Transcript};
 use migration_events::Op;
 use migration_types::Seq;
+use pager_book::{Access, TargetBook};
 use script::Vcpu;
 use std::alloc::Global;
 use std::sync::Wait;
-use target_side::{Access, TargetBook};
 
 /// What came of an operation.
 enum Step {

@@ -13,11 +13,11 @@ use Rattle.migration_events.specs.declared.events.Direction.TheVariants.{Down as
 use Rattle.page_stream.specs.declared.Packet.{Packet}
 use Rattle.page_stream.specs.Packets.{number_of}
 use Rattle.link_book.specs.declared.Arrival.{Arrival}
-use Rattle.link_book.specs.LinkPart.{LinkPart, Way, Outcome, goes, fate_of, way_turned, with_arrival, turned, log_length}
-use Rattle.link_book.specs.Links.{IsRecorded, IsLink, arrival, way}
+use Rattle.link_book.specs.LinkPart.{LinkPart, Channel, Outcome, goes, fate_of, channel_turned, with_arrival, turned, log_length}
+use Rattle.link_book.specs.Links.{IsRecorded, IsLink, arrival, channel}
 use Rattle.link_book.proofs.Lists.{get_old, get_new}
 
--- the records of a way's arrivals stay where they are when the log gains another
+-- the records of a channel's arrivals stay where they are when the log gains another
 still : {R : Type 0} (names new : ℕ → R) (came : Option ℕ) (log : List R) (xs : List Arrival) → AllByRecursion (IsRecorded names log) xs → AllByRecursion (IsRecorded names (with_arrival new came log)) xs
 still names new None log xs h = h
 still names new (Some n) log [] h = tt
@@ -28,16 +28,16 @@ with_new : {R : Type 0} (names : ℕ → R) (log : List R) (p : Packet) (xs : Li
 with_new names log p [] h = (get_new log (names (number_of p)), tt)
 with_new names log p (x ∷ xs) h = (get_old log (names (number_of p) ∷ []) x.number (names (number_of x.packet)) h.0, with_new names log p xs h.1)
 
--- the arrivals of the way that is turned
+-- the arrivals of the channel that is turned
 keeps : {R : Type 0} (names : ℕ → R) (right : Packet → Bool) (fate : Fate) (log : List R) (line : List Packet) (xs : List Arrival) → AllByRecursion (IsRecorded names log) xs
-    → AllByRecursion (IsRecorded names (with_arrival names (way_turned right fate (length log) line xs).came log)) (way_turned right fate (length log) line xs).way.arrivals
+    → AllByRecursion (IsRecorded names (with_arrival names (channel_turned right fate (length log) line xs).came log)) (channel_turned right fate (length log) line xs).channel.arrivals
 keeps names right fate log [] xs h = h
 keeps {R} names right fate log (p ∷ rest) xs h = go (right p) fate
   where
     outcome : Bool → Fate → Outcome
-    outcome b fate = cond b (fate_of fate (length log) p (way rest xs)) (record { way = way rest xs; came = None })
+    outcome b fate = cond b (fate_of fate (length log) p (channel rest xs)) (record { channel = channel rest xs; came = None })
 
-    go : (b : Bool) (fate : Fate) → AllByRecursion (IsRecorded names (with_arrival names (outcome b fate).came log)) (outcome b fate).way.arrivals
+    go : (b : Bool) (fate : Fate) → AllByRecursion (IsRecorded names (with_arrival names (outcome b fate).came log)) (outcome b fate).channel.arrivals
     go false fate = h
     go true Deliver = with_new names log p xs h
     go true Lose = h
@@ -49,13 +49,13 @@ turned_keeps Downward fate b h short = record {
   short = short;
   short_lane = h.short_lane;
   down = keeps Down (goes Downward) fate b.log b.down b.down_arrivals h.down;
-  up = still Up Down (way_turned (goes Downward) fate (length b.log) b.down b.down_arrivals).came b.log b.up_arrivals h.up;
+  up = still Up Down (channel_turned (goes Downward) fate (length b.log) b.down b.down_arrivals).came b.log b.up_arrivals h.up;
   lane = h.lane;
 }
 turned_keeps Upward fate b h short = record {
   short = short;
   short_lane = h.short_lane;
-  down = still Down Up (way_turned (goes Upward) fate (length b.log) b.up b.up_arrivals).came b.log b.down_arrivals h.down;
+  down = still Down Up (channel_turned (goes Upward) fate (length b.log) b.up b.up_arrivals).came b.log b.down_arrivals h.down;
   up = keeps Up (goes Upward) fate b.log b.up b.up_arrivals h.up;
   lane = h.lane;
 }
@@ -81,7 +81,7 @@ pub turn_keeps : (d : Direction) (fate : Fate) (b after : LinkPart) → IsLink b
 turn_keeps d fate b after h place same = subst IsLink (sym same) (turned_keeps d fate b h (has_place d fate b place))
 
 -- the log has gained the record of the packet that came
-pub gained : {R : Type 0} (names : ℕ → R) (log same now : List R) (number : ℕ) (came : Option ℕ) (w : Way) (o : Outcome) → record { way = w; came = came } ≡ o → came ≡ Some number → same ≡ log
+pub gained : {R : Type 0} (names : ℕ → R) (log same now : List R) (number : ℕ) (came : Option ℕ) (w : Channel) (o : Outcome) → record { channel = w; came = came } ≡ o → came ≡ Some number → same ≡ log
     → now ≡ same ++ names number ∷ [] → now ≡ with_arrival names o.came log
 gained names log same now number came w o ok is still grown =
     grown ∙ ap (λ l. l ++ names number ∷ []) still ∙ ap (λ c. with_arrival names c log) (sym is ∙ ap (λ (p : Outcome). p.came) ok)

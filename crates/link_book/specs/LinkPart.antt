@@ -52,42 +52,42 @@ pushed_line has_lane b = if has_lane then b.lane else b.down
 abbrev pub with_pushed : Bool → Packet → LinkPart → LinkPart
 with_pushed has_lane packet b = if has_lane then with_lane packet b else with_back packet b
 
--- a way over a link: the packets under way, and those that have arrived
-pub record Way : Type 0 where
+-- a channel of the link or the lane: the packets under way, and those that have arrived
+pub record Channel : Type 0 where
   pub line : List Packet
   pub arrivals : List Arrival
 
--- what a turn makes of a way, and the number of the packet that arrives, if one does
+-- what a turn makes of a channel, and the number of the packet that arrives, if one does
 pub record Outcome : Type 0 where
-  pub way : Way
+  pub channel : Channel
   pub came : Option ℕ
 
 -- a packet arrives, and the log's record with this number says so
-abbrev pub arrived : ℕ → Packet → Way → Way
-arrived number packet way = record way { arrivals = way.arrivals ++ (record { number = number; packet = packet }) ∷ [] }
+abbrev pub arrived : ℕ → Packet → Channel → Channel
+arrived number packet channel = record channel { arrivals = channel.arrivals ++ (record { number = number; packet = packet }) ∷ [] }
 
 -- it is put behind the others of the line
-abbrev pub behind : Packet → Way → Way
-behind packet way = record way { line = way.line ++ packet ∷ [] }
+abbrev pub behind : Packet → Channel → Channel
+behind packet channel = record channel { line = channel.line ++ packet ∷ [] }
 
-abbrev pub fate_of : Fate → ℕ → Packet → Way → Outcome
-fate_of Deliver number packet way = record { way = arrived number packet way; came = Some (number_of packet) }
-fate_of Lose number packet way = record { way = way; came = None }
-fate_of Repeat number packet way = record { way = behind packet (arrived number packet way); came = Some (number_of packet) }
-fate_of Back number packet way = record { way = behind packet way; came = None }
+abbrev pub fate_of : Fate → ℕ → Packet → Channel → Outcome
+fate_of Deliver number packet channel = record { channel = arrived number packet channel; came = Some (number_of packet) }
+fate_of Lose number packet channel = record { channel = channel; came = None }
+fate_of Repeat number packet channel = record { channel = behind packet (arrived number packet channel); came = Some (number_of packet) }
+fate_of Back number packet channel = record { channel = behind packet channel; came = None }
 
--- which packets go a way
+-- which packets go by a channel
 abbrev pub goes : Direction → Packet → Bool
 goes Downward = is_of_source
 goes Upward = is_of_pager
 goes OverLane = is_of_source
 
 -- a turn of a line: its head is taken; one that does not go this way is dropped
-abbrev pub way_turned : (Packet → Bool) → Fate → ℕ → List Packet → List Arrival → Outcome
-way_turned is_right fate number [] arrivals = record { way = record { line = []; arrivals = arrivals }; came = None }
-way_turned is_right fate number (packet ∷ rest) arrivals =
+abbrev pub channel_turned : (Packet → Bool) → Fate → ℕ → List Packet → List Arrival → Outcome
+channel_turned is_right fate number [] arrivals = record { channel = record { line = []; arrivals = arrivals }; came = None }
+channel_turned is_right fate number (packet ∷ rest) arrivals =
     if is_right packet then fate_of fate number packet (record { line = rest; arrivals = arrivals })
-    else record { way = record { line = rest; arrivals = arrivals }; came = None }
+    else record { channel = record { line = rest; arrivals = arrivals }; came = None }
 
 -- the log says of the packet with this number that it has arrived
 abbrev pub with_arrival : {R : Type 0} → (ℕ → R) → Option ℕ → List R → List R
@@ -95,18 +95,18 @@ with_arrival names None log = log
 with_arrival names (Some number) log = log ++ names number ∷ []
 
 abbrev pub went_down : Outcome → LinkPart → LinkPart
-went_down o b = record b { log = with_arrival Down o.came b.log; down = o.way.line; down_arrivals = o.way.arrivals }
+went_down o b = record b { log = with_arrival Down o.came b.log; down = o.channel.line; down_arrivals = o.channel.arrivals }
 
 abbrev pub went_up : Outcome → LinkPart → LinkPart
-went_up o b = record b { log = with_arrival Up o.came b.log; up = o.way.line; up_arrivals = o.way.arrivals }
+went_up o b = record b { log = with_arrival Up o.came b.log; up = o.channel.line; up_arrivals = o.channel.arrivals }
 
 abbrev pub went_over_lane : Outcome → LinkPart → LinkPart
-went_over_lane o b = record b { lane_log = with_arrival LaneDown o.came b.lane_log; lane = o.way.line; lane_arrivals = o.way.arrivals }
+went_over_lane o b = record b { lane_log = with_arrival LaneDown o.came b.lane_log; lane = o.channel.line; lane_arrivals = o.channel.arrivals }
 
 abbrev pub turned : Direction → Fate → LinkPart → LinkPart
-turned Downward fate b = went_down (way_turned (goes Downward) fate (length b.log) b.down b.down_arrivals) b
-turned Upward fate b = went_up (way_turned (goes Upward) fate (length b.log) b.up b.up_arrivals) b
-turned OverLane fate b = went_over_lane (way_turned (goes OverLane) fate (length b.lane_log) b.lane b.lane_arrivals) b
+turned Downward fate b = went_down (channel_turned (goes Downward) fate (length b.log) b.down b.down_arrivals) b
+turned Upward fate b = went_up (channel_turned (goes Upward) fate (length b.log) b.up b.up_arrivals) b
+turned OverLane fate b = went_over_lane (channel_turned (goes OverLane) fate (length b.lane_log) b.lane b.lane_arrivals) b
 
 -- the packets under way in a direction, and the length of the log that says of them that they have arrived
 abbrev pub line_of : Direction → LinkPart → List Packet

@@ -7,7 +7,7 @@ use Rattle.migration_types.specs.declared.records.LaneRec.TheVariants.{Down as L
 use Rattle.page_stream.specs.declared.Packet.{Packet}
 use Rattle.page_stream.specs.Packets.{number_of}
 use Rattle.link_book.specs.declared.Arrival.{Arrival}
-use Rattle.link_book.specs.LinkPart.{LinkPart, Way}
+use Rattle.link_book.specs.LinkPart.{LinkPart, Channel}
 
 -- the links' part, and whether room was made that no offer has used
 pub record Linked : Type 0 where
@@ -17,8 +17,8 @@ pub record Linked : Type 0 where
 abbrev pub arrival : ℕ → Packet → Arrival
 arrival number packet = record { number = number; packet = packet }
 
-abbrev pub way : List Packet → List Arrival → Way
-way line arrivals = record { line = line; arrivals = arrivals }
+abbrev pub channel : List Packet → List Arrival → Channel
+channel line arrivals = record { line = line; arrivals = arrivals }
 
 -- the arrival's number is that of the record that its packet came
 abbrev pub IsRecorded : {R : Type 0} → (ℕ → R) → List R → Arrival → Type 0

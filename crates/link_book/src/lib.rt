@@ -24,7 +24,7 @@ pub struct Arrival {
     pub packet: Packet,
 }
 
-/// The book of the link, which carries packets down and up, and of the lane, a second link down: for each way a line of
+/// The book of the link, which carries packets down and up, and of the lane, a second link down: for each channel a line of
 /// packets under way, oldest first, and those that have arrived, oldest first; and for the link and for the lane a log
 /// of arrivals, of at most 1,048,576 records each. The number of each arrival is that of the record that it came. An
 /// offer needs room that was made for it before, and uses it up. Contracts see the lists, and whether there is such

@@ -3,8 +3,8 @@
 ghost use Rattle.std.specs.Prelude.{◌≡◌, ◌<◌, ◌≤◌, [], ◌∷◌, ◌++◌, true, length, is_some, IfOk, OnOk, OnErr, IsErrOf, vec_len, vec_capacity};
 ghost use Rattle.std.specs.VecDeque.{deque_len, deque_capacity};
 ghost use Rattle.page_stream.specs.Packets.{number_of};
-ghost use Rattle.link_book.specs.LinkPart.{goes, way_turned};
-ghost use Rattle.link_book.specs.Links.{arrival, way};
+ghost use Rattle.link_book.specs.LinkPart.{goes, channel_turned};
+ghost use Rattle.link_book.specs.Links.{arrival, channel};
 
 use crate::{Arrival, LinkFault};
 use migration_events::{Direction, Fate, make_room};
@@ -23,11 +23,11 @@ pub fn turn_line<R>(
     fate: Fate,
 ) -> Result<Option<u32>, LinkFault>
     requires { length log.old.items ≤ 1048576 }
-    ensures ok { IfOk result (λ came. record { way = way line.new.items arrivals.new.items; came = came }
-        ≡ way_turned (goes direction) fate (length log.old.items) line.old.items arrivals.old.items) }
+    ensures ok { IfOk result (λ came. record { channel = channel line.new.items arrivals.new.items; came = came }
+        ≡ channel_turned (goes direction) fate (length log.old.items) line.old.items arrivals.old.items) }
     ensures place { IfOk result (λ came. is_some came ≡ true → (length log.old.items < 1048576) × (vec_len log.new < vec_capacity log.new)) }
     ensures full { IsErrOf result LinkFault.LogFull → (1048576 ≤ length log.old.items)
-        × (is_some (way_turned (goes direction) fate (length log.old.items) line.old.items arrivals.old.items).came ≡ true) }
+        × (is_some (channel_turned (goes direction) fate (length log.old.items) line.old.items arrivals.old.items).came ≡ true) }
     ensures log { log.new.items ≡ log.old.items }
     ensures err { OnErr result ((line.new.items ≡ line.old.items) × (arrivals.new.items ≡ arrivals.old.items)) }
     ensures room { deque_len line.old < deque_capacity line.old → deque_len line.new < deque_capacity line.new }

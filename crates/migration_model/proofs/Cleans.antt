@@ -5,8 +5,8 @@ use Rattle.audit_model.specs.Certificates.{IsLateTouch}
 use Rattle.audit_model.specs.Faults.{GuestFault, HasNoPageFault, IsEarly, IsOver, PagerFault, SourceFault, has_looked, if_fault, looks_at}
 use Rattle.audit_model.specs.Flat.{at_halt, cell_after, changed, flat, freed, freed_after, halt_place, home, home_after, in_ledger, marked_late, released_after}
 use Rattle.audit_model.specs.Shape.{earlier, is_placement_of, is_release}
-use Rattle.audit_model.specs.declared.home.Home.{Home as Seat}
-use Rattle.audit_model.specs.declared.home.Home.TheVariants.{AtSource, AtTarget, Nowhere}
+use Rattle.audit_model.specs.declared.home.BooksBefore.{BooksBefore as Seat}
+use Rattle.audit_model.specs.declared.home.BooksBefore.TheVariants.{AtSource, AtTarget, Nowhere}
 use Rattle.audit_model.specs.declared.reasons.PageReason.{PageReason}
 use Rattle.audit_model.specs.declared.reasons.PageReason.TheVariants.{Altered, Early, Given, Over, Read as WrongRead, Stale, Twice, Unfit}
 use Rattle.migration_types.specs.Memory.{Memory, page_of}

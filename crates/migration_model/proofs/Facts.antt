@@ -1,12 +1,12 @@
 -- What the books and the recording keep, from the halt on.
-use Rattle.active_push.specs.SourcePart.{SourcePart}
+use Rattle.source_book.specs.SourcePart.{SourcePart}
 use Rattle.audit_model.proofs.Consistent.{there}
 use Rattle.audit_model.specs.Faults.{IsOver}
 use Rattle.audit_model.specs.Flat.{flat, freed as was_freed, home}
 use Rattle.audit_model.specs.Mergings.{IsMerging}
 use Rattle.audit_model.specs.Shape.{earlier, is_first_send, is_halt, is_placement_of, is_resume, is_send_of, is_taking, lane_named, link_named, pager_named, source_named, taken_sending}
-use Rattle.audit_model.specs.declared.home.Home.{Home as Seat}
-use Rattle.audit_model.specs.declared.home.Home.TheVariants.{AtTarget, Nowhere}
+use Rattle.audit_model.specs.declared.home.BooksBefore.{BooksBefore as Seat}
+use Rattle.audit_model.specs.declared.home.BooksBefore.TheVariants.{AtTarget, Nowhere}
 use Rattle.balloon_ledger.specs.Released.{pages_below, released}
 use Rattle.bubbling.specs.Bubbling.{Ring}
 use Rattle.fault_queue.specs.Waiting.{Waiting, without}
@@ -38,7 +38,7 @@ use Rattle.migration_model.proofs.Limits.{IsLimited, IsWide, PagerWithin, Source
 use Rattle.migration_model.proofs.Lists.{AllAt, Index, all_push, each_kept, each_push, each_weaker, index_other}
 use Rattle.migration_model.proofs.Orders.{order_guest, order_guest_two, order_lane, order_link, order_none, order_pager, order_pager_two, order_source, order_source_two}
 use Rattle.migration_model.proofs.Shapes.{IsNamed, IsStarted, goes_on, links_shapes, links_starts, pager_goes_on, pager_shapes, pager_starts, source_shapes, source_starts}
-use Rattle.migration_model.specs.Machine.{Away, Vcpu, VcpuFits, away_session, new_names}
+use Rattle.migration_model.specs.Books.{BooksAfter, Vcpu, VcpuFits, session_after, new_names}
 use Rattle.residency.specs.Placements.{is_resident}
 use Rattle.std.proofs.Common.{Bool, List, None, Option, Some, [], ap, cond, false, inl, inr, length, not, refl, subst, sym, true, ℕ, ◌++◌, ◌<◌, ◌∙◌, ◌∷◌, ◌≡◌, ◌≤◌, ◌⊎◌}
 use Rattle.std.proofs.lemmas.Bool.{eqb-true}
@@ -47,8 +47,8 @@ use Rattle.std.specs.List.{AllByRecursion}
 use Rattle.std.specs.Prelude.{is_some, slice_get, ◌==◌}
 use Rattle.target_book.specs.TargetPart.{TargetPart, settled as with_settled}
 use Rattle.target_book.specs.declared.Missing.{Missing}
-use Rattle.target_side.specs.PagerPart.{PagerPart, settles}
-use Rattle.target_side.specs.declared.Incoming.{Incoming}
+use Rattle.pager_book.specs.PagerPart.{PagerPart, settles}
+use Rattle.pager_book.specs.declared.Incoming.{Incoming}
 
 -- source record n is the state, or repeats it
 abbrev pub IsStateNumber : Recorded → ℕ → Type 0
@@ -81,7 +81,7 @@ abbrev pub HasArrived : {R : Type 0} → (ℕ → R) → List R → (Packet → 
 HasArrived names log P x = (slice_get log x.number ≡ Some (names (number_of x.packet))) × P x.packet
 
 -- the packets that are under way, and those that have arrived
-pub record WayKept {R : Type 0} (names : ℕ → R) (log : List R) (P : Packet → Type 0) (line : List Packet) (arrivals : List Arrival) : Type 0 where
+pub record ChannelKept {R : Type 0} (names : ℕ → R) (log : List R) (P : Packet → Type 0) (line : List Packet) (arrivals : List Arrival) : Type 0 where
   pub under_way : AllByRecursion P line
   pub come : AllByRecursion (HasArrived names log P) arrivals
 
@@ -114,9 +114,9 @@ abbrev pub IsWaitedFor : Recorded → Waiting → Type 0
 IsWaitedFor s x = x.page < s.geometry.pages
 
 pub record LinkKept (s : Recorded) (released : List ℕ) (link : LinkPart) : Type 0 where
-  pub down : WayKept Down s.link (DownFact s released) link.down link.down_arrivals
-  pub up : WayKept Up s.link (UpFact s) link.up link.up_arrivals
-  pub lane : WayKept LaneDown s.lane (LaneFact s released) link.lane link.lane_arrivals
+  pub down : ChannelKept Down s.link (DownFact s released) link.down link.down_arrivals
+  pub up : ChannelKept Up s.link (UpFact s) link.up link.up_arrivals
+  pub lane : ChannelKept LaneDown s.lane (LaneFact s released) link.lane link.lane_arrivals
 
 pub record PagerKept (s : Recorded) (released : List ℕ) (pager : PagerPart) : Type 0 where
   pub geometry : pager.geometry ≡ s.geometry
@@ -168,37 +168,37 @@ pub record VcpusKept (version : Version) (e : Extent) (vcpus : List Vcpu) : Type
   pub few : length vcpus ≤ 64
   pub each : AllByRecursion (VcpuFits version e) vcpus
 
-abbrev pub released_of : Away → List ℕ
+abbrev pub released_of : BooksAfter → List ℕ
 released_of a = pages_below a.source.geometry.pages a.source.ledger
 
-pub record AwayKept (o : List Name) (a : Away) : Type 0 where
-  pub named : IsNamed (away_session a)
-  pub started : IsStarted (away_session a)
-  pub merges : IsMerging (away_session a) o
-  pub clean : IsClean (away_session a) a.source.memory a.source.ledger
-  pub frozen : IsFrozen (away_session a) a.source.memory a.source.ledger
-  pub limits : IsLimited (away_session a)
-  pub phase : PhaseKept (away_session a) a.target.is_resumed
-  pub resumed_ready : a.target.is_resumed ≡ true → IsReady (away_session a)
-  pub source : SourceKept (away_session a) a.source
-  pub link : LinkKept (away_session a) (released_of a) a.link
-  pub pager : PagerKept (away_session a) (released_of a) a.pager
+pub record AwayKept (o : List Name) (a : BooksAfter) : Type 0 where
+  pub named : IsNamed (session_after a)
+  pub started : IsStarted (session_after a)
+  pub merges : IsMerging (session_after a) o
+  pub clean : IsClean (session_after a) a.source.memory a.source.ledger
+  pub frozen : IsFrozen (session_after a) a.source.memory a.source.ledger
+  pub limits : IsLimited (session_after a)
+  pub phase : PhaseKept (session_after a) a.target.is_resumed
+  pub resumed_ready : a.target.is_resumed ≡ true → IsReady (session_after a)
+  pub source : SourceKept (session_after a) a.source
+  pub link : LinkKept (session_after a) (released_of a) a.link
+  pub pager : PagerKept (session_after a) (released_of a) a.pager
   pub placed : (p : ℕ) → a.pager.placed p ≡ is_some (a.target.placed p)
   pub settled : (p : ℕ) → a.pager.settled p ≡ true → a.target.freed p ≡ true
-  pub target : TargetKept (away_session a) a.source.memory a.target
-  pub ends : EndKept (away_session a) a.source.ledger (is_there a.target)
+  pub target : TargetKept (session_after a) a.source.memory a.target
+  pub ends : EndKept (session_after a) a.source.ledger (is_there a.target)
   pub vcpus : VcpusKept a.version a.source.geometry a.vcpus
   pub lanes : a.has_lane ≡ true → HasLane a.version
 
 -- the books after an event, with the order that it leaves
-abbrev pub Arrives : List Name → Away → Away → Type 0
-Arrives o a b = AwayKept (o ++ new_names (away_session a) (away_session b)) b
+abbrev pub Arrives : List Name → BooksAfter → BooksAfter → Type 0
+Arrives o a b = AwayKept (o ++ new_names (session_after a) (session_after b)) b
 
 -- what rests on records stays where records are added
-pub way_stays : {R : Type 0} (names : ℕ → R) (old new : List R) (P Q : Packet → Type 0) (line : List Packet) (arrivals : List Arrival) →
+pub channel_stays : {R : Type 0} (names : ℕ → R) (old new : List R) (P Q : Packet → Type 0) (line : List Packet) (arrivals : List Arrival) →
     ((n : ℕ) (r : R) → slice_get old n ≡ Some r → slice_get new n ≡ Some r) → ((packet : Packet) → P packet → Q packet) →
-    WayKept names old P line arrivals → WayKept names new Q line arrivals
-way_stays names old new P Q line arrivals stays weaker k = record {
+    ChannelKept names old P line arrivals → ChannelKept names new Q line arrivals
+channel_stays names old new P Q line arrivals stays weaker k = record {
   under_way = each_weaker P Q weaker line k.under_way;
   come = each_weaker (HasArrived names old P) (HasArrived names new Q) (λ y h. (stays y.number _ h.0, weaker y.packet h.1)) arrivals k.come;
 }
@@ -242,9 +242,9 @@ module _ (s t : Recorded) (x : Extends s t) where
 
   pub link_stays : (released : List ℕ) (link : LinkPart) → LinkKept s released link → LinkKept t released link
   link_stays released link k = record {
-    down = way_stays Down s.link t.link (DownFact s released) (DownFact t released) link.down link.down_arrivals x.link (down_fact_stays released) k.down;
-    up = way_stays Up s.link t.link (UpFact s) (UpFact t) link.up link.up_arrivals x.link up_fact_stays k.up;
-    lane = way_stays LaneDown s.lane t.lane (LaneFact s released) (LaneFact t released) link.lane link.lane_arrivals x.lane (lane_fact_stays released) k.lane;
+    down = channel_stays Down s.link t.link (DownFact s released) (DownFact t released) link.down link.down_arrivals x.link (down_fact_stays released) k.down;
+    up = channel_stays Up s.link t.link (UpFact s) (UpFact t) link.up link.up_arrivals x.link up_fact_stays k.up;
+    lane = channel_stays LaneDown s.lane t.lane (LaneFact s released) (LaneFact t released) link.lane link.lane_arrivals x.lane (lane_fact_stays released) k.lane;
   }
 
   pub ready_stays : IsReady s → IsReady t
@@ -271,17 +271,17 @@ pub not_new : {A : Type 0} (log : List A) (r y : A) {B : Type 0} → ((n : ℕ) 
 not_new log r y {B} old new n e = all_push (λ n z. z ≡ y → B) (λ n z. z ≡ y → B) log r (λ n z is f. old n (is ∙ ap Some f)) (λ n z is h. h) new n y e refl
 
 -- a record of the source, and what the source's book keeps of it
-pub source_pushed : {o : List Name} (r : SourceRec) (sent : ℕ → Option ℕ) (ring : Ring) (was_asked is_done : Bool) (a : Away) → AwayKept o a →
-    source_named (away_session a) (length a.source.log) r ≡ true →
-    is_first_send (away_session a) (length a.source.log) r ≡ true →
-    IsThere (away_session a) (source_receipt r) → goes_on r ≡ true →
+pub source_pushed : {o : List Name} (r : SourceRec) (sent : ℕ → Option ℕ) (ring : Ring) (was_asked is_done : Bool) (a : BooksAfter) → AwayKept o a →
+    source_named (session_after a) (length a.source.log) r ≡ true →
+    is_first_send (session_after a) (length a.source.log) r ≡ true →
+    IsThere (session_after a) (source_receipt r) → goes_on r ≡ true →
     SourceClean a.source.geometry.cells a.source.memory a.source.ledger r →
     SourceWithin a.source.geometry r →
     Index is_send_of sent (a.source.log ++ r ∷ []) →
     (r ≡ Done → IsComplete a.source.geometry.pages a.source.ledger (is_there a.target)) →
     AwayKept (o ++ (FromSource, length a.source.log) ∷ []) (record a { source = record a.source { log = a.source.log ++ r ∷ []; sent = sent; ring = ring; was_asked = was_asked; is_done = is_done } })
 source_pushed {o} r sent ring was_asked is_done a k named first there on clean within index done =
-    let s = away_session a in
+    let s = session_after a in
     let t = source_more r s in
     let x = source_extends r s in
     let two : 1 < length s.source = slice_get_within s.source 1 State k.source.state in
@@ -316,15 +316,15 @@ source_pushed {o} r sent ring was_asked is_done a k named first there on clean w
     }
 
 -- what the links' book keeps, with the records that it makes
-pub link_kept : {o past : List Name} (link : LinkPart) (a : Away) → AwayKept past a →
-    Extends (away_session a) (away_session (record a { link = link })) →
-    AllAt (λ n r. link_named (away_session a) r ≡ true) link.log → AllAt (λ n r. lane_named (away_session a) r ≡ true) link.lane_log →
+pub link_kept : {o past : List Name} (link : LinkPart) (a : BooksAfter) → AwayKept past a →
+    Extends (session_after a) (session_after (record a { link = link })) →
+    AllAt (λ n r. link_named (session_after a) r ≡ true) link.log → AllAt (λ n r. lane_named (session_after a) r ≡ true) link.lane_log →
     AllAt (λ n r. HasLane a.version) link.lane_log →
-    IsMerging (away_session (record a { link = link })) o → LinkKept (away_session (record a { link = link })) (released_of a) link →
+    IsMerging (session_after (record a { link = link })) o → LinkKept (session_after (record a { link = link })) (released_of a) link →
     AwayKept o (record a { link = link })
 link_kept link a k x named over_lane within merges new =
-    let s = away_session a in
-    let t = away_session (record a { link = link }) in
+    let s = session_after a in
+    let t = session_after (record a { link = link }) in
     record {
       named = links_shapes link.log link.lane_log s x k.named named over_lane;
       started = links_starts link.log link.lane_log s x k.started;
@@ -356,22 +356,22 @@ link_kept link a k x named over_lane within merges new =
     }
 
 -- a record of the link, or of the lane, and the lines that it leaves
-pub link_pushed : {o : List Name} (r : LinkRec) (link : LinkPart) (a : Away) → AwayKept o a →
-    link_named (away_session a) r ≡ true → IsThere (away_session a) (link_receipt r) →
-    LinkKept (link_more r (away_session a)) (released_of a) link →
+pub link_pushed : {o : List Name} (r : LinkRec) (link : LinkPart) (a : BooksAfter) → AwayKept o a →
+    link_named (session_after a) r ≡ true → IsThere (session_after a) (link_receipt r) →
+    LinkKept (link_more r (session_after a)) (released_of a) link →
     AwayKept (o ++ (Link, length a.link.log) ∷ []) (record a { link = record link { log = a.link.log ++ r ∷ []; lane_log = a.link.lane_log } })
 link_pushed {o} r link a k named there new =
-    let s = away_session a in
+    let s = session_after a in
     link_kept (record link { log = a.link.log ++ r ∷ []; lane_log = a.link.lane_log }) a k (link_extends r s)
     (all_push (λ n y. link_named s y ≡ true) (λ n y. link_named s y ≡ true) s.link r k.named.link (λ n y is e. e) named) k.named.lane k.limits.lane
     (link_merges r s o there k.merges) (record { down = new.down; up = new.up; lane = new.lane })
 
-pub lane_pushed : {o : List Name} (r : LaneRec) (link : LinkPart) (a : Away) → AwayKept o a →
-    lane_named (away_session a) r ≡ true → HasLane a.version → IsThere (away_session a) (lane_receipt r) →
-    LinkKept (lane_more r (away_session a)) (released_of a) link →
+pub lane_pushed : {o : List Name} (r : LaneRec) (link : LinkPart) (a : BooksAfter) → AwayKept o a →
+    lane_named (session_after a) r ≡ true → HasLane a.version → IsThere (session_after a) (lane_receipt r) →
+    LinkKept (lane_more r (session_after a)) (released_of a) link →
     AwayKept (o ++ (Lane, length a.link.lane_log) ∷ []) (record a { link = record link { log = a.link.log; lane_log = a.link.lane_log ++ r ∷ [] } })
 lane_pushed {o} r link a k named within there new =
-    let s = away_session a in
+    let s = session_after a in
     link_kept (record link { log = a.link.log; lane_log = a.link.lane_log ++ r ∷ [] }) a k (lane_extends r s)
     k.named.link (all_push (λ n y. lane_named s y ≡ true) (λ n y. lane_named s y ≡ true) s.lane r k.named.lane (λ n y is e. e) named)
     (all_push (λ n y. HasLane s.version) (λ n y. HasLane s.version) s.lane r k.limits.lane (λ n y is h. h) within)
@@ -384,16 +384,16 @@ pub unready_goes : (s : Recorded) (released : List ℕ) (pager : PagerPart) → 
 unready_goes s released pager k h e = no_ready s.pager (k.unready e) h
 
 -- a record of the pager that places no page
-pub pager_pushed : {o : List Name} (r : PagerRec) (a : Away) → AwayKept o a → IsReady (away_session a) →
-    pager_named (away_session a) (length a.pager.log) r ≡ true →
-    IsThere (away_session a) (pager_receipt r) → pager_goes_on r ≡ true →
+pub pager_pushed : {o : List Name} (r : PagerRec) (a : BooksAfter) → AwayKept o a → IsReady (session_after a) →
+    pager_named (session_after a) (length a.pager.log) r ≡ true →
+    IsThere (session_after a) (pager_receipt r) → pager_goes_on r ≡ true →
     ((p : ℕ) → is_placement_of p r ≡ false) →
     PagerClean a.source.geometry.cells a.source.memory a.source.ledger a.pager.log (length a.pager.log) r →
     PagerWithin a.version a.source.geometry r →
     (r ≡ All → IsComplete a.source.geometry.pages a.source.ledger (is_there a.target)) →
     AwayKept (o ++ (Pager, length a.pager.log) ∷ []) (record a { pager = record a.pager { log = a.pager.log ++ r ∷ [] } })
 pager_pushed {o} r a k ready named there on other clean within all =
-    let s = away_session a in
+    let s = session_after a in
     let t = pager_more r s in
     let x = pager_extends r s in
     let two : 1 < length s.pager = slice_get_within s.pager 1 Ready ready in
@@ -429,13 +429,13 @@ pager_pushed {o} r a k ready named there on other clean within all =
     }
 
 -- changes of one book with no record
-pub with_link : {o : List Name} (link : LinkPart) (a : Away) → AwayKept o a → LinkKept (away_session a) (released_of a) link → AwayKept o (record a { link = record link { log = a.link.log; lane_log = a.link.lane_log } })
+pub with_link : {o : List Name} (link : LinkPart) (a : BooksAfter) → AwayKept o a → LinkKept (session_after a) (released_of a) link → AwayKept o (record a { link = record link { log = a.link.log; lane_log = a.link.lane_log } })
 with_link link a k new =
     link_kept (record link { log = a.link.log; lane_log = a.link.lane_log }) a k
     (record { version = refl; guest = λ n x e. e; source = λ n x e. e; link = λ n x e. e; lane = λ n x e. e; pager = λ n x e. e })
     k.named.link k.named.lane k.limits.lane k.merges (record { down = new.down; up = new.up; lane = new.lane })
 
-pub with_pager : {o : List Name} (pager : PagerPart) (a : Away) → AwayKept o a → PagerKept (away_session a) (released_of a) pager → ((p : ℕ) → pager.placed p ≡ is_some (a.target.placed p)) → ((p : ℕ) → pager.settled p ≡ true → a.target.freed p ≡ true) → AwayKept o (record a { pager = record pager { log = a.pager.log } })
+pub with_pager : {o : List Name} (pager : PagerPart) (a : BooksAfter) → AwayKept o a → PagerKept (session_after a) (released_of a) pager → ((p : ℕ) → pager.placed p ≡ is_some (a.target.placed p)) → ((p : ℕ) → pager.settled p ≡ true → a.target.freed p ≡ true) → AwayKept o (record a { pager = record pager { log = a.pager.log } })
 with_pager pager a k new same settled = record {
   named = k.named;
   started = k.started;
@@ -457,7 +457,7 @@ with_pager pager a k new same settled = record {
 }
 
 -- pages that the guest released where they were absent are settled
-settles_keep : {o : List Name} (ps : List ℕ) (a : Away) → AwayKept o a → AllByRecursion (λ p. a.target.freed p ≡ true) ps → AwayKept o (record a { pager = settles ps a.pager })
+settles_keep : {o : List Name} (ps : List ℕ) (a : BooksAfter) → AwayKept o a → AllByRecursion (λ p. a.target.freed p ≡ true) ps → AwayKept o (record a { pager = settles ps a.pager })
 settles_keep [] a k all = k
 settles_keep (p ∷ ps) a k all =
     let next : PagerPart = record a.pager { settled = with_page p a.pager.settled; waiting = without p a.pager.waiting } in
@@ -469,7 +469,7 @@ settles_keep (p ∷ ps) a k all =
       ready = k.pager.ready;
       inbox = k.pager.inbox;
       outbox = k.pager.outbox;
-      waiting = each_kept (IsWaitedFor (away_session a)) (λ e. not (p == e.page)) a.pager.waiting k.pager.waiting;
+      waiting = each_kept (IsWaitedFor (session_after a)) (λ e. not (p == e.page)) a.pager.waiting k.pager.waiting;
       wants = k.pager.wants;
     })
     k.placed (λ q e. now q (p == q) refl e))
@@ -480,10 +480,10 @@ settles_keep (p ∷ ps) a k all =
     now q false is e = k.settled q e
 
 -- the books when the pager has settled all such pages
-abbrev pub settled_books : Away → Away
+abbrev pub settled_books : BooksAfter → BooksAfter
 settled_books a = record a { pager = settles a.target.unsettled a.pager; target = with_settled a.target }
 
-pub settled_keeps : {o : List Name} (a : Away) → AwayKept o a → AwayKept o (settled_books a)
+pub settled_keeps : {o : List Name} (a : BooksAfter) → AwayKept o a → AwayKept o (settled_books a)
 settled_keeps a k =
     let new = settles_keep a.target.unsettled a k k.target.unsettled in
     record {
@@ -525,11 +525,11 @@ pub settles_released : (ps : List ℕ) (b : PagerPart) → (settles ps b).releas
 settles_released [] b = refl
 settles_released (p ∷ ps) b = settles_released ps (record b { settled = with_page p b.settled; waiting = without p b.waiting })
 
-pub settled_arrives : (o : List Name) (a b : Away) → Arrives o (settled_books a) b → Arrives o a b
-settled_arrives o a b k = subst (λ log. AwayKept (o ++ new_names (record (away_session a) { pager = log }) (away_session b)) b) (settles_log a.target.unsettled a.pager) k
+pub settled_arrives : (o : List Name) (a b : BooksAfter) → Arrives o (settled_books a) b → Arrives o a b
+settled_arrives o a b k = subst (λ log. AwayKept (o ++ new_names (record (session_after a) { pager = log }) (session_after b)) b) (settles_log a.target.unsettled a.pager) k
 
 -- the pivots
-pub with_ring : {o : List Name} (ring : Ring) (a : Away) → AwayKept o a → AwayKept o (record a { source = record a.source { ring = ring } })
+pub with_ring : {o : List Name} (ring : Ring) (a : BooksAfter) → AwayKept o a → AwayKept o (record a { source = record a.source { ring = ring } })
 with_ring ring a k = record {
   named = k.named;
   started = k.started;
@@ -551,61 +551,61 @@ with_ring ring a k = record {
 }
 
 -- the lines
-pub way_more : {R : Type 0} (names : ℕ → R) (log : List R) (P : Packet → Type 0) (line : List Packet) (arrivals : List Arrival) (packet : Packet) → P packet → WayKept names log P line arrivals → WayKept names log P (line ++ packet ∷ []) arrivals
-way_more names log P line arrivals packet fact k = record { under_way = each_push P line packet k.under_way fact; come = k.come }
+pub channel_more : {R : Type 0} (names : ℕ → R) (log : List R) (P : Packet → Type 0) (line : List Packet) (arrivals : List Arrival) (packet : Packet) → P packet → ChannelKept names log P line arrivals → ChannelKept names log P (line ++ packet ∷ []) arrivals
+channel_more names log P line arrivals packet fact k = record { under_way = each_push P line packet k.under_way fact; come = k.come }
 
-pub back_keeps : {o : List Name} (packet : Packet) (a : Away) → AwayKept o a → DownFact (away_session a) (released_of a) packet → AwayKept o (record a { link = with_back packet a.link })
+pub back_keeps : {o : List Name} (packet : Packet) (a : BooksAfter) → AwayKept o a → DownFact (session_after a) (released_of a) packet → AwayKept o (record a { link = with_back packet a.link })
 back_keeps packet a k fact = with_link (with_back packet a.link) a k (record {
-  down = way_more Down a.link.log (DownFact (away_session a) (released_of a)) a.link.down a.link.down_arrivals packet fact k.link.down;
+  down = channel_more Down a.link.log (DownFact (session_after a) (released_of a)) a.link.down a.link.down_arrivals packet fact k.link.down;
   up = k.link.up;
   lane = k.link.lane;
 })
 
-pub front_keeps : {o : List Name} (packet : Packet) (a : Away) → AwayKept o a → DownFact (away_session a) (released_of a) packet → AwayKept o (record a { link = with_front packet a.link })
+pub front_keeps : {o : List Name} (packet : Packet) (a : BooksAfter) → AwayKept o a → DownFact (session_after a) (released_of a) packet → AwayKept o (record a { link = with_front packet a.link })
 front_keeps packet a k fact = with_link (with_front packet a.link) a k (record {
   down = record { under_way = (fact, k.link.down.under_way); come = k.link.down.come };
   up = k.link.up;
   lane = k.link.lane;
 })
 
-pub up_keeps : {o : List Name} (packet : Packet) (a : Away) → AwayKept o a → UpFact (away_session a) packet → AwayKept o (record a { link = with_up packet a.link })
+pub up_keeps : {o : List Name} (packet : Packet) (a : BooksAfter) → AwayKept o a → UpFact (session_after a) packet → AwayKept o (record a { link = with_up packet a.link })
 up_keeps packet a k fact = with_link (with_up packet a.link) a k (record {
   down = k.link.down;
-  up = way_more Up a.link.log (UpFact (away_session a)) a.link.up a.link.up_arrivals packet fact k.link.up;
+  up = channel_more Up a.link.log (UpFact (session_after a)) a.link.up a.link.up_arrivals packet fact k.link.up;
   lane = k.link.lane;
 })
 
-pub lane_keeps : {o : List Name} (packet : Packet) (a : Away) → AwayKept o a → LaneFact (away_session a) (released_of a) packet → AwayKept o (record a { link = with_lane packet a.link })
+pub lane_keeps : {o : List Name} (packet : Packet) (a : BooksAfter) → AwayKept o a → LaneFact (session_after a) (released_of a) packet → AwayKept o (record a { link = with_lane packet a.link })
 lane_keeps packet a k fact = with_link (with_lane packet a.link) a k (record {
   down = k.link.down;
   up = k.link.up;
-  lane = way_more LaneDown a.link.lane_log (LaneFact (away_session a) (released_of a)) a.link.lane a.link.lane_arrivals packet fact k.link.lane;
+  lane = channel_more LaneDown a.link.lane_log (LaneFact (session_after a) (released_of a)) a.link.lane a.link.lane_arrivals packet fact k.link.lane;
 })
 
 -- the order at the end of an event
-pub close_none : (o : List Name) (s : Recorded) (b : Away) → AwayKept o b → AwayKept (o ++ new_names s s) b
+pub close_none : (o : List Name) (s : Recorded) (b : BooksAfter) → AwayKept o b → AwayKept (o ++ new_names s s) b
 close_none o s b k = subst (λ x. AwayKept x b) (sym (order_none o s)) k
 
-pub close_guest : (o : List Name) (s : Recorded) (r : GuestRec) (b : Away) → AwayKept (o ++ (Guest, length s.guest) ∷ []) b → AwayKept (o ++ new_names s (guest_more r s)) b
+pub close_guest : (o : List Name) (s : Recorded) (r : GuestRec) (b : BooksAfter) → AwayKept (o ++ (Guest, length s.guest) ∷ []) b → AwayKept (o ++ new_names s (guest_more r s)) b
 close_guest o s r b k = subst (λ x. AwayKept x b) (sym (order_guest o s r)) k
 
-pub close_guest_two : (o : List Name) (s : Recorded) (r t : GuestRec) (b : Away) → AwayKept ((o ++ (Guest, length s.guest) ∷ []) ++ (Guest, length (s.guest ++ r ∷ [])) ∷ []) b → AwayKept (o ++ new_names s (guest_more t (guest_more r s))) b
+pub close_guest_two : (o : List Name) (s : Recorded) (r t : GuestRec) (b : BooksAfter) → AwayKept ((o ++ (Guest, length s.guest) ∷ []) ++ (Guest, length (s.guest ++ r ∷ [])) ∷ []) b → AwayKept (o ++ new_names s (guest_more t (guest_more r s))) b
 close_guest_two o s r t b k = subst (λ x. AwayKept x b) (sym (order_guest_two o s r t)) k
 
-pub close_source : (o : List Name) (s : Recorded) (r : SourceRec) (b : Away) → AwayKept (o ++ (FromSource, length s.source) ∷ []) b → AwayKept (o ++ new_names s (source_more r s)) b
+pub close_source : (o : List Name) (s : Recorded) (r : SourceRec) (b : BooksAfter) → AwayKept (o ++ (FromSource, length s.source) ∷ []) b → AwayKept (o ++ new_names s (source_more r s)) b
 close_source o s r b k = subst (λ x. AwayKept x b) (sym (order_source o s r)) k
 
-pub close_source_two : (o : List Name) (s : Recorded) (r t : SourceRec) (b : Away) → AwayKept ((o ++ (FromSource, length s.source) ∷ []) ++ (FromSource, length (s.source ++ r ∷ [])) ∷ []) b → AwayKept (o ++ new_names s (source_more t (source_more r s))) b
+pub close_source_two : (o : List Name) (s : Recorded) (r t : SourceRec) (b : BooksAfter) → AwayKept ((o ++ (FromSource, length s.source) ∷ []) ++ (FromSource, length (s.source ++ r ∷ [])) ∷ []) b → AwayKept (o ++ new_names s (source_more t (source_more r s))) b
 close_source_two o s r t b k = subst (λ x. AwayKept x b) (sym (order_source_two o s r t)) k
 
-pub close_link : (o : List Name) (s : Recorded) (r : LinkRec) (b : Away) → AwayKept (o ++ (Link, length s.link) ∷ []) b → AwayKept (o ++ new_names s (link_more r s)) b
+pub close_link : (o : List Name) (s : Recorded) (r : LinkRec) (b : BooksAfter) → AwayKept (o ++ (Link, length s.link) ∷ []) b → AwayKept (o ++ new_names s (link_more r s)) b
 close_link o s r b k = subst (λ x. AwayKept x b) (sym (order_link o s r)) k
 
-pub close_lane : (o : List Name) (s : Recorded) (r : LaneRec) (b : Away) → AwayKept (o ++ (Lane, length s.lane) ∷ []) b → AwayKept (o ++ new_names s (lane_more r s)) b
+pub close_lane : (o : List Name) (s : Recorded) (r : LaneRec) (b : BooksAfter) → AwayKept (o ++ (Lane, length s.lane) ∷ []) b → AwayKept (o ++ new_names s (lane_more r s)) b
 close_lane o s r b k = subst (λ x. AwayKept x b) (sym (order_lane o s r)) k
 
-pub close_pager : (o : List Name) (s : Recorded) (r : PagerRec) (b : Away) → AwayKept (o ++ (Pager, length s.pager) ∷ []) b → AwayKept (o ++ new_names s (pager_more r s)) b
+pub close_pager : (o : List Name) (s : Recorded) (r : PagerRec) (b : BooksAfter) → AwayKept (o ++ (Pager, length s.pager) ∷ []) b → AwayKept (o ++ new_names s (pager_more r s)) b
 close_pager o s r b k = subst (λ x. AwayKept x b) (sym (order_pager o s r)) k
 
-pub close_pager_two : (o : List Name) (s : Recorded) (r t : PagerRec) (b : Away) → AwayKept ((o ++ (Pager, length s.pager) ∷ []) ++ (Pager, length (s.pager ++ r ∷ [])) ∷ []) b → AwayKept (o ++ new_names s (pager_more t (pager_more r s))) b
+pub close_pager_two : (o : List Name) (s : Recorded) (r t : PagerRec) (b : BooksAfter) → AwayKept ((o ++ (Pager, length s.pager) ∷ []) ++ (Pager, length (s.pager ++ r ∷ [])) ∷ []) b → AwayKept (o ++ new_names s (pager_more t (pager_more r s))) b
 close_pager_two o s r t b k = subst (λ x. AwayKept x b) (sym (order_pager_two o s r t)) k

@@ -1,9 +1,9 @@
 -- No event appends more than two records to a log.
-use Rattle.active_push.specs.SourcePart.{Offer, SourcePart, asks, nearest, owes, pushes, serves_all, serves_owed, serves_want, silent, source_push, source_serve, source_tick, state_packet, unsent, with_pivot}
+use Rattle.source_book.specs.SourcePart.{Offer, SourcePart, asks, nearest, owes, pushes, serves_all, serves_owed, serves_want, silent, source_push, source_serve, source_tick, state_packet, unsent, with_pivot}
 use Rattle.bubbling.specs.Bubbling.{in_turn}
 use Rattle.fault_queue.specs.Waiting.{is_asked, is_waiting}
 use Rattle.guest_book.specs.GuestPart.{GuestPart, guest_access}
-use Rattle.link_book.specs.LinkPart.{LinkPart, goes, if_packet, pushed_line, turned, way_turned, with_arrival, with_back, with_front, with_pushed, with_up}
+use Rattle.link_book.specs.LinkPart.{LinkPart, goes, if_packet, pushed_line, turned, channel_turned, with_arrival, with_back, with_front, with_pushed, with_up}
 use Rattle.link_book.specs.declared.Arrival.{Arrival}
 use Rattle.migration_events.specs.Ops.{page_in}
 use Rattle.migration_events.specs.declared.events.Direction.{Direction}
@@ -16,7 +16,7 @@ use Rattle.migration_events.specs.declared.ops.Op.TheVariants.{Read as ReadCell,
 use Rattle.migration_model.proofs.Facts.{settles_log}
 use Rattle.migration_model.proofs.Lists.{length_suc}
 use Rattle.migration_model.specs.Events.{all_at_move, away_event, away_ops, away_step, books_event, halted, home_event, home_ops, home_step, offered, paged, popped, pulled, pushed, sent_up, served}
-use Rattle.migration_model.specs.Machine.{After, Away, Before, Books, Home, Vcpu, away_session, home_session, session_of}
+use Rattle.migration_model.specs.Books.{After, BooksAfter, Before, Books, BooksBefore, Vcpu, session_after, session_before, session_of}
 use Rattle.migration_types.specs.PageSets.{with_page, without_page}
 use Rattle.migration_types.specs.Sessions.{Recorded}
 use Rattle.migration_types.specs.declared.records.GuestRec.TheVariants.{Halt, Miss, See}
@@ -34,8 +34,8 @@ use Rattle.std.specs.Prelude.{nat_lt, slice_get}
 use Rattle.target_book.specs.TargetPart.{Accessed, TargetPart, accesses, does, done_over, frees, lacks, looks, misses_page, resumes, settled as with_settled, target_access, with_misses}
 use Rattle.target_book.specs.declared.Access.TheVariants.{Missed, Waiting}
 use Rattle.target_book.specs.declared.Missing.{Missing}
-use Rattle.target_side.specs.PagerPart.{Paged, PagerPart, Sent, deliver, delivers_by, delivers_next, fault_absent, fault_join, fault_new, faults, first_absent, flushes, is_released, next_fault, pager_flush, pager_pop, pager_pull, pager_tick, places, pops_by, pulls_by, settles, takes, ticks, ticks_at, zeroes}
-use Rattle.target_side.specs.declared.Incoming.{Incoming}
+use Rattle.pager_book.specs.PagerPart.{Paged, PagerPart, Sent, deliver, delivers_by, delivers_next, fault_absent, fault_join, fault_new, faults, first_absent, flushes, is_released, next_fault, pager_flush, pager_pop, pager_pull, pager_tick, places, pops_by, pulls_by, settles, takes, ticks, ticks_at, zeroes}
+use Rattle.pager_book.specs.declared.Incoming.{Incoming}
 
 -- at most two longer
 abbrev pub IsLittleMore : {A : Type 0} → List A → List A → Type 0
@@ -130,9 +130,9 @@ arrival_more names None log = none_more log
 arrival_more names (Some number) log = one_more log _
 
 turn_more : (direction : Direction) (fate : Fate) (b : LinkPart) → LinkMore b (turned direction fate b)
-turn_more Downward fate b = record { link = arrival_more Down (way_turned (goes Downward) fate (length b.log) b.down b.down_arrivals).came b.log; lane = none_more b.lane_log }
-turn_more Upward fate b = record { link = arrival_more Up (way_turned (goes Upward) fate (length b.log) b.up b.up_arrivals).came b.log; lane = none_more b.lane_log }
-turn_more OverLane fate b = record { link = none_more b.log; lane = arrival_more LaneDown (way_turned (goes OverLane) fate (length b.lane_log) b.lane b.lane_arrivals).came b.lane_log }
+turn_more Downward fate b = record { link = arrival_more Down (channel_turned (goes Downward) fate (length b.log) b.down b.down_arrivals).came b.log; lane = none_more b.lane_log }
+turn_more Upward fate b = record { link = arrival_more Up (channel_turned (goes Upward) fate (length b.log) b.up b.up_arrivals).came b.log; lane = none_more b.lane_log }
+turn_more OverLane fate b = record { link = none_more b.log; lane = arrival_more LaneDown (channel_turned (goes OverLane) fate (length b.lane_log) b.lane b.lane_arrivals).came b.lane_log }
 
 -- the pager
 taken_more : (r : PagerRec) (packet : Packet) (b : PagerPart) → IsLittleMore b.log (takes r packet b).log
@@ -304,83 +304,83 @@ pub record GrowsByTwo (s t : Recorded) : Type 0 where
 stays_short : (s : Recorded) → GrowsByTwo s s
 stays_short s = record { guest = none_more s.guest; source = none_more s.source; link = none_more s.link; lane = none_more s.lane; pager = none_more s.pager }
 
-home_ops_more : (v : ℕ) (vcpu : Vcpu) (ops : List Op) (h : Home) → GrowsByTwo (home_session h) (home_session (home_ops v vcpu ops h))
-home_ops_more v vcpu [] h = stays_short (home_session h)
+home_ops_more : (v : ℕ) (vcpu : Vcpu) (ops : List Op) (h : BooksBefore) → GrowsByTwo (session_before h) (session_before (home_ops v vcpu ops h))
+home_ops_more v vcpu [] h = stays_short (session_before h)
 home_ops_more v vcpu (op ∷ ops) h = record { guest = guest_more v op h.guest; source = omega arith; link = omega arith; lane = omega arith; pager = omega arith }
 
-home_step_more : (v : ℕ) (vcpu : Option Vcpu) (h : Home) → GrowsByTwo (home_session h) (home_session (home_step v vcpu h))
-home_step_more v None h = stays_short (home_session h)
+home_step_more : (v : ℕ) (vcpu : Option Vcpu) (h : BooksBefore) → GrowsByTwo (session_before h) (session_before (home_step v vcpu h))
+home_step_more v None h = stays_short (session_before h)
 home_step_more v (Some vcpu) h = home_ops_more v vcpu vcpu.before_move h
 
-home_more : (e : Event) (h : Home) → GrowsByTwo (home_session h) (session_of (home_event e h))
+home_more : (e : Event) (h : BooksBefore) → GrowsByTwo (session_before h) (session_of (home_event e h))
 home_more (GuestStep v) h = home_step_more v (slice_get h.vcpus v) h
 home_more HaltGuest h = go (all_at_move h.vcpus)
   where
-    go : (at_move : Bool) → GrowsByTwo (home_session h) (session_of (cond at_move (After (halted h)) (Before h)))
+    go : (at_move : Bool) → GrowsByTwo (session_before h) (session_of (cond at_move (After (halted h)) (Before h)))
     go true = record { guest = one_more h.guest.log Halt; source = omega arith; link = omega arith; lane = omega arith; pager = omega arith }
-    go false = stays_short (home_session h)
-home_more Push h = stays_short (home_session h)
-home_more Serve h = stays_short (home_session h)
-home_more SourceTick h = stays_short (home_session h)
-home_more (LinkTurn direction fate) h = stays_short (home_session h)
-home_more PagerPop h = stays_short (home_session h)
-home_more PagerPull h = stays_short (home_session h)
-home_more PagerFault h = stays_short (home_session h)
-home_more PagerFlush h = stays_short (home_session h)
-home_more PagerDeliver h = stays_short (home_session h)
-home_more PagerTick h = stays_short (home_session h)
+    go false = stays_short (session_before h)
+home_more Push h = stays_short (session_before h)
+home_more Serve h = stays_short (session_before h)
+home_more SourceTick h = stays_short (session_before h)
+home_more (LinkTurn direction fate) h = stays_short (session_before h)
+home_more PagerPop h = stays_short (session_before h)
+home_more PagerPull h = stays_short (session_before h)
+home_more PagerFault h = stays_short (session_before h)
+home_more PagerFlush h = stays_short (session_before h)
+home_more PagerDeliver h = stays_short (session_before h)
+home_more PagerTick h = stays_short (session_before h)
 
-away_ops_more : (v : ℕ) (vcpu : Vcpu) (ops : List Op) (a : Away) → GrowsByTwo (away_session a) (away_session (away_ops v vcpu ops a))
-away_ops_more v vcpu [] a = stays_short (away_session a)
+away_ops_more : (v : ℕ) (vcpu : Vcpu) (ops : List Op) (a : BooksAfter) → GrowsByTwo (session_after a) (session_after (away_ops v vcpu ops a))
+away_ops_more v vcpu [] a = stays_short (session_after a)
 away_ops_more v vcpu (op ∷ ops) a = record { guest = access_more v op a.target; source = none_more a.source.log; link = none_more a.link.log; lane = none_more a.link.lane_log; pager = none_more a.pager.log }
 
-away_step_more : (v : ℕ) (vcpu : Option Vcpu) (a : Away) → GrowsByTwo (away_session a) (away_session (away_step v vcpu a))
-away_step_more v None a = stays_short (away_session a)
+away_step_more : (v : ℕ) (vcpu : Option Vcpu) (a : BooksAfter) → GrowsByTwo (session_after a) (session_after (away_step v vcpu a))
+away_step_more v None a = stays_short (session_after a)
 away_step_more v (Some vcpu) a = away_ops_more v vcpu vcpu.after_move a
 
 -- the source and the links, after a call on both
-offered_more : (offer : Packet → LinkPart → LinkPart) → ((packet : Packet) (b : LinkPart) → LinkMore b (offer packet b)) → (o : Offer) (a : Away) → IsLittleMore a.source.log o.book.log → GrowsByTwo (away_session a) (away_session (offered offer o a))
+offered_more : (offer : Packet → LinkPart → LinkPart) → ((packet : Packet) (b : LinkPart) → LinkMore b (offer packet b)) → (o : Offer) (a : BooksAfter) → IsLittleMore a.source.log o.book.log → GrowsByTwo (session_after a) (session_after (offered offer o a))
 offered_more offer each o a source =
     let k = offer_more offer each o.packet a.link in
     record { guest = none_more a.target.log; source = source; link = k.link; lane = k.lane; pager = none_more a.pager.log }
 
-pushed_more : (a : Away) → GrowsByTwo (away_session a) (away_session (pushed a))
+pushed_more : (a : BooksAfter) → GrowsByTwo (session_after a) (session_after (pushed a))
 pushed_more a = go (nat_lt (length (pushed_line a.has_lane a.link)) a.window)
   where
-    go : (fits : Bool) → GrowsByTwo (away_session a) (away_session (cond fits (offered (with_pushed a.has_lane) (source_push a.source) a) a))
+    go : (fits : Bool) → GrowsByTwo (session_after a) (session_after (cond fits (offered (with_pushed a.has_lane) (source_push a.source) a) a))
     go true = offered_more (with_pushed a.has_lane) (offer_pushed_more a.has_lane) (source_push a.source) a (push_more a.source)
-    go false = stays_short (away_session a)
+    go false = stays_short (session_after a)
 
-served_more : (arrivals : List Arrival) (a : Away) → GrowsByTwo (away_session a) (away_session (served arrivals a))
-served_more [] a = stays_short (away_session a)
+served_more : (arrivals : List Arrival) (a : BooksAfter) → GrowsByTwo (session_after a) (session_after (served arrivals a))
+served_more [] a = stays_short (session_after a)
 served_more (x ∷ rest) a =
     let k = offered_more with_front front_more (source_serve x.number x.packet a.source) (record a { link = record a.link { up_arrivals = rest } }) (serve_more x.number x.packet a.source) in
     record { guest = k.guest; source = k.source; link = k.link; lane = k.lane; pager = k.pager }
 
-popped_more : (arrivals : List Arrival) (a : Away) → GrowsByTwo (away_session a) (away_session (popped arrivals a))
-popped_more [] a = stays_short (away_session a)
+popped_more : (arrivals : List Arrival) (a : BooksAfter) → GrowsByTwo (session_after a) (session_after (popped arrivals a))
+popped_more [] a = stays_short (session_after a)
 popped_more (x ∷ rest) a = record { guest = none_more a.target.log; source = none_more a.source.log; link = none_more a.link.log; lane = none_more a.link.lane_log; pager = pop_more x.number x.packet a.pager }
 
-pulled_more : (arrivals : List Arrival) (a : Away) → GrowsByTwo (away_session a) (away_session (pulled arrivals a))
-pulled_more [] a = stays_short (away_session a)
+pulled_more : (arrivals : List Arrival) (a : BooksAfter) → GrowsByTwo (session_after a) (session_after (pulled arrivals a))
+pulled_more [] a = stays_short (session_after a)
 pulled_more (x ∷ rest) a = record { guest = none_more a.target.log; source = none_more a.source.log; link = none_more a.link.log; lane = none_more a.link.lane_log; pager = pull_more x.number x.packet a.pager }
 
-paged_more : (r : Paged) (a : Away) → PagedMore a.pager a.target r → GrowsByTwo (away_session a) (away_session (paged r a))
+paged_more : (r : Paged) (a : BooksAfter) → PagedMore a.pager a.target r → GrowsByTwo (session_after a) (session_after (paged r a))
 paged_more r a k = record { guest = k.target; source = none_more a.source.log; link = none_more a.link.log; lane = none_more a.link.lane_log; pager = k.pager }
 
-sent_more : (r : Sent) (a : Away) → IsLittleMore a.pager.log r.book.log → GrowsByTwo (away_session a) (away_session (sent_up r a))
+sent_more : (r : Sent) (a : BooksAfter) → IsLittleMore a.pager.log r.book.log → GrowsByTwo (session_after a) (session_after (sent_up r a))
 sent_more r a pager =
     let k = offer_more with_up up_more r.packet a.link in
     record { guest = none_more a.target.log; source = none_more a.source.log; link = k.link; lane = k.lane; pager = pager }
 
-turned_more : (direction : Direction) (fate : Fate) (a : Away) → GrowsByTwo (away_session a) (away_session (record a { link = turned direction fate a.link }))
+turned_more : (direction : Direction) (fate : Fate) (a : BooksAfter) → GrowsByTwo (session_after a) (session_after (record a { link = turned direction fate a.link }))
 turned_more direction fate a =
     let k = turn_more direction fate a.link in
     record { guest = none_more a.target.log; source = none_more a.source.log; link = k.link; lane = k.lane; pager = none_more a.pager.log }
 
-away_more : (e : Event) (a : Away) → GrowsByTwo (away_session a) (away_session (away_event e a))
+away_more : (e : Event) (a : BooksAfter) → GrowsByTwo (session_after a) (session_after (away_event e a))
 away_more (GuestStep v) a = away_step_more v (slice_get a.vcpus v) a
-away_more HaltGuest a = stays_short (away_session a)
+away_more HaltGuest a = stays_short (session_after a)
 away_more Push a = pushed_more a
 away_more Serve a = served_more a.link.up_arrivals a
 away_more SourceTick a = offered_more with_back back_more (source_tick a.source) a (source_tick_more a.source)

@@ -3,7 +3,7 @@ use Rattle.audit_model.specs.Faults.{IsOver}
 use Rattle.audit_model.specs.Flat.{before, cell_after, changed, flat, halt_place, home, home_after, in_ledger, released_after}
 use Rattle.audit_model.specs.Mergings.{IsMerging}
 use Rattle.audit_model.specs.Shape.{earlier, guest_named, in_phase_by, is_halt, is_resume, may_release, source_start}
-use Rattle.audit_model.specs.declared.home.Home.TheVariants.{AtSource, AtTarget}
+use Rattle.audit_model.specs.declared.home.BooksBefore.TheVariants.{AtSource, AtTarget}
 use Rattle.migration_types.specs.Extents.{Extent}
 use Rattle.migration_types.specs.Memory.{Memory, with_cell, with_zeros}
 use Rattle.migration_types.specs.PageSets.{Pages, with_page, without_page}
@@ -28,7 +28,7 @@ use Rattle.migration_model.proofs.Orders.{order_guest, order_halt, order_none}
 use Rattle.migration_model.proofs.Pushes.{flat_end}
 use Rattle.migration_model.proofs.Shapes.{IsNamed, guest_shapes, source_shapes}
 use Rattle.migration_model.specs.Events.{halted, home_ops, home_step}
-use Rattle.migration_model.specs.Machine.{Home, IsScript, Scripted, Vcpu, VcpuFits, away_session, home_session, new_names}
+use Rattle.migration_model.specs.Books.{BooksBefore, IsScript, Scripted, Vcpu, VcpuFits, session_after, session_before, new_names}
 use Rattle.migration_events.specs.Ops.{OpFits}
 use Rattle.std.proofs.Common.{Bool, List, None, Option, Some, [], ap, arith, false, inl, inr, length, refl, subst, suc, sym, true, zero, ℕ, ◌++◌, ◌<◌, ◌||◌, ◌∙◌, ◌∷◌, ◌≡◌, ◌⊎◌}
 use Rattle.std.proofs.lemmas.Option.{slice_get_within}
@@ -45,24 +45,24 @@ is_op (Write v p c x) = true
 is_op (Release v p) = true
 is_op _ = false
 
-pub record HomeKept (o : List Name) (h : Home) : Type 0 where
+pub record HomeKept (o : List Name) (h : BooksBefore) : Type 0 where
   pub ops : AllAt (λ n r. is_op r ≡ true) h.guest.log
-  pub named : IsNamed (home_session h)
-  pub merges : IsMerging (home_session h) o
-  pub limits : IsLimited (home_session h)
-  pub reads : AllAt (GuestClean (home_session h)) h.guest.log
-  pub memory_is : (p c : ℕ) → h.guest.memory p c ≡ flat (home_session h) (length h.guest.log) p c
+  pub named : IsNamed (session_before h)
+  pub merges : IsMerging (session_before h) o
+  pub limits : IsLimited (session_before h)
+  pub reads : AllAt (GuestClean (session_before h)) h.guest.log
+  pub memory_is : (p c : ℕ) → h.guest.memory p c ≡ flat (session_before h) (length h.guest.log) p c
   pub wide : IsWide h.guest.memory
-  pub ledger_is : (p : ℕ) → h.guest.ledger p ≡ in_ledger (home_session h) (length h.guest.log) p
+  pub ledger_is : (p : ℕ) → h.guest.ledger p ≡ in_ledger (session_before h) (length h.guest.log) p
   pub unhalted : earlier is_halt h.guest.log (length h.guest.log) ≡ false
   pub unresumed : earlier is_resume h.guest.log (length h.guest.log) ≡ false
-  pub is_home : home (home_session h) (length h.guest.log) ≡ AtSource
+  pub is_home : home (session_before h) (length h.guest.log) ≡ AtSource
   pub vcpus : VcpusKept h.version h.guest.geometry h.vcpus
   pub lanes : h.has_lane ≡ true → HasLane h.version
 
 -- the books after an event, with the order that it leaves
-abbrev pub Stays : List Name → Home → Home → Type 0
-Stays o h g = HomeKept (o ++ new_names (home_session h) (home_session g)) g
+abbrev pub Stays : List Name → BooksBefore → BooksBefore → Type 0
+Stays o h g = HomeKept (o ++ new_names (session_before h) (session_before g)) g
 
 no_halt : (r : GuestRec) → is_op r ≡ true → is_halt r ≡ false
 no_halt (Read v p c x) e = refl
@@ -132,19 +132,19 @@ op_within e Halt is fits = tt
 op_within e (Resume k) is fits = tt
 op_within e (See k) is fits = tt
 
-phase_at : {o : List Name} (h : Home) → HomeKept o h → (r : GuestRec) (b : Bool) → in_phase_by h.version false false r ≡ b → in_phase_by h.version (earlier is_halt h.guest.log (length h.guest.log)) (earlier is_resume h.guest.log (length h.guest.log)) r ≡ b
+phase_at : {o : List Name} (h : BooksBefore) → HomeKept o h → (r : GuestRec) (b : Bool) → in_phase_by h.version false false r ≡ b → in_phase_by h.version (earlier is_halt h.guest.log (length h.guest.log)) (earlier is_resume h.guest.log (length h.guest.log)) r ≡ b
 phase_at h k r b e = ap (λ x. in_phase_by h.version x (earlier is_resume h.guest.log (length h.guest.log)) r) k.unhalted ∙ ap (λ x. in_phase_by h.version false x r) k.unresumed ∙ e
 
-pub home_clean : (h : Home) (memory : Memory) (ledger : Pages) → AllAt (GuestClean (home_session h)) h.guest.log → IsClean (home_session h) memory ledger
+pub home_clean : (h : BooksBefore) (memory : Memory) (ledger : Pages) → AllAt (GuestClean (session_before h)) h.guest.log → IsClean (session_before h) memory ledger
 home_clean h memory ledger reads = record { guest = reads; source = λ n y is. nothing n y is; pager = λ n y is. nothing n y is }
 
 -- one more record at home
-home_pushed : {o : List Name} (r : GuestRec) (memory : Memory) (ledger : Pages) (h : Home) → HomeKept o h → is_op r ≡ true →
-    GuestClean (home_session h) (length h.guest.log) r → GuestRecFits h.guest.geometry r →
+home_pushed : {o : List Name} (r : GuestRec) (memory : Memory) (ledger : Pages) (h : BooksBefore) → HomeKept o h → is_op r ≡ true →
+    GuestClean (session_before h) (length h.guest.log) r → GuestRecFits h.guest.geometry r →
     ((p c : ℕ) → memory p c ≡ cell_after p c r (h.guest.memory p c)) → ((p : ℕ) → ledger p ≡ released_after p r (h.guest.ledger p)) → IsWide memory →
     HomeKept (o ++ (Guest, length h.guest.log) ∷ []) (record h { guest = record h.guest { log = h.guest.log ++ r ∷ []; memory = memory; ledger = ledger } })
 home_pushed {o} r memory ledger h k op clean fits cells pages wide =
-    let s = home_session h in
+    let s = session_before h in
     record {
       ops = all_push (λ n y. is_op y ≡ true) (λ n y. is_op y ≡ true) h.guest.log r k.ops (λ n y is e. e) op;
       named = guest_shapes r s k.named (phase_at h k r true (op_phase h.version r op)) (op_named s r op);
@@ -161,44 +161,44 @@ home_pushed {o} r memory ledger h k op clean fits cells pages wide =
       lanes = k.lanes;
     }
 
-not_late : {o : List Name} (h : Home) → HomeKept o h → {A : Type 0} → home (home_session h) (length h.guest.log) ≡ AtTarget → A
+not_late : {o : List Name} (h : BooksBefore) → HomeKept o h → {A : Type 0} → home (session_before h) (length h.guest.log) ≡ AtTarget → A
 not_late h k e = absurd (let f = k.is_home in cc)
 
 -- the order at the end of an event
-stay_none : (o : List Name) (h : Home) → HomeKept o h → Stays o h h
-stay_none o h k = subst (λ x. HomeKept x h) (sym (order_none o (home_session h))) k
+stay_none : (o : List Name) (h : BooksBefore) → HomeKept o h → Stays o h h
+stay_none o h k = subst (λ x. HomeKept x h) (sym (order_none o (session_before h))) k
 
-stay_one : (o : List Name) (s : Recorded) (r : GuestRec) (g : Home) → HomeKept (o ++ (Guest, length s.guest) ∷ []) g → HomeKept (o ++ new_names s (guest_more r s)) g
+stay_one : (o : List Name) (s : Recorded) (r : GuestRec) (g : BooksBefore) → HomeKept (o ++ (Guest, length s.guest) ∷ []) g → HomeKept (o ++ new_names s (guest_more r s)) g
 stay_one o s r g k = subst (λ x. HomeKept x g) (sym (order_guest o s r)) k
 
-home_op_keeps : (o : List Name) (v : ℕ) (op : Op) (h : Home) → HomeKept o h → v < 64 → OpFits h.guest.geometry op → Stays o h (record h { guest = guest_access v op h.guest })
+home_op_keeps : (o : List Name) (v : ℕ) (op : Op) (h : BooksBefore) → HomeKept o h → v < 64 → OpFits h.guest.geometry op → Stays o h (record h { guest = guest_access v op h.guest })
 home_op_keeps o v (ReadCell p c) h k low fits =
     let r = Read v p c (h.guest.memory p c) in
-    stay_one o (home_session h) r _ (home_pushed r h.guest.memory h.guest.ledger h k refl (k.memory_is p c, λ late. not_late h k late) (low, fits.0, fits.1, k.wide p c) (λ q d. refl) (λ q. refl) k.wide)
+    stay_one o (session_before h) r _ (home_pushed r h.guest.memory h.guest.ledger h k refl (k.memory_is p c, λ late. not_late h k late) (low, fits.0, fits.1, k.wide p c) (λ q d. refl) (λ q. refl) k.wide)
 home_op_keeps o v (WriteCell p c x) h k low fits =
     let r = Write v p c x in
-    stay_one o (home_session h) r _ (home_pushed r (with_cell p c x h.guest.memory) (without_page p h.guest.ledger) h k refl (λ late. not_late h k late) (low, fits.0, fits.1, fits.2) (λ q d. refl) (λ q. refl) (wide_cell p c x h.guest.memory fits.2 k.wide))
+    stay_one o (session_before h) r _ (home_pushed r (with_cell p c x h.guest.memory) (without_page p h.guest.ledger) h k refl (λ late. not_late h k late) (low, fits.0, fits.1, fits.2) (λ q d. refl) (λ q. refl) (wide_cell p c x h.guest.memory fits.2 k.wide))
 home_op_keeps o v (ReleasePage p) h k low fits =
     let r = Release v p in
-    stay_one o (home_session h) r _ (home_pushed r (with_zeros p h.guest.memory) (with_page p h.guest.ledger) h k refl tt (low, fits) (λ q d. refl) (λ q. refl) (wide_zeros p h.guest.memory k.wide))
+    stay_one o (session_before h) r _ (home_pushed r (with_zeros p h.guest.memory) (with_page p h.guest.ledger) h k refl tt (low, fits) (λ q d. refl) (λ q. refl) (wide_zeros p h.guest.memory k.wide))
 
-home_vcpus : {o : List Name} (vcpus : List Vcpu) (h : Home) → HomeKept o h → VcpusKept h.version h.guest.geometry vcpus → HomeKept o (record h { vcpus = vcpus })
+home_vcpus : {o : List Name} (vcpus : List Vcpu) (h : BooksBefore) → HomeKept o h → VcpusKept h.version h.guest.geometry vcpus → HomeKept o (record h { vcpus = vcpus })
 home_vcpus vcpus h k new = record { ops = k.ops; named = k.named; merges = k.merges; limits = k.limits; reads = k.reads; memory_is = k.memory_is; wide = k.wide; ledger_is = k.ledger_is; unhalted = k.unhalted; unresumed = k.unresumed; is_home = k.is_home; vcpus = new; lanes = k.lanes }
 
-home_ops_keep : (o : List Name) (v : ℕ) (vcpu : Vcpu) (ops : List Op) (h : Home) → HomeKept o h → v < 64 → AllByRecursion (OpFits h.guest.geometry) ops → VcpuFits h.version h.guest.geometry vcpu → Stays o h (home_ops v vcpu ops h)
+home_ops_keep : (o : List Name) (v : ℕ) (vcpu : Vcpu) (ops : List Op) (h : BooksBefore) → HomeKept o h → v < 64 → AllByRecursion (OpFits h.guest.geometry) ops → VcpuFits h.version h.guest.geometry vcpu → Stays o h (home_ops v vcpu ops h)
 home_ops_keep o v vcpu [] h k low fits whole = stay_none o h k
 home_ops_keep o v vcpu (op ∷ ops) h k low fits whole =
     let new : Vcpu = record vcpu { before_move = ops } in
     let vcpus : List Vcpu = slice_set h.vcpus v new in
     home_op_keeps o v op (record h { vcpus = vcpus }) (home_vcpus vcpus h k (vcpus_set h.version h.guest.geometry h.vcpus v new k.vcpus (record { before_move = fits.1; after_move = whole.after_move }))) low fits.0
 
-pub home_step_keeps : (o : List Name) (v : ℕ) (q : Option Vcpu) (h : Home) → HomeKept o h → slice_get h.vcpus v ≡ q → Stays o h (home_step v q h)
+pub home_step_keeps : (o : List Name) (v : ℕ) (q : Option Vcpu) (h : BooksBefore) → HomeKept o h → slice_get h.vcpus v ≡ q → Stays o h (home_step v q h)
 home_step_keeps o v None h k e = stay_none o h k
 home_step_keeps o v (Some vcpu) h k e =
     let fits = each_get (VcpuFits h.version h.guest.geometry) h.vcpus v vcpu k.vcpus.each e in
     home_ops_keep o v vcpu vcpu.before_move h k (vcpu_low h.version h.guest.geometry h.vcpus v vcpu k.vcpus e) fits.before_move fits
 
-pub home_stays : (o : List Name) (h : Home) → HomeKept o h → Stays o h h
+pub home_stays : (o : List Name) (h : BooksBefore) → HomeKept o h → Stays o h h
 home_stays o h k = stay_none o h k
 
 -- the halt
@@ -227,22 +227,22 @@ always_home log all (suc n) = go (always_home log all n) (slice_get log n) refl
     go rec (Some r) is = ap (λ x. home_after r x) rec ∙ stays_home r (all n r is)
 
 -- and until the halt it released nothing at the target
-none_over : {o : List Name} (h : Home) → HomeKept o h → (p : ℕ) → IsOver (away_session (halted h)) p → {A : Type 0} → A
+none_over : {o : List Name} (h : BooksBefore) → HomeKept o h → (p : ℕ) → IsOver (session_after (halted h)) p → {A : Type 0} → A
 none_over h k p over {A} = go (get_push h.guest.log Halt over.release (Release over.vcpu p) over.stands)
   where
     go : (slice_get h.guest.log over.release ≡ Some (Release over.vcpu p)) ⊎ ((over.release ≡ length h.guest.log) × (Halt ≡ Release over.vcpu p)) → A
     go (inl is) =
         let lt : over.release < length h.guest.log = slice_get_within h.guest.log over.release (Release over.vcpu p) is in
-        let at : home (away_session (halted h)) over.release ≡ AtSource = before_push home_after AtSource h.guest.log (Halt ∷ []) over.release (omega arith) ∙ always_home h.guest.log k.ops over.release in
+        let at : home (session_after (halted h)) over.release ≡ AtSource = before_push home_after AtSource h.guest.log (Halt ∷ []) over.release (omega arith) ∙ always_home h.guest.log k.ops over.release in
         let late = over.is_late in
         absurd (cc)
     go (inr new) = let is = new.1 in absurd (cc)
 
 -- the orders that the halt leaves
-abbrev after_halt : List Name → Home → List Name
+abbrev after_halt : List Name → BooksBefore → List Name
 after_halt o h = ((o ++ (Guest, length h.guest.log) ∷ []) ++ (FromSource, 0) ∷ []) ++ (FromSource, 1) ∷ []
 
-halted_kept : (o : List Name) (h : Home) → HomeKept o h → AwayKept (after_halt o h) (halted h)
+halted_kept : (o : List Name) (h : BooksBefore) → HomeKept o h → AwayKept (after_halt o h) (halted h)
 halted_kept o h k = record {
   named = source_shapes State s2 (source_shapes (Halted at) s1 (guest_shapes Halt s0 k.named (phase_at h k Halt true refl) refl) (passes_at is_halt s1.guest at Halt (get_new h.guest.log Halt) refl) refl) refl refl;
   started = record { source = λ n r is. started n r (two_records (Halted (length h.guest.log)) State n r is); pager = λ n r is. nothing n r is };
@@ -289,30 +289,30 @@ halted_kept o h k = record {
     at = length h.guest.log
 
     s0 : Recorded
-    s0 = home_session h
+    s0 = session_before h
 
     s1 : Recorded
-    s1 = guest_more Halt (home_session h)
+    s1 = guest_more Halt (session_before h)
 
     s2 : Recorded
-    s2 = source_more (Halted (length h.guest.log)) (guest_more Halt (home_session h))
+    s2 = source_more (Halted (length h.guest.log)) (guest_more Halt (session_before h))
 
     place : halt_place (h.guest.log ++ Halt ∷ []) ≡ length h.guest.log
     place = place_of_halt h.guest.log k.ops
 
-    started : (n : ℕ) (r : SourceRec) → ((n ≡ 0) × (Halted (length h.guest.log) ≡ r)) ⊎ ((n ≡ 1) × (State ≡ r)) → source_start (away_session (halted h)) n r ≡ true
-    started n r (inl e) = subst (λ m. source_start (away_session (halted h)) m r ≡ true) (sym e.0) (subst (λ x. source_start (away_session (halted h)) 0 x ≡ true) e.1 refl)
-    started n r (inr e) = subst (λ m. source_start (away_session (halted h)) m r ≡ true) (sym e.0) (subst (λ x. source_start (away_session (halted h)) 1 x ≡ true) e.1 refl)
+    started : (n : ℕ) (r : SourceRec) → ((n ≡ 0) × (Halted (length h.guest.log) ≡ r)) ⊎ ((n ≡ 1) × (State ≡ r)) → source_start (session_after (halted h)) n r ≡ true
+    started n r (inl e) = subst (λ m. source_start (session_after (halted h)) m r ≡ true) (sym e.0) (subst (λ x. source_start (session_after (halted h)) 0 x ≡ true) e.1 refl)
+    started n r (inr e) = subst (λ m. source_start (session_after (halted h)) m r ≡ true) (sym e.0) (subst (λ x. source_start (session_after (halted h)) 1 x ≡ true) e.1 refl)
 
     not_done : (n : ℕ) → ((n ≡ 0) × (Halted (length h.guest.log) ≡ Done)) ⊎ ((n ≡ 1) × (State ≡ Done)) → {B : Type 0} → B
     not_done n (inl e) = absurd (let f = e.1 in cc)
     not_done n (inr e) = absurd (let f = e.1 in cc)
 
-pub halted_keeps : (o : List Name) (h : Home) → HomeKept o h → AwayKept (o ++ new_names (home_session h) (away_session (halted h))) (halted h)
-halted_keeps o h k = subst (λ x. AwayKept x (halted h)) (sym (order_halt o (home_session h) Halt (Halted (length h.guest.log)) State refl)) (halted_kept o h k)
+pub halted_keeps : (o : List Name) (h : BooksBefore) → HomeKept o h → AwayKept (o ++ new_names (session_before h) (session_after (halted h))) (halted h)
+halted_keeps o h k = subst (λ x. AwayKept x (halted h)) (sym (order_halt o (session_before h) Halt (Halted (length h.guest.log)) State refl)) (halted_kept o h k)
 
 -- the start
-abbrev pub first_home : Scripted → Home
+abbrev pub first_home : Scripted → BooksBefore
 first_home script = record {
   version = script.version;
   init = script.init;
@@ -327,7 +327,7 @@ no_order : (past rest : List Name) (name : Name) → {B : Type 0} → [] ≡ pas
 no_order [] rest name e = absurd (cc)
 no_order (x ∷ past) rest name e = absurd (cc)
 
-no_places : (script : Scripted) → (l : LogName) → [] ≡ range_with_len 0 (log_length (home_session (first_home script)) l)
+no_places : (script : Scripted) → (l : LogName) → [] ≡ range_with_len 0 (log_length (session_before (first_home script)) l)
 no_places script Guest = refl
 no_places script FromSource = refl
 no_places script Link = refl

@@ -4,7 +4,7 @@ use Rattle.migration_model.proofs.Facts.{AwayKept, DownArrived, DownFact, HasMis
 use Rattle.migration_model.proofs.Guests.{each_get}
 use Rattle.migration_model.proofs.Lists.{each_kept}
 use Rattle.migration_model.proofs.Whole.{BooksKept}
-use Rattle.migration_model.specs.Machine.{After, Away, Before, Books, Machine, away_session}
+use Rattle.migration_model.specs.Books.{After, BooksAfter, Before, Books, Recording, session_after}
 use Rattle.migration_model.specs.Orderly.{AreOrderly, IsOrderly}
 use Rattle.migration_model.specs.Promise.{IsReached}
 use Rattle.migration_model.proofs.Reached.{reached_kept}
@@ -19,7 +19,7 @@ use Rattle.std.proofs.Common.{List, None, [], ap, arith, length, refl, subst, su
 use Rattle.std.proofs.lemmas.List.FromFn.{length-map-range_with_len}
 use Rattle.std.specs.List.{AllByRecursion, range_with_len}
 use Rattle.target_book.specs.declared.Missing.{Missing}
-use Rattle.target_side.specs.PagerLists.{IsPacketOf}
+use Rattle.pager_book.specs.PagerLists.{IsPacketOf}
 
 -- numbers from one on are below its sum with their count
 range_below : (from count bound : ℕ) → from + count ≡ bound → AllByRecursion (λ p. p < bound) (range_with_len from count)
@@ -31,7 +31,7 @@ pub below_pages : (pages : ℕ) (set : Pages) → AllByRecursion (λ p. p < page
 below_pages pages set = each_kept (λ p. p < pages) set (range_with_len 0 pages) (range_below 0 pages pages (omega arith))
 
 -- what is known of a packet on its way down makes it one of the machine
-packet_is_of : (o : List Name) (a : Away) → AwayKept o a → (packet : Packet) → DownFact (away_session a) (released_of a) packet → IsPacketOf a.source.geometry packet
+packet_is_of : (o : List Name) (a : BooksAfter) → AwayKept o a → (packet : Packet) → DownFact (session_after a) (released_of a) packet → IsPacketOf a.source.geometry packet
 packet_is_of o a k (StatePacket n released) fact = subst (λ rel. AllByRecursion (λ p. p < a.source.geometry.pages) rel) (sym fact.0) (below_pages a.source.geometry.pages a.source.ledger)
 packet_is_of o a k (PagePacket n p content) fact =
     let is : content ≡ page_of a.source.geometry.cells a.source.memory p = (k.clean.source fact.send (Send p content) fact.sent).1 in
@@ -39,18 +39,18 @@ packet_is_of o a k (PagePacket n p content) fact =
 packet_is_of o a k (WantPacket n p) fact = tt
 packet_is_of o a k (AllPacket n) fact = tt
 
-no_miss : (o : List Name) (a : Away) → AwayKept o a → (misses : List Missing) → a.target.misses ≡ misses → a.pager.released ≡ None → misses ≡ []
+no_miss : (o : List Name) (a : BooksAfter) → AwayKept o a → (misses : List Missing) → a.target.misses ≡ misses → a.pager.released ≡ None → misses ≡ []
 no_miss o a k [] e unready = refl
 no_miss o a k (x ∷ rest) e unready =
-    let all : AllByRecursion (HasMissed (away_session a)) (x ∷ rest) = subst (λ ys. AllByRecursion (HasMissed (away_session a)) ys) e k.target.misses in
-    unready_goes (away_session a) (released_of a) a.pager k.pager all.0.1 unready
+    let all : AllByRecursion (HasMissed (session_after a)) (x ∷ rest) = subst (λ ys. AllByRecursion (HasMissed (session_after a)) ys) e k.target.misses in
+    unready_goes (session_after a) (released_of a) a.pager k.pager all.0.1 unready
 
-away_orderly : (o : List Name) (a : Away) → AwayKept o a → IsOrderly a
+away_orderly : (o : List Name) (a : BooksAfter) → AwayKept o a → IsOrderly a
 away_orderly o a k = record {
   arrival = λ x is. subst (λ (e : Extent). IsPacketOf e x.packet) (sym k.pager.geometry)
-      (packet_is_of o a k x.packet (each_get (DownArrived (away_session a) (released_of a)) a.link.down_arrivals 0 x k.link.down.come is).1);
+      (packet_is_of o a k x.packet (each_get (DownArrived (session_after a) (released_of a)) a.link.down_arrivals 0 x k.link.down.come is).1);
   over_lane = λ x is. subst (λ (e : Extent). IsPacketOf e x.packet) (sym k.pager.geometry)
-      (packet_is_of o a k x.packet (each_get (LaneArrived (away_session a) (released_of a)) a.link.lane_arrivals 0 x k.link.lane.come is).1.1);
+      (packet_is_of o a k x.packet (each_get (LaneArrived (session_after a) (released_of a)) a.link.lane_arrivals 0 x k.link.lane.come is).1.1);
   misses = no_miss o a k a.target.misses refl;
 }
 
@@ -58,5 +58,5 @@ books_orderly : (o : List Name) (b : Books) → BooksKept o b → AreOrderly b
 books_orderly o (Before h) k = tt
 books_orderly o (After a) k = away_orderly o a k
 
-pub reached_orderly : (core : Machine) → IsReached core → AreOrderly core.books
+pub reached_orderly : (core : Recording) → IsReached core → AreOrderly core.books
 reached_orderly core k = books_orderly core.order core.books (reached_kept core k).books

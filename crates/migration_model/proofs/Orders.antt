@@ -11,7 +11,7 @@ use Rattle.migration_types.specs.declared.records.PagerRec.{PagerRec}
 use Rattle.migration_types.specs.declared.records.SourceRec.{SourceRec}
 use Rattle.migration_model.proofs.Grows.{guest_more, lane_more, link_more, pager_more, source_more}
 use Rattle.migration_model.proofs.Lists.{append_nil, append_two, length_suc}
-use Rattle.migration_model.specs.Machine.{grown, new_names}
+use Rattle.migration_model.specs.Books.{grown, new_names}
 use Rattle.std.proofs.Common.{List, [], ap, arith, length, refl, sym, ◌++◌, ◌∙◌, ◌∷◌, ◌≡◌}
 use Rattle.std.specs.Prelude.{◌-◌}
 

@@ -31,7 +31,7 @@ use Rattle.migration_model.proofs.Lists.{all_push, and_both, each_kept, each_map
 use Rattle.migration_model.proofs.Pushes.{put_pushed, resume_pushed}
 use Rattle.migration_model.proofs.Shapes.{pager_goes_on, pager_shapes}
 use Rattle.migration_model.specs.Events.{paged, popped, pulled, sent_up}
-use Rattle.migration_model.specs.Machine.{Away, away_session}
+use Rattle.migration_model.specs.Books.{BooksAfter, session_after}
 use Rattle.residency.specs.Placements.{is_resident}
 use Rattle.std.proofs.Common.{Bool, List, None, Option, Some, [], ap, arith, cond, false, inl, inr, length, not, refl, subst, suc, sym, true, zero, ℕ, ◌++◌, ◌<◌, ◌||◌, ◌∙◌, ◌∷◌, ◌≡◌, ◌≤◌, ◌⊎◌}
 use Rattle.std.proofs.lemmas.Bool.{cases_lt, eq-eqb, eqb-true, lt-ltb}
@@ -39,9 +39,9 @@ use Rattle.std.proofs.lemmas.Option.{slice_get_within}
 use Rattle.std.specs.List.{AllByRecursion, filter, range_with_len}
 use Rattle.std.specs.Option.{option_map}
 use Rattle.std.specs.Prelude.{is_some, slice_get, slice_index, ◌+◌, ◌==◌}
-use Rattle.target_side.specs.PagerPart.{PagerPart, deliver, delivers_at, delivers_by, delivers_next, fault_absent, fault_at, fault_join, fault_new, faults, first_absent, is_listed, is_released, next_fault, oldest, places, pops_by, pops_first, pulls_by, takes, ticks, ticks_at, wants_page, zeroes}
+use Rattle.pager_book.specs.PagerPart.{PagerPart, deliver, delivers_at, delivers_by, delivers_next, fault_absent, fault_at, fault_join, fault_new, faults, first_absent, is_listed, is_released, next_fault, oldest, places, pops_by, pops_first, pulls_by, takes, ticks, ticks_at, wants_page, zeroes}
 use Rattle.target_book.specs.TargetPart.{resumes}
-use Rattle.target_side.specs.declared.Incoming.{Incoming}
+use Rattle.pager_book.specs.declared.Incoming.{Incoming}
 use Rattle.target_book.specs.declared.Missing.{Missing}
 use Rattle.migration_types.specs.Contents.{IsContent}
 
@@ -88,10 +88,10 @@ or_false true y e f = absurd (cc)
 or_false false y e f = f
 
 -- `want p` is recorded
-want_keeps : {o : List Name} (p : ℕ) (a : Away) → AwayKept o a → IsReady (away_session a) → p < a.source.geometry.pages →
+want_keeps : {o : List Name} (p : ℕ) (a : BooksAfter) → AwayKept o a → IsReady (session_after a) → p < a.source.geometry.pages →
     AwayKept (o ++ (Pager, length a.pager.log) ∷ []) (record a { pager = wants_page p a.pager })
 want_keeps p a k ready lt =
-    let s = away_session a in
+    let s = session_after a in
     let t = pager_more (Want p) s in
     let new = pager_pushed (Want p) a k ready refl (names_none s) refl (λ q. refl) tt lt (λ e. absurd (cc)) in
     with_pager (wants_page p a.pager) (record a { pager = record a.pager { log = a.pager.log ++ Want p ∷ [] } }) new
@@ -105,10 +105,10 @@ want_keeps p a k ready lt =
     at q n false is e old = old e
 
 -- PagerTick
-asked_again_keeps : (o : List Name) (p : ℕ) (a : Away) → AwayKept o a → IsReady (away_session a) → p < a.source.geometry.pages →
+asked_again_keeps : (o : List Name) (p : ℕ) (a : BooksAfter) → AwayKept o a → IsReady (session_after a) → p < a.source.geometry.pages →
     Arrives o a (sent_up (record { book = wants_page p a.pager; packet = Some (WantPacket (length a.pager.log) p) }) a)
 asked_again_keeps o p a k ready lt =
-    close_pager o (away_session a) (Want p) _
+    close_pager o (session_after a) (Want p) _
     (up_keeps (WantPacket (length a.pager.log) p) (record a { pager = wants_page p a.pager }) (want_keeps p a k ready lt) (get_new a.pager.log (Want p)))
 
 -- the pages that are placed or settled
@@ -119,9 +119,9 @@ or_kept : (x y z w : Bool) → x ≡ z → (y ≡ true → w ≡ true) → (x ||
 or_kept true y z w same kept e = ap (λ b. b || w) (sym same)
 or_kept false y z w same kept e = ap (λ b. b || w) (sym same) ∙ kept e
 
-all_keeps : (o : List Name) (rel : List ℕ) (a : Away) → AwayKept o a → IsReady (away_session a) → rel ≡ released_of a → first_absent (range_with_len 0 a.pager.geometry.pages) rel (come a.pager) ≡ None → Arrives o a (sent_up (ticks_at None a.pager) a)
+all_keeps : (o : List Name) (rel : List ℕ) (a : BooksAfter) → AwayKept o a → IsReady (session_after a) → rel ≡ released_of a → first_absent (range_with_len 0 a.pager.geometry.pages) rel (come a.pager) ≡ None → Arrives o a (sent_up (ticks_at None a.pager) a)
 all_keeps o rel a k ready same none =
-    let s = away_session a in
+    let s = session_after a in
     close_pager o s All _
     (up_keeps (AllPacket (length s.pager)) (record a { pager = record a.pager { log = a.pager.log ++ All ∷ [] } })
     (pager_pushed All a k ready refl (names_none s) refl (λ q. refl) tt tt (λ e p lt owed. complete p lt owed))
@@ -138,15 +138,15 @@ oldest_there : (xs : List Waiting) (s : Recorded) (p : ℕ) → AllByRecursion (
 oldest_there [] s p all lt = lt
 oldest_there (x ∷ xs) s p all lt = all.0
 
-pub pager_ticked_keeps : (o : List Name) (rel : Option (List ℕ)) (a : Away) → AwayKept o a → a.pager.released ≡ rel → Arrives o a (sent_up (ticks rel a.pager) a)
-pager_ticked_keeps o None a k e = close_none o (away_session a) a k
+pub pager_ticked_keeps : (o : List Name) (rel : Option (List ℕ)) (a : BooksAfter) → AwayKept o a → a.pager.released ≡ rel → Arrives o a (sent_up (ticks rel a.pager) a)
+pager_ticked_keeps o None a k e = close_none o (session_after a) a k
 pager_ticked_keeps o (Some rel) a k e = go (first_absent (range_with_len 0 a.pager.geometry.pages) rel (come a.pager)) refl
   where
     go : (q : Option ℕ) → first_absent (range_with_len 0 a.pager.geometry.pages) rel (come a.pager) ≡ q → Arrives o a (sent_up (ticks_at q a.pager) a)
     go None is = all_keeps o rel a k (k.pager.ready rel e).1 (k.pager.ready rel e).0 is
     go (Some p) is =
         let lt : p < a.source.geometry.pages = omega (arith, absent_there a.pager.geometry.pages 0 rel (come a.pager) p is, ap (λ (e : Extent). e.pages) k.pager.geometry) in
-        asked_again_keeps o (oldest a.pager.waiting p) a k (k.pager.ready rel e).1 (oldest_there a.pager.waiting (away_session a) p k.pager.waiting lt)
+        asked_again_keeps o (oldest a.pager.waiting p) a k (k.pager.ready rel e).1 (oldest_there a.pager.waiting (session_after a) p k.pager.waiting lt)
 
 -- the pager may take a delivery by this record: of the source's record with this number
 record MayTake (s : Recorded) (r : PagerRec) (number : ℕ) : Type 0 where
@@ -187,28 +187,28 @@ may_pull s i n has is = record {
 }
 
 -- the books after this record of the pager
-abbrev noted : PagerRec → Away → Away
+abbrev noted : PagerRec → BooksAfter → BooksAfter
 noted r a = record a { pager = record a.pager { log = a.pager.log ++ r ∷ [] } }
 
-taking_keeps : {o : List Name} (r : PagerRec) (n : ℕ) (a : Away) → AwayKept o a → IsReady (away_session a) → MayTake (away_session a) r n → AwayKept (o ++ (Pager, length a.pager.log) ∷ []) (noted r a)
+taking_keeps : {o : List Name} (r : PagerRec) (n : ℕ) (a : BooksAfter) → AwayKept o a → IsReady (session_after a) → MayTake (session_after a) r n → AwayKept (o ++ (Pager, length a.pager.log) ∷ []) (noted r a)
 taking_keeps r n a k ready may =
     pager_pushed r a k ready may.named may.there may.goes_on may.places_none (may.clean a.source.geometry.cells a.source.memory a.source.ledger a.pager.log (length a.pager.log)) may.within (λ e. absurd (may.not_all e))
 
-skip_keeps : {o : List Name} (g : ℕ) (r : PagerRec) (a : Away) → AwayKept o a → IsReady (away_session a) → slice_get a.pager.log g ≡ Some r → is_taking r ≡ true → AwayKept (o ++ (Pager, length a.pager.log) ∷ []) (noted (Skip g) a)
+skip_keeps : {o : List Name} (g : ℕ) (r : PagerRec) (a : BooksAfter) → AwayKept o a → IsReady (session_after a) → slice_get a.pager.log g ≡ Some r → is_taking r ≡ true → AwayKept (o ++ (Pager, length a.pager.log) ∷ []) (noted (Skip g) a)
 skip_keeps g r a k ready is takes =
-    let s = away_session a in
+    let s = session_after a in
     pager_pushed (Skip g) a k ready
     (and_both _ _ (lt-ltb g (length s.pager) (slice_get_within s.pager g r is)) (passes_at is_taking s.pager g r is takes))
     (names_none s) refl (λ q. refl) tt tt (λ e. absurd (cc))
 
 -- a page, or a state, is taken from the link or from the lane
-taken_packet_keeps : (o : List Name) (r : PagerRec) (packet : Packet) (a : Away) → AwayKept o a → IsReady (away_session a) → MayTake (away_session a) r (number_of packet) → DownFact (away_session a) (released_of a) packet → Arrives o a (record a { pager = takes r packet a.pager })
+taken_packet_keeps : (o : List Name) (r : PagerRec) (packet : Packet) (a : BooksAfter) → AwayKept o a → IsReady (session_after a) → MayTake (session_after a) r (number_of packet) → DownFact (session_after a) (released_of a) packet → Arrives o a (record a { pager = takes r packet a.pager })
 taken_packet_keeps o r (StatePacket n rel) a k ready may fact =
-    let s = away_session a in
+    let s = session_after a in
     close_pager_two o s r (Skip (length s.pager)) _
     (skip_keeps (length s.pager) r (noted r a) (taking_keeps r n a k ready may) (get_old s.pager (r ∷ []) 1 Ready ready) (get_new s.pager r) may.takes)
 taken_packet_keeps o r (PagePacket n p content) a k ready may fact =
-    let s = away_session a in
+    let s = session_after a in
     let t = pager_more r s in
     let x = pager_extends r s in
     let new = taking_keeps r n a k ready may in
@@ -226,12 +226,12 @@ taken_packet_keeps o r (PagePacket n p content) a k ready may fact =
       wants = new.pager.wants;
     })
     k.placed k.settled)
-taken_packet_keeps o r (WantPacket n p) a k ready may fact = close_none o (away_session a) a k
-taken_packet_keeps o r (AllPacket n) a k ready may fact = close_none o (away_session a) a k
+taken_packet_keeps o r (WantPacket n p) a k ready may fact = close_none o (session_after a) a k
+taken_packet_keeps o r (AllPacket n) a k ready may fact = close_none o (session_after a) a k
 
 -- PagerPop
 -- the first pop of a state, which makes the pager ready
-first_keeps : (o : List Name) (i n : ℕ) (rel : List ℕ) (a : Away) → AwayKept o a → a.pager.released ≡ None → DownArrived (away_session a) (released_of a) (record { number = i; packet = StatePacket n rel }) →
+first_keeps : (o : List Name) (i n : ℕ) (rel : List ℕ) (a : BooksAfter) → AwayKept o a → a.pager.released ≡ None → DownArrived (session_after a) (released_of a) (record { number = i; packet = StatePacket n rel }) →
     AwayKept ((o ++ (Pager, length a.pager.log) ∷ []) ++ (Pager, length (a.pager.log ++ Got i ∷ [])) ∷ []) (record a { pager = pops_first i (StatePacket n rel) a.pager })
 first_keeps o i n rel a k unready fact = record {
   named = pager_shapes Ready s1 (pager_shapes (Got i) s0 k.named (passes_at is_down s0.link i (Down n) fact.0 refl)) refl;
@@ -277,22 +277,22 @@ first_keeps o i n rel a k unready fact = record {
 }
   where
     s0 : Recorded
-    s0 = away_session a
+    s0 = session_after a
 
     s1 : Recorded
-    s1 = pager_more (Got i) (away_session a)
+    s1 = pager_more (Got i) (session_after a)
 
     s2 : Recorded
-    s2 = pager_more Ready (pager_more (Got i) (away_session a))
+    s2 = pager_more Ready (pager_more (Got i) (session_after a))
 
-    x1 : Extends (away_session a) (pager_more (Got i) (away_session a))
-    x1 = pager_extends (Got i) (away_session a)
+    x1 : Extends (session_after a) (pager_more (Got i) (session_after a))
+    x1 = pager_extends (Got i) (session_after a)
 
-    x2 : Extends (pager_more (Got i) (away_session a)) (pager_more Ready (pager_more (Got i) (away_session a)))
-    x2 = pager_extends Ready (pager_more (Got i) (away_session a))
+    x2 : Extends (pager_more (Got i) (session_after a)) (pager_more Ready (pager_more (Got i) (session_after a)))
+    x2 = pager_extends Ready (pager_more (Got i) (session_after a))
 
     start : ℕ → PagerRec → Type 0
-    start m y = pager_start (pager_more Ready (pager_more (Got i) (away_session a))) m y ≡ true
+    start m y = pager_start (pager_more Ready (pager_more (Got i) (session_after a))) m y ≡ true
 
     blank : a.pager.log ≡ []
     blank = k.pager.unready unready
@@ -312,50 +312,50 @@ first_keeps o i n rel a k unready fact = record {
     ready : slice_get ((a.pager.log ++ Got i ∷ []) ++ Ready ∷ []) 1 ≡ Some Ready
     ready = subst (λ m. slice_get ((a.pager.log ++ Got i ∷ []) ++ Ready ∷ []) m ≡ Some Ready) (length_suc a.pager.log (Got i) ∙ ap suc (ap (λ (l : List PagerRec). length l) (k.pager.unready unready))) (get_new (a.pager.log ++ Got i ∷ []) Ready)
 
-    state_there : IsStateNumber (away_session a) n → passes (is_or_repeats (pager_more Ready (pager_more (Got i) (away_session a))) is_state) (slice_get a.source.log n) ≡ true
-    state_there (inl e) = passes_at (is_or_repeats (pager_more Ready (pager_more (Got i) (away_session a))) is_state) a.source.log n State e refl
-    state_there (inr h) = passes_at (is_or_repeats (pager_more Ready (pager_more (Got i) (away_session a))) is_state) a.source.log n (Again h.0) h.1 (passes_at is_state a.source.log h.0 State h.2 refl)
+    state_there : IsStateNumber (session_after a) n → passes (is_or_repeats (pager_more Ready (pager_more (Got i) (session_after a))) is_state) (slice_get a.source.log n) ≡ true
+    state_there (inl e) = passes_at (is_or_repeats (pager_more Ready (pager_more (Got i) (session_after a))) is_state) a.source.log n State e refl
+    state_there (inr h) = passes_at (is_or_repeats (pager_more Ready (pager_more (Got i) (session_after a))) is_state) a.source.log n (Again h.0) h.1 (passes_at is_state a.source.log h.0 State h.2 refl)
 
-    delivers_state : delivers (pager_more Ready (pager_more (Got i) (away_session a))) is_state 0 ≡ true
+    delivers_state : delivers (pager_more Ready (pager_more (Got i) (session_after a))) is_state 0 ≡ true
     delivers_state =
-        ap (λ o. passes (λ m. passes (is_or_repeats (pager_more Ready (pager_more (Got i) (away_session a))) is_state) (slice_get a.source.log m)) o)
-        (ap (λ o. if_there (taken_sending (pager_more Ready (pager_more (Got i) (away_session a)))) o) got ∙ ap (λ o. if_there down_sending o) fact.0)
+        ap (λ o. passes (λ m. passes (is_or_repeats (pager_more Ready (pager_more (Got i) (session_after a))) is_state) (slice_get a.source.log m)) o)
+        (ap (λ o. if_there (taken_sending (pager_more Ready (pager_more (Got i) (session_after a)))) o) got ∙ ap (λ o. if_there down_sending o) fact.0)
         ∙ state_there fact.1.1
 
-first_packet_keeps : (o : List Name) (i : ℕ) (packet : Packet) (a : Away) → AwayKept o a → a.pager.released ≡ None → DownArrived (away_session a) (released_of a) (record { number = i; packet = packet }) → Arrives o a (record a { pager = pops_first i packet a.pager })
-first_packet_keeps o i (StatePacket n rel) a k unready fact = close_pager_two o (away_session a) (Got i) Ready _ (first_keeps o i n rel a k unready fact)
-first_packet_keeps o i (PagePacket n p content) a k unready fact = close_none o (away_session a) a k
-first_packet_keeps o i (WantPacket n p) a k unready fact = close_none o (away_session a) a k
-first_packet_keeps o i (AllPacket n) a k unready fact = close_none o (away_session a) a k
+first_packet_keeps : (o : List Name) (i : ℕ) (packet : Packet) (a : BooksAfter) → AwayKept o a → a.pager.released ≡ None → DownArrived (session_after a) (released_of a) (record { number = i; packet = packet }) → Arrives o a (record a { pager = pops_first i packet a.pager })
+first_packet_keeps o i (StatePacket n rel) a k unready fact = close_pager_two o (session_after a) (Got i) Ready _ (first_keeps o i n rel a k unready fact)
+first_packet_keeps o i (PagePacket n p content) a k unready fact = close_none o (session_after a) a k
+first_packet_keeps o i (WantPacket n p) a k unready fact = close_none o (session_after a) a k
+first_packet_keeps o i (AllPacket n) a k unready fact = close_none o (session_after a) a k
 
-pub popped_keeps : (o : List Name) (xs : List Arrival) (a : Away) → AwayKept o a → a.link.down_arrivals ≡ xs → Arrives o a (popped xs a)
-popped_keeps o [] a k e = close_none o (away_session a) a k
+pub popped_keeps : (o : List Name) (xs : List Arrival) (a : BooksAfter) → AwayKept o a → a.link.down_arrivals ≡ xs → Arrives o a (popped xs a)
+popped_keeps o [] a k e = close_none o (session_after a) a k
 popped_keeps o (x ∷ rest) a k e = go a.pager.released refl
   where
-    facts : AllByRecursion (DownArrived (away_session a) (released_of a)) (x ∷ rest)
-    facts = subst (λ ys. AllByRecursion (DownArrived (away_session a) (released_of a)) ys) e k.link.down.come
+    facts : AllByRecursion (DownArrived (session_after a) (released_of a)) (x ∷ rest)
+    facts = subst (λ ys. AllByRecursion (DownArrived (session_after a) (released_of a)) ys) e k.link.down.come
 
     new : AwayKept o (record a { link = record a.link { down_arrivals = rest } })
     new = with_link (record a.link { down_arrivals = rest }) a k (record { down = record { under_way = k.link.down.under_way; come = facts.1 }; up = k.link.up; lane = k.link.lane })
 
     go : (q : Option (List ℕ)) → a.pager.released ≡ q → Arrives o a (record a { link = record a.link { down_arrivals = rest }; pager = pops_by q x.number x.packet a.pager })
     go None is = first_packet_keeps o x.number x.packet (record a { link = record a.link { down_arrivals = rest } }) new is facts.0
-    go (Some rel) is = taken_packet_keeps o (Got x.number) x.packet (record a { link = record a.link { down_arrivals = rest } }) new (k.pager.ready rel is).1 (may_get (away_session a) x.number (number_of x.packet) facts.0.0) facts.0.1
+    go (Some rel) is = taken_packet_keeps o (Got x.number) x.packet (record a { link = record a.link { down_arrivals = rest } }) new (k.pager.ready rel is).1 (may_get (session_after a) x.number (number_of x.packet) facts.0.0) facts.0.1
 
 -- PagerPull
-pub pulled_keeps : (o : List Name) (xs : List Arrival) (a : Away) → AwayKept o a → a.link.lane_arrivals ≡ xs → Arrives o a (pulled xs a)
-pulled_keeps o [] a k e = close_none o (away_session a) a k
+pub pulled_keeps : (o : List Name) (xs : List Arrival) (a : BooksAfter) → AwayKept o a → a.link.lane_arrivals ≡ xs → Arrives o a (pulled xs a)
+pulled_keeps o [] a k e = close_none o (session_after a) a k
 pulled_keeps o (x ∷ rest) a k e = go a.pager.released refl
   where
-    facts : AllByRecursion (LaneArrived (away_session a) (released_of a)) (x ∷ rest)
-    facts = subst (λ ys. AllByRecursion (LaneArrived (away_session a) (released_of a)) ys) e k.link.lane.come
+    facts : AllByRecursion (LaneArrived (session_after a) (released_of a)) (x ∷ rest)
+    facts = subst (λ ys. AllByRecursion (LaneArrived (session_after a) (released_of a)) ys) e k.link.lane.come
 
     new : AwayKept o (record a { link = record a.link { lane_arrivals = rest } })
     new = with_link (record a.link { lane_arrivals = rest }) a k (record { down = k.link.down; up = k.link.up; lane = record { under_way = k.link.lane.under_way; come = facts.1 } })
 
     go : (q : Option (List ℕ)) → a.pager.released ≡ q → Arrives o a (record a { link = record a.link { lane_arrivals = rest }; pager = pulls_by q x.number x.packet a.pager })
-    go None is = close_none o (away_session a) _ new
-    go (Some rel) is = taken_packet_keeps o (Pull x.number) x.packet (record a { link = record a.link { lane_arrivals = rest } }) new (k.pager.ready rel is).1 (may_pull (away_session a) x.number (number_of x.packet) facts.0.1.0 facts.0.0) facts.0.1.1
+    go None is = close_none o (session_after a) _ new
+    go (Some rel) is = taken_packet_keeps o (Pull x.number) x.packet (record a { link = record a.link { lane_arrivals = rest } }) new (k.pager.ready rel is).1 (may_pull (session_after a) x.number (number_of x.packet) facts.0.1.0 facts.0.0) facts.0.1.1
 
 -- PagerDeliver
 delivers_page : (s : Recorded) (x : Incoming) → HasCome s x → delivers s (is_send_of x.page) x.got ≡ true
@@ -376,9 +376,9 @@ unplaced : (placed : Option ℕ) (freed : Bool) → is_resident placed freed ≡
 unplaced None freed e = refl
 unplaced (Some n) freed e = absurd (cc)
 
-placed_keeps : (o : List Name) (x : Incoming) (a : Away) → AwayKept o a → IsReady (away_session a) → HasCome (away_session a) x → is_there a.target x.page ≡ false → Arrives o a (paged (places x a.pager a.target) a)
+placed_keeps : (o : List Name) (x : Incoming) (a : BooksAfter) → AwayKept o a → IsReady (session_after a) → HasCome (session_after a) x → is_there a.target x.page ≡ false → Arrives o a (paged (places x a.pager a.target) a)
 placed_keeps o x a k ready h absent =
-    let s = away_session a in
+    let s = session_after a in
     let p = x.page in
     let sent = k.clean.source h.is_page.send (Send p x.contents) h.is_page.sent in
     let lt = lt-ltb x.got (length s.pager) (slice_get_within s.pager x.got h.taking h.got) in
@@ -396,38 +396,38 @@ placed_keeps o x a k ready h absent =
     here c lt true e is = ap (λ l. slice_index l c) is ∙ content_at a.source.memory a.source.geometry.cells x.page c lt
     here c lt false e is = absurd (cc)
 
-delivered_at_keeps : (o : List Name) (x : Incoming) (a : Away) → AwayKept o a → IsReady (away_session a) → HasCome (away_session a) x → Arrives o a (paged (delivers_at x a.pager a.target) a)
+delivered_at_keeps : (o : List Name) (x : Incoming) (a : BooksAfter) → AwayKept o a → IsReady (session_after a) → HasCome (session_after a) x → Arrives o a (paged (delivers_at x a.pager a.target) a)
 delivered_at_keeps o x a k ready h = go (is_there a.target x.page) refl
   where
     go : (b : Bool) → is_there a.target x.page ≡ b → Arrives o a (paged (cond b (record { pager = record a.pager { log = a.pager.log ++ Skip x.got ∷ [] }; target = a.target; woken = [] }) (places x a.pager a.target)) a)
-    go true e = close_pager o (away_session a) (Skip x.got) _ (skip_keeps x.got h.taking a k ready h.got h.takes)
+    go true e = close_pager o (session_after a) (Skip x.got) _ (skip_keeps x.got h.taking a k ready h.got h.takes)
     go false e = placed_keeps o x a k ready h e
 
-delivered_next_keeps : (o : List Name) (xs : List Incoming) (a : Away) → AwayKept o a → IsReady (away_session a) → a.pager.inbox ≡ xs → Arrives o a (paged (delivers_next xs a.pager a.target) a)
-delivered_next_keeps o [] a k ready e = close_none o (away_session a) a k
+delivered_next_keeps : (o : List Name) (xs : List Incoming) (a : BooksAfter) → AwayKept o a → IsReady (session_after a) → a.pager.inbox ≡ xs → Arrives o a (paged (delivers_next xs a.pager a.target) a)
+delivered_next_keeps o [] a k ready e = close_none o (session_after a) a k
 delivered_next_keeps o (x ∷ rest) a k ready e =
-    let P = HasCome (away_session a) in
+    let P = HasCome (session_after a) in
     let facts : AllByRecursion P (x ∷ rest) = subst (λ ys. AllByRecursion P ys) e k.pager.inbox in
     delivered_at_keeps o x (record a { pager = record a.pager { inbox = rest } })
     (with_pager (record a.pager { inbox = rest }) a k (record { geometry = k.pager.geometry; unready = k.pager.unready; ready = k.pager.ready; inbox = facts.1; outbox = k.pager.outbox; waiting = k.pager.waiting; wants = k.pager.wants }) k.placed k.settled)
     ready facts.0
 
-delivered_by_keeps : (o : List Name) (q : Option (List ℕ)) (a : Away) → AwayKept o a → a.pager.released ≡ q → Arrives o a (paged (delivers_by q a.pager a.target) a)
-delivered_by_keeps o None a k e = close_none o (away_session a) a k
+delivered_by_keeps : (o : List Name) (q : Option (List ℕ)) (a : BooksAfter) → AwayKept o a → a.pager.released ≡ q → Arrives o a (paged (delivers_by q a.pager a.target) a)
+delivered_by_keeps o None a k e = close_none o (session_after a) a k
 delivered_by_keeps o (Some rel) a k e = go a.target.is_resumed refl
   where
     go : (b : Bool) → a.target.is_resumed ≡ b → Arrives o a (paged (cond b (delivers_next a.pager.inbox a.pager a.target) (record { pager = a.pager; target = resumes a.target; woken = [] })) a)
     go true is = delivered_next_keeps o a.pager.inbox a k (k.pager.ready rel e).1 refl
-    go false is = close_guest o (away_session a) (Resume 1) _ (resume_pushed a k is (k.pager.ready rel e).1)
+    go false is = close_guest o (session_after a) (Resume 1) _ (resume_pushed a k is (k.pager.ready rel e).1)
 
-pub delivered_keeps : (o : List Name) (a : Away) → AwayKept o a → Arrives o a (paged (deliver a.pager a.target) a)
+pub delivered_keeps : (o : List Name) (a : BooksAfter) → AwayKept o a → Arrives o a (paged (deliver a.pager a.target) a)
 delivered_keeps o a k = settled_arrives o a _ (delivered_by_keeps o a.pager.released (settled_books a) (settled_keeps a k) (settles_released a.target.unsettled a.pager))
 
 -- PagerFault
-zeroed_keeps : {o : List Name} (p : ℕ) (rel : List ℕ) (a : Away) → AwayKept o a → IsReady (away_session a) → p < a.source.geometry.pages → is_there a.target p ≡ false → rel ≡ released_of a → is_listed p rel ≡ true →
+zeroed_keeps : {o : List Name} (p : ℕ) (rel : List ℕ) (a : BooksAfter) → AwayKept o a → IsReady (session_after a) → p < a.source.geometry.pages → is_there a.target p ≡ false → rel ≡ released_of a → is_listed p rel ≡ true →
     AwayKept (o ++ (Pager, length a.pager.log) ∷ []) (paged (zeroes p a.pager a.target) a)
 zeroed_keeps p rel a k ready low absent same listed =
-    let s = away_session a in
+    let s = session_after a in
     let out : a.source.ledger p ≡ true = listed_released a.source.ledger (range_with_len 0 s.geometry.pages) p (ap (λ r. is_listed p r) (sym same) ∙ listed) in
     let released : in_ledger s (at_halt s) p ≡ true = sym (k.frozen.ledger_is p) ∙ out in
     put_pushed (Zero p) p (with_zeros p a.target.memory) a.pager.waiting a k ready refl (names_none s) refl absent (λ q. refl)
@@ -447,20 +447,20 @@ joined_there p v s xs all = each_mapped (IsWaitedFor s) (λ e. cond (p == e.page
     go e true h = h
     go e false h = h
 
-join_keeps : {o : List Name} (p v w : ℕ) (a : Away) → AwayKept o a → IsReady (away_session a) → a.pager.wants p ≡ Some w →
+join_keeps : {o : List Name} (p v w : ℕ) (a : BooksAfter) → AwayKept o a → IsReady (session_after a) → a.pager.wants p ≡ Some w →
     AwayKept (o ++ (Pager, length a.pager.log) ∷ []) (record a { pager = fault_join p v (Some w) a.pager })
 join_keeps p v w a k ready e =
-    let s = away_session a in
+    let s = session_after a in
     let is = k.pager.wants p w e in
     let new = pager_pushed (Join w) a k ready (and_both _ _ (lt-ltb w (length s.pager) (slice_get_within s.pager w (Want p) is)) (passes_at is_want s.pager w (Want p) is refl)) (names_none s) refl (λ q. refl) tt tt (λ e. absurd (cc)) in
     with_pager (fault_join p v (Some w) a.pager) (record a { pager = record a.pager { log = a.pager.log ++ Join w ∷ [] } }) new
     (record { geometry = new.pager.geometry; unready = new.pager.unready; ready = new.pager.ready; inbox = new.pager.inbox; outbox = new.pager.outbox; waiting = joined_there p v s a.pager.waiting k.pager.waiting; wants = new.pager.wants })
     k.placed k.settled
 
-new_keeps : {o : List Name} (p v : ℕ) (a : Away) → AwayKept o a → IsReady (away_session a) → p < a.source.geometry.pages →
+new_keeps : {o : List Name} (p v : ℕ) (a : BooksAfter) → AwayKept o a → IsReady (session_after a) → p < a.source.geometry.pages →
     AwayKept (o ++ (Pager, length a.pager.log) ∷ []) (record a { pager = fault_new p v a.pager })
 new_keeps p v a k ready lt =
-    let s = away_session a in
+    let s = session_after a in
     let t = pager_more (Want p) s in
     let new = want_keeps p a k ready lt in
     with_pager (fault_new p v a.pager) (record a { pager = wants_page p a.pager }) new
@@ -476,35 +476,35 @@ new_keeps p v a k ready lt =
     k.placed k.settled
 
 -- the books after `fault m`
-abbrev faulted : ℕ → Away → Away
+abbrev faulted : ℕ → BooksAfter → BooksAfter
 faulted m a = record a { pager = record a.pager { log = a.pager.log ++ Fault m ∷ [] } }
 
-module _ (o : List Name) (m : ℕ) (a : Away) (k : AwayKept (o ++ (Pager, length a.pager.log) ∷ []) (faulted m a)) (ready : IsReady (away_session (faulted m a))) where
+module _ (o : List Name) (m : ℕ) (a : BooksAfter) (k : AwayKept (o ++ (Pager, length a.pager.log) ∷ []) (faulted m a)) (ready : IsReady (session_after (faulted m a))) where
   fault_join_keeps : (p v : ℕ) (q : Option ℕ) → a.pager.wants p ≡ q → Arrives o a (record a { pager = fault_join p v q (faulted m a).pager })
-  fault_join_keeps p v None e = close_pager o (away_session a) (Fault m) _ k
-  fault_join_keeps p v (Some w) e = close_pager_two o (away_session a) (Fault m) (Join w) _ (join_keeps p v w (faulted m a) k ready e)
+  fault_join_keeps p v None e = close_pager o (session_after a) (Fault m) _ k
+  fault_join_keeps p v (Some w) e = close_pager_two o (session_after a) (Fault m) (Join w) _ (join_keeps p v w (faulted m a) k ready e)
 
   fault_absent_keeps : (p v : ℕ) → p < a.source.geometry.pages → is_there a.target p ≡ false → Arrives o a (paged (fault_absent p v (faulted m a).pager a.target) a)
   fault_absent_keeps p v lt absent = go (is_waiting v a.pager.waiting) (is_released a.pager.released p) refl (is_asked p a.pager.waiting)
     where
       zero_at : (q : Option (List ℕ)) → a.pager.released ≡ q → is_released q p ≡ true → Arrives o a (paged (zeroes p (faulted m a).pager a.target) a)
       zero_at None e is = absurd (cc)
-      zero_at (Some rel) e is = close_pager_two o (away_session a) (Fault m) (Zero p) _ (zeroed_keeps p rel (faulted m a) k ready lt absent (k.pager.ready rel e).0 is)
+      zero_at (Some rel) e is = close_pager_two o (session_after a) (Fault m) (Zero p) _ (zeroed_keeps p rel (faulted m a) k ready lt absent (k.pager.ready rel e).0 is)
 
       go : (x y : Bool) → is_released a.pager.released p ≡ y → (z : Bool) → Arrives o a (paged (cond x (record { pager = (faulted m a).pager; target = a.target; woken = [] }) (cond y (zeroes p (faulted m a).pager a.target) (cond z (record { pager = fault_join p v (a.pager.wants p) (faulted m a).pager; target = a.target; woken = [] }) (record { pager = fault_new p v (faulted m a).pager; target = a.target; woken = [] })))) a)
-      go true y e z = close_pager o (away_session a) (Fault m) _ k
+      go true y e z = close_pager o (session_after a) (Fault m) _ k
       go false true e z = zero_at a.pager.released refl e
       go false false e true = fault_join_keeps p v (a.pager.wants p) refl
-      go false false e false = close_pager_two o (away_session a) (Fault m) (Want p) _ (new_keeps p v (faulted m a) k ready lt)
+      go false false e false = close_pager_two o (session_after a) (Fault m) (Want p) _ (new_keeps p v (faulted m a) k ready lt)
 
   fault_at_keeps : (p v : ℕ) → p < a.source.geometry.pages → Arrives o a (paged (fault_at p v (faulted m a).pager a.target) a)
   fault_at_keeps p v lt = go (is_there a.target p) refl
     where
       go : (b : Bool) → is_there a.target p ≡ b → Arrives o a (paged (cond b (record { pager = (faulted m a).pager; target = a.target; woken = [] }) (fault_absent p v (faulted m a).pager a.target)) a)
-      go true e = close_pager o (away_session a) (Fault m) _ k
+      go true e = close_pager o (session_after a) (Fault m) _ k
       go false e = fault_absent_keeps p v lt e
 
-with_misses : {o : List Name} (misses : List Missing) (a : Away) → AwayKept o a → AllByRecursion (HasMissed (away_session a)) misses → AwayKept o (record a { target = record a.target { misses = misses } })
+with_misses : {o : List Name} (misses : List Missing) (a : BooksAfter) → AwayKept o a → AllByRecursion (HasMissed (session_after a)) misses → AwayKept o (record a { target = record a.target { misses = misses } })
 with_misses misses a k new = record {
   named = k.named;
   started = k.started;
@@ -535,10 +535,10 @@ with_misses misses a k new = record {
   lanes = k.lanes;
 }
 
-taken_keeps : (o : List Name) (xs : List Missing) (a : Away) → AwayKept o a → a.target.misses ≡ xs → Arrives o a (paged (faults xs a.pager a.target) a)
-taken_keeps o [] a k e = close_none o (away_session a) a k
+taken_keeps : (o : List Name) (xs : List Missing) (a : BooksAfter) → AwayKept o a → a.target.misses ≡ xs → Arrives o a (paged (faults xs a.pager a.target) a)
+taken_keeps o [] a k e = close_none o (session_after a) a k
 taken_keeps o (x ∷ rest) a k e =
-    let s = away_session a in
+    let s = session_after a in
     let facts : AllByRecursion (HasMissed s) (x ∷ rest) = subst (λ ys. AllByRecursion (HasMissed s) ys) e k.target.misses in
     let miss = facts.0.0 in
     let ready : IsReady s = facts.0.1 in
@@ -547,5 +547,5 @@ taken_keeps o (x ∷ rest) a k e =
     let new = pager_pushed (Fault x.number) b (with_misses rest a k facts.1) ready (passes_at is_miss s.guest x.number r miss refl) (names s (Guest, x.number) (slice_get_within s.guest x.number r miss)) refl (λ q. refl) tt tt (λ e. absurd (cc)) in
     fault_at_keeps o x.number b new (get_old s.pager (Fault x.number ∷ []) 1 Ready ready) x.page x.vcpu (k.limits.guest x.number r miss).1
 
-pub faulted_keeps : (o : List Name) (a : Away) → AwayKept o a → Arrives o a (paged (next_fault a.pager a.target) a)
+pub faulted_keeps : (o : List Name) (a : BooksAfter) → AwayKept o a → Arrives o a (paged (next_fault a.pager a.target) a)
 faulted_keeps o a k = settled_arrives o a _ (taken_keeps o a.target.misses (settled_books a) (settled_keeps a k) refl)

@@ -5,7 +5,7 @@ use Rattle.audit_model.proofs.History.{earlier_true}
 use Rattle.audit_model.specs.Faults.{IsOver, has_looked, looks_at}
 use Rattle.audit_model.specs.Flat.{cell_after, flat, freed as was_freed, home, home_after}
 use Rattle.audit_model.specs.Shape.{earlier, guest_named, in_phase_by, is_halt, is_placement, is_placement_of, is_ready, is_release, is_resume, pager_named}
-use Rattle.audit_model.specs.declared.home.Home.TheVariants.{AtSource, AtTarget}
+use Rattle.audit_model.specs.declared.home.BooksBefore.TheVariants.{AtSource, AtTarget}
 use Rattle.fault_queue.specs.Waiting.{Waiting}
 use Rattle.migration_types.specs.Memory.{Memory, with_cell, with_zeros}
 use Rattle.migration_types.specs.PageSets.{Pages, others, with_page}
@@ -25,7 +25,7 @@ use Rattle.migration_model.proofs.Grows.{IsThere, guest_extends, guest_merges, g
 use Rattle.migration_model.proofs.Limits.{GuestWithin, IsWide, PagerWithin, guest_limits, pager_limits, wide_cell, wide_zeros}
 use Rattle.migration_model.proofs.Lists.{Index, before_end, each_push, each_weaker, get_new, index_key, passes_at}
 use Rattle.migration_model.proofs.Shapes.{guest_shapes, guest_starts, pager_goes_on, pager_shapes, pager_starts}
-use Rattle.migration_model.specs.Machine.{Away, Vcpu, away_session}
+use Rattle.migration_model.specs.Books.{BooksAfter, Vcpu, session_after}
 use Rattle.migration_events.specs.Ops.{LateOpFits, MayReleaseLate, OpFits}
 use Rattle.std.proofs.Common.{Bool, List, None, Option, Some, [], ap, arith, cond, eq-eqb, false, inl, inr, length, refl, subst, suc, sym, true, ℕ, ◌&&◌, ◌++◌, ◌<◌, ◌||◌, ◌∙◌, ◌∷◌, ◌≡◌, ◌≤◌, ◌⊎◌}
 use Rattle.std.proofs.lemmas.Bool.{eqb-true, leb-true}
@@ -36,7 +36,7 @@ use Rattle.target_book.specs.TargetPart.{TargetPart}
 use Rattle.target_book.specs.declared.Missing.{Missing}
 use Rattle.migration_events.specs.declared.ops.Op.TheVariants.{Read as ReadCell, Release as ReleasePage, Write as WriteCell}
 
-pub with_vcpus : {o : List Name} (vcpus : List Vcpu) (a : Away) → AwayKept o a → VcpusKept a.version a.source.geometry vcpus → AwayKept o (record a { vcpus = vcpus })
+pub with_vcpus : {o : List Name} (vcpus : List Vcpu) (a : BooksAfter) → AwayKept o a → VcpusKept a.version a.source.geometry vcpus → AwayKept o (record a { vcpus = vcpus })
 with_vcpus vcpus a k new = record {
   named = k.named;
   started = k.started;
@@ -57,7 +57,7 @@ with_vcpus vcpus a k new = record {
   lanes = k.lanes;
 }
 
-pub with_standing : {o : List Name} (standing : Pages) (a : Away) → AwayKept o a → AwayKept o (record a { target = record a.target { standing = standing } })
+pub with_standing : {o : List Name} (standing : Pages) (a : BooksAfter) → AwayKept o a → AwayKept o (record a { target = record a.target { standing = standing } })
 with_standing standing a k = record {
   named = k.named;
   started = k.started;
@@ -112,15 +112,15 @@ resident_stays old new was is same stays e = ap (λ o. is_resident o is) same �
     go None e = stays e
 
 -- a record of the guest, and what the target's book keeps of it
-pub guest_pushed : {o : List Name} (r : GuestRec) (resumed : Bool) (target : TargetPart) (a : Away) → AwayKept o a →
-    in_phase_by a.version true a.target.is_resumed r ≡ true → guest_named (away_session a) r ≡ true →
-    IsThere (away_session a) (guest_receipt r) → GuestClean (away_session a) (length a.target.log) r → GuestWithin a.source.geometry r →
-    home_after r (away_home a.target.is_resumed) ≡ away_home resumed → (is_resume r || a.target.is_resumed) ≡ resumed → (resumed ≡ true → IsReady (away_session a)) →
-    TargetKept (guest_more r (away_session a)) a.source.memory target →
+pub guest_pushed : {o : List Name} (r : GuestRec) (resumed : Bool) (target : TargetPart) (a : BooksAfter) → AwayKept o a →
+    in_phase_by a.version true a.target.is_resumed r ≡ true → guest_named (session_after a) r ≡ true →
+    IsThere (session_after a) (guest_receipt r) → GuestClean (session_after a) (length a.target.log) r → GuestWithin a.source.geometry r →
+    home_after r (away_home a.target.is_resumed) ≡ away_home resumed → (is_resume r || a.target.is_resumed) ≡ resumed → (resumed ≡ true → IsReady (session_after a)) →
+    TargetKept (guest_more r (session_after a)) a.source.memory target →
     ((p : ℕ) → target.placed p ≡ a.target.placed p) → ((p : ℕ) → a.target.freed p ≡ true → target.freed p ≡ true) →
     AwayKept (o ++ (Guest, length a.target.log) ∷ []) (record a { target = record target { log = a.target.log ++ r ∷ []; is_resumed = resumed } })
 guest_pushed {o} r resumed target a k phase named there clean within home resume ready new same stays =
-    let s = away_session a in
+    let s = session_after a in
     let t = guest_more r s in
     let x = guest_extends r s in
     let n = length s.guest in
@@ -158,13 +158,13 @@ guest_pushed {o} r resumed target a k phase named there clean within home resume
     }
 
 -- the freed pages stay those of the log
-released_stays : {o : List Name} (r : GuestRec) (a : Away) → AwayKept o a → (p : ℕ) → a.target.freed p ≡ true → (a.target.placed p ≡ None) × (was_freed (guest_more r (away_session a)) (length (a.target.log ++ r ∷ [])) p ≡ true)
-released_stays r a k p e = let h = k.target.released p e in (h.0, freed_stays r (away_session a) p h.1)
+released_stays : {o : List Name} (r : GuestRec) (a : BooksAfter) → AwayKept o a → (p : ℕ) → a.target.freed p ≡ true → (a.target.placed p ≡ None) × (was_freed (guest_more r (session_after a)) (length (a.target.log ++ r ∷ [])) p ≡ true)
+released_stays r a k p e = let h = k.target.released p e in (h.0, freed_stays r (session_after a) p h.1)
 
 -- a record that writes no cell leaves what the target's book keeps
-target_idle : {o : List Name} (r : GuestRec) (a : Away) → AwayKept o a → ((p c x : ℕ) → cell_after p c r x ≡ x) → is_release r ≡ false → TargetKept (guest_more r (away_session a)) a.source.memory a.target
+target_idle : {o : List Name} (r : GuestRec) (a : BooksAfter) → AwayKept o a → ((p c x : ℕ) → cell_after p c r x ≡ x) → is_release r ≡ false → TargetKept (guest_more r (session_after a)) a.source.memory a.target
 target_idle r a k idle other =
-    let s = away_session a in
+    let s = session_after a in
     let t = guest_more r s in
     let x = guest_extends r s in
     record {
@@ -196,7 +196,7 @@ is_a_placement p (Skip k) e = absurd (cc)
 is_a_placement p All e = absurd (cc)
 
 -- the frontier covers the page that is placed at k
-abbrev pub Covers : Away → ℕ → Type 0
+abbrev pub Covers : BooksAfter → ℕ → Type 0
 Covers a k = (seen : ℕ) × (a.target.frontier ≡ Some seen) × (k ≤ seen)
 
 pub covered_by : (frontier : Option ℕ) (k : ℕ) → is_covered (Some k) frontier ≡ true → (seen : ℕ) × (frontier ≡ Some seen) × (k ≤ seen)
@@ -204,13 +204,13 @@ covered_by None k e = absurd (cc)
 covered_by (Some seen) k e = (seen, refl, leb-true k seen e)
 
 -- the books after a look
-abbrev pub seen : ℕ → Away → Away
+abbrev pub seen : ℕ → BooksAfter → BooksAfter
 seen k a = record a { target = record a.target { log = a.target.log ++ See k ∷ []; frontier = Some k } }
 
-pub see_pushed : {o : List Name} (p k : ℕ) (a : Away) → AwayKept o a → a.target.is_resumed ≡ true → a.target.placed p ≡ Some k →
+pub see_pushed : {o : List Name} (p k : ℕ) (a : BooksAfter) → AwayKept o a → a.target.is_resumed ≡ true → a.target.placed p ≡ Some k →
     AwayKept (o ++ (Guest, length a.target.log) ∷ []) (seen k a)
 see_pushed p k a kept on at =
-    let s = away_session a in
+    let s = session_after a in
     let w = kept.target.places.found p k at in
     let base = target_idle (See k) a kept (λ p c x. refl) refl in
     guest_pushed (See k) a.target.is_resumed (record a.target { frontier = Some k }) a kept on
@@ -229,9 +229,9 @@ see_pushed p k a kept on at =
     })
     (λ q. refl) (λ q e. e)
 
-has_looked_at : {o : List Name} (p k : ℕ) (a : Away) → AwayKept o a → a.target.placed p ≡ Some k → Covers a k → has_looked (away_session a) p (length a.target.log) ≡ true
+has_looked_at : {o : List Name} (p k : ℕ) (a : BooksAfter) → AwayKept o a → a.target.placed p ≡ Some k → Covers a k → has_looked (session_after a) p (length a.target.log) ≡ true
 has_looked_at p k a kept at covers =
-    let s = away_session a in
+    let s = session_after a in
     let w = kept.target.places.found p k at in
     let see = kept.target.frontier covers.0 covers.1 in
     earlier_true (looks_at s p) s.guest see.0 (length s.guest) (See covers.0) see.1
@@ -239,21 +239,21 @@ has_looked_at p k a kept at covers =
     (slice_get_within s.guest see.0 (See covers.0) see.1)
 
 -- the page is there, and its access is covered
-pub record IsOpen (a : Away) (p : ℕ) : Type 0 where
+pub record IsOpen (a : BooksAfter) (p : ℕ) : Type 0 where
   pub there : is_there a.target p ≡ true
-  pub covered : (was_freed (away_session a) (length a.target.log) p || has_looked (away_session a) p (length a.target.log)) ≡ true
+  pub covered : (was_freed (session_after a) (length a.target.log) p || has_looked (session_after a) p (length a.target.log)) ≡ true
 
-pub placed_open : {o : List Name} (p k : ℕ) (a : Away) → AwayKept o a → a.target.placed p ≡ Some k → Covers a k → IsOpen a p
+pub placed_open : {o : List Name} (p k : ℕ) (a : BooksAfter) → AwayKept o a → a.target.placed p ≡ Some k → Covers a k → IsOpen a p
 placed_open p k a kept at covers =
     let n = length a.target.log in
     record {
       there = ap (λ q. is_resident q (a.target.freed p)) at;
-      covered = ap (λ b. was_freed (away_session a) n p || b) (has_looked_at p k a kept at covers) ∙ or_true (was_freed (away_session a) n p);
+      covered = ap (λ b. was_freed (session_after a) n p || b) (has_looked_at p k a kept at covers) ∙ or_true (was_freed (session_after a) n p);
     }
 
-pub freed_open : {o : List Name} (p : ℕ) (a : Away) → AwayKept o a → a.target.freed p ≡ true → IsOpen a p
+pub freed_open : {o : List Name} (p : ℕ) (a : BooksAfter) → AwayKept o a → a.target.freed p ≡ true → IsOpen a p
 freed_open p a kept e =
-    let s = away_session a in
+    let s = session_after a in
     let n = length a.target.log in
     let h = kept.target.released p e in
     record {
@@ -262,10 +262,10 @@ freed_open p a kept e =
     }
 
 -- a read at the target
-pub read_pushed : {o : List Name} (v p c : ℕ) (a : Away) → AwayKept o a → a.target.is_resumed ≡ true → IsOpen a p → v < 64 → OpFits a.source.geometry (ReadCell p c) →
+pub read_pushed : {o : List Name} (v p c : ℕ) (a : BooksAfter) → AwayKept o a → a.target.is_resumed ≡ true → IsOpen a p → v < 64 → OpFits a.source.geometry (ReadCell p c) →
     AwayKept (o ++ (Guest, length a.target.log) ∷ []) (record a { target = record a.target { log = a.target.log ++ Read v p c (a.target.memory p c) ∷ [] } })
 read_pushed v p c a kept on reached low fits =
-    guest_pushed (Read v p c (a.target.memory p c)) a.target.is_resumed a.target a kept on refl (names_none (away_session a))
+    guest_pushed (Read v p c (a.target.memory p c)) a.target.is_resumed a.target a kept on refl (names_none (session_after a))
     (kept.target.frames p c reached.there fits.1, λ late. reached.covered) (low, fits.0, fits.1, kept.target.wide p c) refl refl kept.resumed_ready
     (target_idle (Read v p c (a.target.memory p c)) a kept (λ p c x. refl) refl) (λ q. refl) (λ q e. e)
 
@@ -274,10 +274,10 @@ other_page : (there : Pages) (p q : ℕ) → there p ≡ true → there q ≡ fa
 other_page there p q at un = false_if_not_true (p == q) (λ e. clash (there p) at (ap there (eqb-true p q e) ∙ un))
 
 -- a write at the target
-pub write_pushed : {o : List Name} (v p c x : ℕ) (a : Away) → AwayKept o a → a.target.is_resumed ≡ true → IsOpen a p → v < 64 → OpFits a.source.geometry (WriteCell p c x) →
+pub write_pushed : {o : List Name} (v p c x : ℕ) (a : BooksAfter) → AwayKept o a → a.target.is_resumed ≡ true → IsOpen a p → v < 64 → OpFits a.source.geometry (WriteCell p c x) →
     AwayKept (o ++ (Guest, length a.target.log) ∷ []) (record a { target = record a.target { log = a.target.log ++ Write v p c x ∷ []; memory = with_cell p c x a.target.memory } })
 write_pushed v p c x a kept on reached low fits =
-    let s = away_session a in
+    let s = session_after a in
     let r = Write v p c x in
     let t = guest_more r s in
     let e = guest_extends r s in
@@ -297,12 +297,12 @@ write_pushed v p c x a kept on reached low fits =
     (λ q. refl) (λ q e. e)
 
 -- the pages that are freed after a release, and those of them that are not settled
-record IsFreedBy (a : Away) (v p : ℕ) (freed : Pages) (unsettled : List ℕ) : Type 0 where
+record IsFreedBy (a : BooksAfter) (v p : ℕ) (freed : Pages) (unsettled : List ℕ) : Type 0 where
   there : is_resident (a.target.placed p) (freed p) ≡ true
-  over : IsBareRelease (away_session a) p (Release v p) → freed p ≡ true
+  over : IsBareRelease (session_after a) p (Release v p) → freed p ≡ true
   stays : (q : ℕ) → a.target.freed q ≡ true → freed q ≡ true
   others : (q : ℕ) → (p == q) ≡ false → freed q ≡ a.target.freed q
-  released : (q : ℕ) → freed q ≡ true → (a.target.placed q ≡ None) × (was_freed (guest_more (Release v p) (away_session a)) (length (a.target.log ++ Release v p ∷ [])) q ≡ true)
+  released : (q : ℕ) → freed q ≡ true → (a.target.placed q ≡ None) × (was_freed (guest_more (Release v p) (session_after a)) (length (a.target.log ++ Release v p ∷ [])) q ≡ true)
   to_settle : AllByRecursion (λ q. freed q ≡ true) unsettled
 
 -- in the second version a page may be released once the guest runs at the target
@@ -310,10 +310,10 @@ release_phase : (version : Version) (v p : ℕ) → MayReleaseLate version → i
 release_phase One v p may = absurd may
 release_phase Two v p may = refl
 
-zeroed_pushed : {o : List Name} (v p : ℕ) (freed : Pages) (unsettled : List ℕ) (a : Away) → AwayKept o a → a.target.is_resumed ≡ true → IsFreedBy a v p freed unsettled → v < 64 → LateOpFits a.version a.source.geometry (ReleasePage p) →
+zeroed_pushed : {o : List Name} (v p : ℕ) (freed : Pages) (unsettled : List ℕ) (a : BooksAfter) → AwayKept o a → a.target.is_resumed ≡ true → IsFreedBy a v p freed unsettled → v < 64 → LateOpFits a.version a.source.geometry (ReleasePage p) →
     AwayKept (o ++ (Guest, length a.target.log) ∷ []) (record a { target = record a.target { log = a.target.log ++ Release v p ∷ []; memory = with_zeros p a.target.memory; freed = freed; unsettled = unsettled } })
 zeroed_pushed v p freed unsettled a kept on new low fits =
-    let s = away_session a in
+    let s = session_after a in
     let r = Release v p in
     let t = guest_more r s in
     let e = guest_extends r s in
@@ -335,27 +335,27 @@ zeroed_pushed v p freed unsettled a kept on new low fits =
     old : (q : ℕ) (b : Bool) → (p == q) ≡ false → is_resident (a.target.placed q) (freed q) ≡ b → is_there a.target q ≡ b
     old q b other is = ap (λ f. is_resident (a.target.placed q) f) (sym (new.others q other)) ∙ is
 
-    frames : (q y : ℕ) (b : Bool) → (p == q) ≡ b → is_resident (a.target.placed q) (freed q) ≡ true → y < a.source.geometry.cells → cond b 0 (a.target.memory q y) ≡ cond b 0 (flat (away_session a) (length a.target.log) q y)
+    frames : (q y : ℕ) (b : Bool) → (p == q) ≡ b → is_resident (a.target.placed q) (freed q) ≡ true → y < a.source.geometry.cells → cond b 0 (a.target.memory q y) ≡ cond b 0 (flat (session_after a) (length a.target.log) q y)
     frames q y true same is lt = refl
     frames q y false other is lt = kept.target.frames q y (old q true other is) lt
 
-    untouched : (q y : ℕ) → is_resident (a.target.placed q) (freed q) ≡ false → cond (p == q) 0 (flat (away_session a) (length a.target.log) q y) ≡ a.source.memory q y
+    untouched : (q y : ℕ) → is_resident (a.target.placed q) (freed q) ≡ false → cond (p == q) 0 (flat (session_after a) (length a.target.log) q y) ≡ a.source.memory q y
     untouched q y is =
         let other = other_page (λ j. is_resident (a.target.placed j) (freed j)) p q new.there is in
-        ap (λ b. cond b 0 (flat (away_session a) (length a.target.log) q y)) other ∙ kept.target.untouched q y (old q false other is)
+        ap (λ b. cond b 0 (flat (session_after a) (length a.target.log) q y)) other ∙ kept.target.untouched q y (old q false other is)
 
-    over : (q : ℕ) → IsOver (away_session a) q ⊎ IsBareRelease (away_session a) q (Release v p) → freed q ≡ true
+    over : (q : ℕ) → IsOver (session_after a) q ⊎ IsBareRelease (session_after a) q (Release v p) → freed q ≡ true
     over q (inl o) = new.stays q (kept.target.over q o)
     over q (inr o) =
         let same : q ≡ p = let is : Release v p ≡ Release o.0 q = o.1 in cc in
-        ap freed same ∙ new.over (subst (λ j. IsBareRelease (away_session a) j (Release v p)) same o)
+        ap freed same ∙ new.over (subst (λ j. IsBareRelease (session_after a) j (Release v p)) same o)
 
 -- the release at the target of a page that is there
-pub release_pushed : {o : List Name} (v p : ℕ) (a : Away) → AwayKept o a → a.target.is_resumed ≡ true → IsOpen a p → v < 64 → LateOpFits a.version a.source.geometry (ReleasePage p) →
+pub release_pushed : {o : List Name} (v p : ℕ) (a : BooksAfter) → AwayKept o a → a.target.is_resumed ≡ true → IsOpen a p → v < 64 → LateOpFits a.version a.source.geometry (ReleasePage p) →
     AwayKept (o ++ (Guest, length a.target.log) ∷ []) (record a { target = record a.target { log = a.target.log ++ Release v p ∷ []; memory = with_zeros p a.target.memory } })
 release_pushed v p a kept on reached low fits = zeroed_pushed v p a.target.freed a.target.unsettled a kept on (record {
   there = reached.there;
-  over = λ o. clash (was_freed (away_session a) (length a.target.log) p || has_looked (away_session a) p (length a.target.log)) reached.covered o.2;
+  over = λ o. clash (was_freed (session_after a) (length a.target.log) p || has_looked (session_after a) p (length a.target.log)) reached.covered o.2;
   stays = λ q e. e;
   others = λ q other. refl;
   released = released_stays (Release v p) a kept;
@@ -363,7 +363,7 @@ release_pushed v p a kept on reached low fits = zeroed_pushed v p a.target.freed
 }) low fits
 
 -- the release at the target of a page that is absent
-pub free_pushed : {o : List Name} (v p : ℕ) (a : Away) → AwayKept o a → a.target.is_resumed ≡ true → a.target.placed p ≡ None → v < 64 → LateOpFits a.version a.source.geometry (ReleasePage p) →
+pub free_pushed : {o : List Name} (v p : ℕ) (a : BooksAfter) → AwayKept o a → a.target.is_resumed ≡ true → a.target.placed p ≡ None → v < 64 → LateOpFits a.version a.source.geometry (ReleasePage p) →
     AwayKept (o ++ (Guest, length a.target.log) ∷ []) (record a {
       target = record a.target {
         log = a.target.log ++ Release v p ∷ [];
@@ -391,18 +391,18 @@ free_pushed v p a kept on none low fits = zeroed_pushed v p (with_page p a.targe
         go true = refl
         go false = e
 
-    late : home (away_session a) (length a.target.log) ≡ AtTarget
+    late : home (session_after a) (length a.target.log) ≡ AtTarget
     late = kept.phase.home_is ∙ ap away_home on
 
-    released : (q : ℕ) (b : Bool) → (p == q) ≡ b → cond b true (a.target.freed q) ≡ true → (a.target.placed q ≡ None) × (was_freed (guest_more (Release v p) (away_session a)) (length (a.target.log ++ Release v p ∷ [])) q ≡ true)
-    released q true same e = subst (λ j. (a.target.placed j ≡ None) × (was_freed (guest_more (Release v p) (away_session a)) (length (a.target.log ++ Release v p ∷ [])) j ≡ true)) (eqb-true p q same) (none, freed_here v p (away_session a) late)
+    released : (q : ℕ) (b : Bool) → (p == q) ≡ b → cond b true (a.target.freed q) ≡ true → (a.target.placed q ≡ None) × (was_freed (guest_more (Release v p) (session_after a)) (length (a.target.log ++ Release v p ∷ [])) q ≡ true)
+    released q true same e = subst (λ j. (a.target.placed j ≡ None) × (was_freed (guest_more (Release v p) (session_after a)) (length (a.target.log ++ Release v p ∷ [])) j ≡ true)) (eqb-true p q same) (none, freed_here v p (session_after a) late)
     released q false other e = released_stays (Release v p) a kept q e
 
 -- a miss
-pub miss_pushed : {o : List Name} (v p : ℕ) (a : Away) → AwayKept o a → a.target.is_resumed ≡ true → v < 64 → p < a.source.geometry.pages →
+pub miss_pushed : {o : List Name} (v p : ℕ) (a : BooksAfter) → AwayKept o a → a.target.is_resumed ≡ true → v < 64 → p < a.source.geometry.pages →
     AwayKept (o ++ (Guest, length a.target.log) ∷ []) (record a { target = record a.target { log = a.target.log ++ Miss v p ∷ []; misses = a.target.misses ++ (record { number = length a.target.log; vcpu = v; page = p }) ∷ [] } })
 miss_pushed v p a kept on low fits =
-    let s = away_session a in
+    let s = session_after a in
     let t = guest_more (Miss v p) s in
     let base = target_idle (Miss v p) a kept (λ p c x. refl) refl in
     let new : Missing = record { number = length s.guest; vcpu = v; page = p } in
@@ -421,10 +421,10 @@ miss_pushed v p a kept on low fits =
     (λ q. refl) (λ q e. e)
 
 -- the resume
-pub resume_pushed : {o : List Name} (a : Away) → AwayKept o a → a.target.is_resumed ≡ false → IsReady (away_session a) →
+pub resume_pushed : {o : List Name} (a : BooksAfter) → AwayKept o a → a.target.is_resumed ≡ false → IsReady (session_after a) →
     AwayKept (o ++ (Guest, length a.target.log) ∷ []) (record a { target = record a.target { log = a.target.log ++ Resume 1 ∷ []; is_resumed = true } })
 resume_pushed a kept off ready =
-    let s = away_session a in
+    let s = session_after a in
     guest_pushed (Resume 1) true a.target a kept
     (ap (λ b. in_phase_by a.version true b (Resume 1)) off)
     (passes_at is_ready s.pager 1 Ready ready refl)
@@ -432,21 +432,21 @@ resume_pushed a kept off ready =
     (target_idle (Resume 1) a kept (λ p c x. refl) refl) (λ q. refl) (λ q e. e)
 
 -- a placement
-pub put_pushed : {o : List Name} (r : PagerRec) (q : ℕ) (memory : Memory) (waiting : List Waiting) (a : Away) → AwayKept o a → IsReady (away_session a) →
-    pager_named (away_session a) (length a.pager.log) r ≡ true → IsThere (away_session a) (pager_receipt r) → pager_goes_on r ≡ true →
+pub put_pushed : {o : List Name} (r : PagerRec) (q : ℕ) (memory : Memory) (waiting : List Waiting) (a : BooksAfter) → AwayKept o a → IsReady (session_after a) →
+    pager_named (session_after a) (length a.pager.log) r ≡ true → IsThere (session_after a) (pager_receipt r) → pager_goes_on r ≡ true →
     is_there a.target q ≡ false → ((p : ℕ) → is_placement_of p r ≡ (q == p)) →
     PagerClean a.source.geometry.cells a.source.memory a.source.ledger a.pager.log (length a.pager.log) r →
     PagerWithin a.version a.source.geometry r →
     (r ≡ All → ⊥) →
     ((c : ℕ) → c < a.source.geometry.cells → memory q c ≡ a.source.memory q c) →
     ((p c : ℕ) → (q == p) ≡ false → memory p c ≡ a.target.memory p c) →
-    IsWide memory → AllByRecursion (IsWaitedFor (away_session a)) waiting →
+    IsWide memory → AllByRecursion (IsWaitedFor (session_after a)) waiting →
     AwayKept (o ++ (Pager, length a.pager.log) ∷ []) (record a {
       pager = record a.pager { log = a.pager.log ++ r ∷ []; placed = with_page q a.pager.placed; waiting = waiting };
       target = record a.target { placed = with_placement q (length a.pager.log) a.target.placed; memory = memory };
     })
 put_pushed {o} r q memory waiting a k ready named there on absent key clean within not_all here others wide waits =
-    let s = away_session a in
+    let s = session_after a in
     let t = pager_more r s in
     let x = pager_extends r s in
     let two : 1 < length s.pager = slice_get_within s.pager 1 Ready ready in
@@ -495,11 +495,11 @@ put_pushed {o} r q memory waiting a k ready named there on absent key clean with
     more p true e = refl
     more p false e = e
 
-    frames : (p c : ℕ) (b : Bool) → (q == p) ≡ b → is_resident (cond b (Some number) (a.target.placed p)) (a.target.freed p) ≡ true → c < a.source.geometry.cells → memory p c ≡ flat (away_session a) (length a.target.log) p c
-    frames p c true is e lt = subst (λ j. memory j c ≡ flat (away_session a) (length a.target.log) j c) (eqb-true q p is) (here c lt ∙ sym (k.target.untouched q c absent))
+    frames : (p c : ℕ) (b : Bool) → (q == p) ≡ b → is_resident (cond b (Some number) (a.target.placed p)) (a.target.freed p) ≡ true → c < a.source.geometry.cells → memory p c ≡ flat (session_after a) (length a.target.log) p c
+    frames p c true is e lt = subst (λ j. memory j c ≡ flat (session_after a) (length a.target.log) j c) (eqb-true q p is) (here c lt ∙ sym (k.target.untouched q c absent))
     frames p c false is e lt = others p c is ∙ k.target.frames p c e lt
 
-    untouched : (p c : ℕ) (b : Bool) → is_resident (cond b (Some number) (a.target.placed p)) (a.target.freed p) ≡ false → flat (away_session a) (length a.target.log) p c ≡ a.source.memory p c
+    untouched : (p c : ℕ) (b : Bool) → is_resident (cond b (Some number) (a.target.placed p)) (a.target.freed p) ≡ false → flat (session_after a) (length a.target.log) p c ≡ a.source.memory p c
     untouched p c true e = absurd (cc)
     untouched p c false e = k.target.untouched p c e
 

@@ -2,7 +2,7 @@
 use Rattle.std.proofs.Common.{◌≡◌, [], ◌∷◌, Option, Some, None, false, refl, arith, true}
 use Rattle.std.specs.Prelude.{take}
 use Rattle.migration_model.specs.Events.{run, start}
-use Rattle.migration_model.specs.Machine.{IsScript, Machine}
+use Rattle.migration_model.specs.Books.{IsScript, Recording}
 use Rattle.migration_model.specs.Promise.{SomeRunIsDone}
 use Rattle.migration_model.specs.Worked.{Records, events_of_lane, events_of_one, events_of_release, events_of_two, offers, order_of_lane, order_of_one, order_of_release, order_of_two, script_of_lane, script_of_one, script_of_release, script_of_two, session_of_lane, session_of_one, session_of_release, session_of_two, small_source, source_calls, source_offers, source_records, woken_next}
 
@@ -62,7 +62,7 @@ fits_of_lane = record {
 }
 
 -- the machine that a run leads to
-abbrev reached : Option Machine → Machine
+abbrev reached : Option Recording → Recording
 reached None = start script_of_one
 reached (Some m) = m
 

@@ -6,18 +6,18 @@ use Rattle.migration_types.specs.Sessions.{Recorded}
 use Rattle.page_stream.specs.declared.Packet.{Packet}
 use Rattle.link_book.specs.LinkPart.{LinkPart, new_link, with_back, with_front, with_up, pushed_line, with_pushed, if_packet, turned}
 use Rattle.link_book.specs.declared.Arrival.{Arrival}
-use Rattle.active_push.specs.SourcePart.{Offer, state_packet, halted_source, source_push, source_serve, source_tick}
+use Rattle.source_book.specs.SourcePart.{Offer, state_packet, halted_source, source_push, source_serve, source_tick}
 use Rattle.guest_book.specs.GuestPart.{new_guest, guest_access}
 use Rattle.migration_events.specs.declared.ops.Op.{Op}
 use Rattle.target_book.specs.TargetPart.{Accessed, halted_target, target_access}
 use Rattle.target_book.specs.declared.Access.{Access}
 use Rattle.target_book.specs.declared.Access.TheVariants.{Done, Missed, Waiting}
-use Rattle.target_side.specs.PagerPart.{Paged, Sent, new_pager, pager_pop, pager_pull, next_fault, pager_flush, deliver, pager_tick}
+use Rattle.pager_book.specs.PagerPart.{Paged, Sent, new_pager, pager_pop, pager_pull, next_fault, pager_flush, deliver, pager_tick}
 use Rattle.migration_events.specs.declared.events.Event.{Event}
 use Rattle.migration_events.specs.declared.events.Event.TheVariants.{GuestStep, Halt as HaltGuest, Push, Serve, SourceTick, LinkTurn, PagerPop, PagerPull, PagerFault, PagerFlush, PagerDeliver, PagerTick}
-use Rattle.migration_model.specs.Machine.{Vcpu, Scripted, Home, Away, Books, Before, After, session_of, Machine, new_names}
+use Rattle.migration_model.specs.Books.{Vcpu, Scripted, BooksBefore, BooksAfter, Books, Before, After, session_of, Recording, new_names}
 
-abbrev pub start : Scripted → Machine
+abbrev pub start : Scripted → Recording
 start script = record {
   books = Before (record {
     version = script.version;
@@ -32,11 +32,11 @@ start script = record {
 }
 
 -- GuestStep before the halt
-abbrev pub home_ops : ℕ → Vcpu → List Op → Home → Home
+abbrev pub home_ops : ℕ → Vcpu → List Op → BooksBefore → BooksBefore
 home_ops v vcpu [] h = h
 home_ops v vcpu (op ∷ ops) h = record h { guest = guest_access v op h.guest; vcpus = slice_set h.vcpus v (record vcpu { before_move = ops }) }
 
-abbrev pub home_step : ℕ → Option Vcpu → Home → Home
+abbrev pub home_step : ℕ → Option Vcpu → BooksBefore → BooksBefore
 home_step v None h = h
 home_step v (Some vcpu) h = home_ops v vcpu vcpu.before_move h
 
@@ -46,14 +46,14 @@ after_access (Done answer) v vcpu ops vcpus = slice_set vcpus v (record vcpu { a
 after_access Missed v vcpu ops vcpus = vcpus
 after_access Waiting v vcpu ops vcpus = vcpus
 
-abbrev pub accessed : ℕ → Vcpu → List Op → Accessed → Away → Away
+abbrev pub accessed : ℕ → Vcpu → List Op → Accessed → BooksAfter → BooksAfter
 accessed v vcpu ops r a = record a { target = r.book; vcpus = after_access r.access v vcpu ops a.vcpus }
 
-abbrev pub away_ops : ℕ → Vcpu → List Op → Away → Away
+abbrev pub away_ops : ℕ → Vcpu → List Op → BooksAfter → BooksAfter
 away_ops v vcpu [] a = a
 away_ops v vcpu (op ∷ ops) a = accessed v vcpu ops (target_access v op a.target) a
 
-abbrev pub away_step : ℕ → Option Vcpu → Away → Away
+abbrev pub away_step : ℕ → Option Vcpu → BooksAfter → BooksAfter
 away_step v None a = a
 away_step v (Some vcpu) a = away_ops v vcpu vcpu.after_move a
 
@@ -65,7 +65,7 @@ no_more (op ∷ ops) = false
 abbrev pub all_at_move : List Vcpu → Bool
 all_at_move vcpus = list_all (λ vcpu. no_more vcpu.before_move) vcpus
 
-abbrev pub halted : Home → Away
+abbrev pub halted : BooksBefore → BooksAfter
 halted h =
     let source = halted_source h.guest.geometry h.guest.memory h.guest.ledger h.pivots (length h.guest.log) in
     record {
@@ -81,33 +81,33 @@ halted h =
     }
 
 -- what the source's call leaves, its packet offered
-abbrev pub offered : (Packet → LinkPart → LinkPart) → Offer → Away → Away
+abbrev pub offered : (Packet → LinkPart → LinkPart) → Offer → BooksAfter → BooksAfter
 offered offer o a = record a { source = o.book; link = if_packet offer o.packet a.link }
 
 -- Push: on the lane, where there is one, whose line the window then bounds
-abbrev pub pushed : Away → Away
+abbrev pub pushed : BooksAfter → BooksAfter
 pushed a = if nat_lt (length (pushed_line a.has_lane a.link)) a.window then offered (with_pushed a.has_lane) (source_push a.source) a else a
 
-abbrev pub served : List Arrival → Away → Away
+abbrev pub served : List Arrival → BooksAfter → BooksAfter
 served [] a = a
 served (x ∷ rest) a = offered with_front (source_serve x.number x.packet a.source) (record a { link = record a.link { up_arrivals = rest } })
 
-abbrev pub popped : List Arrival → Away → Away
+abbrev pub popped : List Arrival → BooksAfter → BooksAfter
 popped [] a = a
 popped (x ∷ rest) a = record a { link = record a.link { down_arrivals = rest }; pager = pager_pop x.number x.packet a.pager }
 
-abbrev pub pulled : List Arrival → Away → Away
+abbrev pub pulled : List Arrival → BooksAfter → BooksAfter
 pulled [] a = a
 pulled (x ∷ rest) a = record a { link = record a.link { lane_arrivals = rest }; pager = pager_pull x.number x.packet a.pager }
 
 -- what the pager's call leaves
-abbrev pub paged : Paged → Away → Away
+abbrev pub paged : Paged → BooksAfter → BooksAfter
 paged r a = record a { pager = r.pager; target = r.target }
 
-abbrev pub sent_up : Sent → Away → Away
+abbrev pub sent_up : Sent → BooksAfter → BooksAfter
 sent_up r a = record a { pager = r.book; link = if_packet with_up r.packet a.link }
 
-abbrev pub away_event : Event → Away → Away
+abbrev pub away_event : Event → BooksAfter → BooksAfter
 away_event (GuestStep v) a = away_step v (slice_get a.vcpus v) a
 away_event HaltGuest a = a
 away_event Push a = pushed a
@@ -121,7 +121,7 @@ away_event PagerFlush a = sent_up (pager_flush a.pager) a
 away_event PagerDeliver a = paged (deliver a.pager a.target) a
 away_event PagerTick a = sent_up (pager_tick a.pager) a
 
-abbrev pub home_event : Event → Home → Books
+abbrev pub home_event : Event → BooksBefore → Books
 home_event (GuestStep v) h = Before (home_step v (slice_get h.vcpus v) h)
 home_event HaltGuest h = if all_at_move h.vcpus then After (halted h) else Before h
 home_event _ h = Before h
@@ -131,10 +131,10 @@ books_event e (Before h) = home_event e h
 books_event e (After a) = After (away_event e a)
 
 -- the books after an event, and the recorded order with the names of its records
-abbrev pub recorded : Books → List Name → Books → Machine
+abbrev pub recorded : Books → List Name → Books → Recording
 recorded old order new = record { books = new; order = order ++ new_names (session_of old) (session_of new) }
 
-abbrev pub event : Event → Machine → Machine
+abbrev pub event : Event → Recording → Recording
 event e core = recorded core.books core.order (books_event e core.books)
 
 -- no log has more than 1,048,576 records
@@ -142,18 +142,18 @@ abbrev pub has_room : Recorded → Bool
 has_room s = nat_le (length s.guest) 1048576 && nat_le (length s.source) 1048576 && nat_le (length s.link) 1048576 && nat_le (length s.lane) 1048576 && nat_le (length s.pager) 1048576
 
 -- an event that needs more records than a log has room for is refused
-abbrev pub if_room : Machine → Option Machine
+abbrev pub if_room : Recording → Option Recording
 if_room core = if has_room (session_of core.books) then Some core else None
 
-abbrev pub step : Event → Machine → Option Machine
+abbrev pub step : Event → Recording → Option Recording
 step e core = if_room (event e core)
 
 -- go on, if the event was not refused
-abbrev pub if_taken : (Machine → Option Machine) → Option Machine → Option Machine
+abbrev pub if_taken : (Recording → Option Recording) → Option Recording → Option Recording
 if_taken go None = None
 if_taken go (Some next) = go next
 
 -- events, until one is refused
-abbrev pub run : List Event → Machine → Option Machine
+abbrev pub run : List Event → Recording → Option Recording
 run [] core = Some core
 run (e ∷ es) core = if_taken (run es) (step e core)

@@ -1,12 +1,12 @@
 -- What the calls on the books ask for, and a core that is reached always has.
 use Rattle.std.specs.Prelude.{◌≡◌, [], Some, None, slice_get}
 use Rattle.link_book.specs.declared.Arrival.{Arrival}
-use Rattle.target_side.specs.PagerLists.{IsPacketOf}
-use Rattle.migration_model.specs.Machine.{Away, Books, Before, After}
+use Rattle.pager_book.specs.PagerLists.{IsPacketOf}
+use Rattle.migration_model.specs.Books.{BooksAfter, Books, Before, After}
 
 -- from the halt on: what the pager takes next, from the link and from the lane, is a packet of its machine, and no miss
 -- stands before the pager is ready
-pub record IsOrderly (a : Away) : Type 0 where
+pub record IsOrderly (a : BooksAfter) : Type 0 where
   pub arrival : (x : Arrival) → slice_get a.link.down_arrivals 0 ≡ Some x → IsPacketOf a.pager.geometry x.packet
   pub over_lane : (x : Arrival) → slice_get a.link.lane_arrivals 0 ≡ Some x → IsPacketOf a.pager.geometry x.packet
   pub misses : a.pager.released ≡ None → a.target.misses ≡ []

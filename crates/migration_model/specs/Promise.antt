@@ -7,7 +7,7 @@ use Rattle.audit_model.specs.Mergings.{IsMerging}
 use Rattle.audit_model.specs.Flat.{in_ledger, at_halt}
 use Rattle.audit_model.specs.World.{world_after, IsSafe}
 use Rattle.audit_model.specs.Laws.{IsFaultless}
-use Rattle.migration_model.specs.Machine.{Machine, session_of, Scripted, IsScript}
+use Rattle.migration_model.specs.Books.{Recording, session_of, Scripted, IsScript}
 use Rattle.migration_model.specs.Events.{start, run}
 use Rattle.migration_events.specs.declared.events.Event.{Event}
 
@@ -22,11 +22,11 @@ pub record IsFaultlessSession (s : Recorded) (order : List Name) : Type 0 where
   pub safe : IsSafe s
   pub done : (n : ℕ) → slice_get s.source n ≡ Some Done → HasEachOwed s order
 
-abbrev pub IsFaultlessRecording : Machine → Type 0
+abbrev pub IsFaultlessRecording : Recording → Type 0
 IsFaultlessRecording core = IsFaultlessSession (session_of core.books) core.order
 
 -- a core that events lead to, none of them refused, from a script's start
-pub record IsReached (core : Machine) : Type 0 where
+pub record IsReached (core : Recording) : Type 0 where
   pub script : Scripted
   pub fits : IsScript script
   pub events : List Event
@@ -34,7 +34,7 @@ pub record IsReached (core : Machine) : Type 0 where
 
 -- a core that is reached, whose source was told that all is there
 pub record SomeRunIsDone : Type 0 where
-  pub core : Machine
+  pub core : Recording
   pub is_reached : IsReached core
   pub place : ℕ
   pub done : slice_get (session_of core.books).source place ≡ Some Done

@@ -20,14 +20,14 @@ use Rattle.migration_events.specs.declared.events.Fate.TheVariants.{Back, Delive
 use Rattle.migration_events.specs.declared.ops.Op.TheVariants.{Read as ReadCell, Release as ReleasePage}
 use Rattle.page_stream.specs.declared.Packet.{Packet}
 use Rattle.page_stream.specs.declared.Packet.TheVariants.{All as AllPacket, Page as PagePacket, Want as WantPacket}
-use Rattle.active_push.specs.SourcePart.{Offer, SourcePart, halted_source, source_push, source_serve, source_tick}
+use Rattle.source_book.specs.SourcePart.{Offer, SourcePart, halted_source, source_push, source_serve, source_tick}
 use Rattle.guest_book.specs.GuestPart.{new_guest}
-use Rattle.target_side.specs.PagerPart.{deliver}
+use Rattle.pager_book.specs.PagerPart.{deliver}
 use Rattle.migration_model.specs.Events.{run, start, step}
-use Rattle.migration_model.specs.Machine.{After, Before, Books, Machine, Scripted, session_of}
+use Rattle.migration_model.specs.Books.{After, Before, Books, Recording, Scripted, session_of}
 
 -- what a run recorded, and in which order
-abbrev pub recording : Option Machine → Option (Recorded × List Name)
+abbrev pub recording : Option Recording → Option (Recorded × List Name)
 recording None = None
 recording (Some core) = Some (session_of core.books, core.order)
 
@@ -181,7 +181,7 @@ abbrev pub woken_in : Books → List ℕ
 woken_in (Before h) = []
 woken_in (After a) = (deliver a.pager a.target).woken
 
-abbrev pub woken_next : Option Machine → List ℕ
+abbrev pub woken_next : Option Recording → List ℕ
 woken_next None = []
 woken_next (Some core) = woken_in core.books
 
@@ -216,7 +216,7 @@ abbrev pub source_records : List SourceRec
 source_records = Halted 0 ∷ State ∷ Send 0 (0 ∷ []) ∷ Ask 3 ∷ Send 1 (7 ∷ []) ∷ Ask 4 ∷ Again 4 ∷ Ask 5 ∷ Done ∷ []
 
 -- a guest with this log, which has a page of one cell to read
-abbrev pub core_with : List GuestRec → Machine
+abbrev pub core_with : List GuestRec → Recording
 core_with log = record {
   books = Before (record {
     version = One;
@@ -233,5 +233,5 @@ core_with log = record {
 -- a read is refused where the log has no room for a record, and only there; an event that appends nothing never is
 pub record IsRefusedWhenFull : Type 0 where
   pub refused : (log : List GuestRec) → length log ≡ 1048576 → step (GuestStep 0) (core_with log) ≡ None
-  pub taken : (log : List GuestRec) → length log < 1048576 → (core : Machine) × (step (GuestStep 0) (core_with log) ≡ Some core)
+  pub taken : (log : List GuestRec) → length log < 1048576 → (core : Recording) × (step (GuestStep 0) (core_with log) ≡ Some core)
   pub silent : (log : List GuestRec) → length log ≡ 1048576 → step Push (core_with log) ≡ Some (core_with log)

@@ -2,7 +2,7 @@
 #![tactic(auto)]
 
 ghost use Rattle.std.specs.Prelude.{◌≡◌, ℕ, ◌<◌, true, List, [], ◌∷◌, Some, take};
-ghost use Rattle.migration_model.specs.Machine.{Machine, Scripted, IsScript};
+ghost use Rattle.migration_model.specs.Books.{Recording, Scripted, IsScript};
 ghost use Rattle.migration_model.specs.Events.{start, step, run};
 ghost use Rattle.migration_model.specs.Worked.{Records, script_of_two, events_of_two, session_of_two, order_of_two, script_of_one, events_of_one, session_of_one, order_of_one, script_of_release, events_of_release, session_of_release, order_of_release, script_of_lane, events_of_lane, session_of_lane, order_of_lane, woken_next, offers, source_calls, small_source, source_offers, source_records, IsRefusedWhenFull};
 ghost use Rattle.migration_model.specs.Orderly.{AreOrderly};
@@ -14,7 +14,7 @@ use migration_events::Event;
 /// session in its limits, of the right shape and with no fault of a page, its recorded order is a merging, so it is
 /// safe; and where the source was told that all is there, each owed page is resident at the end of the order.
 pub fn recordings_are_faultless()
-    ensures faultless { (script : Scripted) (events : List Event) (core : Machine) → IsScript script → run events (start script) ≡ Some core → IsFaultlessRecording core }
+    ensures faultless { (script : Scripted) (events : List Event) (core : Recording) → IsScript script → run events (start script) ≡ Some core → IsFaultlessRecording core }
 {}
 
 /// A core is reached at a script's start, and after each event that is not refused; and what a reached core has
@@ -22,9 +22,9 @@ pub fn recordings_are_faultless()
 /// calls on the books ask for, it has too.
 pub fn reached_cores_are_faultless()
     ensures start { (script : Scripted) → IsScript script → IsReached (start script) }
-    ensures step { (e : Event) (core next : Machine) → IsReached core → step e core ≡ Some next → IsReached next }
-    ensures faultless { (core : Machine) → IsReached core → IsFaultlessRecording core }
-    ensures orderly { (core : Machine) → IsReached core → AreOrderly core.books }
+    ensures step { (e : Event) (core next : Recording) → IsReached core → step e core ≡ Some next → IsReached next }
+    ensures faultless { (core : Recording) → IsReached core → IsFaultlessRecording core }
+    ensures orderly { (core : Recording) → IsReached core → AreOrderly core.books }
 {}
 
 /// There is a script with events that the law speaks of, and in which all comes to its end.

@@ -16,7 +16,7 @@ use Rattle.migration_types.specs.Sessions.{Recorded}
 use Rattle.migration_types.specs.declared.rows.Field.{Field}
 use Rattle.migration_types.specs.declared.rows.Field.TheVariants as field
 use Rattle.migration_types.specs.Rows.{Consists}
-use Rattle.session_log.specs.Rows.{row_line}
+use Rattle.session_text.specs.Rows.{row_line}
 use Rattle.audit_model.specs.Names.{same_log}
 use Rattle.order_picture.specs.declared.subjects.About.{About}
 use Rattle.order_picture.specs.declared.subjects.About.TheVariants.{Page, Record, Nothing}

@@ -6,7 +6,7 @@ ghost use Rattle.order_picture.specs.Subjects.{label_of};
 
 use crate::records::Name;
 use migration_types::Session;
-use session_log::push_row;
+use session_text::push_row;
 use std::alloc::AllocError;
 
 /// Adds the label of a record.

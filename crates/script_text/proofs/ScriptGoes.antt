@@ -13,15 +13,15 @@ use Rattle.migration_events.specs.declared.events.Fate.{Fate}
 use Rattle.migration_events.specs.declared.ops.Op.{Op}
 use Rattle.migration_events.specs.declared.ops.Op.TheVariants.{Read}
 use Rattle.migration_events.specs.Ops.{OpFits, LateOpFits}
-use Rattle.session_log.specs.Grammar.{page_line, closing}
-use Rattle.session_log.specs.inner.InitPages.{next_from, rise_increases}
-use Rattle.session_log.proofs.Goes.{init_filled}
+use Rattle.session_text.specs.Grammar.{page_line, closing}
+use Rattle.session_text.specs.inner.InitPages.{next_from, rise_increases}
+use Rattle.session_text.proofs.Goes.{init_filled}
 use Rattle.script.specs.declared.vcpus.Vcpu.{Vcpu}
 use Rattle.script_text.specs.declared.stages.ScriptStage.{ScriptStage}
 use Rattle.script_text.specs.declared.stages.ScriptStage.TheVariants.{Header, Pages, Cells, InitCount, Init, Window, Down, Up, Lanes, Lane, Count, First, Ops, Done}
 use Rattle.script.specs.Scenarios.{Scenario, LaneFits, VcpuFits, IsScenario}
 use Rattle.script_text.specs.Scripts.{lane_key, fates_text, op_line, vcpus_onto, vcpus_lines, lanes_lines, up_lines, down_lines, window_lines, pivots_lines, init_lines, cells_lines, pages_lines, script_lines, SpellsScript}
-use Rattle.script_text.specs.inner.ScriptHeld.{Draft, scenario_of, script_held, vcpu_of, ScriptRest, ScriptFits, ScriptLive, FitsPivots, FitsLane}
+use Rattle.script_text.specs.inner.ScriptHeld.{ScriptDraft, scenario_of, script_held, vcpu_of, ScriptRest, ScriptFits, ScriptLive, FitsPivots, FitsLane}
 use Rattle.script_text.proofs.ByVersion.{lanes_long, lanes_short}
 use Rattle.script_text.proofs.Exactly.{exact_refuses, exact_begins, exact_whole, exact_left}
 use Rattle.script.proofs.Lists.{all_append}
@@ -55,11 +55,11 @@ first_scenario version e init h pages = (
   refl,
 )
 
-abbrev with_vcpus : Draft → List Vcpu → Scenario
+abbrev with_vcpus : ScriptDraft → List Vcpu → Scenario
 with_vcpus d vcpus = record (scenario_of d) { vcpus = vcpus }
 
 -- any pivots, window and fates, and any virtual processors
-scenario_fits : (d : Draft) (vcpus : List Vcpu) → FitsLane d → 1 ≤ length vcpus → length vcpus ≤ 64 → AllByRecursion (VcpuFits d.version d.geometry) vcpus → IsScenario (with_vcpus d vcpus)
+scenario_fits : (d : ScriptDraft) (vcpus : List Vcpu) → FitsLane d → 1 ≤ length vcpus → length vcpus ≤ 64 → AllByRecursion (VcpuFits d.version d.geometry) vcpus → IsScenario (with_vcpus d vcpus)
 scenario_fits d vcpus f some few each =
     let u = f.before in
     let w = u.before.before in
@@ -67,10 +67,10 @@ scenario_fits d vcpus f some few each =
     record { geometry = p.geometry; init = p.init; some_pivots = p.some; few_pivots = p.few; some_window = w.some; few_window = w.few; few_down = u.before.few; few_up = u.few; lane = f.lane; some_vcpus = some; few_vcpus = few; vcpus = each }
 
 -- with fields that did not come yet, and no lane
-abbrev small : ℕ → List Fate → List Fate → Draft → Draft
+abbrev small : ℕ → List Fate → List Fate → ScriptDraft → ScriptDraft
 small window down up d = record d { window = window; down = down; up = up; lane = None }
 
-fits_small : (d : Draft) (window : ℕ) (down up : List Fate) → FitsPivots d → 1 ≤ window → window ≤ 65536 → length down ≤ 4096 → length up ≤ 4096 → FitsLane (small window down up d)
+fits_small : (d : ScriptDraft) (window : ℕ) (down up : List Fate) → FitsPivots d → 1 ≤ window → window ≤ 65536 → length down ≤ 4096 → length up ≤ 4096 → FitsLane (small window down up d)
 fits_small d window down up p some few few_down few_up = record { before = record { before = record { before = record { before = record { geometry = p.geometry; init = p.init; some = p.some; few = p.few }; some = some; few = few }; few = few_down }; few = few_up }; lane = tt }
 
 -- virtual processors that do nothing
@@ -81,13 +81,13 @@ idles_fit : (version : Version) (e : Extent) (n : ℕ) → AllByRecursion (VcpuF
 idles_fit version e n = all_replicate (VcpuFits version e) n (vcpu_of [] []) (record { few_before = omega arith; few_after = omega arith; before_move = tt; after_move = tt })
 
 -- with one of these
-abbrev idle : Draft → Scenario
+abbrev idle : ScriptDraft → Scenario
 idle d = with_vcpus d (idles 1)
 
-idle_fits : (d : Draft) → FitsLane d → IsScenario (idle d)
+idle_fits : (d : ScriptDraft) → FitsLane d → IsScenario (idle d)
 idle_fits d f = scenario_fits d (idles 1) f (omega arith) (omega arith) (idles_fit d.version d.geometry 1)
 
-rest_of : (stage : ScriptStage) (d : Draft) → ScriptFits stage d → (v : Scenario) × (more : List (List ℕ)) × ScriptRest stage d v more
+rest_of : (stage : ScriptStage) (d : ScriptDraft) → ScriptFits stage d → (v : Scenario) × (more : List (List ℕ)) × ScriptRest stage d v more
 rest_of Header d fits = let s = first_scenario d.version (record { pages = 1; cells = 1 }) [] (record { some_pages = omega arith; few_pages = omega arith; some_cells = omega arith; few_cells = omega arith; few_in_all = omega arith }) (no_init _) in (s.0, script_lines s.0, (s.1, refl))
 rest_of Pages d fits = let s = first_scenario d.version (record { pages = 1; cells = 1 }) [] (record { some_pages = omega arith; few_pages = omega arith; some_cells = omega arith; few_cells = omega arith; few_in_all = omega arith }) (no_init _) in (s.0, pages_lines s.0, (s.1, s.2, refl))
 rest_of Cells d fits =
@@ -179,7 +179,7 @@ rest_of Done d fits =
     let few = f.few in
     (with_vcpus d d.vcpus, [], (scenario_fits d d.vcpus f.before (omega (arith, fits.1)) (omega (arith, fits.1)) f.vcpus, ((((((refl, refl, refl), refl), refl), refl), refl), refl), refl, refl))
 
-pub live_begins : (stage : ScriptStage) (d : Draft) → ScriptLive stage d → Begins SpellsScript (script_held stage d)
+pub live_begins : (stage : ScriptStage) (d : ScriptDraft) → ScriptLive stage d → Begins SpellsScript (script_held stage d)
 live_begins stage d live = let r = rest_of stage d live.fits in exact_begins SpellsScript (ScriptRest stage d) (script_held stage d) live.exact r.0 r.1 r.2
 
 -- ---- the lines are few
@@ -201,7 +201,7 @@ script_few v fits =
     let lanes = lanes_short v.version v.lane (vcpus_lines v) in
     omega (arith, length-append (map page_line v.init) (pivots_lines v), length-map v.init page_line)
 
-pub live_few : (stage : ScriptStage) (d : Draft) → ScriptLive stage d → length (script_held stage d) + 1 < 2 ^ 32
+pub live_few : (stage : ScriptStage) (d : ScriptDraft) → ScriptLive stage d → length (script_held stage d) + 1 < 2 ^ 32
 live_few stage d live =
     let b = live_begins stage d live in
     let whole = ap (λ (t : List (List ℕ)). length t) b.2.1 in
@@ -210,17 +210,17 @@ live_few stage d live =
 
 -- ---- where all came, it is a text
 
-done_spells : (d : Draft) → ScriptLive Done d → SpellsScript (scenario_of d) (script_held Done d)
+done_spells : (d : ScriptDraft) → ScriptLive Done d → SpellsScript (scenario_of d) (script_held Done d)
 done_spells d live =
     let f = live.fits.0 in
     let some = f.some in
     let few = f.few in
     exact_whole SpellsScript (ScriptRest Done d) (script_held Done d) live.exact (scenario_of d) (scenario_fits d d.vcpus f.before (omega (arith, live.fits.1)) (omega (arith, live.fits.1)) f.vcpus, ((((((refl, refl, refl), refl), refl), refl), refl), refl), refl, refl)
 
-live_at : (stage at : ScriptStage) (d : Draft) → stage ≡ at → ScriptLive stage d → ScriptLive at d
+live_at : (stage at : ScriptStage) (d : ScriptDraft) → stage ≡ at → ScriptLive stage d → ScriptLive at d
 live_at stage at d is live = subst (λ (s : ScriptStage). ScriptLive s d) is live
 
-pub live_found : (stage : ScriptStage) (d : Draft) (held : List (List ℕ)) (answer : Option Scenario) → script_held stage d ≡ held → stage ≡ Done → ScriptLive stage d → IsSomeAnd answer (λ v. v ≡ scenario_of d) → IfSome answer (λ v. SpellsScript v held)
+pub live_found : (stage : ScriptStage) (d : ScriptDraft) (held : List (List ℕ)) (answer : Option Scenario) → script_held stage d ≡ held → stage ≡ Done → ScriptLive stage d → IsSomeAnd answer (λ v. v ≡ scenario_of d) → IfSome answer (λ v. SpellsScript v held)
 live_found stage d held None is at live some = absurd some
 live_found stage d held (Some v) is at live some =
     let spells = done_spells d (live_at stage Done d at live) in
@@ -231,7 +231,7 @@ some_lines : (vcpus : List Vcpu) → 0 < length (vcpus_onto vcpus (closing ∷ [
 some_lines [] = omega arith
 some_lines (vcpu ∷ vcpus) = omega arith
 
-rest_not_none : (stage : ScriptStage) (d : Draft) → stage ≢ Done → (v : Scenario) → ScriptRest stage d v [] → ⊥
+rest_not_none : (stage : ScriptStage) (d : ScriptDraft) → stage ≢ Done → (v : Scenario) → ScriptRest stage d v [] → ⊥
 rest_not_none Header d other v r = let e = r.1 in absurd cc
 rest_not_none Pages d other v r = let e = r.2 in absurd cc
 rest_not_none Cells d other v r = let e = r.3 in absurd cc
@@ -247,8 +247,8 @@ rest_not_none First d other v r = let n = ap (λ (t : List (List ℕ)). length t
 rest_not_none Ops d other v r = let n = ap (λ (t : List (List ℕ)). length t) r.lines in absurd (omega (arith, n, length-append (map op_line r.befores) (map op_line r.afters ++ vcpus_onto r.back (closing ∷ [])), length-append (map op_line r.afters) (vcpus_onto r.back (closing ∷ [])), some_lines r.back))
 rest_not_none Done d other v r = absurd (other refl)
 
-pub live_not_whole : (stage : ScriptStage) (d : Draft) (held : List (List ℕ)) → script_held stage d ≡ held → ScriptLive stage d → stage ≢ Done → (v : Scenario) → SpellsScript v held → ⊥
+pub live_not_whole : (stage : ScriptStage) (d : ScriptDraft) (held : List (List ℕ)) → script_held stage d ≡ held → ScriptLive stage d → stage ≢ Done → (v : Scenario) → SpellsScript v held → ⊥
 live_not_whole stage d held is live other v s = rest_not_none stage d other v (exact_left SpellsScript (ScriptRest stage d) (script_held stage d) live.exact v (subst (SpellsScript v) (sym is) s))
 
-pub live_refuses : (stage : ScriptStage) (d : Draft) (held : List (List ℕ)) (line : List ℕ) → script_held stage d ≡ held → ScriptLive stage d → ((v : Scenario) (more : List (List ℕ)) → ScriptRest stage d v (line ∷ more) → ⊥) → Begins SpellsScript (held ++ line ∷ []) → ⊥
+pub live_refuses : (stage : ScriptStage) (d : ScriptDraft) (held : List (List ℕ)) (line : List ℕ) → script_held stage d ≡ held → ScriptLive stage d → ((v : Scenario) (more : List (List ℕ)) → ScriptRest stage d v (line ∷ more) → ⊥) → Begins SpellsScript (held ++ line ∷ []) → ⊥
 live_refuses stage d held line is live none b = exact_refuses SpellsScript (ScriptRest stage d) (script_held stage d) live.exact line none (subst (λ (t : List (List ℕ)). Begins SpellsScript (t ++ line ∷ [])) (sym is) b)

@@ -15,11 +15,11 @@ use Rattle.migration_types.specs.Pages.{InitPageFits}
 use Rattle.migration_events.specs.declared.events.Fate.{Fate}
 use Rattle.migration_events.specs.declared.ops.Op.{Op}
 use Rattle.migration_events.specs.Ops.{OpFits, LateOpFits}
-use Rattle.session_log.specs.Grammar.{pages_key, cells_key, init_key, page_line, closing}
-use Rattle.session_log.proofs.Laws.{extent_same}
-use Rattle.session_log.proofs.Lists.{spelled_same}
-use Rattle.session_log.proofs.Values.{init_page_tells}
-use Rattle.session_log.proofs.Written.{ended_then}
+use Rattle.session_text.specs.Grammar.{pages_key, cells_key, init_key, page_line, closing}
+use Rattle.session_text.proofs.Laws.{extent_same}
+use Rattle.session_text.proofs.Lists.{spelled_same}
+use Rattle.session_text.proofs.Values.{init_page_tells}
+use Rattle.session_text.proofs.Written.{ended_then}
 use Rattle.script.specs.declared.vcpus.Vcpu.{Vcpu}
 use Rattle.script.specs.Scenarios.{Scenario, VcpuFits, IsScenario}
 use Rattle.script_text.specs.Scripts.{script_header, pivots_key, window_key, down_key, up_key, vcpus_key, fates_text, op_line, counts_line, vcpu_onto, vcpus_onto, vcpus_lines, with_lanes, lanes_lines, up_lines, down_lines, window_lines, pivots_lines, cells_lines, pages_lines, script_lines, SpellsScript}

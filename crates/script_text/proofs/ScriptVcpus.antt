@@ -9,12 +9,12 @@ use Rattle.migration_types.specs.declared.version.Version.{Version}
 use Rattle.migration_types.specs.Extents.{Extent, IsExtent}
 use Rattle.migration_events.specs.declared.ops.Op.{Op}
 use Rattle.migration_events.specs.Ops.{OpFits, LateOpFits}
-use Rattle.session_log.specs.Grammar.{closing}
+use Rattle.session_text.specs.Grammar.{closing}
 use Rattle.script.specs.declared.vcpus.Vcpu.{Vcpu}
 use Rattle.script_text.specs.declared.stages.ScriptStage.TheVariants.{Count, First, Ops, Done}
 use Rattle.script.specs.Scenarios.{Scenario, VcpuFits, IsScenario}
 use Rattle.script_text.specs.Scripts.{vcpus_key, op_line, counts_line, vcpu_onto, vcpus_onto}
-use Rattle.script_text.specs.inner.ScriptHeld.{Draft, held_lanes, held_vcpus, held_ops, vcpu_of, AgreesLane, OpsLeft, FitsLane, FitsCount, FitsOps, ScriptLive}
+use Rattle.script_text.specs.inner.ScriptHeld.{ScriptDraft, held_lanes, held_vcpus, held_ops, vcpu_of, AgreesLane, OpsLeft, FitsLane, FitsCount, FitsOps, ScriptLive}
 use Rattle.script_text.specs.inner.ScriptDraft.{HasAllOps, begun, ended}
 use Rattle.script.proofs.Lists.{all_at, all_append}
 use Rattle.script_text.proofs.Lists.{cons_parts, cons_same, keyed_same, none_left}
@@ -56,7 +56,7 @@ all_behind P [] back h = h
 all_behind P (x ∷ front) back h = all_behind P front back h.1
 
 -- what came before the virtual processors, whatever came of these
-front_fits : (d : Draft) (count : ℕ) (vcpus : List Vcpu) (before after : Part Op) → FitsLane d → FitsLane (record d { count = count; vcpus = vcpus; before = before; after = after })
+front_fits : (d : ScriptDraft) (count : ℕ) (vcpus : List Vcpu) (before after : Part Op) → FitsLane d → FitsLane (record d { count = count; vcpus = vcpus; before = before; after = after })
 front_fits d count vcpus before after f =
     let u = f.before in
     let w = u.before.before in
@@ -65,10 +65,10 @@ front_fits d count vcpus before after f =
 
 -- ---- the number of virtual processors
 
-abbrev pub with_count : ℕ → Draft → Draft
+abbrev pub with_count : ℕ → ScriptDraft → ScriptDraft
 with_count n d = record d { count = n; vcpus = [] }
 
-pub count_taken : (d : Draft) (n : ℕ) (line : List ℕ) → ScriptLive Count d → 1 ≤ n → n ≤ 64 → line ≡ vcpus_key ++ decimal n → Taken Count First d (with_count n d) line
+pub count_taken : (d : ScriptDraft) (n : ℕ) (line : List ℕ) → ScriptLive Count d → 1 ≤ n → n ≤ 64 → line ≡ vcpus_key ++ decimal n → Taken Count First d (with_count n d) line
 count_taken d n line live some few is = step Count First d (with_count n d) line live
     (record { before = front_fits d n [] d.before d.after live.fits; some = some; few = few; vcpus = tt }, refl)
     (append-nil (held_lanes d ++ (vcpus_key ++ decimal n) ∷ []) ∙ ap (λ (l : List ℕ). held_lanes d ++ l ∷ []) (sym is))
@@ -80,7 +80,7 @@ count_taken d n line live some few is = step Count First d (with_count n d) line
 
 -- ---- the first virtual processor
 
-begun_fits : (d : Draft) (b a : ℕ) → FitsCount d → length d.vcpus < d.count → b ≤ 65536 → a ≤ 65536 → FitsOps (begun b a d)
+begun_fits : (d : ScriptDraft) (b a : ℕ) → FitsCount d → length d.vcpus < d.count → b ≤ 65536 → a ≤ 65536 → FitsOps (begun b a d)
 begun_fits d b a f room few_before few_after = record {
   before = record { before = front_fits d d.count d.vcpus (record { count = b; items = [] }) (record { count = a; items = [] }) f.before; some = f.some; few = f.few; vcpus = f.vcpus };
   room = room;
@@ -93,7 +93,7 @@ begun_fits d b a f room few_before few_after = record {
   in_turn = λ _. refl;
 }
 
-pub first_taken : (d new : Draft) (b a : ℕ) (line : List ℕ) → new ≡ begun b a d → ScriptLive First d → b ≤ 65536 → a ≤ 65536 → line ≡ counts_line b a → Taken First Ops d new line
+pub first_taken : (d new : ScriptDraft) (b a : ℕ) (line : List ℕ) → new ≡ begun b a d → ScriptLive First d → b ≤ 65536 → a ≤ 65536 → line ≡ counts_line b a → Taken First Ops d new line
 first_taken d new b a line made live few_before few_after is =
     let f = live.fits.0 in
     let none = live.fits.1 in
@@ -112,7 +112,7 @@ first_taken d new b a line made live few_before few_after is =
     let head : line ≡ counts_line (length r.befores) (length r.afters) = is ∙ ap (λ (k : ℕ). counts_line k a) (sym r.all_before) ∙ ap (λ (k : ℕ). counts_line (length r.befores) k) (sym r.all_after) in
     (r.fits, r.agrees, r.count, cons_same line (counts_line (length r.befores) (length r.afters)) more (map op_line r.befores ++ (map op_line r.afters ++ vcpus_onto r.back (closing ∷ []))) head r.lines ∙ ap (λ (t : List Vcpu). vcpus_onto t (closing ∷ [])) (sym whole))))
 
-pub first_refused : (d : Draft) (line : List ℕ) → ((b a : ℕ) → b ≤ 65536 → a ≤ 65536 → line ≢ counts_line b a) → RefusesAt First d line
+pub first_refused : (d : ScriptDraft) (line : List ℕ) → ((b a : ℕ) → b ≤ 65536 → a ≤ 65536 → line ≢ counts_line b a) → RefusesAt First d line
 first_refused d line none v more r =
     let many = r.0.some_vcpus in
     let n = next_vcpu v.version v.geometry v.vcpus line more r.0.vcpus (omega arith) r.3 in
@@ -121,7 +121,7 @@ first_refused d line none v more r =
 -- ---- operations
 
 -- the virtual processor that is coming, as it will be
-this_vcpu : (d : Draft) (v : Scenario) (lines : List (List ℕ)) (r : OpsLeft d v lines) → VcpuFits d.version d.geometry (vcpu_of (d.before.items ++ r.befores) (d.after.items ++ r.afters))
+this_vcpu : (d : ScriptDraft) (v : Scenario) (lines : List (List ℕ)) (r : OpsLeft d v lines) → VcpuFits d.version d.geometry (vcpu_of (d.before.items ++ r.befores) (d.after.items ++ r.afters))
 this_vcpu d v lines r =
     let w = vcpu_of (d.before.items ++ r.befores) (d.after.items ++ r.afters) in
     let own = all_at (VcpuFits v.version v.geometry) d.vcpus w r.back (subst (AllByRecursion (VcpuFits v.version v.geometry)) r.whole r.fits.vcpus) in
@@ -129,24 +129,24 @@ this_vcpu d v lines r =
     subst (λ (e : Extent). VcpuFits d.version e w) agrees.1 (subst (λ (x : Version). VcpuFits x v.geometry w) agrees.0 own)
 
 -- an operation that may come before the move
-record NextEarly (d : Draft) (line : List ℕ) (more : List (List ℕ)) (befores : List Op) (tail : List (List ℕ)) : Type 0 where
+record NextEarly (d : ScriptDraft) (line : List ℕ) (more : List (List ℕ)) (befores : List Op) (tail : List (List ℕ)) : Type 0 where
   op : Op
   others : List Op
   whole : befores ≡ op ∷ others
   spelled : line ≡ op_line op
   lines : more ≡ map op_line others ++ tail
 
-next_op : (d : Draft) (line : List ℕ) (more : List (List ℕ)) (ops : List Op) (tail : List (List ℕ)) → 0 < length ops → line ∷ more ≡ map op_line ops ++ tail → NextEarly d line more ops tail
+next_op : (d : ScriptDraft) (line : List ℕ) (more : List (List ℕ)) (ops : List Op) (tail : List (List ℕ)) → 0 < length ops → line ∷ more ≡ map op_line ops ++ tail → NextEarly d line more ops tail
 next_op d line more [] tail some e = absurd (omega arith)
 next_op d line more (op ∷ others) tail some e = let parts = cons_parts line (op_line op) more (map op_line others ++ tail) e in record { op = op; others = others; whole = refl; spelled = parts.0; lines = parts.1 }
 
-abbrev tail_of : (d : Draft) (v : Scenario) (lines : List (List ℕ)) → OpsLeft d v lines → List (List ℕ)
+abbrev tail_of : (d : ScriptDraft) (v : Scenario) (lines : List (List ℕ)) → OpsLeft d v lines → List (List ℕ)
 tail_of d v lines r = map op_line r.afters ++ vcpus_onto r.back (closing ∷ [])
 
-next_early : (d : Draft) (line : List ℕ) (v : Scenario) (more : List (List ℕ)) (r : OpsLeft d v (line ∷ more)) → length d.before.items < d.before.count → NextEarly d line more r.befores (tail_of d v (line ∷ more) r)
+next_early : (d : ScriptDraft) (line : List ℕ) (v : Scenario) (more : List (List ℕ)) (r : OpsLeft d v (line ∷ more)) → length d.before.items < d.before.count → NextEarly d line more r.befores (tail_of d v (line ∷ more) r)
 next_early d line v more r less = next_op d line more r.befores (tail_of d v (line ∷ more) r) (omega (arith, r.all_before, length-append d.before.items r.befores)) r.lines
 
-early_fits : (d : Draft) (line : List ℕ) (v : Scenario) (more : List (List ℕ)) (r : OpsLeft d v (line ∷ more)) (op : Op) (others : List Op) → r.befores ≡ op ∷ others → OpFits d.geometry op
+early_fits : (d : ScriptDraft) (line : List ℕ) (v : Scenario) (more : List (List ℕ)) (r : OpsLeft d v (line ∷ more)) (op : Op) (others : List Op) → r.befores ≡ op ∷ others → OpFits d.geometry op
 early_fits d line v more r op others is = all_at (OpFits d.geometry) d.before.items op others (subst (λ (t : List Op). AllByRecursion (OpFits d.geometry) (d.before.items ++ t)) is (this_vcpu d v (line ∷ more) r).before_move)
 
 early_grown : (before after : List Op) (op : Op) (line : List ℕ) → after ≡ [] → line ≡ op_line op → map op_line (before ++ op ∷ []) ++ map op_line after ≡ (map op_line before ++ map op_line after) ++ line ∷ []
@@ -157,16 +157,16 @@ late_grown before after op line is =
     ap (λ (t : List (List ℕ)). map op_line before ++ t) (sym (append-nil (map op_line (after ++ op ∷ []))) ∙ section_push op_line after op [] ∙ ap (λ (l : List ℕ). map op_line after ++ l ∷ []) (sym is))
     ∙ sym (append_assoc (map op_line before) (map op_line after) (line ∷ []))
 
-held_grown : (d : Draft) (ops new : List (List ℕ)) (line : List ℕ) → new ≡ ops ++ line ∷ [] → held_vcpus d ++ counts_line d.before.count d.after.count ∷ new ≡ (held_vcpus d ++ counts_line d.before.count d.after.count ∷ ops) ++ line ∷ []
+held_grown : (d : ScriptDraft) (ops new : List (List ℕ)) (line : List ℕ) → new ≡ ops ++ line ∷ [] → held_vcpus d ++ counts_line d.before.count d.after.count ∷ new ≡ (held_vcpus d ++ counts_line d.before.count d.after.count ∷ ops) ++ line ∷ []
 held_grown d ops new line e = ap (λ (t : List (List ℕ)). held_vcpus d ++ counts_line d.before.count d.after.count ∷ t) e ∙ sym (append_assoc (held_vcpus d) (counts_line d.before.count d.after.count ∷ ops) (line ∷ []))
 
-geometry_of : (d : Draft) → FitsOps d → IsExtent d.geometry
+geometry_of : (d : ScriptDraft) → FitsOps d → IsExtent d.geometry
 geometry_of d f = f.before.before.before.before.before.before.geometry
 
-abbrev pub with_before : List Op → Draft → Draft
+abbrev pub with_before : List Op → ScriptDraft → ScriptDraft
 with_before ops d = record d { before = record { count = d.before.count; items = ops } }
 
-pub early_taken : (d : Draft) (op : Op) (ops : List Op) (line : List ℕ) → ScriptLive Ops d → length d.before.items < d.before.count → ops ≡ d.before.items ++ op ∷ [] → OpFits d.geometry op → line ≡ op_line op → Taken Ops Ops d (with_before ops d) line
+pub early_taken : (d : ScriptDraft) (op : Op) (ops : List Op) (line : List ℕ) → ScriptLive Ops d → length d.before.items < d.before.count → ops ≡ d.before.items ++ op ∷ [] → OpFits d.geometry op → line ≡ op_line op → Taken Ops Ops d (with_before ops d) line
 early_taken d op ops line live less is fits spelled =
     let f = live.fits in
     let c = f.before in
@@ -193,23 +193,23 @@ early_taken d op ops line live less is fits spelled =
     let befores : (d.before.items ++ op ∷ []) ++ r.befores ≡ d.before.items ++ (op ∷ r.befores) = append_assoc d.before.items (op ∷ []) r.befores in
     record { fits = r.fits; agrees = r.agrees; count = r.count; befores = op ∷ r.befores; afters = r.afters; back = r.back; whole = r.whole ∙ ap (λ (t : List Op). d.vcpus ++ vcpu_of t (d.after.items ++ r.afters) ∷ r.back) befores; all_before = ap (λ (t : List Op). length t) (sym befores) ∙ r.all_before; all_after = r.all_after; lines = cons_same line (op_line op) more (map op_line r.befores ++ (map op_line r.afters ++ vcpus_onto r.back (closing ∷ []))) spelled r.lines }))
 
-pub early_refused : (d : Draft) (line : List ℕ) → length d.before.items < d.before.count → ((op : Op) → OpFits d.geometry op → line ≢ op_line op) → RefusesAt Ops d line
+pub early_refused : (d : ScriptDraft) (line : List ℕ) → length d.before.items < d.before.count → ((op : Op) → OpFits d.geometry op → line ≢ op_line op) → RefusesAt Ops d line
 early_refused d line less none v more r = let n = next_early d line v more r less in none n.op (early_fits d line v more r n.op n.others n.whole) n.spelled
 
 -- no operation before the move is left
-no_early : (d : Draft) (v : Scenario) (lines : List (List ℕ)) (r : OpsLeft d v lines) → length d.before.items ≡ d.before.count → r.befores ≡ []
+no_early : (d : ScriptDraft) (v : Scenario) (lines : List (List ℕ)) (r : OpsLeft d v lines) → length d.before.items ≡ d.before.count → r.befores ≡ []
 no_early d v lines r all = none_left (d.before.items ++ r.befores) d.before.items r.befores refl (r.all_before ∙ sym all)
 
-next_late : (d : Draft) (line : List ℕ) (v : Scenario) (more : List (List ℕ)) (r : OpsLeft d v (line ∷ more)) → length d.before.items ≡ d.before.count → length d.after.items < d.after.count → NextEarly d line more r.afters (vcpus_onto r.back (closing ∷ []))
+next_late : (d : ScriptDraft) (line : List ℕ) (v : Scenario) (more : List (List ℕ)) (r : OpsLeft d v (line ∷ more)) → length d.before.items ≡ d.before.count → length d.after.items < d.after.count → NextEarly d line more r.afters (vcpus_onto r.back (closing ∷ []))
 next_late d line v more r all less = next_op d line more r.afters (vcpus_onto r.back (closing ∷ [])) (omega (arith, r.all_after, length-append d.after.items r.afters)) (r.lines ∙ ap (λ (t : List Op). map op_line t ++ tail_of d v (line ∷ more) r) (no_early d v (line ∷ more) r all))
 
-late_fits : (d : Draft) (line : List ℕ) (v : Scenario) (more : List (List ℕ)) (r : OpsLeft d v (line ∷ more)) (op : Op) (others : List Op) → r.afters ≡ op ∷ others → LateOpFits d.version d.geometry op
+late_fits : (d : ScriptDraft) (line : List ℕ) (v : Scenario) (more : List (List ℕ)) (r : OpsLeft d v (line ∷ more)) (op : Op) (others : List Op) → r.afters ≡ op ∷ others → LateOpFits d.version d.geometry op
 late_fits d line v more r op others is = all_at (LateOpFits d.version d.geometry) d.after.items op others (subst (λ (t : List Op). AllByRecursion (LateOpFits d.version d.geometry) (d.after.items ++ t)) is (this_vcpu d v (line ∷ more) r).after_move)
 
-abbrev pub with_after : List Op → Draft → Draft
+abbrev pub with_after : List Op → ScriptDraft → ScriptDraft
 with_after ops d = record d { after = record { count = d.after.count; items = ops } }
 
-pub late_taken : (d : Draft) (op : Op) (ops : List Op) (line : List ℕ) → ScriptLive Ops d → length d.before.items ≡ d.before.count → length d.after.items < d.after.count → ops ≡ d.after.items ++ op ∷ [] → LateOpFits d.version d.geometry op → line ≡ op_line op → Taken Ops Ops d (with_after ops d) line
+pub late_taken : (d : ScriptDraft) (op : Op) (ops : List Op) (line : List ℕ) → ScriptLive Ops d → length d.before.items ≡ d.before.count → length d.after.items < d.after.count → ops ≡ d.after.items ++ op ∷ [] → LateOpFits d.version d.geometry op → line ≡ op_line op → Taken Ops Ops d (with_after ops d) line
 late_taken d op ops line live all less is fits spelled =
     let f = live.fits in
     let c = f.before in
@@ -237,17 +237,17 @@ late_taken d op ops line live all less is fits spelled =
     let none = none_left (d.before.items ++ r.befores) d.before.items r.befores refl (r.all_before ∙ sym all) in
     record { fits = r.fits; agrees = r.agrees; count = r.count; befores = []; afters = op ∷ r.afters; back = r.back; whole = r.whole ∙ ap (λ (t : List Op). d.vcpus ++ vcpu_of (d.before.items ++ t) ((d.after.items ++ op ∷ []) ++ r.afters) ∷ r.back) none ∙ ap (λ (t : List Op). d.vcpus ++ vcpu_of (d.before.items ++ []) t ∷ r.back) afters; all_before = ap (λ (t : List Op). length (d.before.items ++ t)) (sym none) ∙ r.all_before; all_after = ap (λ (t : List Op). length t) (sym afters) ∙ r.all_after; lines = cons_same line (op_line op) more (map op_line r.afters ++ vcpus_onto r.back (closing ∷ [])) spelled (r.lines ∙ ap (λ (t : List Op). map op_line t ++ (map op_line r.afters ++ vcpus_onto r.back (closing ∷ []))) none) }))
 
-pub late_refused : (d : Draft) (line : List ℕ) → length d.before.items ≡ d.before.count → length d.after.items < d.after.count → ((op : Op) → LateOpFits d.version d.geometry op → line ≢ op_line op) → RefusesAt Ops d line
+pub late_refused : (d : ScriptDraft) (line : List ℕ) → length d.before.items ≡ d.before.count → length d.after.items < d.after.count → ((op : Op) → LateOpFits d.version d.geometry op → line ≢ op_line op) → RefusesAt Ops d line
 late_refused d line all less none v more r = let n = next_late d line v more r all less in none n.op (late_fits d line v more r n.op n.others n.whole) n.spelled
 
 -- ---- behind the last operation
 
 -- no operation is left
-record NoOps (d : Draft) (v : Scenario) (lines : List (List ℕ)) (back : List Vcpu) : Type 0 where
+record NoOps (d : ScriptDraft) (v : Scenario) (lines : List (List ℕ)) (back : List Vcpu) : Type 0 where
   whole : v.vcpus ≡ d.vcpus ++ vcpu_of d.before.items d.after.items ∷ back
   tail : lines ≡ vcpus_onto back (closing ∷ [])
 
-no_op : (d : Draft) (v : Scenario) (lines : List (List ℕ)) (r : OpsLeft d v lines) → HasAllOps d → NoOps d v lines r.back
+no_op : (d : ScriptDraft) (v : Scenario) (lines : List (List ℕ)) (r : OpsLeft d v lines) → HasAllOps d → NoOps d v lines r.back
 no_op d v lines r all =
     let early = no_early d v lines r all.0 in
     let late = none_left (d.after.items ++ r.afters) d.after.items r.afters refl (r.all_after ∙ sym all.1) in
@@ -259,7 +259,7 @@ no_op d v lines r all =
     }
 
 -- and so it is where these are the lines
-with_no_op : (d : Draft) (v : Scenario) (lines : List (List ℕ)) (back : List Vcpu) → IsScenario v → AgreesLane d v → length v.vcpus ≡ d.count → HasAllOps d → NoOps d v lines back → OpsLeft d v lines
+with_no_op : (d : ScriptDraft) (v : Scenario) (lines : List (List ℕ)) (back : List Vcpu) → IsScenario v → AgreesLane d v → length v.vcpus ≡ d.count → HasAllOps d → NoOps d v lines back → OpsLeft d v lines
 with_no_op d v lines back fits agrees count all n = record {
   fits = fits;
   agrees = agrees;
@@ -273,7 +273,7 @@ with_no_op d v lines back fits agrees count all n = record {
   lines = n.tail;
 }
 
-ended_held : (d : Draft) → HasAllOps d → held_vcpus (ended d) ≡ held_ops d
+ended_held : (d : ScriptDraft) → HasAllOps d → held_vcpus (ended d) ≡ held_ops d
 ended_held d all =
     let w = vcpu_of d.before.items d.after.items in
     let h = held_lanes d ++ (vcpus_key ++ decimal d.count) ∷ [] in
@@ -283,7 +283,7 @@ ended_held d all =
     ap (λ (t : List (List ℕ)). h ++ t) (vcpus_push d.vcpus w [] ∙ sym (vcpus_append d.vcpus [] (vcpu_onto w [])) ∙ ap (λ (t : List (List ℕ)). vcpus_onto d.vcpus [] ++ t) this)
     ∙ sym (append_assoc h (vcpus_onto d.vcpus []) (counts_line d.before.count d.after.count ∷ (map op_line d.before.items ++ map op_line d.after.items)))
 
-ended_fits : (d : Draft) → FitsOps d → FitsCount (ended d)
+ended_fits : (d : ScriptDraft) → FitsOps d → FitsCount (ended d)
 ended_fits d f =
     let c = f.before in
     let few_before = f.few_before in
@@ -297,7 +297,7 @@ ended_fits d f =
       vcpus = all_append (VcpuFits d.version d.geometry) d.vcpus (vcpu_of d.before.items d.after.items ∷ []) c.vcpus (record { few_before = omega arith; few_after = omega arith; before_move = f.before_move; after_move = f.after_move }, tt);
     }
 
-pub next_taken : (d new : Draft) (b a : ℕ) (line : List ℕ) → new ≡ begun b a (ended d) → ScriptLive Ops d → HasAllOps d → length d.vcpus + 1 < d.count → b ≤ 65536 → a ≤ 65536 → line ≡ counts_line b a → Taken Ops Ops d new line
+pub next_taken : (d new : ScriptDraft) (b a : ℕ) (line : List ℕ) → new ≡ begun b a (ended d) → ScriptLive Ops d → HasAllOps d → length d.vcpus + 1 < d.count → b ≤ 65536 → a ≤ 65536 → line ≡ counts_line b a → Taken Ops Ops d new line
 next_taken d new b a line is live all more_come few_before few_after spelled =
     let this = vcpu_of d.before.items d.after.items in
     let many = length-append d.vcpus (this ∷ []) in
@@ -318,7 +318,7 @@ next_taken d new b a line is live all more_come few_before few_after spelled =
       tail = cons_same line (counts_line (length r.befores) (length r.afters)) more (map op_line r.befores ++ (map op_line r.afters ++ vcpus_onto r.back (closing ∷ []))) head r.lines;
     })))
 
-pub next_refused : (d : Draft) (line : List ℕ) → HasAllOps d → length d.vcpus + 1 < d.count → ((b a : ℕ) → b ≤ 65536 → a ≤ 65536 → line ≢ counts_line b a) → RefusesAt Ops d line
+pub next_refused : (d : ScriptDraft) (line : List ℕ) → HasAllOps d → length d.vcpus + 1 < d.count → ((b a : ℕ) → b ≤ 65536 → a ≤ 65536 → line ≢ counts_line b a) → RefusesAt Ops d line
 next_refused d line all more_come none v more r =
     let this = vcpu_of d.before.items d.after.items in
     let left = no_op d v (line ∷ more) r all in
@@ -328,14 +328,14 @@ next_refused d line all more_come none v more r =
     none (length n.vcpu.before_move) (length n.vcpu.after_move) n.few_before n.few_after n.spelled
 
 -- no virtual processor is left
-last_vcpu : (d : Draft) (v : Scenario) (back : List Vcpu) (lines : List (List ℕ)) → NoOps d v lines back → length v.vcpus ≡ d.count → d.count ≤ length d.vcpus + 1 → back ≡ []
+last_vcpu : (d : ScriptDraft) (v : Scenario) (back : List Vcpu) (lines : List (List ℕ)) → NoOps d v lines back → length v.vcpus ≡ d.count → d.count ≤ length d.vcpus + 1 → back ≡ []
 last_vcpu d v [] lines n count last = refl
 last_vcpu d v (w ∷ back) lines n count last =
     let this = vcpu_of d.before.items d.after.items in
     let long = ap (λ (t : List Vcpu). length t) n.whole in
     absurd (omega (arith, long, length-append d.vcpus (this ∷ w ∷ back), count, last))
 
-pub end_taken : (d new : Draft) (line : List ℕ) → new ≡ ended d → ScriptLive Ops d → HasAllOps d → d.count ≤ length d.vcpus + 1 → line ≡ closing → Taken Ops Done d new line
+pub end_taken : (d new : ScriptDraft) (line : List ℕ) → new ≡ ended d → ScriptLive Ops d → HasAllOps d → d.count ≤ length d.vcpus + 1 → line ≡ closing → Taken Ops Done d new line
 end_taken d new line is live all last spelled =
     let this = vcpu_of d.before.items d.after.items in
     let many = length-append d.vcpus (this ∷ []) in
@@ -349,11 +349,11 @@ end_taken d new line is live all last spelled =
     (r.fits, r.agrees, left.whole ∙ ap (λ (t : List Vcpu). d.vcpus ++ this ∷ t) none, parts.1))
     (λ v more r. with_no_op d v (line ∷ more) [] r.0 r.1 (ap (λ (t : List Vcpu). length t) r.2 ∙ omega arith) all (record { whole = r.2; tail = cons_same line closing more [] spelled r.3 })))
 
-pub end_refused : (d : Draft) (line : List ℕ) → HasAllOps d → d.count ≤ length d.vcpus + 1 → line ≢ closing → RefusesAt Ops d line
+pub end_refused : (d : ScriptDraft) (line : List ℕ) → HasAllOps d → d.count ≤ length d.vcpus + 1 → line ≢ closing → RefusesAt Ops d line
 end_refused d line all last other v more r =
     let left = no_op d v (line ∷ more) r all in
     let none = last_vcpu d v r.back (line ∷ more) left r.count last in
     other (cons_parts line closing more [] (left.tail ∙ ap (λ (t : List Vcpu). vcpus_onto t (closing ∷ [])) none)).0
 
-pub more_refused : (d : Draft) (line : List ℕ) → RefusesAt Done d line
+pub more_refused : (d : ScriptDraft) (line : List ℕ) → RefusesAt Done d line
 more_refused d line v more r = let e = r.3 in absurd cc

@@ -11,7 +11,7 @@ ghost use Rattle.script_text.specs.Scripts.{SpellsScript};
 use migration_events::Event;
 use migration_types::Seq;
 use script::Script;
-use session_log::{CELLS_KEY, INIT_KEY, InitLines, PAGES_KEY};
+use session_text::{CELLS_KEY, INIT_KEY, InitLines, PAGES_KEY};
 use std::alloc::{AllocError, Global};
 use text_lines::{TextFault, push_counted, push_keyed, push_line, read};
 

@@ -14,7 +14,7 @@ use crate::versions::script_header;
 use migration_events::{Fate, Op};
 use migration_types::{Geometry, InitPage, Seq, Version};
 use script::{MOST_PIVOTS, MOST_VCPUS, MOST_WINDOW, Script, Vcpu, When};
-use session_log::{CLOSING, INIT_KEY, InitLines, Machine, read_cells, read_pages};
+use session_text::{CLOSING, INIT_KEY, InitLines, Sizes, read_cells, read_pages};
 use std::alloc::Global;
 use std::mem;
 use text_lines::{Counted, FaultKind, is_line, read_some};
@@ -23,7 +23,7 @@ use text_lines::{Counted, FaultKind, is_line, read_some};
 #[derive(Drop)]
 pub struct ScriptParts {
     pub version: Version,
-    pub machine: Machine,
+    pub sizes: Sizes,
     pub init: Counted<InitPage>,
     pub pivots: u32,
     pub window: u32,
@@ -50,7 +50,7 @@ impl ScriptParts {
     {
         ScriptParts {
             version: Version::One,
-            machine: Machine {
+            sizes: Sizes {
                 alloc,
                 pages: 0,
                 cells: 0,
@@ -75,7 +75,7 @@ impl ScriptParts {
         requires { ScriptFits ScriptStage.Done (draft_of self) }
         ensures { IsSomeAnd result (λ script. script ≡ scenario_of (draft_of self)) }
     {
-        match Geometry::new(self.machine.pages, self.machine.cells) {
+        match Geometry::new(self.sizes.pages, self.sizes.cells) {
             Ok(geometry) => Some(Script::of_parts(
                 self.version,
                 geometry,
@@ -136,7 +136,7 @@ impl ScriptParts {
         ensures { ScriptStep ScriptStage.Pages (draft_of self.old) line.now (draft_of self.new) result }
     {
         let pages = read_pages(line)?;
-        self.machine.pages = pages;
+        self.sizes.pages = pages;
         Ok(ScriptStage::Cells)
     }
 
@@ -145,8 +145,8 @@ impl ScriptParts {
         requires { ScriptLive ScriptStage.Cells (draft_of self.old) }
         ensures { ScriptStep ScriptStage.Cells (draft_of self.old) line.now (draft_of self.new) result }
     {
-        let cells = read_cells(line, self.machine.pages)?;
-        self.machine.cells = cells;
+        let cells = read_cells(line, self.sizes.pages)?;
+        self.sizes.cells = cells;
         Ok(ScriptStage::InitCount)
     }
 
@@ -155,7 +155,7 @@ impl ScriptParts {
         requires { ScriptLive ScriptStage.InitCount (draft_of self.old) }
         ensures { ScriptStep ScriptStage.InitCount (draft_of self.old) line.now (draft_of self.new) result }
     {
-        let init = Counted::announced(self.machine.alloc, line, INIT_KEY, self.machine.pages)?;
+        let init = Counted::announced(self.sizes.alloc, line, INIT_KEY, self.sizes.pages)?;
         self.init = init;
         Ok(ScriptStage::Init)
     }
@@ -171,8 +171,8 @@ impl ScriptParts {
             return Ok(ScriptStage::Window);
         }
         let form = InitLines {
-            machine: self.machine,
-            high: self.machine.pages - self.init.left(),
+            sizes: self.sizes,
+            high: self.sizes.pages - self.init.left(),
         };
         self.init.line(&form, line)?;
         Ok(ScriptStage::Init)
@@ -193,7 +193,7 @@ impl ScriptParts {
         requires { ScriptLive ScriptStage.Down (draft_of self.old) }
         ensures { ScriptStep ScriptStage.Down (draft_of self.old) line.now (draft_of self.new) result }
     {
-        let down = read_fates(self.machine.alloc, line, DOWN_KEY)?;
+        let down = read_fates(self.sizes.alloc, line, DOWN_KEY)?;
         self.down = down;
         Ok(ScriptStage::Up)
     }
@@ -203,7 +203,7 @@ impl ScriptParts {
         requires { ScriptLive ScriptStage.Up (draft_of self.old) }
         ensures { ScriptStep ScriptStage.Up (draft_of self.old) line.now (draft_of self.new) result }
     {
-        let up = read_fates(self.machine.alloc, line, UP_KEY)?;
+        let up = read_fates(self.sizes.alloc, line, UP_KEY)?;
         self.up = up;
         self.lane = None;
         match self.version {
@@ -231,7 +231,7 @@ impl ScriptParts {
         requires { ScriptLive ScriptStage.Lane (draft_of self.old) }
         ensures { ScriptStep ScriptStage.Lane (draft_of self.old) line.now (draft_of self.new) result }
     {
-        let lane = read_fates(self.machine.alloc, line, LANE_KEY)?;
+        let lane = read_fates(self.sizes.alloc, line, LANE_KEY)?;
         self.lane = Some(lane);
         Ok(ScriptStage::Count)
     }
@@ -243,7 +243,7 @@ impl ScriptParts {
     {
         let count = read_some(line, VCPUS_KEY, MOST_VCPUS)?;
         self.count = count;
-        self.vcpus = Vec::new(self.machine.alloc);
+        self.vcpus = Vec::new(self.sizes.alloc);
         Ok(ScriptStage::First)
     }
 
@@ -263,12 +263,12 @@ impl ScriptParts {
         ensures { ScriptStep ScriptStage.Ops (draft_of self.old) line.now (draft_of self.new) result }
     {
         if self.before.len() < self.before_count as usize {
-            take_op(&mut self.before, self.machine, When::BeforeMove, line)?;
+            take_op(&mut self.before, self.sizes, When::BeforeMove, line)?;
             return Ok(ScriptStage::Ops);
         }
         if self.after.len() < self.after_count as usize {
             let when = When::AfterMove(self.version);
-            take_op(&mut self.after, self.machine, when, line)?;
+            take_op(&mut self.after, self.sizes, when, line)?;
             return Ok(ScriptStage::Ops);
         }
         if self.vcpus.len() + 1 < self.count as usize {
@@ -309,9 +309,9 @@ impl ScriptParts {
         ensures { draft_of self.new ≡ begun before after (draft_of self.old) }
     {
         self.before_count = before;
-        self.before = Vec::new(self.machine.alloc);
+        self.before = Vec::new(self.sizes.alloc);
         self.after_count = after;
-        self.after = Vec::new(self.machine.alloc);
+        self.after = Vec::new(self.sizes.alloc);
     }
 
     /// All operations of a virtual processor came. An error: there is no memory for it, and nothing changes.
@@ -323,8 +323,8 @@ impl ScriptParts {
         if self.vcpus.reserve(1).is_err() {
             return Err(FaultKind::Memory);
         }
-        let before = mem::replace(&mut self.before, Vec::new(self.machine.alloc));
-        let after = mem::replace(&mut self.after, Vec::new(self.machine.alloc));
+        let before = mem::replace(&mut self.before, Vec::new(self.sizes.alloc));
+        let after = mem::replace(&mut self.after, Vec::new(self.sizes.alloc));
         self.vcpus.push_reserved(Vcpu {
             before_move: Seq::from_vec(before),
             after_move: Seq::from_vec(after),

@@ -17,7 +17,7 @@ use Rattle.script.specs.Scenarios.{Scenario, IsScenario, LaneFits, VcpuFits as S
 use Rattle.target_book.specs.TargetPart.{TargetPart, Accessed, target_access}
 use Rattle.target_book.specs.declared.Access.{Access}
 use Rattle.target_book.specs.declared.Access.TheVariants.{Done, Missed, Waiting}
-use Rattle.migration_model.specs.Machine.{Vcpu, VcpuFits, Away, IsScript}
+use Rattle.migration_model.specs.Books.{Vcpu, VcpuFits, BooksAfter, IsScript}
 use Rattle.migration_model.specs.Events.{away_step, away_ops, accessed}
 use Rattle.session_core.specs.States.{vcpu_of, scripted_of, LeftFits}
 use Rattle.session_core.specs.inner.Steps.{Next, late, late_by, went_on}
@@ -27,13 +27,13 @@ pub read_at : (xs ys : List Vcpu) (n v : ℕ) (x : Vcpu) → ys ≡ xs → n ≡
 read_at xs ys n v x same here lt is = subst (λ (k : ℕ). slice_get xs k ≡ Some x) here (subst (λ (zs : List Vcpu). slice_get zs n ≡ Some x) same (slice_get-get_or ys n x lt ∙ ap Some (sym is)))
 
 -- the event from the halt on: what an operation comes to
-as_after : (v : ℕ) (vcpu : Vcpu) (ops : List Op) (access : Access) (t : TargetPart) (a : Away)
+as_after : (v : ℕ) (vcpu : Vcpu) (ops : List Op) (access : Access) (t : TargetPart) (a : BooksAfter)
     → accessed v vcpu ops (record { book = t; access = access }) a ≡ went_on v (record vcpu { after_move = ops }) (record { book = t; access = access }) a
 as_after v vcpu ops (Done x) t a = refl
 as_after v vcpu ops Missed t a = refl
 as_after v vcpu ops Waiting t a = refl
 
-late_by_goes : (v : ℕ) (vcpu : Vcpu) (ops : List Op) (next : Next) (a : Away) → late_by vcpu ops ≡ Some next
+late_by_goes : (v : ℕ) (vcpu : Vcpu) (ops : List Op) (next : Next) (a : BooksAfter) → late_by vcpu ops ≡ Some next
     → away_ops v vcpu ops a ≡ went_on v next.left (target_access v next.op a.target) a
 late_by_goes v vcpu [] next a is = absurd cc
 late_by_goes v vcpu (op ∷ ops) next a is =
@@ -41,7 +41,7 @@ late_by_goes v vcpu (op ∷ ops) next a is =
     subst (λ (n : Next). away_ops v vcpu (op ∷ ops) a ≡ went_on v n.left (target_access v n.op a.target) a) same
     (as_after v vcpu ops (target_access v op a.target).access (target_access v op a.target).book a)
 
-pub late_goes : (v : ℕ) (vcpu : Vcpu) (next : Next) (a : Away) (r : Accessed) → slice_get a.vcpus v ≡ Some vcpu → late vcpu ≡ Some next
+pub late_goes : (v : ℕ) (vcpu : Vcpu) (next : Next) (a : BooksAfter) (r : Accessed) → slice_get a.vcpus v ≡ Some vcpu → late vcpu ≡ Some next
     → r ≡ target_access v next.op a.target
     → went_on v next.left r a ≡ away_step v (slice_get a.vcpus v) a
 late_goes v vcpu next a r at is done = ap (λ (q : Accessed). went_on v next.left q a) done ∙ sym (rw at (late_by_goes v vcpu vcpu.after_move next a is))

@@ -6,7 +6,7 @@ use Rattle.audit_model.specs.Mergings.{Cursors, IsMerging, at_start, moved, spel
 use Rattle.audit_model.specs.Names.{same_log}
 use Rattle.audit_model.specs.Walks.{Walks, next}
 use Rattle.migration_model.proofs.Reached.{reached_faultless}
-use Rattle.migration_model.specs.Machine.{Machine, session_of}
+use Rattle.migration_model.specs.Books.{Recording, session_of}
 use Rattle.migration_model.specs.Promise.{IsReached}
 use Rattle.migration_types.specs.Certs.{Certified}
 use Rattle.migration_types.specs.Receipts.{Name}
@@ -43,7 +43,7 @@ certified s order faultless merges =
     let found = has_certificate s faultless (ones order) (subst (λ names. IsMerging s names) (sym spelled_is) merges) in
     (record { version = s.version; entries = found.0; runs = ones order }, record { is_session = faultless.is_session; shape = faultless.shape; certificate = found.1 })
 
-pub reached_promised : (core : Machine) → IsReached core → IsPromised (session_of core.books) core.order
+pub reached_promised : (core : Recording) → IsReached core → IsPromised (session_of core.books) core.order
 reached_promised core k =
     let s = session_of core.books in
     let f = reached_faultless core k in

@@ -1,7 +1,7 @@
 -- A step, from what the event makes of the books.
 use Rattle.migration_events.specs.declared.events.Event.{Event}
 use Rattle.migration_model.specs.Events.{books_event, has_room, if_room, recorded, step}
-use Rattle.migration_model.specs.Machine.{Books, Machine, new_names, session_of}
+use Rattle.migration_model.specs.Books.{Books, Recording, new_names, session_of}
 use Rattle.migration_types.specs.Receipts.{Name}
 use Rattle.migration_events.specs.declared.faults.EventFault.{EventFault}
 use Rattle.migration_model.proofs.Reached.{step_reached}
@@ -19,6 +19,6 @@ pub refused : (e : Event) (old : Books) (order : List Name) → has_room (sessio
 refused e old order full = ap (λ t. cond t (Some (recorded old order (books_event e old))) None) full
 
 -- where an event is taken the core after it is reached, and where it is refused the core is as it was
-pub stays_reached : (e : Event) (old new : Machine) (r : Result (Unit {0}) EventFault) → IsReached old → OnOk r (step e old ≡ Some new) → OnErr r (new ≡ old) → IsReached new
+pub stays_reached : (e : Event) (old new : Recording) (r : Result (Unit {0}) EventFault) → IsReached old → OnOk r (step e old ≡ Some new) → OnErr r (new ≡ old) → IsReached new
 stays_reached e old new (Ok x) reached ok err = step_reached e old new reached ok
 stays_reached e old new (Err fault) reached ok err = subst IsReached (sym err) reached

@@ -3,7 +3,7 @@ use Rattle.std.specs.Prelude.{false, List, []}
 use Rattle.migration_types.specs.Receipts.{Name}
 use Rattle.migration_types.specs.declared.version.Version.TheVariants.{One}
 use Rattle.session_core.specs.States.{home_of, away_of}
-use Rattle.migration_model.specs.Machine.{Books, Before, After, Machine}
+use Rattle.migration_model.specs.Books.{Books, Before, After, Recording}
 use Rattle.migration_model.specs.Events.{start}
 use Rattle.session_core.specs.declared.state.State.{State}
 use Rattle.session_core.specs.declared.state.State.TheVariants.{Before as BeforeHalt, After as AfterHalt, Halting}
@@ -23,7 +23,7 @@ IsHeld (BeforeHalt h) = Unit {0}
 IsHeld (AfterHalt a) = Unit {0}
 IsHeld Halting = ⊥
 
-abbrev pub machine : State → List Name → Machine
+abbrev pub machine : State → List Name → Recording
 machine state order = record { books = books_of state; order = order }
 
 -- the books as they are held, and the recorded order
@@ -31,5 +31,5 @@ pub record Cored : Type 0 where
   pub state : State
   pub order : List Name
 
-abbrev pub machine_of : Cored → Machine
+abbrev pub machine_of : Cored → Recording
 machine_of core = machine core.state core.order

@@ -6,7 +6,7 @@ use Rattle.migration_types.specs.Sessions.{Recorded}
 use Rattle.audit_model.specs.Laws.{IsCertified, HasCertificate}
 use Rattle.migration_events.specs.declared.events.Event.{Event}
 use Rattle.migration_model.specs.Events.{run, start}
-use Rattle.migration_model.specs.Machine.{Machine, Scripted, session_of}
+use Rattle.migration_model.specs.Books.{Recording, Scripted, session_of}
 use Rattle.migration_model.specs.Promise.{IsFaultlessSession}
 
 -- A recorded session, and the order in which it was recorded. The session is faultless, so it is safe in each of its
@@ -19,7 +19,7 @@ pub record IsPromised (s : Recorded) (order : List Name) : Type 0 where
 -- none of these events was refused, the session is what they recorded from the script's start, and all is promised of
 -- it
 pub record IsRecordedBy (script : Scripted) (events : List Event) (s : Recorded) : Type 0 where
-  pub core : Machine
+  pub core : Recording
   pub runs : run events (start script) ≡ Some core
   pub is_session : s ≡ session_of core.books
   pub promised : IsPromised s core.order

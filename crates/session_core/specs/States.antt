@@ -6,12 +6,12 @@ use Rattle.migration_types.specs.Extents.{Extent}
 use Rattle.migration_events.specs.Ops.{OpFits, LateOpFits}
 use Rattle.script.specs.Scenarios.{Scenario}
 use Rattle.script.specs.declared.vcpus.Vcpu.{Vcpu as Scheduled}
-use Rattle.active_push.specs.Books.{SourceKept, part_of as source_of}
+use Rattle.source_book.specs.Books.{SourceKept, part_of as source_of}
 use Rattle.link_book.specs.Links.{Linked}
 use Rattle.guest_book.specs.Books.{GuestKept, part_of as guest_of}
 use Rattle.target_book.specs.Kept.{Kept, part_of as target_of, geometry_of}
-use Rattle.target_side.specs.PagerLists.{PagerLists, part_of as pager_of}
-use Rattle.migration_model.specs.Machine.{Vcpu, Scripted, Home, Away}
+use Rattle.pager_book.specs.PagerLists.{PagerLists, part_of as pager_of}
+use Rattle.migration_model.specs.Books.{Vcpu, Scripted, BooksBefore, BooksAfter}
 
 -- what a script says to the events
 abbrev pub vcpu_of : Scheduled → Vcpu
@@ -36,7 +36,7 @@ pub record AfterLists : Type 0 where
   pub target : Kept
 
 -- what they stand for
-abbrev pub home_of : BeforeLists → Home
+abbrev pub home_of : BeforeLists → BooksBefore
 home_of h = record {
   version = h.script.version;
   init = h.script.init;
@@ -47,7 +47,7 @@ home_of h = record {
   guest = guest_of h.guest;
 }
 
-abbrev pub away_of : AfterLists → Away
+abbrev pub away_of : AfterLists → BooksAfter
 away_of a = record {
   version = a.script.version;
   init = a.script.init;

@@ -2,7 +2,7 @@
 
 ghost use Rattle.std.specs.Prelude.{◌≡◌, true, false, IfOk, OnOk, OnErr, IsErrOf};
 ghost use Rattle.migration_types.specs.Sessions.{IsSession};
-ghost use Rattle.migration_model.specs.Machine.{away_session};
+ghost use Rattle.migration_model.specs.Books.{session_after};
 ghost use Rattle.migration_model.specs.Events.{away_event, has_room};
 ghost use Rattle.migration_model.specs.Orderly.{IsOrderly};
 ghost use Rattle.session_core.specs.States.{away_of, IsAfter};
@@ -10,18 +10,18 @@ ghost use Rattle.session_core.specs.States.{away_of, IsAfter};
 use crate::CoreFault;
 use crate::copies::copies;
 use crate::left::Left;
-use active_push::SourceBook;
 use book_events::logs_of;
 use link_book::LinkBook;
 use migration_events::Event;
 use migration_types::{
     GuestRec, InitPage, LaneRec, LinkRec, Logs, PagerRec, Seq, Session, SourceRec,
 };
+use pager_book::{Access, PagerBook, TargetBook};
 use script::Script;
+use source_book::SourceBook;
 use std::alloc::{AllocError, Global};
 use std::marker::Model;
 use std::mem::drop;
-use target_side::{Access, PagerBook, TargetBook};
 
 /// A migration from its halt on: the books of the source, the link, the pager and the target, and what each virtual
 /// processor has left to do of a script. Contracts see the script, what is left, and the books.
@@ -55,7 +55,7 @@ impl<'a> AfterHalt<'a> {
         requires { IsOrderly (away_of self.old) }
         ensures ok { OnOk result (away_of self.new ≡ away_event event (away_of self.old)) }
         ensures script { self.new.script ≡ self.old.script }
-        ensures full { IsErrOf result CoreFault.LogFull → has_room (away_session (away_event event (away_of self.old))) ≡ false }
+        ensures full { IsErrOf result CoreFault.LogFull → has_room (session_after (away_event event (away_of self.old))) ≡ false }
         ensures err { OnErr result (away_of self.new ≡ away_of self.old) }
     {
         match event {
@@ -100,7 +100,7 @@ impl<'a> AfterHalt<'a> {
     fn guest_step(&mut self, vcpu: u8) -> Result<(), CoreFault>
         ensures ok { OnOk result (away_of self.new ≡ away_event (Event.GuestStep vcpu) (away_of self.old)) }
         ensures script { self.new.script ≡ self.old.script }
-        ensures full { IsErrOf result CoreFault.LogFull → has_room (away_session (away_event (Event.GuestStep vcpu) (away_of self.old))) ≡ false }
+        ensures full { IsErrOf result CoreFault.LogFull → has_room (session_after (away_event (Event.GuestStep vcpu) (away_of self.old))) ≡ false }
         ensures err { OnErr result (away_of self.new ≡ away_of self.old) }
     {
         let Some(left) = self.vcpus.get(usize::from(vcpu)) else {
@@ -154,8 +154,8 @@ impl<'a> AfterHalt<'a> {
     /// What was recorded so far, copied, where it is within the limits of a session. An error: there is no memory for
     /// it.
     pub fn session(&self) -> Result<Session, AllocError>
-        requires { IsSession (away_session (away_of self.now)) }
-        ensures { IfOk result (λ s. s ≡ away_session (away_of self.now)) }
+        requires { IsSession (session_after (away_of self.now)) }
+        ensures { IfOk result (λ s. s ≡ session_after (away_of self.now)) }
     {
         let init = self.script.copied_init(self.alloc)?;
         let guest = Vec::from_slice(self.alloc, self.guest_log())?;
@@ -176,8 +176,8 @@ impl<'a> AfterHalt<'a> {
     /// What was recorded, where it is within the limits of a session; nothing of it is copied but the initial pages. An
     /// error: there is no memory for these.
     pub fn into_session(self) -> Result<Session, AllocError>
-        requires { IsSession (away_session (away_of self)) }
-        ensures { IfOk result (λ s. s ≡ away_session (away_of self.entry)) }
+        requires { IsSession (session_after (away_of self)) }
+        ensures { IfOk result (λ s. s ≡ session_after (away_of self.entry)) }
     {
         match self.script.copied_init(self.alloc) {
             Ok(init) => Ok(self.into_recorded(init)),
@@ -191,8 +191,8 @@ impl<'a> AfterHalt<'a> {
     /// The same, with the initial pages that the script says. Takes no memory.
     fn into_recorded(self, init: Seq<InitPage>) -> Session
         requires init { init ≡ self.script.init }
-        requires limits { IsSession (away_session (away_of self)) }
-        ensures { result ≡ away_session (away_of self.entry) }
+        requires limits { IsSession (session_after (away_of self)) }
+        ensures { result ≡ session_after (away_of self.entry) }
     {
         let version = self.script.version();
         let geometry = self.source.geometry();
@@ -204,7 +204,7 @@ impl<'a> AfterHalt<'a> {
     /// Tells callers what it keeps: all is of the script's machine, and each log is within its limit.
     pub fn keeps_limits(&self)
         ensures kept { IsAfter self.now }
-        ensures room { has_room (away_session (away_of self.now)) ≡ true }
+        ensures room { has_room (session_after (away_of self.now)) ≡ true }
     {
         self.source.keeps_limits();
         self.link.keeps_limits();

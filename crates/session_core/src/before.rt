@@ -2,10 +2,10 @@
 
 ghost use Rattle.std.specs.Prelude.{◌≡◌, true, false, [], slice_get, IfOk, IfErr, OnOk, OnErr, IsErrOf};
 ghost use Rattle.migration_types.specs.Sessions.{IsSession};
-ghost use Rattle.migration_model.specs.Machine.{Before, IsScript, session_of, home_session, away_session};
+ghost use Rattle.migration_model.specs.Books.{Before, IsScript, session_of, session_before, session_after};
 ghost use Rattle.migration_model.specs.Events.{start, home_step, home_event, all_at_move, halted, has_room};
-ghost use Rattle.target_side.specs.PagerLists.{part_of as pager_of};
-ghost use Rattle.target_side.specs.PagerPart.{new_pager};
+ghost use Rattle.pager_book.specs.PagerLists.{part_of as pager_of};
+ghost use Rattle.pager_book.specs.PagerPart.{new_pager};
 ghost use Rattle.session_core.specs.States.{home_of, away_of, scripted_of, IsBefore};
 
 use crate::CoreFault;
@@ -15,10 +15,10 @@ use guest_book::GuestBook;
 use link_book::LinkBook;
 use migration_events::Event;
 use migration_types::{GuestRec, Logs, Seq, Session};
+use pager_book::PagerBook;
 use script::Script;
 use std::alloc::{AllocError, Global};
 use std::marker::Model;
-use target_side::PagerBook;
 
 /// A migration before its halt: the guest's book, and what each virtual processor has left to do of a script. Contracts
 /// see the script, what is left, and the guest's book.
@@ -79,7 +79,7 @@ impl<'a> BeforeHalt<'a> {
     fn guest_step(&mut self, vcpu: u8) -> Result<(), CoreFault>
         ensures ok { OnOk result (home_of self.new ≡ home_step vcpu (slice_get (home_of self.old).vcpus vcpu) (home_of self.old)) }
         ensures script { self.new.script ≡ self.old.script }
-        ensures full { IsErrOf result CoreFault.LogFull → has_room (home_session (home_step vcpu (slice_get (home_of self.old).vcpus vcpu) (home_of self.old))) ≡ false }
+        ensures full { IsErrOf result CoreFault.LogFull → has_room (session_before (home_step vcpu (slice_get (home_of self.old).vcpus vcpu) (home_of self.old))) ≡ false }
         ensures err { OnErr result (home_of self.new ≡ home_of self.old) }
     {
         let Some(left) = self.vcpus.get(usize::from(vcpu)) else {
@@ -105,7 +105,7 @@ impl<'a> BeforeHalt<'a> {
     pub fn halt(self) -> Result<AfterHalt<'a>, (BeforeHalt<'a>, CoreFault)>
         ensures ok { IfOk result (λ a. away_of a ≡ halted (home_of self.entry)) }
         ensures script { IfOk result (λ a. a.script ≡ self.entry.script) }
-        ensures full { IfErr result (λ e. e.1 ≡ CoreFault.LogFull → has_room (away_session (halted (home_of self.entry))) ≡ false) }
+        ensures full { IfErr result (λ e. e.1 ≡ CoreFault.LogFull → has_room (session_after (halted (home_of self.entry))) ≡ false) }
         ensures err { IfErr result (λ e. e.0 ≡ self.entry) }
     {
         match PagerBook::new(self.alloc, self.script.geometry()) {
@@ -119,7 +119,7 @@ impl<'a> BeforeHalt<'a> {
         requires { pager_of pager ≡ new_pager self.script.geometry }
         ensures ok { IfOk result (λ a. away_of a ≡ halted (home_of self.entry)) }
         ensures script { IfOk result (λ a. a.script ≡ self.entry.script) }
-        ensures full { IfErr result (λ e. e.1 ≡ CoreFault.LogFull → has_room (away_session (halted (home_of self.entry))) ≡ false) }
+        ensures full { IfErr result (λ e. e.1 ≡ CoreFault.LogFull → has_room (session_after (halted (home_of self.entry))) ≡ false) }
         ensures err { IfErr result (λ e. e.0 ≡ self.entry) }
     {
         let BeforeHalt {
@@ -162,8 +162,8 @@ impl<'a> BeforeHalt<'a> {
     /// What was recorded so far, copied, where it is within the limits of a session. An error: there is no memory for
     /// it.
     pub fn session(&self) -> Result<Session, AllocError>
-        requires { IsSession (home_session (home_of self.now)) }
-        ensures { IfOk result (λ s. s ≡ home_session (home_of self.now)) }
+        requires { IsSession (session_before (home_of self.now)) }
+        ensures { IfOk result (λ s. s ≡ session_before (home_of self.now)) }
     {
         let init = self.script.copied_init(self.alloc)?;
         let guest = Vec::from_slice(self.alloc, self.guest.guest_log())?;
@@ -174,8 +174,8 @@ impl<'a> BeforeHalt<'a> {
     /// What was recorded, where it is within the limits of a session; nothing of it is copied but the initial pages. An
     /// error: there is no memory for these.
     pub fn into_session(self) -> Result<Session, AllocError>
-        requires { IsSession (home_session (home_of self)) }
-        ensures { IfOk result (λ s. s ≡ home_session (home_of self.entry)) }
+        requires { IsSession (session_before (home_of self)) }
+        ensures { IfOk result (λ s. s ≡ session_before (home_of self.entry)) }
     {
         let init = self.script.copied_init(self.alloc)?;
         let BeforeHalt {
@@ -192,7 +192,7 @@ impl<'a> BeforeHalt<'a> {
     /// Tells callers what it keeps: all is of the script's machine, and the log is within its limit.
     pub fn keeps_limits(&self)
         ensures kept { IsBefore self.now }
-        ensures room { has_room (home_session (home_of self.now)) ≡ true }
+        ensures room { has_room (session_before (home_of self.now)) ≡ true }
     {
         self.guest.keeps_limits();
     }

@@ -2,7 +2,7 @@
 
 ghost use Rattle.std.specs.Prelude.{◌≡◌, Some, None, IfOk, OnOk, OnErr, IsErrOf};
 ghost use Rattle.session_core.specs.States.{scripted_of};
-ghost use Rattle.migration_model.specs.Machine.{session_of};
+ghost use Rattle.migration_model.specs.Books.{session_of};
 ghost use Rattle.migration_model.specs.Events.{start, step};
 ghost use Rattle.migration_model.specs.Promise.{IsReached};
 ghost use Rattle.session_core.specs.Cores.{machine_of};

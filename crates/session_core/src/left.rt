@@ -18,7 +18,7 @@ pub(crate) struct Left<'a> {
 }
 
 impl<'a> Model for Left<'a> {
-    ghost use Rattle.migration_model.specs.Machine.{Vcpu};
+    ghost use Rattle.migration_model.specs.Books.{Vcpu};
 
     ghost Value = { Vcpu };
 

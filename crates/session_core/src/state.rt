@@ -3,7 +3,7 @@
 ghost use Rattle.std.specs.Prelude.{◌≡◌, true, false, IfOk, OnOk, OnErr, IsErrOf};
 ghost use Rattle.migration_types.specs.Sessions.{IsSession};
 ghost use Rattle.session_core.specs.States.{home_of};
-ghost use Rattle.migration_model.specs.Machine.{Before, session_of};
+ghost use Rattle.migration_model.specs.Books.{Before, session_of};
 ghost use Rattle.migration_model.specs.Events.{books_event, home_event, has_room};
 ghost use Rattle.session_core.specs.Cores.{books_of, IsHeld};
 ghost use Rattle.session_core.specs.Names.{lengths_of};

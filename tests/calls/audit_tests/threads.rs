@@ -5,7 +5,7 @@ use cert_check::{Verdict, check, check_par};
 use cert_text::read_cert;
 use judged_texts::{check_texts, print_report};
 use migration_types::{Cert, Session};
-use session_log::read_session;
+use session_text::read_session;
 use std::alloc::{AllocError, Global};
 use std::marker::Sync;
 use std::thread::Threads;

@@ -12,7 +12,7 @@ use page_stream::Packet;
 use std::alloc::{AllocError, Global};
 use std::test::Fail;
 use target_book::TargetBook;
-use target_side::PagerBook;
+use pager_book::PagerBook;
 
 fn page(number: u32) -> Packet {
     Packet::Page {

@@ -7,7 +7,7 @@ use page_stream::Packet;
 use std::alloc::Global;
 use std::test::Fail;
 use target_book::{Access, TargetBook, TargetFault};
-use target_side::PagerBook;
+use pager_book::PagerBook;
 
 /// The state comes, with no released page, and the guest resumes.
 pub(crate) fn begins(alloc: Global, pager: &mut PagerBook, target: &mut TargetBook) -> bool {

@@ -8,7 +8,7 @@ use migration_types::{Geometry, PageNo};
 use page_stream::Packet;
 use std::test::Fail;
 use target_book::{Access, TargetBook};
-use target_side::PagerBook;
+use pager_book::PagerBook;
 
 /// A fault of the pager's comes to this.
 fn fault_is(pager: &mut PagerBook, target: &mut TargetBook, came: Came) -> bool {

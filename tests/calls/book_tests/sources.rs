@@ -2,7 +2,7 @@
 //! that is full.
 
 use crate::want;
-use active_push::{SourceBook, SourceFault};
+use source_book::{SourceBook, SourceFault};
 use balloon_ledger::Ledger;
 use migration_types::{Geometry, MOST_RECORDS, PageNo, SourceRec};
 use page_store::Store;

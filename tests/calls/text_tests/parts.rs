@@ -3,7 +3,7 @@
 use crate::formats::is_session_text;
 use crate::{fault_of, refusal_line};
 use migration_types::Session;
-use session_log::SessionReader;
+use session_text::SessionReader;
 use std::alloc::{AllocError, Global};
 use std::thread::Threads;
 use text_lines::{FaultKind, TextFault, end_line, push_keyed, push_line, push_number, push_then};

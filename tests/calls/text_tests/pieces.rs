@@ -5,7 +5,7 @@ use crate::texts::{FIRST, FRESH, KINDS, LATE, PULLED, PUSHED, RUNS, SECOND, SENT
 use crate::{fault_of, refusal_line};
 use cert_text::{CertReader, RunsReader};
 use migration_types::Run;
-use session_log::SessionReader;
+use session_text::SessionReader;
 use std::alloc::Global;
 use text_lines::{FaultKind, Rewind, TextReader};
 

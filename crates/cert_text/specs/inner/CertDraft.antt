@@ -1,9 +1,9 @@
 -- The lines of a reader of certificates with its fields.
 use Rattle.std.specs.Prelude.{List, ℕ}
 use Rattle.cert_text.specs.declared.cert_lines.CertLines.TheInside.{Inside}
-use Rattle.cert_text.specs.inner.Held.{Draft, held_by, Live}
+use Rattle.cert_text.specs.inner.Held.{CertDraft, held_by, Live}
 
-abbrev pub draft_of : Inside → Draft
+abbrev pub draft_of : Inside → CertDraft
 draft_of a = record { version = a.runs.version; pages = a.pages; entries = a.entries.items; runs = a.runs.lines }
 
 abbrev pub held_of : Inside → List (List ℕ)

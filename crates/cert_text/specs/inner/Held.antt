@@ -82,7 +82,7 @@ HeadedLive headed runs = (runs.version ≡ Two) × IsHeaded headed runs.lines
 -- ---- a certificate
 
 -- what came of a certificate, and the lines of its runs
-pub record Draft : Type 0 where
+pub record CertDraft : Type 0 where
   pub version : Version
   pub pages : ℕ
   pub entries : List Entry
@@ -92,25 +92,25 @@ abbrev pub entries_onto : Version → ℕ → List Entry → List (List ℕ) →
 entries_onto version pages entries more = header version ∷ (pages_key ++ decimal pages) ∷ (entry_lines 0 entries ++ more)
 
 -- the lines so far
-abbrev pub held_by : Stage → Draft → List (List ℕ)
+abbrev pub held_by : Stage → CertDraft → List (List ℕ)
 held_by Header d = []
 held_by Pages d = header d.version ∷ []
 held_by Entries d = entries_onto d.version d.pages d.entries d.runs
 
 -- nothing of the lists came
-pub record IsEmpty (d : Draft) : Type 0 where
+pub record IsEmpty (d : CertDraft) : Type 0 where
   pub entries : d.entries ≡ []
   pub runs : d.runs ≡ []
 
 -- the entries so far, and lines of runs after the last
-pub record EntriesFit (d : Draft) : Type 0 where
+pub record EntriesFit (d : CertDraft) : Type 0 where
   pub some_pages : 1 ≤ d.pages
   pub few_pages : d.pages ≤ most_pages
   pub count : length d.entries ≤ d.pages
   pub each : AllByRecursion (EntryFits d.version) d.entries
   pub runs : length d.entries < d.pages → d.runs ≡ []
 
-abbrev pub Live : Stage → Draft → Type 0
+abbrev pub Live : Stage → CertDraft → Type 0
 Live Header d = IsEmpty d
 Live Pages d = IsEmpty d
 Live Entries d = EntriesFit d

@@ -6,12 +6,12 @@ use Rattle.script_text.specs.declared.script_steps.ScriptParts.{ScriptParts}
 use Rattle.script_text.specs.declared.stages.ScriptStage.{ScriptStage}
 use Rattle.script_text.specs.declared.script_reader.ScriptLines.TheInside.{Inside}
 use Rattle.script.specs.Scenarios.{Scenario}
-use Rattle.script_text.specs.inner.ScriptHeld.{Draft, ScriptLive, ScriptRest, script_held, vcpu_of}
+use Rattle.script_text.specs.inner.ScriptHeld.{ScriptDraft, ScriptLive, ScriptRest, script_held, vcpu_of}
 
-abbrev pub draft_of : ScriptParts → Draft
+abbrev pub draft_of : ScriptParts → ScriptDraft
 draft_of p = record {
   version = p.version;
-  geometry = record { pages = p.machine.pages; cells = p.machine.cells };
+  geometry = record { pages = p.sizes.pages; cells = p.sizes.cells };
   init = p.init;
   pivots = p.pivots;
   window = p.window;
@@ -25,20 +25,20 @@ draft_of p = record {
 }
 
 -- the line is taken, and a stage follows; or nothing changes, and, memory aside, no script goes on with the line
-abbrev pub ScriptStep : ScriptStage → Draft → List ℕ → Draft → Result ScriptStage FaultKind → Type 0
+abbrev pub ScriptStep : ScriptStage → ScriptDraft → List ℕ → ScriptDraft → Result ScriptStage FaultKind → Type 0
 ScriptStep stage old line new (Ok next) = ScriptLive next new × (script_held next new ≡ script_held stage old ++ line ∷ [])
 ScriptStep stage old line new (Err kind) = (new ≡ old) × (kind ≢ Memory → (v : Scenario) (more : List (List ℕ)) → ScriptRest stage old v (line ∷ more) → ⊥)
 
 -- no operation of the virtual processor that is coming is missing
-abbrev pub HasAllOps : Draft → Type 0
+abbrev pub HasAllOps : ScriptDraft → Type 0
 HasAllOps d = (length d.before.items ≡ d.before.count) × (length d.after.items ≡ d.after.count)
 
 -- a virtual processor is to come, with so many operations
-abbrev pub begun : ℕ → ℕ → Draft → Draft
+abbrev pub begun : ℕ → ℕ → ScriptDraft → ScriptDraft
 begun before after d = record d { before = record { count = before; items = [] }; after = record { count = after; items = [] } }
 
 -- all operations of one came
-abbrev pub ended : Draft → Draft
+abbrev pub ended : ScriptDraft → ScriptDraft
 ended d = record d {
   vcpus = d.vcpus ++ vcpu_of d.before.items d.after.items ∷ [];
   before = record { count = d.before.count; items = [] };

@@ -11,9 +11,9 @@ use Rattle.migration_types.specs.Pages.{AreInitPages}
 use Rattle.migration_events.specs.declared.events.Fate.{Fate}
 use Rattle.migration_events.specs.declared.ops.Op.{Op}
 use Rattle.migration_events.specs.Ops.{OpFits, LateOpFits}
-use Rattle.session_log.specs.Grammar.{pages_key, cells_key, init_key, page_line, closing}
-use Rattle.session_log.specs.inner.Held.{InitFits}
-use Rattle.session_log.specs.inner.InitPages.{next_from}
+use Rattle.session_text.specs.Grammar.{pages_key, cells_key, init_key, page_line, closing}
+use Rattle.session_text.specs.inner.Held.{InitFits}
+use Rattle.session_text.specs.inner.InitPages.{next_from}
 use Rattle.script.specs.declared.vcpus.Vcpu.{Vcpu}
 use Rattle.script_text.specs.declared.stages.ScriptStage.{ScriptStage}
 use Rattle.script_text.specs.declared.stages.ScriptStage.TheVariants.{Header, Pages, Cells, InitCount, Init, Window, Down, Up, Lanes, Lane, Count, First, Ops, Done}
@@ -22,7 +22,7 @@ use Rattle.script_text.specs.Scripts.{script_header, pivots_key, window_key, dow
 use Rattle.script_text.specs.inner.Exact.{Exact}
 
 -- what came so far
-pub record Draft : Type 0 where
+pub record ScriptDraft : Type 0 where
   pub version : Version
   pub geometry : Extent
   pub init : Part InitPage
@@ -37,36 +37,36 @@ pub record Draft : Type 0 where
   pub after : Part Op
 
 -- the script, where all of it came
-abbrev pub scenario_of : Draft → Scenario
+abbrev pub scenario_of : ScriptDraft → Scenario
 scenario_of d = record { version = d.version; geometry = d.geometry; init = d.init.items; pivots = d.pivots; window = d.window; down = d.down; up = d.up; lane = d.lane; vcpus = d.vcpus }
 
 -- ---- the lines so far
 
-abbrev pub held_init : Draft → List (List ℕ)
+abbrev pub held_init : ScriptDraft → List (List ℕ)
 held_init d = script_header d.version ∷ (pages_key ++ decimal d.geometry.pages) ∷ (cells_key ++ decimal d.geometry.cells) ∷ (init_key ++ decimal d.init.count) ∷ map page_line d.init.items
 
-abbrev pub held_pivots : Draft → List (List ℕ)
+abbrev pub held_pivots : ScriptDraft → List (List ℕ)
 held_pivots d = held_init d ++ (pivots_key ++ decimal d.pivots) ∷ []
 
-abbrev pub held_window : Draft → List (List ℕ)
+abbrev pub held_window : ScriptDraft → List (List ℕ)
 held_window d = held_pivots d ++ (window_key ++ decimal d.window) ∷ []
 
-abbrev pub held_down : Draft → List (List ℕ)
+abbrev pub held_down : ScriptDraft → List (List ℕ)
 held_down d = held_window d ++ (down_key ++ fates_text d.down) ∷ []
 
-abbrev pub held_up : Draft → List (List ℕ)
+abbrev pub held_up : ScriptDraft → List (List ℕ)
 held_up d = held_down d ++ (up_key ++ fates_text d.up) ∷ []
 
-abbrev pub held_lanes : Draft → List (List ℕ)
+abbrev pub held_lanes : ScriptDraft → List (List ℕ)
 held_lanes d = held_up d ++ with_lanes d.version d.lane []
 
-abbrev pub held_vcpus : Draft → List (List ℕ)
+abbrev pub held_vcpus : ScriptDraft → List (List ℕ)
 held_vcpus d = (held_lanes d ++ (vcpus_key ++ decimal d.count) ∷ []) ++ vcpus_onto d.vcpus []
 
-abbrev pub held_ops : Draft → List (List ℕ)
+abbrev pub held_ops : ScriptDraft → List (List ℕ)
 held_ops d = held_vcpus d ++ counts_line d.before.count d.after.count ∷ (map op_line d.before.items ++ map op_line d.after.items)
 
-abbrev pub script_held : ScriptStage → Draft → List (List ℕ)
+abbrev pub script_held : ScriptStage → ScriptDraft → List (List ℕ)
 script_held Header d = []
 script_held Pages d = script_header d.version ∷ []
 script_held Cells d = script_header d.version ∷ (pages_key ++ decimal d.geometry.pages) ∷ []
@@ -84,26 +84,26 @@ script_held Done d = held_vcpus d ++ closing ∷ []
 
 -- ---- what may still come
 
-abbrev pub AgreesInit : Draft → Scenario → Type 0
+abbrev pub AgreesInit : ScriptDraft → Scenario → Type 0
 AgreesInit d v = (v.version ≡ d.version) × (v.geometry ≡ d.geometry) × (v.init ≡ d.init.items)
 
-abbrev pub AgreesPivots : Draft → Scenario → Type 0
+abbrev pub AgreesPivots : ScriptDraft → Scenario → Type 0
 AgreesPivots d v = AgreesInit d v × (v.pivots ≡ d.pivots)
 
-abbrev pub AgreesWindow : Draft → Scenario → Type 0
+abbrev pub AgreesWindow : ScriptDraft → Scenario → Type 0
 AgreesWindow d v = AgreesPivots d v × (v.window ≡ d.window)
 
-abbrev pub AgreesDown : Draft → Scenario → Type 0
+abbrev pub AgreesDown : ScriptDraft → Scenario → Type 0
 AgreesDown d v = AgreesWindow d v × (v.down ≡ d.down)
 
-abbrev pub AgreesUp : Draft → Scenario → Type 0
+abbrev pub AgreesUp : ScriptDraft → Scenario → Type 0
 AgreesUp d v = AgreesDown d v × (v.up ≡ d.up)
 
-abbrev pub AgreesLane : Draft → Scenario → Type 0
+abbrev pub AgreesLane : ScriptDraft → Scenario → Type 0
 AgreesLane d v = AgreesUp d v × (v.lane ≡ d.lane)
 
 -- there is a lane, whose fates are still to come, and these lines with them
-pub record LaneLeft (d : Draft) (v : Scenario) (more : List (List ℕ)) : Type 0 where
+pub record LaneLeft (d : ScriptDraft) (v : Scenario) (more : List (List ℕ)) : Type 0 where
   pub fits : IsScenario v
   pub agrees : AgreesUp d v
   pub fates : List Fate
@@ -111,7 +111,7 @@ pub record LaneLeft (d : Draft) (v : Scenario) (more : List (List ℕ)) : Type 0
   pub lines : more ≡ (lane_key ++ fates_text fates) ∷ vcpus_lines v
 
 -- the initial pages so far go on to these, and these lines with them
-pub record InitLeft (d : Draft) (v : Scenario) (more : List (List ℕ)) : Type 0 where
+pub record InitLeft (d : ScriptDraft) (v : Scenario) (more : List (List ℕ)) : Type 0 where
   pub fits : IsScenario v
   pub version : v.version ≡ d.version
   pub geometry : v.geometry ≡ d.geometry
@@ -125,7 +125,7 @@ abbrev pub vcpu_of : List Op → List Op → Vcpu
 vcpu_of before after = record { before_move = before; after_move = after }
 
 -- the operations so far go on to these, and these lines with them
-pub record OpsLeft (d : Draft) (v : Scenario) (more : List (List ℕ)) : Type 0 where
+pub record OpsLeft (d : ScriptDraft) (v : Scenario) (more : List (List ℕ)) : Type 0 where
   pub fits : IsScenario v
   pub agrees : AgreesLane d v
   pub count : length v.vcpus ≡ d.count
@@ -137,7 +137,7 @@ pub record OpsLeft (d : Draft) (v : Scenario) (more : List (List ℕ)) : Type 0 
   pub all_after : length (d.after.items ++ afters) ≡ d.after.count
   pub lines : more ≡ map op_line befores ++ (map op_line afters ++ vcpus_onto back (closing ∷ []))
 
-abbrev pub ScriptRest : ScriptStage → Draft → Scenario → List (List ℕ) → Type 0
+abbrev pub ScriptRest : ScriptStage → ScriptDraft → Scenario → List (List ℕ) → Type 0
 ScriptRest Header d v more = SpellsScript v more
 ScriptRest Pages d v more = IsScenario v × (v.version ≡ d.version) × (more ≡ pages_lines v)
 ScriptRest Cells d v more = IsScenario v × (v.version ≡ d.version) × (v.geometry.pages ≡ d.geometry.pages) × (more ≡ cells_lines v)
@@ -155,39 +155,39 @@ ScriptRest Done d v more = IsScenario v × AgreesLane d v × (v.vcpus ≡ d.vcpu
 
 -- ---- what holds of what came
 
-abbrev pub InitPart : Draft → Type 0
+abbrev pub InitPart : ScriptDraft → Type 0
 InitPart d = InitFits d.geometry (next_from 0 d.init.items) d.init
 
-pub record FitsPivots (d : Draft) : Type 0 where
+pub record FitsPivots (d : ScriptDraft) : Type 0 where
   pub geometry : IsExtent d.geometry
   pub init : AreInitPages d.geometry d.init.items
   pub some : 1 ≤ d.pivots
   pub few : d.pivots ≤ 16
 
-pub record FitsWindow (d : Draft) : Type 0 where
+pub record FitsWindow (d : ScriptDraft) : Type 0 where
   pub before : FitsPivots d
   pub some : 1 ≤ d.window
   pub few : d.window ≤ 65536
 
-pub record FitsDown (d : Draft) : Type 0 where
+pub record FitsDown (d : ScriptDraft) : Type 0 where
   pub before : FitsWindow d
   pub few : length d.down ≤ 4096
 
-pub record FitsUp (d : Draft) : Type 0 where
+pub record FitsUp (d : ScriptDraft) : Type 0 where
   pub before : FitsDown d
   pub few : length d.up ≤ 4096
 
-pub record FitsLane (d : Draft) : Type 0 where
+pub record FitsLane (d : ScriptDraft) : Type 0 where
   pub before : FitsUp d
   pub lane : LaneFits d.version d.lane
 
-pub record FitsCount (d : Draft) : Type 0 where
+pub record FitsCount (d : ScriptDraft) : Type 0 where
   pub before : FitsLane d
   pub some : 1 ≤ d.count
   pub few : d.count ≤ 64
   pub vcpus : AllByRecursion (VcpuFits d.version d.geometry) d.vcpus
 
-pub record FitsOps (d : Draft) : Type 0 where
+pub record FitsOps (d : ScriptDraft) : Type 0 where
   pub before : FitsCount d
   pub room : length d.vcpus < d.count
   pub few_before : d.before.count ≤ 65536
@@ -198,7 +198,7 @@ pub record FitsOps (d : Draft) : Type 0 where
   pub after_move : AllByRecursion (LateOpFits d.version d.geometry) d.after.items
   pub in_turn : length d.before.items < d.before.count → d.after.items ≡ []
 
-abbrev pub ScriptFits : ScriptStage → Draft → Type 0
+abbrev pub ScriptFits : ScriptStage → ScriptDraft → Type 0
 ScriptFits Header d = Unit {0}
 ScriptFits Pages d = Unit {0}
 ScriptFits Cells d = (1 ≤ d.geometry.pages) × (d.geometry.pages ≤ 65536)
@@ -214,6 +214,6 @@ ScriptFits First d = FitsCount d × (d.vcpus ≡ [])
 ScriptFits Ops d = FitsOps d
 ScriptFits Done d = FitsCount d × (length d.vcpus ≡ d.count)
 
-pub record ScriptLive (stage : ScriptStage) (d : Draft) : Type 0 where
+pub record ScriptLive (stage : ScriptStage) (d : ScriptDraft) : Type 0 where
   pub exact : Exact SpellsScript (ScriptRest stage d) (script_held stage d)
   pub fits : ScriptFits stage d

@@ -14,10 +14,10 @@ use Rattle.migration_events.specs.declared.events.Fate.TheVariants.{Deliver, Los
 use Rattle.migration_events.specs.declared.ops.Op.{Op}
 use Rattle.migration_events.specs.declared.ops.Op.TheVariants.{Read, Write, Release}
 use Rattle.migration_events.specs.Ops.{OpFits, LateOpFits}
-use Rattle.session_log.specs.Grammar.{pages_key, cells_key, init_key, page_line, closing}
-use Rattle.session_log.specs.inner.InitPages.{rise_of, rise_long}
-use Rattle.session_log.specs.inner.Plain.{plain_page}
-use Rattle.session_log.specs.inner.RecordPlain.{plain_keyed, plain_number}
+use Rattle.session_text.specs.Grammar.{pages_key, cells_key, init_key, page_line, closing}
+use Rattle.session_text.specs.inner.InitPages.{rise_of, rise_long}
+use Rattle.session_text.specs.inner.Plain.{plain_page}
+use Rattle.session_text.specs.inner.RecordPlain.{plain_keyed, plain_number}
 use Rattle.script.specs.declared.vcpus.Vcpu.{Vcpu}
 use Rattle.script.specs.Scenarios.{Scenario, VcpuFits}
 use Rattle.script_text.specs.Scripts.{script_header, pivots_key, window_key, down_key, up_key, lane_key, vcpus_key, vcpu_key, fate_letter, fates_text, place_text, value_text, op_line, vcpus_onto, vcpus_lines, with_lanes, lanes_lines, up_lines, down_lines, window_lines, pivots_lines, init_lines, SpellsScript}

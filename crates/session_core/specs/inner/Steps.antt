@@ -4,7 +4,7 @@ use Rattle.migration_events.specs.declared.ops.Op.{Op}
 use Rattle.target_book.specs.declared.Access.{Access}
 use Rattle.target_book.specs.declared.Access.TheVariants.{Done, Missed, Waiting}
 use Rattle.target_book.specs.TargetPart.{Accessed}
-use Rattle.migration_model.specs.Machine.{Vcpu, Away}
+use Rattle.migration_model.specs.Books.{Vcpu, BooksAfter}
 
 pub record Next : Type 0 where
   pub op : Op
@@ -35,5 +35,5 @@ left_after v left (Done answer) vcpus = slice_set vcpus v left
 left_after v left Missed vcpus = vcpus
 left_after v left Waiting vcpus = vcpus
 
-abbrev pub went_on : ℕ → Vcpu → Accessed → Away → Away
+abbrev pub went_on : ℕ → Vcpu → Accessed → BooksAfter → BooksAfter
 went_on v left r a = record a { target = r.book; vcpus = left_after v left r.access a.vcpus }

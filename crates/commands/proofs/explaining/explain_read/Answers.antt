@@ -3,7 +3,7 @@ use Rattle.std.specs.declared.alloc.AllocError.{AllocError}
 use Rattle.text_lines.specs.Text.{IsRefusalLine}
 use Rattle.text_lines.specs.Answer.{IsRead}
 use Rattle.migration_types.specs.Sessions.{Recorded}
-use Rattle.session_log.specs.Grammar.{SpellsSession}
+use Rattle.session_text.specs.Grammar.{SpellsSession}
 use Rattle.judged_texts.specs.declared.auditing.Audited.TheVariants.{Refused, Reported}
 use Rattle.commands.specs.declared.answer.Answer.{Answer}
 use Rattle.commands.specs.Explained.{IsExplainAnswer, TellsReport}

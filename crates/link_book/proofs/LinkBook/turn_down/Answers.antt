@@ -13,6 +13,6 @@ invariant_of-self-in-Some c =
     let after : LinkPart = record b { log = c.push_reserved.new.self.items; down = t.new.line.items; down_arrivals = t.new.arrivals.items } in
     let ok = c.in_ok-came.ensures.ok in
     let grown = gained Down b.log t.new.log.items after.log c.in-Some.sending _ _ _ ok c.in-Some.is t.ensures.log c.push_reserved.ensures.items in
-    let same : after ≡ turned Downward c.args.fate b = λ k. record b { log = grown k; down = (ok k).way.line; down_arrivals = (ok k).way.arrivals } in
+    let same : after ≡ turned Downward c.args.fate b = λ k. record b { log = grown k; down = (ok k).channel.line; down_arrivals = (ok k).channel.arrivals } in
     let place = c.in_ok-came.ensures.place (ap is_some c.in-Some.is) in
     (turn_keeps Downward c.args.fate b after c.self.invariant.0 place.0 same, λ has. (t.ensures.room (c.self.invariant.1 has).0, (c.self.invariant.1 has).1, (c.self.invariant.1 has).2))

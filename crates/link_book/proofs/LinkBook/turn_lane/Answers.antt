@@ -13,6 +13,6 @@ invariant_of-self-in-Some c =
     let after : LinkPart = record b { lane_log = c.push_reserved.new.self.items; lane = t.new.line.items; lane_arrivals = t.new.arrivals.items } in
     let ok = c.in_ok-came.ensures.ok in
     let grown = gained Down b.lane_log t.new.log.items after.lane_log c.in-Some.sending _ _ _ ok c.in-Some.is t.ensures.log c.push_reserved.ensures.items in
-    let same : after ≡ turned OverLane c.args.fate b = λ k. record b { lane_log = grown k; lane = (ok k).way.line; lane_arrivals = (ok k).way.arrivals } in
+    let same : after ≡ turned OverLane c.args.fate b = λ k. record b { lane_log = grown k; lane = (ok k).channel.line; lane_arrivals = (ok k).channel.arrivals } in
     let place = c.in_ok-came.ensures.place (ap is_some c.in-Some.is) in
     (turn_keeps OverLane c.args.fate b after c.self.invariant.0 place.0 same, λ has. ((c.self.invariant.1 has).0, (c.self.invariant.1 has).1, t.ensures.room (c.self.invariant.1 has).2))

@@ -13,6 +13,6 @@ invariant_of-self-in-Some c =
     let after : LinkPart = record b { log = c.push_reserved.new.self.items; up = t.new.line.items; up_arrivals = t.new.arrivals.items } in
     let ok = c.in_ok-came.ensures.ok in
     let grown = gained Up b.log t.new.log.items after.log c.in-Some.asking _ _ _ ok c.in-Some.is t.ensures.log c.push_reserved.ensures.items in
-    let same : after ≡ turned Upward c.args.fate b = λ k. record b { log = grown k; up = (ok k).way.line; up_arrivals = (ok k).way.arrivals } in
+    let same : after ≡ turned Upward c.args.fate b = λ k. record b { log = grown k; up = (ok k).channel.line; up_arrivals = (ok k).channel.arrivals } in
     let place = c.in_ok-came.ensures.place (ap is_some c.in-Some.is) in
     (turn_keeps Upward c.args.fate b after c.self.invariant.0 place.0 same, λ has. ((c.self.invariant.1 has).0, t.ensures.room (c.self.invariant.1 has).1, (c.self.invariant.1 has).2))

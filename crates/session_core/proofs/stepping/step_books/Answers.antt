@@ -1,6 +1,6 @@
 use Rattle.migration_model.proofs.Growths.{GrowsByTwo, event_grows_by_two}
 use Rattle.migration_model.proofs.Needs.{reached_orderly}
-use Rattle.migration_model.specs.Machine.{Books, session_of}
+use Rattle.migration_model.specs.Books.{Books, session_of}
 use Rattle.session_core.specs.Cores.{books_of, machine}
 use Rattle.session_core.proofs.stepping.step_books.Goals as goal
 use Rattle.std.proofs.Common.{ap, arith, subst, sym}

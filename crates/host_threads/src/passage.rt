@@ -1,0 +1,50 @@
+//! What a packet passes before it is delivered.
+
+ghost use Rattle.std.specs.Prelude.{OnOk};
+ghost use Rattle.host_threads.specs.Passages.{HasPassed};
+
+use crate::bell::Fault;
+use crate::carry::Echo;
+use crate::relay::{Relay, RelayFault};
+use page_stream::{Packet, fits};
+
+/// What the packets of the link and of the lane pass.
+#[derive(Drop)]
+pub(crate) enum Passage<L> {
+    /// Nothing: both are in memory.
+    InMemory,
+    /// A relay, from which they come back.
+    Over(L, Echo),
+}
+
+impl<L: Relay> Passage<L> {
+    /// A packet passes. `Astray` only where it is none of the relay's machine, which is looked at first; `Link` where
+    /// the relay fails, or anything but the packet comes back.
+    pub(crate) fn pass(&mut self, packet: &Packet) -> Result<(), Fault>
+        ensures ok { OnOk result (HasPassed self.new packet.now) }
+    {
+        match self {
+            Passage::InMemory => Ok(()),
+            Passage::Over(relay, echo) => {
+                if !fits(echo.geometry(), packet) {
+                    return Err(Fault::Astray);
+                }
+                Ok(echo.pass(relay, packet)?)
+            }
+        }
+    }
+}
+
+/// The relay of a link in memory, which no packet passes.
+#[derive(Drop)]
+pub(crate) struct NoRelay;
+
+impl Relay for NoRelay {
+    fn write(&mut self, _bytes: &[u8]) -> Result<usize, RelayFault> {
+        Err(RelayFault)
+    }
+
+    fn read(&mut self, _into: &mut [u8]) -> Result<usize, RelayFault> {
+        Err(RelayFault)
+    }
+}

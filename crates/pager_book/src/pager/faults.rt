@@ -1,0 +1,161 @@
+//! The pager learns of a miss.
+
+ghost use Rattle.std.specs.Prelude.{◌≡◌, ◌<◌, [], true, false, length, is_some, None, OnOk, OnErr, IsErrOf};
+ghost use Rattle.migration_types.specs.Limits.{most_records};
+ghost use Rattle.residency.specs.Placements.{is_resident};
+ghost use Rattle.fault_queue.specs.Waiting.{is_waiting};
+ghost use Rattle.target_book.specs.Kept.{geometry_of, part_of as target_of};
+ghost use Rattle.pager_book.specs.PagerPart.{next_fault, faults, fault_at, zeroes};
+ghost use Rattle.pager_book.specs.PagerLists.{part_of};
+ghost use Rattle.pager_book.specs.inner.Steps.{learned, asks};
+
+use super::{PagerBook, want_page};
+use crate::log::append;
+use fault_queue::Asked;
+use migration_events::make_room;
+use migration_types::PagerRec;
+use page_stream::Packet;
+use target_book::{Missing, TargetBook, TargetFault};
+
+impl PagerBook {
+    /// Settles the pages that the guest released at the target before they came: nobody waits for them any more. Then
+    /// learns of the oldest miss that was not taken. Where its page is neither resident nor released, the page is asked
+    /// for, or its virtual processor waits with those that wait for it; a released page is placed as zeros at once.
+    /// Where there is no miss nothing more happens. The books are of one machine, and a miss comes only once the state
+    /// has. On an error nothing changes.
+    pub fn next_fault(&mut self, target: &mut TargetBook) -> Result<(), TargetFault>
+        requires machine { geometry_of target.old ≡ self.old.geometry }
+        requires ready { self.old.released ≡ None → (target_of target.old).misses ≡ [] }
+        ensures ok { OnOk result (record { pager = part_of self.new; target = target_of target.new; woken = [] } ≡ next_fault (part_of self.old) (target_of target.old)) }
+        ensures machine { geometry_of target.new ≡ geometry_of target.old }
+        ensures full { IsErrOf result TargetFault.LogFull → most_records < length (next_fault (part_of self.old) (target_of target.old)).pager.log }
+        ensures err { OnErr result ((self.new ≡ self.old) × (target.new ≡ target.old)) }
+    {
+        if target.unsettled().is_empty() {
+            return self.fault(target);
+        }
+        let before = self.drop_waiters(target)?;
+        if let Err(fault) = self.fault(target) {
+            self.waiting = before;
+            return Err(fault);
+        }
+        self.mark_settled(target);
+        Ok(())
+    }
+
+    /// Learns of the oldest miss, once the pages are settled.
+    fn fault(&mut self, target: &mut TargetBook) -> Result<(), TargetFault>
+        requires machine { geometry_of target.old ≡ self.old.geometry }
+        requires ready { self.old.released ≡ None → (target_of target.old).misses ≡ [] }
+        ensures ok { OnOk result (record { pager = part_of self.new; target = target_of target.new; woken = [] } ≡ faults (target_of target.old).misses (part_of self.old) (target_of target.old)) }
+        ensures machine { geometry_of target.new ≡ geometry_of target.old }
+        ensures full { IsErrOf result TargetFault.LogFull → most_records < length (faults (target_of target.old).misses (part_of self.old) (target_of target.old)).pager.log }
+        ensures err { OnErr result ((self.new ≡ self.old) × (target.new ≡ target.old)) }
+    {
+        let Some(missing) = target.next_miss() else {
+            return Ok(());
+        };
+        self.learn_of(missing, target)?;
+        target.take_miss();
+        Ok(())
+    }
+
+    /// Learns of a miss.
+    fn learn_of(&mut self, missing: Missing, target: &mut TargetBook) -> Result<(), TargetFault>
+        requires machine { geometry_of target.old ≡ self.old.geometry }
+        requires ready { is_some self.old.released ≡ true }
+        requires page { missing.page < self.old.geometry.pages }
+        ensures ok { OnOk result (record { pager = part_of self.new; target = target_of target.new; woken = [] } ≡ fault_at missing.page missing.vcpu (learned missing.number (part_of self.old)) (target_of target.old)) }
+        ensures machine { geometry_of target.new ≡ geometry_of target.old }
+        ensures full { IsErrOf result TargetFault.LogFull → most_records < length (fault_at missing.page missing.vcpu (learned missing.number (part_of self.old)) (target_of target.old)).pager.log }
+        ensures err { OnErr result ((self.new ≡ self.old) × (target.new ≡ target.old)) }
+    {
+        if target.resident(missing.page) || self.waiting.is_waiting(missing.vcpu) {
+            return self.learn(missing.number);
+        }
+        if self.marks.at(missing.page) {
+            return self.zero(missing, target);
+        }
+        self.ask(missing)
+    }
+
+    /// Records a miss.
+    fn learn(&mut self, miss: u32) -> Result<(), TargetFault>
+        requires { is_some self.old.released ≡ true }
+        ensures ok { OnOk result (part_of self.new ≡ learned miss (part_of self.old)) }
+        ensures full { IsErrOf result TargetFault.LogFull → most_records < length (learned miss (part_of self.old)).log }
+        ensures err { OnErr result (self.new ≡ self.old) }
+    {
+        make_room(&mut self.log, 1)?;
+        append(&mut self.log, PagerRec::Fault { miss });
+        Ok(())
+    }
+
+    /// Records a miss of a released page, and places the page as zeros.
+    fn zero(&mut self, missing: Missing, target: &mut TargetBook) -> Result<(), TargetFault>
+        requires machine { geometry_of target.old ≡ self.old.geometry }
+        requires ready { is_some self.old.released ≡ true }
+        requires page { missing.page < self.old.geometry.pages }
+        requires absent { is_resident ((target_of target.old).placed missing.page) ((target_of target.old).freed missing.page) ≡ false }
+        ensures ok { OnOk result (record { pager = part_of self.new; target = target_of target.new; woken = [] } ≡ zeroes missing.page (learned missing.number (part_of self.old)) (target_of target.old)) }
+        ensures machine { geometry_of target.new ≡ geometry_of target.old }
+        ensures full { IsErrOf result TargetFault.LogFull → most_records < length (zeroes missing.page (learned missing.number (part_of self.old)) (target_of target.old)).pager.log }
+        ensures err { OnErr result ((self.new ≡ self.old) × (target.new ≡ target.old)) }
+    {
+        make_room(&mut self.log, 2)?;
+        let number = self.log.len() as u32 + 1;
+        if target.zero(missing.page, number).is_err() {
+            return Err(TargetFault::Memory);
+        }
+        append(
+            &mut self.log,
+            PagerRec::Fault {
+                miss: missing.number,
+            },
+        );
+        append(&mut self.log, PagerRec::Zero { page: missing.page });
+        self.placed.set(missing.page, true);
+        Ok(())
+    }
+
+    /// Records a miss of a page that is not there, and asks for the page, or lets the virtual processor wait with those
+    /// that wait for it.
+    fn ask(&mut self, missing: Missing) -> Result<(), TargetFault>
+        requires ready { is_some self.old.released ≡ true }
+        requires page { missing.page < self.old.geometry.pages }
+        requires away { is_waiting missing.vcpu self.old.waiting ≡ false }
+        ensures ok { OnOk result (part_of self.new ≡ asks missing.page missing.vcpu (learned missing.number (part_of self.old))) }
+        ensures full { IsErrOf result TargetFault.LogFull → most_records < length (asks missing.page missing.vcpu (learned missing.number (part_of self.old))).log }
+        ensures err { OnErr result (self.new ≡ self.old) }
+    {
+        make_room(&mut self.log, 2)?;
+        if self.outbox.reserve(1).is_err() {
+            return Err(TargetFault::Memory);
+        }
+        let Ok(asked) = self.waiting.fault(missing.page, missing.vcpu) else {
+            return Err(TargetFault::Memory);
+        };
+        append(
+            &mut self.log,
+            PagerRec::Fault {
+                miss: missing.number,
+            },
+        );
+        match asked {
+            Asked::Joined => {
+                if let Some(want) = self.wants.at(missing.page) {
+                    append(&mut self.log, PagerRec::Join { want });
+                }
+                Ok(())
+            }
+            Asked::New => {
+                let number = want_page(&mut self.log, &mut self.wants, missing.page);
+                self.outbox.push_back_reserved(Packet::Want {
+                    number,
+                    page: missing.page,
+                });
+                Ok(())
+            }
+        }
+    }
+}

@@ -1,0 +1,71 @@
+//! Lines of the lane's records.
+
+ghost use Rattle.std.specs.Prelude.{◌≡◌, ◌≢◌, [], ◌∷◌, ◌++◌, ◌≤◌, IfSome, IsSomeAnd, OnOk};
+ghost use Rattle.migration_types.specs.Sessions.{LaneRecFits};
+ghost use Rattle.migration_types.specs.declared.records.LaneRec.{LaneRec as Rec};
+ghost use Rattle.migration_types.specs.declared.version.Version.TheVariants.{Two};
+ghost use Rattle.session_text.specs.Records.{lane_line};
+
+use crate::fields::numbered_then;
+use crate::keys::DOWN_KEY;
+use migration_types::LaneRec;
+use std::alloc::AllocError;
+use text_lines::{FaultKind, LineForm, after_end, push_keyed};
+
+/// The record at the front, and what follows. Nothing follows where the text is its line alone.
+#[inline(always)]
+fn lane_then(text: &[u8]) -> Option<(LaneRec, &[u8])>
+    ensures found { IfSome result (λ found. LaneRecFits Two found.0 × (text.now ≡ lane_line found.0 ++ found.1.now)) }
+    ensures whole { (r : Rec) → LaneRecFits Two r → text.now ≡ lane_line r → IsSomeAnd result (λ found. found.1.now ≡ []) }
+{
+    let (sending, rest) = numbered_then(text, DOWN_KEY)?;
+    Some((LaneRec::Down { sending }, rest))
+}
+
+/// Adds the line of a record of the lane.
+#[inline(always)]
+fn push_lane_record(out: &mut Vec<u8>, rec: &LaneRec) -> Result<(), AllocError>
+    ensures { OnOk result (out.new.items ≡ out.old.items ++ (lane_line rec.now ++ 10 ∷ [])) }
+{
+    match *rec {
+        LaneRec::Down { sending } => push_keyed(out, DOWN_KEY, sending),
+    }
+}
+
+/// The lines of the lane's log, which only the second version has.
+#[derive(Clone, Copy)]
+pub(crate) struct LaneLines;
+
+impl LineForm for LaneLines {
+    type Item = LaneRec;
+
+    ghost spell = { lane_line };
+
+    ghost IsForm = { λ f. Unit {0} };
+
+    ghost Fits = { λ f r. LaneRecFits Two r };
+
+    ghost by_last = { λ a b x y h. h };
+
+    fn read(&self, _before: &[LaneRec], line: &[u8]) -> Result<LaneRec, FaultKind> {
+        match lane_then(line) {
+            Some((record, rest)) if rest.is_empty() => Ok(record),
+            _ => Err(FaultKind::Form),
+        }
+    }
+
+    #[inline(always)]
+    fn front<'a>(&self, _before: &[LaneRec], text: &'a [u8]) -> Option<(LaneRec, &'a [u8])> {
+        let (record, rest) = lane_then(text)?;
+        Some((record, after_end(rest)?))
+    }
+
+    fn may_follow(&self, _before: &[LaneRec], _item: &LaneRec) -> bool {
+        true
+    }
+
+    #[inline(always)]
+    fn push(item: &LaneRec, out: &mut Vec<u8>) -> Result<(), AllocError> {
+        push_lane_record(out, item)
+    }
+}

@@ -1,0 +1,89 @@
+//! The text of a recorded session: its reader, its writer, and the line of each record.
+#![tactic(auto)]
+
+ghost use Rattle.std.specs.Prelude.{IfOk};
+ghost use Rattle.text_lines.specs.Text.{IsSpelling, IsUnambiguous};
+ghost use Rattle.text_lines.specs.Answer.{Reads};
+ghost use Rattle.session_text.specs.Grammar.{SpellsSession};
+
+mod contents;
+mod crews;
+mod fields;
+mod forms;
+mod guest;
+mod keys;
+mod lane;
+mod lines;
+mod link;
+mod machine;
+mod pager;
+mod pages;
+mod parts;
+mod places;
+mod rows;
+mod source;
+mod versions;
+mod writing;
+
+use crate::guest::GuestLines;
+use crate::keys::{GUEST_KEY, LINK_KEY, PAGER_KEY, SOURCE_KEY};
+use crate::link::LinkLines;
+use crate::pager::PagerLines;
+use crate::source::SourceLines;
+use crate::versions::{header, push_lane};
+pub use contents::read_contents;
+pub use forms::Sizes;
+pub use keys::{CELLS_KEY, CLOSING, INIT_KEY, PAGES_KEY};
+pub use lines::SessionLines;
+pub use machine::{read_cells, read_pages};
+use migration_types::Session;
+pub use pages::InitLines;
+pub use places::has_its_line;
+pub use rows::{lines_follow, push_row};
+use std::alloc::{AllocError, Global};
+use text_lines::{TextFault, TextReader, push_counted, push_keyed, push_line, read_whole};
+
+/// Reads the text of a session that comes in pieces.
+pub type SessionReader = TextReader<SessionLines>;
+
+/// The session that the bytes are the text of. The bytes stay as they are.
+///
+/// # Errors
+///
+/// Where the bytes are no session's text, the fault has the number of the line, counted from 1, at which they stop
+/// being one: no session's text begins with the lines up to that one. Where the bytes end too early, it is the line
+/// that follows their last line feed. Where memory is refused, the fault has the kind `Memory` and line 0.
+pub fn read_session(alloc: Global, bytes: &[u8]) -> Result<Session, TextFault>
+    ensures { Reads SpellsSession bytes.now result }
+{
+    read_whole::<SessionLines>(alloc, bytes)
+}
+
+/// The text of a session.
+///
+/// # Errors
+///
+/// There is no memory for it.
+pub fn write_session(alloc: Global, session: &Session) -> Result<Vec<u8>, AllocError>
+    ensures { IfOk result (λ bytes. IsSpelling SpellsSession session.now bytes.items) }
+{
+    session.keeps_limits();
+    let geometry = session.geometry();
+    let mut out = Vec::new(alloc);
+    push_line(&mut out, header(session.version()))?;
+    push_keyed(&mut out, PAGES_KEY, geometry.pages())?;
+    push_keyed(&mut out, CELLS_KEY, geometry.cells())?;
+    push_counted::<InitLines>(&mut out, INIT_KEY, session.init())?;
+    push_counted::<GuestLines>(&mut out, GUEST_KEY, session.guest())?;
+    push_counted::<SourceLines>(&mut out, SOURCE_KEY, session.source())?;
+    push_counted::<LinkLines>(&mut out, LINK_KEY, session.link())?;
+    push_lane(&mut out, session)?;
+    push_counted::<PagerLines>(&mut out, PAGER_KEY, session.pager())?;
+    push_line(&mut out, CLOSING)?;
+    Ok(out)
+}
+
+/// No session's text begins another's, a text is that of one session, and a session has one text. Runs nothing.
+pub fn session_texts_are_unambiguous()
+    ensures { IsUnambiguous SpellsSession }
+{}

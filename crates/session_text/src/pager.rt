@@ -1,0 +1,202 @@
+//! Lines of the pager's records.
+
+ghost use Rattle.std.specs.Prelude.{◌≡◌, ◌≢◌, ◌<◌, ◌≤◌, [], ◌∷◌, ◌++◌, List, ℕ, codes, IfOk, IfErr, IfSome, IsSomeAnd, OnOk};
+ghost use Rattle.std.specs.Fmt.{decimal};
+ghost use Rattle.migration_types.specs.Contents.{IsContent};
+ghost use Rattle.migration_types.specs.Extents.{Extent, IsExtent};
+ghost use Rattle.migration_types.specs.Sessions.{HasLane, PagerRecFits};
+ghost use Rattle.migration_types.specs.declared.records.PagerRec.{PagerRec as Rec};
+ghost use Rattle.session_text.specs.inner.Forms.{IsNotice};
+ghost use Rattle.session_text.specs.Records.{placed_text, pager_line};
+
+use crate::fields::{contents_then, numbered_then, page_then};
+use crate::forms::Sizes;
+use crate::keys::{
+    ALL, FAULT_KEY, GOT_KEY, JOIN_KEY, PLACE_KEY, PULL_KEY, READY, SKIP_KEY, WANT_KEY, ZERO_KEY,
+};
+use crate::writing::push_contents;
+use migration_types::{Contents, LAST_RECORD, PageNo, PagerRec, Version};
+use std::alloc::{AllocError, Global};
+use text_lines::{
+    FaultKind, LineForm, after_end, after_key, end_line, number_then, push_keyed, push_line,
+    push_then,
+};
+
+/// The page, the number and the contents of a placement at the front, and what follows. Nothing follows where the text is
+/// theirs alone.
+#[inline(always)]
+fn placed_then(
+    alloc: Global,
+    text: &[u8],
+    pages: u32,
+    cells: u32,
+) -> Result<(PageNo, u32, Contents, &[u8]), FaultKind>
+    requires some { 0 < pages }
+    requires few { pages ≤ 65536 }
+    ensures found { IfOk result (λ a. (a.0 < pages) × (a.1 < 1048576) × IsContent cells a.2 × (text.now ≡ placed_text a.0 a.1 a.2 ++ a.3.now)) }
+    ensures refused { IfErr result (λ kind. kind ≢ FaultKind.Memory → (p n : ℕ) (xs : List ℕ) → p < pages → n < 1048576 → IsContent cells xs → text.now ≢ placed_text p n xs) }
+    ensures whole { IfOk result (λ a. (p n : ℕ) (xs : List ℕ) → p < pages → n < 1048576 → IsContent cells xs → text.now ≡ placed_text p n xs → a.3.now ≡ []) }
+{
+    let Some((page, rest)) = number_then(text, u64::from(pages) - 1) else {
+        return Err(FaultKind::Form);
+    };
+    let Some((got, rest)) = number_then(rest, u64::from(LAST_RECORD)) else {
+        return Err(FaultKind::Form);
+    };
+    let (contents, rest) = contents_then(alloc, rest, cells)?;
+    Ok((PageNo::new(page as u16), got as u32, contents, rest))
+}
+
+/// The number of the lane's record in a receipt from the lane at the front, which the second version alone has, and what
+/// follows. Nothing follows where the text is its line alone.
+#[inline(always)]
+fn pull_then(version: Version, text: &[u8]) -> Option<(u32, &[u8])>
+    ensures found { IfSome result (λ found. HasLane version × (found.0 < 1048576) × (text.now ≡ codes "pull " ++ (decimal found.0 ++ found.1.now))) }
+    ensures whole { (n : ℕ) → HasLane version → n < 1048576 → text.now ≡ codes "pull " ++ decimal n → IsSomeAnd result (λ found. found.1.now ≡ []) }
+{
+    match version {
+        Version::One => None,
+        Version::Two => numbered_then(text, PULL_KEY),
+    }
+}
+
+/// The record that is no placement at the front, and what follows. Nothing follows where the text is its line alone.
+fn notice_then(version: Version, text: &[u8], pages: u32) -> Option<(PagerRec, &[u8])>
+    requires some { 0 < pages }
+    requires few { pages ≤ 65536 }
+    ensures found { IfSome result (λ found. ((cells : ℕ) → PagerRecFits version (record { pages = pages; cells = cells }) found.0) × (text.now ≡ pager_line found.0 ++ found.1.now)) }
+    ensures whole { (e : Extent) (r : Rec) → e.pages ≡ pages → PagerRecFits version e r → IsNotice r → text.now ≡ pager_line r → IsSomeAnd result (λ found. found.1.now ≡ []) }
+{
+    if let Some((down, rest)) = numbered_then(text, GOT_KEY) {
+        return Some((PagerRec::Got { down }, rest));
+    }
+    if let Some((down, rest)) = pull_then(version, text) {
+        return Some((PagerRec::Pull { down }, rest));
+    }
+    if let Some((miss, rest)) = numbered_then(text, FAULT_KEY) {
+        return Some((PagerRec::Fault { miss }, rest));
+    }
+    if let Some((want, rest)) = numbered_then(text, JOIN_KEY) {
+        return Some((PagerRec::Join { want }, rest));
+    }
+    if let Some((got, rest)) = numbered_then(text, SKIP_KEY) {
+        return Some((PagerRec::Skip { got }, rest));
+    }
+    if let Some((page, rest)) = page_then(text, WANT_KEY, pages) {
+        return Some((PagerRec::Want { page }, rest));
+    }
+    if let Some((page, rest)) = page_then(text, ZERO_KEY, pages) {
+        return Some((PagerRec::Zero { page }, rest));
+    }
+    if let Some(rest) = after_key(text, READY) {
+        return Some((PagerRec::Ready, rest));
+    }
+    Some((PagerRec::All, after_key(text, ALL)?))
+}
+
+/// The record at the front, and what follows. Nothing follows where the text is its line alone.
+#[inline(always)]
+fn pager_then(
+    alloc: Global,
+    version: Version,
+    text: &[u8],
+    pages: u32,
+    cells: u32,
+) -> Result<(PagerRec, &[u8]), FaultKind>
+    requires extent { IsExtent (record { pages = pages; cells = cells }) }
+    ensures found { IfOk result (λ found. PagerRecFits version (record { pages = pages; cells = cells }) found.0 × (text.now ≡ pager_line found.0 ++ found.1.now)) }
+    ensures refused { IfErr result (λ kind. kind ≢ FaultKind.Memory → (r : Rec) → PagerRecFits version (record { pages = pages; cells = cells }) r → text.now ≢ pager_line r) }
+    ensures whole { IfOk result (λ found. (r : Rec) → PagerRecFits version (record { pages = pages; cells = cells }) r → text.now ≡ pager_line r → found.1.now ≡ []) }
+{
+    if let Some(text) = after_key(text, PLACE_KEY) {
+        let (page, got, contents, rest) = placed_then(alloc, text, pages, cells)?;
+        return Ok((
+            PagerRec::Place {
+                page,
+                got,
+                contents,
+            },
+            rest,
+        ));
+    }
+    match notice_then(version, text, pages) {
+        Some((record, rest)) => Ok((record, rest)),
+        None => Err(FaultKind::Form),
+    }
+}
+
+/// Adds the line of a record of the pager.
+#[inline(always)]
+fn push_pager_record(out: &mut Vec<u8>, rec: &PagerRec) -> Result<(), AllocError>
+    ensures { OnOk result (out.new.items ≡ out.old.items ++ (pager_line rec.now ++ 10 ∷ [])) }
+{
+    match rec {
+        PagerRec::Got { down } => push_keyed(out, GOT_KEY, *down),
+        PagerRec::Pull { down } => push_keyed(out, PULL_KEY, *down),
+        PagerRec::Ready => push_line(out, READY),
+        PagerRec::Fault { miss } => push_keyed(out, FAULT_KEY, *miss),
+        PagerRec::Join { want } => push_keyed(out, JOIN_KEY, *want),
+        PagerRec::Want { page } => push_keyed(out, WANT_KEY, page.number()),
+        PagerRec::Place {
+            page,
+            got,
+            contents,
+        } => {
+            out.extend_from_slice(PLACE_KEY)?;
+            push_then(out, page.number())?;
+            push_then(out, *got)?;
+            push_contents(out, contents.as_slice())?;
+            end_line(out)
+        }
+        PagerRec::Zero { page } => push_keyed(out, ZERO_KEY, page.number()),
+        PagerRec::Skip { got } => push_keyed(out, SKIP_KEY, *got),
+        PagerRec::All => push_line(out, ALL),
+    }
+}
+
+/// The lines of the pager's log in a version, on a machine.
+#[derive(Clone, Copy)]
+pub(crate) struct PagerLines {
+    pub version: Version,
+    pub sizes: Sizes,
+}
+
+impl LineForm for PagerLines {
+    type Item = PagerRec;
+
+    ghost use Rattle.session_text.specs.inner.Forms.{extent_of};
+
+    ghost spell = { pager_line };
+
+    ghost IsForm = { λ f. IsExtent (extent_of f.sizes) };
+
+    ghost Fits = { λ f r. PagerRecFits f.version (extent_of f.sizes) r };
+
+    ghost by_last = { λ a b x y h. h };
+
+    fn read(&self, _before: &[PagerRec], line: &[u8]) -> Result<PagerRec, FaultKind> {
+        let on = self.sizes;
+        let (record, rest) = pager_then(on.alloc, self.version, line, on.pages, on.cells)?;
+        if !rest.is_empty() {
+            return Err(FaultKind::Form);
+        }
+        Ok(record)
+    }
+
+    #[inline(always)]
+    fn front<'a>(&self, _before: &[PagerRec], text: &'a [u8]) -> Option<(PagerRec, &'a [u8])> {
+        let on = self.sizes;
+        let found = pager_then(on.alloc, self.version, text, on.pages, on.cells);
+        let (record, rest) = found.ok()?;
+        Some((record, after_end(rest)?))
+    }
+
+    fn may_follow(&self, _before: &[PagerRec], _item: &PagerRec) -> bool {
+        true
+    }
+
+    #[inline(always)]
+    fn push(item: &PagerRec, out: &mut Vec<u8>) -> Result<(), AllocError> {
+        push_pager_record(out, item)
+    }
+}

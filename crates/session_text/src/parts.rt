@@ -1,0 +1,479 @@
+//! The parts of a session, line by line.
+
+ghost use Rattle.std.specs.Prelude.{◌≡◌, ◌≢◌, ◌<◌, ◌≤◌, ◌^◌, [], ◌∷◌, ◌++◌, length, IfOk, OnErr};
+ghost use Rattle.text_lines.specs.Text.{TakesLines};
+ghost use Rattle.session_text.specs.inner.Held.{held_onto, IsWhole, Live};
+ghost use Rattle.session_text.specs.inner.Steps.{count_at, draft_of, Steps, StepsBack};
+
+use crate::crews::SessionCrew;
+use crate::forms::Sizes;
+use crate::guest::GuestLines;
+use crate::keys::{CLOSING, GUEST_KEY, INIT_KEY, LANE_KEY, LINK_KEY, PAGER_KEY, SOURCE_KEY};
+use crate::lane::LaneLines;
+use crate::link::LinkLines;
+use crate::machine::{read_cells, read_pages};
+use crate::pager::PagerLines;
+use crate::pages::{InitLines, next_page};
+use crate::source::SourceLines;
+use crate::versions::header;
+use migration_types::{
+    GuestRec, InitPage, LaneRec, LinkRec, Logs, MOST_RECORDS, PagerRec, Seq, SourceRec, Version,
+    lane_lines,
+};
+use std::alloc::Global;
+use text_lines::{Counted, FaultKind, ItemCrew, is_line};
+
+/// Which line comes next.
+#[derive(Clone, Copy, PartialEq, Eq)]
+pub(crate) enum Stage {
+    /// The header.
+    Header,
+    /// The number of pages.
+    Pages,
+    /// The number of cells.
+    Cells,
+    /// The number of pages that do not begin as zeros.
+    InitCount,
+    /// One of these pages, or the number of the guest's records behind the last.
+    Init,
+    /// A record of the guest, or the number of the source's behind the last.
+    Guest,
+    /// A record of the source, or the number of the link's behind the last.
+    Source,
+    /// A record of the link, or behind the last the number of the pager's, in the second version that of the lane's.
+    Link,
+    /// A record of the lane, or the number of the pager's behind the last.
+    Lane,
+    /// A record of the pager, or the closing line behind the last.
+    Pager,
+    /// None.
+    Done,
+}
+
+/// What came of a session: its version and geometry, and of each list the number of its items and those so far. The first
+/// version's lane has none.
+#[derive(Drop)]
+pub(crate) struct Parts {
+    pub(crate) version: Version,
+    pub(crate) sizes: Sizes,
+    pub(crate) init: Counted<InitPage>,
+    pub(crate) guest: Counted<GuestRec>,
+    pub(crate) source: Counted<SourceRec>,
+    pub(crate) link: Counted<LinkRec>,
+    pub(crate) lane: Counted<LaneRec>,
+    pub(crate) pager: Counted<PagerRec>,
+}
+
+impl Parts {
+    /// Nothing came.
+    pub(crate) fn new(alloc: Global) -> Self
+        ensures { Live Stage.Header (draft_of result) }
+    {
+        Parts {
+            version: Version::One,
+            sizes: Sizes {
+                alloc,
+                pages: 0,
+                cells: 0,
+            },
+            init: Counted::nothing(alloc),
+            guest: Counted::nothing(alloc),
+            source: Counted::nothing(alloc),
+            link: Counted::nothing(alloc),
+            lane: Counted::nothing(alloc),
+            pager: Counted::nothing(alloc),
+        }
+    }
+
+    /// The initial pages and the logs that came.
+    pub(crate) fn into_lists(self) -> (Seq<InitPage>, Logs)
+        ensures init { result.0 ≡ self.init.items }
+        ensures guest { result.1.guest ≡ self.guest.items }
+        ensures source { result.1.source ≡ self.source.items }
+        ensures link { result.1.link ≡ self.link.items }
+        ensures lane { result.1.lane ≡ self.lane.items }
+        ensures pager { result.1.pager ≡ self.pager.items }
+    {
+        let logs = Logs {
+            guest: Seq::from_vec(self.guest.into_vec()),
+            source: Seq::from_vec(self.source.into_vec()),
+            link: Seq::from_vec(self.link.into_vec()),
+            lane: Seq::from_vec(self.lane.into_vec()),
+            pager: Seq::from_vec(self.pager.into_vec()),
+        };
+        (Seq::from_vec(self.init.into_vec()), logs)
+    }
+
+    /// Takes the next line, and answers the stage after it.
+    pub(crate) fn take(&mut self, stage: Stage, line: &[u8]) -> Result<Stage, FaultKind>
+        requires { Live stage (draft_of self.old) }
+        ensures { Steps stage (draft_of self.old) line.now (draft_of self.new) result }
+    {
+        match stage {
+            Stage::Header => self.at_header(line),
+            Stage::Pages => self.at_pages(line),
+            Stage::Cells => self.at_cells(line),
+            Stage::InitCount => self.at_init_count(line),
+            Stage::Init => self.at_init(line),
+            Stage::Guest => self.at_guest(line),
+            Stage::Source => self.at_source(line),
+            Stage::Link => self.at_link(line),
+            Stage::Lane => self.at_lane(line),
+            Stage::Pager => self.at_pager(line),
+            Stage::Done => Err(FaultKind::Ended),
+        }
+    }
+
+    /// Takes the header, which tells the version.
+    fn at_header(&mut self, line: &[u8]) -> Result<Stage, FaultKind>
+        requires { Live Stage.Header (draft_of self.old) }
+        ensures { Steps Stage.Header (draft_of self.old) line.now (draft_of self.new) result }
+    {
+        if is_line(line, header(Version::One)) {
+            self.version = Version::One;
+            return Ok(Stage::Pages);
+        }
+        if is_line(line, header(Version::Two)) {
+            self.version = Version::Two;
+            return Ok(Stage::Pages);
+        }
+        Err(FaultKind::Form)
+    }
+
+    /// Takes the number of pages.
+    fn at_pages(&mut self, line: &[u8]) -> Result<Stage, FaultKind>
+        requires { Live Stage.Pages (draft_of self.old) }
+        ensures { Steps Stage.Pages (draft_of self.old) line.now (draft_of self.new) result }
+    {
+        let pages = read_pages(line)?;
+        self.sizes.pages = pages;
+        Ok(Stage::Cells)
+    }
+
+    /// Takes the number of cells.
+    fn at_cells(&mut self, line: &[u8]) -> Result<Stage, FaultKind>
+        requires { Live Stage.Cells (draft_of self.old) }
+        ensures { Steps Stage.Cells (draft_of self.old) line.now (draft_of self.new) result }
+    {
+        let cells = read_cells(line, self.sizes.pages)?;
+        self.sizes.cells = cells;
+        Ok(Stage::InitCount)
+    }
+
+    /// Takes the number of initial pages.
+    fn at_init_count(&mut self, line: &[u8]) -> Result<Stage, FaultKind>
+        requires { Live Stage.InitCount (draft_of self.old) }
+        ensures { Steps Stage.InitCount (draft_of self.old) line.now (draft_of self.new) result }
+    {
+        let init = Counted::announced(self.sizes.alloc, line, INIT_KEY, self.sizes.pages)?;
+        self.init = init;
+        Ok(Stage::Init)
+    }
+
+    /// Takes an initial page, or the number of the guest's records.
+    fn at_init(&mut self, line: &[u8]) -> Result<Stage, FaultKind>
+        requires { Live Stage.Init (draft_of self.old) }
+        ensures { Steps Stage.Init (draft_of self.old) line.now (draft_of self.new) result }
+    {
+        if self.init.is_whole() {
+            let guest = Counted::announced(self.sizes.alloc, line, GUEST_KEY, MOST_RECORDS)?;
+            self.guest = guest;
+            return Ok(Stage::Guest);
+        }
+        let form = InitLines {
+            sizes: self.sizes,
+            high: self.sizes.pages - self.init.left(),
+        };
+        self.init.line(&form, line)?;
+        Ok(Stage::Init)
+    }
+
+    /// Takes a record of the guest, or the number of the source's.
+    fn at_guest(&mut self, line: &[u8]) -> Result<Stage, FaultKind>
+        requires { Live Stage.Guest (draft_of self.old) }
+        ensures { Steps Stage.Guest (draft_of self.old) line.now (draft_of self.new) result }
+    {
+        if self.guest.is_whole() {
+            let source = Counted::announced(self.sizes.alloc, line, SOURCE_KEY, MOST_RECORDS)?;
+            self.source = source;
+            return Ok(Stage::Source);
+        }
+        let form = GuestLines(self.sizes);
+        self.guest.line(&form, line)?;
+        Ok(Stage::Guest)
+    }
+
+    /// Takes a record of the source, or the number of the link's.
+    fn at_source(&mut self, line: &[u8]) -> Result<Stage, FaultKind>
+        requires { Live Stage.Source (draft_of self.old) }
+        ensures { Steps Stage.Source (draft_of self.old) line.now (draft_of self.new) result }
+    {
+        if self.source.is_whole() {
+            let link = Counted::announced(self.sizes.alloc, line, LINK_KEY, MOST_RECORDS)?;
+            self.link = link;
+            return Ok(Stage::Link);
+        }
+        let form = SourceLines(self.sizes);
+        self.source.line(&form, line)?;
+        Ok(Stage::Source)
+    }
+
+    /// Takes a record of the link, or the number of the records behind it.
+    fn at_link(&mut self, line: &[u8]) -> Result<Stage, FaultKind>
+        requires { Live Stage.Link (draft_of self.old) }
+        ensures { Steps Stage.Link (draft_of self.old) line.now (draft_of self.new) result }
+    {
+        if self.link.is_whole() {
+            return self.behind_link(line);
+        }
+        let form = LinkLines(self.sizes);
+        self.link.line(&form, line)?;
+        Ok(Stage::Link)
+    }
+
+    /// Takes the number of the pager's records, in the second version that of the lane's.
+    fn behind_link(&mut self, line: &[u8]) -> Result<Stage, FaultKind>
+        requires live { Live Stage.Link (draft_of self.old) }
+        requires whole { IsWhole self.old.link }
+        ensures { Steps Stage.Link (draft_of self.old) line.now (draft_of self.new) result }
+    {
+        match self.version {
+            Version::One => {
+                let pager = Counted::announced(self.sizes.alloc, line, PAGER_KEY, MOST_RECORDS)?;
+                self.lane = Counted::nothing(self.sizes.alloc);
+                self.pager = pager;
+                Ok(Stage::Pager)
+            }
+            Version::Two => {
+                let lane = Counted::announced(self.sizes.alloc, line, LANE_KEY, MOST_RECORDS)?;
+                self.lane = lane;
+                Ok(Stage::Lane)
+            }
+        }
+    }
+
+    /// Takes a record of the lane, or the number of the pager's.
+    fn at_lane(&mut self, line: &[u8]) -> Result<Stage, FaultKind>
+        requires { Live Stage.Lane (draft_of self.old) }
+        ensures { Steps Stage.Lane (draft_of self.old) line.now (draft_of self.new) result }
+    {
+        if self.lane.is_whole() {
+            let pager = Counted::announced(self.sizes.alloc, line, PAGER_KEY, MOST_RECORDS)?;
+            self.pager = pager;
+            return Ok(Stage::Pager);
+        }
+        self.lane.line(&LaneLines, line)?;
+        Ok(Stage::Lane)
+    }
+
+    /// Takes a record of the pager, or the closing line.
+    fn at_pager(&mut self, line: &[u8]) -> Result<Stage, FaultKind>
+        requires { Live Stage.Pager (draft_of self.old) }
+        ensures { Steps Stage.Pager (draft_of self.old) line.now (draft_of self.new) result }
+    {
+        if self.pager.is_whole() {
+            if !is_line(line, CLOSING) {
+                return Err(FaultKind::Form);
+            }
+            return Ok(Stage::Done);
+        }
+        let form = PagerLines {
+            version: self.version,
+            sizes: self.sizes,
+        };
+        self.pager.line(&form, line)?;
+        Ok(Stage::Pager)
+    }
+
+    /// How many lines came.
+    pub(crate) fn count(&self, stage: Stage) -> u32
+        requires live { Live stage (draft_of self.now) }
+        requires few { count_at stage (draft_of self.now) < 2 ^ 32 }
+        ensures { result ≡ count_at stage (draft_of self.now) }
+    {
+        match stage {
+            Stage::Header => 0,
+            Stage::Pages => 1,
+            Stage::Cells => 2,
+            Stage::InitCount => 3,
+            Stage::Init => self.init.came() + 4,
+            Stage::Guest => self.init.came() + self.guest.came() + 5,
+            Stage::Source => self.init.came() + self.guest.came() + self.source.came() + 6,
+            Stage::Link => {
+                self.init.came() + self.guest.came() + self.source.came() + self.link.came() + 7
+            }
+            Stage::Lane => {
+                self.init.came()
+                    + self.guest.came()
+                    + self.source.came()
+                    + self.link.came()
+                    + lane_lines(self.version, self.lane.came())
+                    + 7
+            }
+            Stage::Pager => {
+                self.init.came()
+                    + self.guest.came()
+                    + self.source.came()
+                    + self.link.came()
+                    + lane_lines(self.version, self.lane.came())
+                    + self.pager.came()
+                    + 8
+            }
+            Stage::Done => {
+                self.init.came()
+                    + self.guest.came()
+                    + self.source.came()
+                    + self.link.came()
+                    + lane_lines(self.version, self.lane.came())
+                    + self.pager.came()
+                    + 9
+            }
+        }
+    }
+
+    /// Takes the last line back, and answers the stage before it.
+    pub(crate) fn undo(&mut self, stage: Stage) -> Stage
+        requires live { Live stage (draft_of self.old) }
+        requires some { stage ≢ Stage.Header }
+        ensures { StepsBack stage (draft_of self.old) (draft_of self.new) result }
+    {
+        match stage {
+            Stage::Header => Stage::Header,
+            Stage::Pages => Stage::Header,
+            Stage::Cells => Stage::Pages,
+            Stage::InitCount => Stage::Cells,
+            Stage::Init => {
+                if !self.init.drop_last() {
+                    return Stage::InitCount;
+                }
+                Stage::Init
+            }
+            Stage::Guest => {
+                if !self.guest.drop_last() {
+                    return Stage::Init;
+                }
+                Stage::Guest
+            }
+            Stage::Source => {
+                if !self.source.drop_last() {
+                    return Stage::Guest;
+                }
+                Stage::Source
+            }
+            Stage::Link => {
+                if !self.link.drop_last() {
+                    return Stage::Source;
+                }
+                Stage::Link
+            }
+            Stage::Lane => {
+                if !self.lane.drop_last() {
+                    return Stage::Link;
+                }
+                Stage::Lane
+            }
+            Stage::Pager => {
+                if !self.pager.drop_last() {
+                    return match self.version {
+                        Version::One => Stage::Link,
+                        Version::Two => Stage::Lane,
+                    };
+                }
+                Stage::Pager
+            }
+            Stage::Done => Stage::Pager,
+        }
+    }
+
+    /// Takes as many of the first lines as are pages or records in plain form, and answers what follows them and how many
+    /// they were.
+    pub(crate) fn take_items<'a, C: SessionCrew>(
+        &mut self,
+        crew: &C,
+        stage: Stage,
+        bytes: &'a [u8],
+    ) -> (&'a [u8], u32)
+        requires crew { C.IsReady crew.now }
+        requires live { Live stage (draft_of self.old) }
+        ensures live { Live stage (draft_of self.new) }
+        ensures taken { TakesLines (held_onto stage (draft_of self.old) []) (held_onto stage (draft_of self.new) []) bytes.now result.0.now result.1 }
+    {
+        let sizes = self.sizes;
+        let version = self.version;
+        match stage {
+            Stage::Init => self.take_pages(crew, bytes),
+            Stage::Guest => self.guest.lines(crew, &GuestLines(sizes), bytes),
+            Stage::Source => self.source.lines(crew, &SourceLines(sizes), bytes),
+            Stage::Link => self.link.lines(crew, &LinkLines(sizes), bytes),
+            Stage::Lane => self.lane.lines(crew, &LaneLines, bytes),
+            Stage::Pager => {
+                let form = PagerLines { version, sizes };
+                self.pager.lines(crew, &form, bytes)
+            }
+            _ => (bytes, 0),
+        }
+    }
+
+    /// Takes as many of the first lines as are initial pages, up to the first that leaves those to come too little room.
+    fn take_pages<'a, C: ItemCrew<InitLines>>(
+        &mut self,
+        crew: &C,
+        bytes: &'a [u8],
+    ) -> (&'a [u8], u32)
+        requires crew { C.IsReady crew.now }
+        requires live { Live Stage.Init (draft_of self.old) }
+        ensures live { Live Stage.Init (draft_of self.new) }
+        ensures taken { TakesLines (held_onto Stage.Init (draft_of self.old) []) (held_onto Stage.Init (draft_of self.new) []) bytes.now result.0.now result.1 }
+    {
+        let most = match self.try_pages(crew, u32::MAX, bytes) {
+            Ok(taken) => return taken,
+            Err(most) => most,
+        };
+        match self.try_pages(crew, most, bytes) {
+            Ok(taken) => taken,
+            Err(_) => (bytes, 0),
+        }
+    }
+
+    /// Takes as many of the first lines as are initial pages, up to `most` of them. Where the last leaves those to come
+    /// too little room it takes none, and answers how many have room.
+    fn try_pages<'a, C: ItemCrew<InitLines>>(
+        &mut self,
+        crew: &C,
+        most: u32,
+        bytes: &'a [u8],
+    ) -> Result<(&'a [u8], u32), u32>
+        requires crew { C.IsReady crew.now }
+        requires live { Live Stage.Init (draft_of self.old) }
+        ensures live { Live Stage.Init (draft_of self.new) }
+        ensures taken { IfOk result (λ taken. TakesLines (held_onto Stage.Init (draft_of self.old) []) (held_onto Stage.Init (draft_of self.new) []) bytes.now taken.0.now taken.1) }
+        ensures none { OnErr result (draft_of self.new ≡ draft_of self.old) }
+    {
+        let came = self.init.came();
+        let high = self.sizes.pages - self.init.left();
+        let form = InitLines {
+            sizes: self.sizes,
+            high: self.sizes.pages - 1,
+        };
+        let (rest, count) = self.init.lines_up_to(crew, &form, most, bytes);
+        if next_page(self.init.items()) <= self.sizes.pages - self.init.left() {
+            return Ok((rest, count));
+        }
+        let fit = with_room(&self.init.items()[came as usize..], high);
+        self.init.truncate(came);
+        Err(fit as u32)
+    }
+}
+
+/// How many pages there are before the first that leaves those behind it too little room, where the first may be at most
+/// the page `high`.
+fn with_room(pages: &[InitPage], high: u32) -> usize
+    ensures { result ≤ length pages.now }
+{
+    for (at, page) in pages.iter().enumerate() {
+        if usize::from(page.page.number()) > high as usize + at {
+            return at;
+        }
+    }
+    pages.len()
+}

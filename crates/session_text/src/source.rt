@@ -1,0 +1,139 @@
+//! Lines of the source's records.
+
+ghost use Rattle.std.specs.Prelude.{◌≡◌, ◌≢◌, ◌<◌, ◌≤◌, [], ◌∷◌, ◌++◌, List, ℕ, IfOk, IfErr, IfSome, IsSomeAnd, OnOk};
+ghost use Rattle.migration_types.specs.Contents.{IsContent};
+ghost use Rattle.migration_types.specs.Extents.{Extent, IsExtent};
+ghost use Rattle.migration_types.specs.Sessions.{SourceRecFits};
+ghost use Rattle.migration_types.specs.declared.records.SourceRec.{SourceRec as Rec};
+ghost use Rattle.session_text.specs.inner.Forms.{IsStep};
+ghost use Rattle.session_text.specs.Records.{page_text, source_line};
+
+use crate::fields::{contents_then, numbered_then};
+use crate::forms::Sizes;
+use crate::keys::{AGAIN_KEY, ASK_KEY, DONE, HALTED_KEY, SEND_KEY, STATE};
+use crate::writing::push_page;
+use migration_types::{Contents, PageNo, SourceRec};
+use std::alloc::{AllocError, Global};
+use text_lines::{FaultKind, LineForm, after_end, after_key, number_then, push_keyed, push_line};
+
+/// The page and the contents that were sent at the front, and what follows. Nothing follows where the text is theirs
+/// alone.
+#[inline(always)]
+fn sent_then(
+    alloc: Global,
+    text: &[u8],
+    pages: u32,
+    cells: u32,
+) -> Result<(PageNo, Contents, &[u8]), FaultKind>
+    requires some { 0 < pages }
+    requires few { pages ≤ 65536 }
+    ensures found { IfOk result (λ a. (a.0 < pages) × IsContent cells a.1 × (text.now ≡ page_text a.0 a.1 ++ a.2.now)) }
+    ensures refused { IfErr result (λ kind. kind ≢ FaultKind.Memory → (p : ℕ) (xs : List ℕ) → p < pages → IsContent cells xs → text.now ≢ page_text p xs) }
+    ensures whole { IfOk result (λ a. (p : ℕ) (xs : List ℕ) → p < pages → IsContent cells xs → text.now ≡ page_text p xs → a.2.now ≡ []) }
+{
+    let Some((page, rest)) = number_then(text, u64::from(pages) - 1) else {
+        return Err(FaultKind::Form);
+    };
+    let (contents, rest) = contents_then(alloc, rest, cells)?;
+    Ok((PageNo::new(page as u16), contents, rest))
+}
+
+/// The record that is no sending at the front, and what follows. Nothing follows where the text is its line alone.
+fn step_then(text: &[u8]) -> Option<(SourceRec, &[u8])>
+    ensures found { IfSome result (λ found. ((e : Extent) → SourceRecFits e found.0) × (text.now ≡ source_line found.0 ++ found.1.now)) }
+    ensures whole { (e : Extent) (r : Rec) → SourceRecFits e r → IsStep r → text.now ≡ source_line r → IsSomeAnd result (λ found. found.1.now ≡ []) }
+{
+    if let Some((up, rest)) = numbered_then(text, ASK_KEY) {
+        return Some((SourceRec::Ask { up }, rest));
+    }
+    if let Some((sending, rest)) = numbered_then(text, AGAIN_KEY) {
+        return Some((SourceRec::Again { sending }, rest));
+    }
+    if let Some((halt, rest)) = numbered_then(text, HALTED_KEY) {
+        return Some((SourceRec::Halted { halt }, rest));
+    }
+    if let Some(rest) = after_key(text, STATE) {
+        return Some((SourceRec::State, rest));
+    }
+    Some((SourceRec::Done, after_key(text, DONE)?))
+}
+
+/// The record at the front, and what follows. Nothing follows where the text is its line alone.
+#[inline(always)]
+fn source_then(
+    alloc: Global,
+    text: &[u8],
+    pages: u32,
+    cells: u32,
+) -> Result<(SourceRec, &[u8]), FaultKind>
+    requires extent { IsExtent (record { pages = pages; cells = cells }) }
+    ensures found { IfOk result (λ found. SourceRecFits (record { pages = pages; cells = cells }) found.0 × (text.now ≡ source_line found.0 ++ found.1.now)) }
+    ensures refused { IfErr result (λ kind. kind ≢ FaultKind.Memory → (r : Rec) → SourceRecFits (record { pages = pages; cells = cells }) r → text.now ≢ source_line r) }
+    ensures whole { IfOk result (λ found. (r : Rec) → SourceRecFits (record { pages = pages; cells = cells }) r → text.now ≡ source_line r → found.1.now ≡ []) }
+{
+    if let Some(text) = after_key(text, SEND_KEY) {
+        let (page, contents, rest) = sent_then(alloc, text, pages, cells)?;
+        return Ok((SourceRec::Send { page, contents }, rest));
+    }
+    match step_then(text) {
+        Some((record, rest)) => Ok((record, rest)),
+        None => Err(FaultKind::Form),
+    }
+}
+
+/// Adds the line of a record of the source.
+#[inline(always)]
+fn push_source_record(out: &mut Vec<u8>, rec: &SourceRec) -> Result<(), AllocError>
+    ensures { OnOk result (out.new.items ≡ out.old.items ++ (source_line rec.now ++ 10 ∷ [])) }
+{
+    match rec {
+        SourceRec::Halted { halt } => push_keyed(out, HALTED_KEY, *halt),
+        SourceRec::State => push_line(out, STATE),
+        SourceRec::Send { page, contents } => push_page(out, SEND_KEY, *page, contents.as_slice()),
+        SourceRec::Again { sending } => push_keyed(out, AGAIN_KEY, *sending),
+        SourceRec::Ask { up } => push_keyed(out, ASK_KEY, *up),
+        SourceRec::Done => push_line(out, DONE),
+    }
+}
+
+/// The lines of the source's log, on a machine.
+#[derive(Clone, Copy)]
+pub(crate) struct SourceLines(pub Sizes);
+
+impl LineForm for SourceLines {
+    type Item = SourceRec;
+
+    ghost use Rattle.session_text.specs.inner.Forms.{extent_of};
+
+    ghost spell = { source_line };
+
+    ghost IsForm = { λ f. IsExtent (extent_of f.0) };
+
+    ghost Fits = { λ f r. SourceRecFits (extent_of f.0) r };
+
+    ghost by_last = { λ a b x y h. h };
+
+    fn read(&self, _before: &[SourceRec], line: &[u8]) -> Result<SourceRec, FaultKind> {
+        let (record, rest) = source_then(self.0.alloc, line, self.0.pages, self.0.cells)?;
+        if !rest.is_empty() {
+            return Err(FaultKind::Form);
+        }
+        Ok(record)
+    }
+
+    #[inline(always)]
+    fn front<'a>(&self, _before: &[SourceRec], text: &'a [u8]) -> Option<(SourceRec, &'a [u8])> {
+        let found = source_then(self.0.alloc, text, self.0.pages, self.0.cells);
+        let (record, rest) = found.ok()?;
+        Some((record, after_end(rest)?))
+    }
+
+    fn may_follow(&self, _before: &[SourceRec], _item: &SourceRec) -> bool {
+        true
+    }
+
+    #[inline(always)]
+    fn push(item: &SourceRec, out: &mut Vec<u8>) -> Result<(), AllocError> {
+        push_source_record(out, item)
+    }
+}

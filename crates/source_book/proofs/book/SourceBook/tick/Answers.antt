@@ -1,0 +1,17 @@
+use Rattle.std.proofs.Common.{◌∙◌, ap, List, ◌++◌, ◌∷◌, [], arith}
+use Rattle.migration_types.specs.declared.records.SourceRec.{SourceRec}
+use Rattle.migration_types.specs.declared.records.SourceRec.TheVariants.{Again}
+use Rattle.source_book.specs.SourcePart.{SourcePart}
+use Rattle.source_book.specs.Books.{part_of}
+use Rattle.source_book.specs.contracts.book.SourceBook.{the_view}
+use Rattle.source_book.proofs.Keeping.{logged, logged_keeps}
+use Rattle.source_book.proofs.Calls.{book_is}
+use Rattle.source_book.proofs.book.SourceBook.tick.Goals as goal
+
+pub invariant_of-self-2 : goal.invariant_of-self-2
+invariant_of-self-2 c =
+    let b : SourcePart = part_of (the_view c.self.inside) in
+    let log = c.push_reserved.ensures.items ∙ ap (λ (xs : List SourceRec). xs ++ Again 1 ∷ []) c.make_room.ensures.items in
+    book_is _ (logged (Again 1) b.ring b.was_asked b.is_done b) (λ i. record b { log = log i })
+    c.self.invariant.ledger c.self.invariant.bubbles c.self.invariant.table c.self.invariant.released_are c.self.invariant.unsent_is
+    (logged_keeps (Again 1) b.ring b.was_asked b.is_done b (λ page contents e. absurd (cc)) (omega (arith, c.in_ok-look_for_room.ensures.room)) c.self.invariant.log)
