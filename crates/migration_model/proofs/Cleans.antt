@@ -5,8 +5,8 @@ use Rattle.audit_model.specs.Certificates.{IsLateTouch}
 use Rattle.audit_model.specs.Faults.{GuestFault, HasNoPageFault, IsEarly, IsOver, PagerFault, SourceFault, has_looked, if_fault, looks_at}
 use Rattle.audit_model.specs.Flat.{at_halt, cell_after, changed, flat, freed, freed_after, halt_place, home, home_after, in_ledger, marked_late, released_after}
 use Rattle.audit_model.specs.Shape.{earlier, is_placement_of, is_release}
-use Rattle.audit_model.specs.declared.home.BooksBefore.{BooksBefore as Seat}
-use Rattle.audit_model.specs.declared.home.BooksBefore.TheVariants.{AtSource, AtTarget, Nowhere}
+use Rattle.audit_model.specs.declared.home.Home.{Home}
+use Rattle.audit_model.specs.declared.home.Home.TheVariants.{AtSource, AtTarget}
 use Rattle.audit_model.specs.declared.reasons.PageReason.{PageReason}
 use Rattle.audit_model.specs.declared.reasons.PageReason.TheVariants.{Altered, Early, Given, Over, Read as WrongRead, Stale, Twice, Unfit}
 use Rattle.migration_types.specs.Memory.{Memory, page_of}
@@ -147,7 +147,7 @@ freed_end r s p =
     ∙ ap (λ o. changed (freed_after (home s n) p) o (freed t n p)) (get_new s.guest r)
     ∙ ap (λ b. freed_after (home s n) p r b) (freed_push r s n p (omega arith))
 
-freed_after_stays : (h : Seat) (p : ℕ) (r : GuestRec) → freed_after h p r true ≡ true
+freed_after_stays : (h : Home) (p : ℕ) (r : GuestRec) → freed_after h p r true ≡ true
 freed_after_stays h p (Release v q) = mark_stays h (q == p) refl
 freed_after_stays h p (Read v q c x) = refl
 freed_after_stays h p (Write v q c x) = refl

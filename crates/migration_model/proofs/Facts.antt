@@ -5,8 +5,8 @@ use Rattle.audit_model.specs.Faults.{IsOver}
 use Rattle.audit_model.specs.Flat.{flat, freed as was_freed, home}
 use Rattle.audit_model.specs.Mergings.{IsMerging}
 use Rattle.audit_model.specs.Shape.{earlier, is_first_send, is_halt, is_placement_of, is_resume, is_send_of, is_taking, lane_named, link_named, pager_named, source_named, taken_sending}
-use Rattle.audit_model.specs.declared.home.BooksBefore.{BooksBefore as Seat}
-use Rattle.audit_model.specs.declared.home.BooksBefore.TheVariants.{AtTarget, Nowhere}
+use Rattle.audit_model.specs.declared.home.Home.{Home}
+use Rattle.audit_model.specs.declared.home.Home.TheVariants.{AtTarget, Nowhere}
 use Rattle.balloon_ledger.specs.Released.{pages_below, released}
 use Rattle.bubbling.specs.Bubbling.{Ring}
 use Rattle.fault_queue.specs.Waiting.{Waiting, without}
@@ -132,7 +132,7 @@ pub record SourceKept (s : Recorded) (book : SourcePart) : Type 0 where
   pub state : slice_get s.source 1 ≡ Some State
   pub wide : IsWide book.memory
 
-abbrev pub away_home : Bool → Seat
+abbrev pub away_home : Bool → Home
 away_home true = AtTarget
 away_home false = Nowhere
 

@@ -3,7 +3,7 @@ use Rattle.audit_model.specs.Faults.{IsOver}
 use Rattle.audit_model.specs.Flat.{before, cell_after, changed, flat, halt_place, home, home_after, in_ledger, released_after}
 use Rattle.audit_model.specs.Mergings.{IsMerging}
 use Rattle.audit_model.specs.Shape.{earlier, guest_named, in_phase_by, is_halt, is_resume, may_release, source_start}
-use Rattle.audit_model.specs.declared.home.BooksBefore.TheVariants.{AtSource, AtTarget}
+use Rattle.audit_model.specs.declared.home.Home.TheVariants.{AtSource, AtTarget}
 use Rattle.migration_types.specs.Extents.{Extent}
 use Rattle.migration_types.specs.Memory.{Memory, with_cell, with_zeros}
 use Rattle.migration_types.specs.PageSets.{Pages, with_page, without_page}

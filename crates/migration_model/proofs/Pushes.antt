@@ -5,7 +5,7 @@ use Rattle.audit_model.proofs.History.{earlier_true}
 use Rattle.audit_model.specs.Faults.{IsOver, has_looked, looks_at}
 use Rattle.audit_model.specs.Flat.{cell_after, flat, freed as was_freed, home, home_after}
 use Rattle.audit_model.specs.Shape.{earlier, guest_named, in_phase_by, is_halt, is_placement, is_placement_of, is_ready, is_release, is_resume, pager_named}
-use Rattle.audit_model.specs.declared.home.BooksBefore.TheVariants.{AtSource, AtTarget}
+use Rattle.audit_model.specs.declared.home.Home.TheVariants.{AtSource, AtTarget}
 use Rattle.fault_queue.specs.Waiting.{Waiting}
 use Rattle.migration_types.specs.Memory.{Memory, with_cell, with_zeros}
 use Rattle.migration_types.specs.PageSets.{Pages, others, with_page}
