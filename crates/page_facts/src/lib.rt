@@ -16,6 +16,10 @@ mod looks;
 mod machine;
 mod moved;
 mod page_fault;
+mod range;
+mod range_judge;
+mod range_moved;
+mod range_start;
 mod right_entry;
 mod session_lists;
 
