@@ -3,13 +3,20 @@
 ghost use Rattle.std.specs.Prelude.{◌≡◌, ◌++◌, [], ◌∷◌, ℕ, List, length, slice_get, slice_index_or, Some, IfOk, IsTrue};
 ghost use Rattle.migration_types.specs.declared.records.GuestRec.{GuestRec as Rec};
 ghost use Rattle.host_checks.specs.declared.transcript.Answered.{Answered as Told};
-ghost use Rattle.host_checks.specs.Outcomes.{told_by, AreOfLog};
+ghost use Rattle.host_checks.specs.Outcomes.{answered, told_by, AreOfLog};
 ghost use Rattle.host_checks.specs.inner.Told.{AreTold};
 
 use crate::transcript::{Answered, Transcript, is_same};
 use migration_events::Op;
 use migration_types::GuestRec;
 use std::alloc::{AllocError, Global};
+
+/// An operation with its answer.
+fn answered(op: Op, answer: u64) -> Answered
+    ensures { result ≡ answered op answer }
+{
+    Answered { op, answer }
+}
 
 /// The virtual processor and the answered operation that a record tells of, if it tells of one.
 fn told_by(rec: &GuestRec) -> Option<(u8, Answered)>
@@ -21,32 +28,14 @@ fn told_by(rec: &GuestRec) -> Option<(u8, Answered)>
             page,
             cell,
             value,
-        } => Some((
-            vcpu,
-            Answered {
-                op: Op::Read { page, cell },
-                answer: value,
-            },
-        )),
+        } => Some((vcpu, answered(Op::Read { page, cell }, value))),
         GuestRec::Write {
             vcpu,
             page,
             cell,
             value,
-        } => Some((
-            vcpu,
-            Answered {
-                op: Op::Write { page, cell, value },
-                answer: value,
-            },
-        )),
-        GuestRec::Release { vcpu, page } => Some((
-            vcpu,
-            Answered {
-                op: Op::Release { page },
-                answer: 0,
-            },
-        )),
+        } => Some((vcpu, answered(Op::Write { page, cell, value }, value))),
+        GuestRec::Release { vcpu, page } => Some((vcpu, answered(Op::Release { page }, 0))),
         _ => None,
     }
 }
