@@ -1,22 +1,14 @@
 -- Worked runs, computed.
 use Rattle.std.proofs.Common.{◌≡◌, [], ◌∷◌, Option, Some, None, false, refl, arith, true}
 use Rattle.std.specs.Prelude.{take}
+use Rattle.std.specs.List.{AllByRecursion}
 use Rattle.migration_model.specs.Events.{run, start}
 use Rattle.migration_model.specs.Books.{IsScript, Recording}
 use Rattle.migration_model.specs.Promise.{SomeRunIsDone}
-use Rattle.migration_model.specs.Worked.{Records, events_of_lane, events_of_one, events_of_release, events_of_two, offers, order_of_lane, order_of_one, order_of_release, order_of_two, script_of_lane, script_of_one, script_of_release, script_of_two, session_of_lane, session_of_one, session_of_release, session_of_two, small_source, source_calls, source_offers, source_records, woken_next}
+use Rattle.migration_model.specs.Worked.{ComesOut, events_of_one, events_of_two, offers, script_of_lane, script_of_one, script_of_release, script_of_two, small_source, source_calls, source_offers, source_records, woken_next, worked_runs}
 
-pub run_of_two : Records script_of_two events_of_two session_of_two order_of_two
-run_of_two = refl
-
-pub run_of_one : Records script_of_one events_of_one session_of_one order_of_one
-run_of_one = refl
-
-pub run_of_release : Records script_of_release events_of_release session_of_release order_of_release
-run_of_release = refl
-
-pub run_of_lane : Records script_of_lane events_of_lane session_of_lane order_of_lane
-run_of_lane = refl
+pub runs_come_out : AllByRecursion ComesOut worked_runs
+runs_come_out = (refl, (refl, (refl, (refl, tt))))
 
 pub woken_of_two : woken_next (run (take 17 events_of_two) (start script_of_two)) ≡ 0 ∷ 1 ∷ []
 woken_of_two = refl

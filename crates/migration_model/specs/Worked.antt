@@ -35,6 +35,16 @@ recording (Some core) = Some (session_of core.books, core.order)
 abbrev pub Records : Scripted → List Event → Recorded → List Name → Type 0
 Records script events session order = recording (run events (start script)) ≡ Some (session, order)
 
+-- a run that was worked out by hand
+pub record Worked : Type 0 where
+  pub script : Scripted
+  pub events : List Event
+  pub session : Recorded
+  pub order : List Name
+
+abbrev pub ComesOut : Worked → Type 0
+ComesOut w = Records w.script w.events w.session w.order
+
 -- Two virtual processors miss the same page; the page is lost on its way and sent again.
 abbrev pub script_of_two : Scripted
 script_of_two = record {
@@ -175,6 +185,14 @@ abbrev pub order_of_lane : List Name
 order_of_lane =
     (Guest, 0) ∷ (FromSource, 0) ∷ (FromSource, 1) ∷ (FromSource, 2) ∷ (Link, 0) ∷ (Pager, 0) ∷ (Pager, 1) ∷ (Guest, 1) ∷ (Lane, 0)
     ∷ (Pager, 2) ∷ (Pager, 3) ∷ (Guest, 2) ∷ (Guest, 3) ∷ []
+
+abbrev pub worked_runs : List Worked
+worked_runs =
+    (record { script = script_of_two; events = events_of_two; session = session_of_two; order = order_of_two })
+    ∷ (record { script = script_of_one; events = events_of_one; session = session_of_one; order = order_of_one })
+    ∷ (record { script = script_of_release; events = events_of_release; session = session_of_release; order = order_of_release })
+    ∷ (record { script = script_of_lane; events = events_of_lane; session = session_of_lane; order = order_of_lane })
+    ∷ []
 
 -- the virtual processors that the next delivery of the pager wakes
 abbrev pub woken_in : Books → List ℕ

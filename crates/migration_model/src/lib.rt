@@ -2,9 +2,10 @@
 #![tactic(auto)]
 
 ghost use Rattle.std.specs.Prelude.{◌≡◌, ℕ, ◌<◌, true, List, [], ◌∷◌, Some, take};
+ghost use Rattle.std.specs.List.{AllByRecursion};
 ghost use Rattle.migration_model.specs.Books.{Recording, Scripted, IsScript};
 ghost use Rattle.migration_model.specs.Events.{start, step, run};
-ghost use Rattle.migration_model.specs.Worked.{Records, script_of_two, events_of_two, session_of_two, order_of_two, script_of_one, events_of_one, session_of_one, order_of_one, script_of_release, events_of_release, session_of_release, order_of_release, script_of_lane, events_of_lane, session_of_lane, order_of_lane, woken_next, offers, source_calls, small_source, source_offers, source_records, IsRefusedWhenFull};
+ghost use Rattle.migration_model.specs.Worked.{ComesOut, worked_runs, script_of_two, events_of_two, woken_next, offers, source_calls, small_source, source_offers, source_records, IsRefusedWhenFull};
 ghost use Rattle.migration_model.specs.Orderly.{AreOrderly};
 ghost use Rattle.migration_model.specs.Promise.{IsFaultlessRecording, IsReached, SomeRunIsDone};
 
@@ -32,14 +33,11 @@ pub fn premises_can_be_met()
     ensures { SomeRunIsDone }
 {}
 
-/// Worked runs: what four scripts with their events record, and in which order, and whom the last delivery of the first
+/// Worked runs: what scripts with their events record, and in which order, and whom the last delivery of the first
 /// wakes; what a source offers and records; and that a record for which there is no room is refused, and none but such.
 pub fn worked_runs_come_out_so()
-    ensures two { Records script_of_two events_of_two session_of_two order_of_two }
+    ensures runs { AllByRecursion ComesOut worked_runs }
     ensures woken { woken_next (run (take 17 events_of_two) (start script_of_two)) ≡ 0 ∷ 1 ∷ [] }
-    ensures one { Records script_of_one events_of_one session_of_one order_of_one }
-    ensures release { Records script_of_release events_of_release session_of_release order_of_release }
-    ensures lane { Records script_of_lane events_of_lane session_of_lane order_of_lane }
     ensures source { offers source_calls small_source ≡ (source_offers, source_records) }
     ensures full { IsRefusedWhenFull }
 {}
