@@ -15,6 +15,15 @@ pub(crate) enum Fault {
     Astray,
 }
 
+/// A point that a virtual processor comes to.
+#[derive(Clone, Copy)]
+pub(crate) enum Point {
+    /// Its move.
+    Move,
+    /// Its end.
+    End,
+}
+
 /// What has happened so far.
 #[derive(Drop)]
 struct Moves {
@@ -110,18 +119,13 @@ impl Bell {
         self.delivered.notify_all();
     }
 
-    /// A virtual processor is at its move.
-    pub(crate) fn arrive<R: Wait>(&self, rt: &R) {
+    /// A virtual processor has come to this point.
+    pub(crate) fn reach<R: Wait>(&self, rt: &R, point: Point) {
         let mut moves = self.moves.lock(rt);
-        moves.arrived = moves.arrived.saturating_add(1);
-        moves.events = moves.events.wrapping_add(1);
-        self.moved.notify_all();
-    }
-
-    /// A virtual processor has ended.
-    pub(crate) fn end<R: Wait>(&self, rt: &R) {
-        let mut moves = self.moves.lock(rt);
-        moves.ended = moves.ended.saturating_add(1);
+        match point {
+            Point::Move => moves.arrived = moves.arrived.saturating_add(1),
+            Point::End => moves.ended = moves.ended.saturating_add(1),
+        }
         moves.events = moves.events.wrapping_add(1);
         self.moved.notify_all();
     }

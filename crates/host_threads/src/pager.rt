@@ -13,7 +13,9 @@ use crate::bell::Fault;
 use crate::gate::Gate;
 use crate::shared::{Shared, Turn, told, told_to_all};
 use crate::side::TargetSide;
-use book_events::{pager_deliver, pager_fault, pager_flush, pager_pop, pager_pull, pager_tick};
+use book_events::paging::{
+    pager_deliver, pager_fault, pager_flush, pager_pop, pager_pull, pager_tick,
+};
 use link_book::LinkBook;
 use migration_events::Event;
 use migration_types::{Geometry, PageNo};

@@ -24,7 +24,7 @@ use crate::shared::Shared;
 use crate::side::TargetSide;
 use crate::source::run_source;
 use crate::vcpu::run_vcpu;
-use book_events::logs_of;
+use book_events::logs::logs_of;
 use guest_book::GuestBook;
 use host_checks::{Migrated, RunFault, Transcript, settle};
 use link_book::LinkBook;

@@ -3,7 +3,8 @@
 ghost use Rattle.std.specs.Prelude.{◌≡◌, ◌≤◌, IfOk, OnErr};
 ghost use Rattle.host_threads.specs.Sides.{Halts};
 
-use book_events::{EventFault, halt};
+use book_events::EventFault;
+use book_events::halting::halt;
 use guest_book::GuestBook;
 use link_book::LinkBook;
 use pager_book::TargetBook;

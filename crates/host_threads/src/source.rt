@@ -10,7 +10,7 @@ use crate::bell::Fault;
 use crate::gate::Gate;
 use crate::shared::{Shared, Turn, of_event, told};
 use crate::side::TargetSide;
-use book_events::{push, serve, source_tick};
+use book_events::sending::{push, serve, source_tick};
 use link_book::LinkBook;
 use migration_events::Event;
 use migration_types::PageNo;

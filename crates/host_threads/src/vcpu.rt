@@ -6,7 +6,7 @@ ghost use Rattle.guest_book.specs.Books.{part_of as guest_of};
 ghost use Rattle.target_book.specs.Kept.{geometry_of, part_of as target_of};
 ghost use Rattle.host_threads.specs.Operations.{IsGuestStep, IsTargetStep};
 
-use crate::bell::Fault;
+use crate::bell::{Fault, Point};
 use crate::gate::Gate;
 use crate::shared::{Shared, of_target};
 use crate::side::TargetSide;
@@ -186,9 +186,9 @@ pub(crate) fn run_vcpu<R: Wait, G: Gate>(
     let mut answers = Vec::new(alloc);
     let (before, after) = (script.before_move.as_slice(), script.after_move.as_slice());
     if run_ops(rt, shared, gate, vcpu, Place::Source, before, &mut answers) {
-        shared.bell.arrive(rt);
+        shared.bell.reach(rt, Point::Move);
         if run_ops(rt, shared, gate, vcpu, Place::Target, after, &mut answers) {
-            shared.bell.end(rt);
+            shared.bell.reach(rt, Point::End);
         }
     }
     Seq::from_vec(answers)

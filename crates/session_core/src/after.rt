@@ -5,17 +5,16 @@ ghost use Rattle.migration_types.specs.Sessions.{IsSession};
 ghost use Rattle.migration_model.specs.Books.{session_after};
 ghost use Rattle.migration_model.specs.Events.{away_event, has_room};
 ghost use Rattle.migration_model.specs.Orderly.{IsOrderly};
+ghost use Rattle.book_events.specs.Logs.{logs_in};
 ghost use Rattle.session_core.specs.States.{away_of, IsAfter};
 
 use crate::CoreFault;
-use crate::copies::copies;
 use crate::left::Left;
-use book_events::logs_of;
+use book_events::logs::{LentLogs, logs_of};
+use book_events::{paging, sending};
 use link_book::LinkBook;
 use migration_events::Event;
-use migration_types::{
-    GuestRec, InitPage, LaneRec, LinkRec, Logs, PagerRec, Seq, Session, SourceRec,
-};
+use migration_types::{InitPage, Seq, Session};
 use pager_book::{Access, PagerBook, TargetBook};
 use script::Script;
 use source_book::SourceBook;
@@ -64,32 +63,32 @@ impl<'a> AfterHalt<'a> {
             Event::Push => {
                 let has_lane = self.script.lane().is_some();
                 let window = self.script.window();
-                book_events::push(&mut self.source, &mut self.link, window, has_lane)?;
+                sending::push(&mut self.source, &mut self.link, window, has_lane)?;
             }
             Event::Serve => {
-                book_events::serve(&mut self.source, &mut self.link)?;
+                sending::serve(&mut self.source, &mut self.link)?;
             }
             Event::SourceTick => {
-                book_events::source_tick(&mut self.source, &mut self.link)?;
+                sending::source_tick(&mut self.source, &mut self.link)?;
             }
             Event::LinkTurn { direction, fate } => self.link.turn(direction, fate)?,
             Event::PagerPop => {
-                book_events::pager_pop(&mut self.link, &mut self.pager)?;
+                paging::pager_pop(&mut self.link, &mut self.pager)?;
             }
             Event::PagerPull => {
-                book_events::pager_pull(&mut self.link, &mut self.pager)?;
+                paging::pager_pull(&mut self.link, &mut self.pager)?;
             }
             Event::PagerFault => {
-                book_events::pager_fault(&mut self.pager, &mut self.target)?;
+                paging::pager_fault(&mut self.pager, &mut self.target)?;
             }
             Event::PagerFlush => {
-                book_events::pager_flush(&mut self.link, &mut self.pager)?;
+                paging::pager_flush(&mut self.link, &mut self.pager)?;
             }
             Event::PagerDeliver => {
-                book_events::pager_deliver(&mut self.pager, &mut self.target)?;
+                paging::pager_deliver(&mut self.pager, &mut self.target)?;
             }
             Event::PagerTick => {
-                book_events::pager_tick(&mut self.link, &mut self.pager)?;
+                paging::pager_tick(&mut self.link, &mut self.pager)?;
             }
         }
         Ok(())
@@ -116,39 +115,16 @@ impl<'a> AfterHalt<'a> {
         Ok(())
     }
 
-    /// The guest's log.
-    pub fn guest_log(&self) -> &[GuestRec]
-        ensures { result.now ≡ (away_of self.now).target.log }
+    /// What was recorded so far, lent.
+    pub fn logs(&self) -> LentLogs<'_>
+        ensures { result ≡ logs_in (session_after (away_of self.now)) }
     {
-        self.target.guest_log()
-    }
-
-    /// The source's log.
-    pub fn source_log(&self) -> &[SourceRec]
-        ensures { result.now ≡ (away_of self.now).source.log }
-    {
-        self.source.source_log()
-    }
-
-    /// The link's log.
-    pub fn link_log(&self) -> &[LinkRec]
-        ensures { result.now ≡ (away_of self.now).link.log }
-    {
-        self.link.link_log()
-    }
-
-    /// The lane's log.
-    pub fn lane_log(&self) -> &[LaneRec]
-        ensures { result.now ≡ (away_of self.now).link.lane_log }
-    {
-        self.link.lane_log()
-    }
-
-    /// The pager's log.
-    pub fn pager_log(&self) -> &[PagerRec]
-        ensures { result.now ≡ (away_of self.now).pager.log }
-    {
-        self.pager.pager_log()
+        LentLogs::of_books(
+            self.target.guest_log(),
+            &self.source,
+            &self.link,
+            &self.pager,
+        )
     }
 
     /// What was recorded so far, copied, where it is within the limits of a session. An error: there is no memory for
@@ -158,18 +134,7 @@ impl<'a> AfterHalt<'a> {
         ensures { IfOk result (λ s. s ≡ session_after (away_of self.now)) }
     {
         let init = self.script.copied_init(self.alloc)?;
-        let guest = Vec::from_slice(self.alloc, self.guest_log())?;
-        let source = copies(self.alloc, self.source_log())?;
-        let link = Vec::from_slice(self.alloc, self.link_log())?;
-        let lane = Vec::from_slice(self.alloc, self.lane_log())?;
-        let pager = copies(self.alloc, self.pager_log())?;
-        let logs = Logs {
-            guest: Seq::from_vec(guest),
-            source,
-            link: Seq::from_vec(link),
-            lane: Seq::from_vec(lane),
-            pager,
-        };
+        let logs = self.logs().copied(self.alloc)?;
         Ok(Session::new(self.script.version(), self.source.geometry(), init, logs))
     }
 

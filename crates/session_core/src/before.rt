@@ -1,9 +1,10 @@
 //! A migration before its halt.
 
-ghost use Rattle.std.specs.Prelude.{◌≡◌, true, false, [], slice_get, IfOk, IfErr, OnOk, OnErr, IsErrOf};
+ghost use Rattle.std.specs.Prelude.{◌≡◌, true, false, slice_get, IfOk, IfErr, OnOk, OnErr, IsErrOf};
 ghost use Rattle.migration_types.specs.Sessions.{IsSession};
 ghost use Rattle.migration_model.specs.Books.{Before, IsScript, session_of, session_before, session_after};
 ghost use Rattle.migration_model.specs.Events.{start, home_step, home_event, all_at_move, halted, has_room};
+ghost use Rattle.book_events.specs.Logs.{logs_in};
 ghost use Rattle.pager_book.specs.PagerLists.{part_of as pager_of};
 ghost use Rattle.pager_book.specs.PagerPart.{new_pager};
 ghost use Rattle.session_core.specs.States.{home_of, away_of, scripted_of, IsBefore};
@@ -11,10 +12,12 @@ ghost use Rattle.session_core.specs.States.{home_of, away_of, scripted_of, IsBef
 use crate::CoreFault;
 use crate::after::AfterHalt;
 use crate::left::{Left, all_left};
+use book_events::halting::halt;
+use book_events::logs::{LentLogs, logs_of_guest};
 use guest_book::GuestBook;
 use link_book::LinkBook;
 use migration_events::Event;
-use migration_types::{GuestRec, Logs, Seq, Session};
+use migration_types::Session;
 use pager_book::PagerBook;
 use script::Script;
 use std::alloc::{AllocError, Global};
@@ -130,7 +133,7 @@ impl<'a> BeforeHalt<'a> {
         } = self;
         script.keeps_limits();
         let mut link = LinkBook::new(alloc);
-        match book_events::halt(guest, &mut link, script.pivots()) {
+        match halt(guest, &mut link, script.pivots()) {
             Ok((source, target)) => Ok(AfterHalt {
                 alloc,
                 script,
@@ -152,11 +155,11 @@ impl<'a> BeforeHalt<'a> {
         }
     }
 
-    /// The guest's log.
-    pub fn guest_log(&self) -> &[GuestRec]
-        ensures { result.now ≡ (home_of self.now).guest.log }
+    /// What was recorded so far, lent: the guest's log.
+    pub fn logs(&self) -> LentLogs<'_>
+        ensures { result ≡ logs_in (session_before (home_of self.now)) }
     {
-        self.guest.guest_log()
+        LentLogs::of_guest(self.guest.guest_log())
     }
 
     /// What was recorded so far, copied, where it is within the limits of a session. An error: there is no memory for
@@ -166,8 +169,7 @@ impl<'a> BeforeHalt<'a> {
         ensures { IfOk result (λ s. s ≡ session_before (home_of self.now)) }
     {
         let init = self.script.copied_init(self.alloc)?;
-        let guest = Vec::from_slice(self.alloc, self.guest.guest_log())?;
-        let logs = guest_logs(self.alloc, guest);
+        let logs = self.logs().copied(self.alloc)?;
         Ok(Session::new(self.script.version(), self.guest.geometry(), init, logs))
     }
 
@@ -185,7 +187,7 @@ impl<'a> BeforeHalt<'a> {
             ..
         } = self;
         let geometry = guest.geometry();
-        let logs = guest_logs(alloc, guest.into_log());
+        let logs = logs_of_guest(alloc, guest.into_log());
         Ok(Session::new(script.version(), geometry, init, logs))
     }
 
@@ -195,18 +197,5 @@ impl<'a> BeforeHalt<'a> {
         ensures room { has_room (session_before (home_of self.now)) ≡ true }
     {
         self.guest.keeps_limits();
-    }
-}
-
-/// The logs where nobody but the guest recorded anything. Takes no memory.
-fn guest_logs(alloc: Global, guest: Vec<GuestRec>) -> Logs
-    ensures { result ≡ record { guest = guest.items; source = []; link = []; lane = []; pager = [] } }
-{
-    Logs {
-        guest: Seq::from_vec(guest),
-        source: Seq::from_vec(Vec::new(alloc)),
-        link: Seq::from_vec(Vec::new(alloc)),
-        lane: Seq::from_vec(Vec::new(alloc)),
-        pager: Seq::from_vec(Vec::new(alloc)),
     }
 }

@@ -4,7 +4,6 @@
 
 mod after;
 mod before;
-mod copies;
 mod cores;
 mod left;
 mod names;

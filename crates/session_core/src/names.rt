@@ -1,43 +1,28 @@
 //! The names of the records that an event appends.
 
-ghost use Rattle.std.specs.Prelude.{◌≡◌, ◌+◌, ◌-◌, ◌≤◌, ◌++◌, vec_len, vec_capacity};
+ghost use Rattle.std.specs.Prelude.{◌≡◌, ◌+◌, ◌-◌, ◌*◌, ◌≤◌, ◌++◌, length, vec_len, vec_capacity};
 ghost use Rattle.migration_types.specs.Limits.{most_records};
-ghost use Rattle.migration_types.specs.Receipts.{Name};
+ghost use Rattle.migration_types.specs.Receipts.{logs};
+ghost use Rattle.migration_types.specs.declared.records.LogName.{LogName as Log};
 ghost use Rattle.audit_model.specs.Mergings.{run_names};
-ghost use Rattle.session_core.specs.Names.{names_between};
+ghost use Rattle.session_core.specs.Names.{length_in, names_between};
 
-use migration_types::LogName;
+use migration_types::{LOG_COUNT, LogName, logs};
 
-/// How many records each log has.
-#[derive(Clone, Copy)]
-pub struct Lengths {
-    pub guest: usize,
-    pub source: usize,
-    pub link: usize,
-    pub lane: usize,
-    pub pager: usize,
-}
+/// An event appends to all logs at most so many records, to each at most two.
+pub const MOST_NAMES: usize = 2 * LOG_COUNT;
 
-/// Appends the names of the records by which the logs have grown, at most two each, for which there is room.
-pub fn push_names(order: &mut Vec<(LogName, u32)>, old: Lengths, new: Lengths)
-    requires room { vec_len order.old + 10 ≤ vec_capacity order.old }
-    requires guest { new.guest ≤ old.guest + 2 }
-    requires source { new.source ≤ old.source + 2 }
-    requires link { new.link ≤ old.link + 2 }
-    requires lane { new.lane ≤ old.lane + 2 }
-    requires pager { new.pager ≤ old.pager + 2 }
-    requires few_guest { new.guest ≤ most_records }
-    requires few_source { new.source ≤ most_records }
-    requires few_link { new.link ≤ most_records }
-    requires few_lane { new.lane ≤ most_records }
-    requires few_pager { new.pager ≤ most_records }
-    ensures { order.new.items ≡ order.old.items ++ names_between old new }
+/// Appends the names of the records by which the logs have grown, at most two each, for which there is room. The lengths
+/// are in the order of the logs.
+pub fn push_names(order: &mut Vec<(LogName, u32)>, old: [usize; LOG_COUNT], new: [usize; LOG_COUNT])
+    requires room { vec_len order.old + 2 * length logs ≤ vec_capacity order.old }
+    requires grows { (log : Log) → length_in new log ≤ length_in old log + 2 }
+    requires few { (log : Log) → length_in new log ≤ most_records }
+    ensures { order.new.items ≡ order.old.items ++ names_between (length_in old) (length_in new) logs }
 {
-    push_run(order, LogName::Guest, old.guest, new.guest);
-    push_run(order, LogName::Source, old.source, new.source);
-    push_run(order, LogName::Link, old.link, new.link);
-    push_run(order, LogName::Lane, old.lane, new.lane);
-    push_run(order, LogName::Pager, old.pager, new.pager);
+    for log in logs() {
+        push_run(order, log, old[log.index()], new[log.index()]);
+    }
 }
 
 /// Appends the names of the records of a log between two places, for which there is room.

@@ -6,15 +6,14 @@ ghost use Rattle.session_core.specs.States.{home_of};
 ghost use Rattle.migration_model.specs.Books.{Before, session_of};
 ghost use Rattle.migration_model.specs.Events.{books_event, home_event, has_room};
 ghost use Rattle.session_core.specs.Cores.{books_of, IsHeld};
-ghost use Rattle.session_core.specs.Names.{lengths_of};
+ghost use Rattle.book_events.specs.Logs.{lengths_of, logs_in};
 ghost use Rattle.migration_model.specs.Orderly.{AreOrderly};
 
 use crate::CoreFault;
 use crate::after::AfterHalt;
 use crate::before::BeforeHalt;
-use crate::names::Lengths;
 use migration_events::Event;
-use migration_types::Session;
+use migration_types::{LOG_COUNT, Session};
 use std::alloc::AllocError;
 use std::mem::{self, drop};
 
@@ -63,32 +62,14 @@ impl<'a> State<'a> {
         answer
     }
 
-    /// How many records each log has.
-    pub fn lengths(&self) -> Lengths
-        ensures { result ≡ lengths_of (session_of (books_of self.now)) }
+    /// How many records each log has, in the order of the logs.
+    pub fn lengths(&self) -> [usize; LOG_COUNT]
+        ensures { result ≡ lengths_of (logs_in (session_of (books_of self.now))) }
     {
         match self {
-            State::Before(before) => Lengths {
-                guest: before.guest_log().len(),
-                source: 0,
-                link: 0,
-                lane: 0,
-                pager: 0,
-            },
-            State::After(after) => Lengths {
-                guest: after.guest_log().len(),
-                source: after.source_log().len(),
-                link: after.link_log().len(),
-                lane: after.lane_log().len(),
-                pager: after.pager_log().len(),
-            },
-            State::Halting => Lengths {
-                guest: 0,
-                source: 0,
-                link: 0,
-                lane: 0,
-                pager: 0,
-            },
+            State::Before(before) => before.logs().lengths(),
+            State::After(after) => after.logs().lengths(),
+            State::Halting => [0; LOG_COUNT],
         }
     }
 

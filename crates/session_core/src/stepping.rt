@@ -6,7 +6,7 @@ ghost use Rattle.migration_model.specs.Promise.{IsReached};
 ghost use Rattle.session_core.specs.Cores.{machine, IsHeld};
 
 use crate::CoreFault;
-use crate::names::push_names;
+use crate::names::{MOST_NAMES, push_names};
 use crate::state::State;
 use migration_events::Event;
 use migration_types::LogName;
@@ -25,8 +25,7 @@ pub fn step_books(
     ensures full { IsErrOf result CoreFault.LogFull → step event (machine state.old order.old.items) ≡ None }
     ensures err { OnErr result (machine state.new order.new.items ≡ machine state.old order.old.items) }
 {
-    // No event appends more than two records to a log.
-    order.reserve(10)?;
+    order.reserve(MOST_NAMES)?;
     let old = state.lengths();
     state.event(event)?;
     state.keeps_limits();

@@ -4,7 +4,9 @@
 use crate::pagers::begins;
 use crate::sources::after_halt;
 use crate::want;
-use book_events::{Came, pager_pull, push};
+use book_events::Came;
+use book_events::paging::pager_pull;
+use book_events::sending::push;
 use link_book::{LinkBook, LinkFault};
 use migration_events::{Direction, Fate};
 use migration_types::{Contents, Geometry, LaneRec, PageNo, PagerRec, Shared};

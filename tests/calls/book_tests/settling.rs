@@ -2,7 +2,8 @@
 //! there is neither a miss to learn of nor a page to place.
 
 use crate::pagers::begins;
-use book_events::{Came, pager_deliver, pager_fault};
+use book_events::Came;
+use book_events::paging::{pager_deliver, pager_fault};
 use migration_events::Op;
 use migration_types::{Geometry, PageNo};
 use page_stream::Packet;

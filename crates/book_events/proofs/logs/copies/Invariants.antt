@@ -1,5 +1,5 @@
 use Rattle.std.proofs.Common.{◌≡◌, take}
-use Rattle.session_core.proofs.copies.copies.Given as goal
+use Rattle.book_events.proofs.logs.copies.Given as goal
 
 abbrev pub invariant-loop-item : goal.invariant-loop-item
 invariant-loop-item g l = l.copies.items ≡ take l.item-index l.items
