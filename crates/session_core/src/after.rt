@@ -5,7 +5,6 @@ ghost use Rattle.migration_types.specs.Sessions.{IsSession};
 ghost use Rattle.migration_model.specs.Books.{session_after};
 ghost use Rattle.migration_model.specs.Events.{away_event, has_room};
 ghost use Rattle.migration_model.specs.Orderly.{IsOrderly};
-ghost use Rattle.book_events.specs.Logs.{logs_in};
 ghost use Rattle.session_core.specs.States.{away_of, IsAfter};
 
 use crate::CoreFault;
@@ -46,6 +45,8 @@ impl<'a> Model for AfterHalt<'a> {
 }
 
 impl<'a> AfterHalt<'a> {
+    ghost use Rattle.book_events.specs.Logs.{logs_in};
+
     /// An event on these books, which are then what the definition of the event makes of them; what arrived is of the
     /// script's machine, and no page is missed before the state has come. One that finds nothing to do, as a halt once
     /// more, changes nothing. `CoreFault::LogFull` only where a log has no room for the event's records, and
