@@ -5,6 +5,7 @@ use crate::lane::LaneLines;
 use crate::link::LinkLines;
 use crate::pager::PagerLines;
 use crate::pages::InitLines;
+use crate::records::Records;
 use crate::source::SourceLines;
 use migration_types::{GuestRec, InitPage, LaneRec, LinkRec, PagerRec, SourceRec};
 use std::thread::Threads;
@@ -12,11 +13,11 @@ use text_lines::{Alone, ItemCrew, Team, take_parts};
 
 /// A crew that takes the initial pages and the records of each log.
 pub(crate) trait SessionCrew: ItemCrew<InitLines>
-    + ItemCrew<GuestLines>
-    + ItemCrew<SourceLines>
-    + ItemCrew<LinkLines>
-    + ItemCrew<LaneLines>
-    + ItemCrew<PagerLines> {}
+    + ItemCrew<Records<GuestLines>>
+    + ItemCrew<Records<SourceLines>>
+    + ItemCrew<Records<LinkLines>>
+    + ItemCrew<Records<LaneLines>>
+    + ItemCrew<Records<PagerLines>> {}
 
 impl SessionCrew for Alone {}
 
@@ -34,10 +35,10 @@ impl<'a, H: Threads + Sync> ItemCrew<InitLines> for Team<'a, H> {
     }
 }
 
-impl<'a, H: Threads + Sync> ItemCrew<GuestLines> for Team<'a, H> {
+impl<'a, H: Threads + Sync> ItemCrew<Records<GuestLines>> for Team<'a, H> {
     fn take<'b>(
         &self,
-        form: &GuestLines,
+        form: &Records<GuestLines>,
         items: &mut Vec<GuestRec>,
         most: u32,
         bytes: &'b [u8],
@@ -46,10 +47,10 @@ impl<'a, H: Threads + Sync> ItemCrew<GuestLines> for Team<'a, H> {
     }
 }
 
-impl<'a, H: Threads + Sync> ItemCrew<SourceLines> for Team<'a, H> {
+impl<'a, H: Threads + Sync> ItemCrew<Records<SourceLines>> for Team<'a, H> {
     fn take<'b>(
         &self,
-        form: &SourceLines,
+        form: &Records<SourceLines>,
         items: &mut Vec<SourceRec>,
         most: u32,
         bytes: &'b [u8],
@@ -58,10 +59,10 @@ impl<'a, H: Threads + Sync> ItemCrew<SourceLines> for Team<'a, H> {
     }
 }
 
-impl<'a, H: Threads + Sync> ItemCrew<LinkLines> for Team<'a, H> {
+impl<'a, H: Threads + Sync> ItemCrew<Records<LinkLines>> for Team<'a, H> {
     fn take<'b>(
         &self,
-        form: &LinkLines,
+        form: &Records<LinkLines>,
         items: &mut Vec<LinkRec>,
         most: u32,
         bytes: &'b [u8],
@@ -70,10 +71,10 @@ impl<'a, H: Threads + Sync> ItemCrew<LinkLines> for Team<'a, H> {
     }
 }
 
-impl<'a, H: Threads + Sync> ItemCrew<LaneLines> for Team<'a, H> {
+impl<'a, H: Threads + Sync> ItemCrew<Records<LaneLines>> for Team<'a, H> {
     fn take<'b>(
         &self,
-        form: &LaneLines,
+        form: &Records<LaneLines>,
         items: &mut Vec<LaneRec>,
         most: u32,
         bytes: &'b [u8],
@@ -82,10 +83,10 @@ impl<'a, H: Threads + Sync> ItemCrew<LaneLines> for Team<'a, H> {
     }
 }
 
-impl<'a, H: Threads + Sync> ItemCrew<PagerLines> for Team<'a, H> {
+impl<'a, H: Threads + Sync> ItemCrew<Records<PagerLines>> for Team<'a, H> {
     fn take<'b>(
         &self,
-        form: &PagerLines,
+        form: &Records<PagerLines>,
         items: &mut Vec<PagerRec>,
         most: u32,
         bytes: &'b [u8],

@@ -9,13 +9,30 @@ ghost use Rattle.session_text.specs.Records.{access_text, vcpu_page_text, guest_
 
 use crate::fields::numbered_then;
 use crate::forms::Sizes;
-use crate::keys::{HALT, MISS_KEY, READ_KEY, RELEASE_KEY, RESUME_KEY, SEE_KEY, WRITE_KEY};
+use crate::records::RecordForm;
 use migration_types::{GuestRec, LAST_VCPU, PageNo};
 use std::alloc::AllocError;
 use text_lines::{
-    FaultKind, LineForm, after_end, after_key, end_line, front_number, number_last, number_then,
-    push_keyed, push_line, push_number, push_then, short_then, value_last,
+    FaultKind, after_end, after_key, end_line, front_number, number_last, number_then, push_keyed,
+    push_line, push_number, push_then, short_then, value_last,
 };
+
+/// How the line with the number of the guest's records begins.
+pub(crate) const GUEST_KEY: &[u8] = b"guest ";
+
+const READ_KEY: &[u8] = b"r ";
+
+const WRITE_KEY: &[u8] = b"w ";
+
+const RELEASE_KEY: &[u8] = b"z ";
+
+const MISS_KEY: &[u8] = b"miss ";
+
+const HALT: &[u8] = b"halt";
+
+const RESUME_KEY: &[u8] = b"resume ";
+
+const SEE_KEY: &[u8] = b"see ";
 
 /// The processor, page, cell and value of a read or a write at the front, and what follows. Nothing follows where the text
 /// is theirs alone.
@@ -240,8 +257,8 @@ fn push_guest_record(out: &mut Vec<u8>, rec: &GuestRec) -> Result<(), AllocError
 #[derive(Clone, Copy)]
 pub(crate) struct GuestLines(pub Sizes);
 
-impl LineForm for GuestLines {
-    type Item = GuestRec;
+impl RecordForm for GuestLines {
+    type Record = GuestRec;
 
     ghost use Rattle.session_text.specs.inner.Forms.{extent_of};
 
@@ -251,17 +268,15 @@ impl LineForm for GuestLines {
 
     ghost Fits = { λ f r. GuestRecFits (extent_of f.0) r };
 
-    ghost by_last = { λ a b x y h. h };
-
-    fn read(&self, _before: &[GuestRec], line: &[u8]) -> Result<GuestRec, FaultKind> {
-        match guest_then(line, self.0.pages, self.0.cells) {
-            Some((record, rest)) if rest.is_empty() => Ok(record),
-            _ => Err(FaultKind::Form),
+    fn record_then<'a>(&self, text: &'a [u8]) -> Result<(GuestRec, &'a [u8]), FaultKind> {
+        match guest_then(text, self.0.pages, self.0.cells) {
+            Some((record, rest)) => Ok((record, rest)),
+            None => Err(FaultKind::Form),
         }
     }
 
     #[inline(always)]
-    fn front<'a>(&self, _before: &[GuestRec], text: &'a [u8]) -> Option<(GuestRec, &'a [u8])> {
+    fn front<'a>(&self, text: &'a [u8]) -> Option<(GuestRec, &'a [u8])> {
         if let Some((record, rest)) = front_use(text, self.0.pages, self.0.cells) {
             return Some((record, rest));
         }
@@ -271,12 +286,8 @@ impl LineForm for GuestLines {
         }
     }
 
-    fn may_follow(&self, _before: &[GuestRec], _item: &GuestRec) -> bool {
-        true
-    }
-
     #[inline(always)]
-    fn push(item: &GuestRec, out: &mut Vec<u8>) -> Result<(), AllocError> {
-        push_guest_record(out, item)
+    fn push(rec: &GuestRec, out: &mut Vec<u8>) -> Result<(), AllocError> {
+        push_guest_record(out, rec)
     }
 }

@@ -7,10 +7,14 @@ ghost use Rattle.migration_types.specs.declared.version.Version.TheVariants.{Two
 ghost use Rattle.session_text.specs.Records.{lane_line};
 
 use crate::fields::numbered_then;
-use crate::keys::DOWN_KEY;
+use crate::link::DOWN_KEY;
+use crate::records::RecordForm;
 use migration_types::LaneRec;
 use std::alloc::AllocError;
-use text_lines::{FaultKind, LineForm, after_end, push_keyed};
+use text_lines::{FaultKind, push_keyed};
+
+/// How the line with the number of the lane's records begins.
+pub(crate) const LANE_KEY: &[u8] = b"lane ";
 
 /// The record at the front, and what follows. Nothing follows where the text is its line alone.
 #[inline(always)]
@@ -36,8 +40,8 @@ fn push_lane_record(out: &mut Vec<u8>, rec: &LaneRec) -> Result<(), AllocError>
 #[derive(Clone, Copy)]
 pub(crate) struct LaneLines;
 
-impl LineForm for LaneLines {
-    type Item = LaneRec;
+impl RecordForm for LaneLines {
+    type Record = LaneRec;
 
     ghost spell = { lane_line };
 
@@ -45,27 +49,16 @@ impl LineForm for LaneLines {
 
     ghost Fits = { λ f r. LaneRecFits Two r };
 
-    ghost by_last = { λ a b x y h. h };
-
-    fn read(&self, _before: &[LaneRec], line: &[u8]) -> Result<LaneRec, FaultKind> {
-        match lane_then(line) {
-            Some((record, rest)) if rest.is_empty() => Ok(record),
-            _ => Err(FaultKind::Form),
+    #[inline(always)]
+    fn record_then<'a>(&self, text: &'a [u8]) -> Result<(LaneRec, &'a [u8]), FaultKind> {
+        match lane_then(text) {
+            Some((record, rest)) => Ok((record, rest)),
+            None => Err(FaultKind::Form),
         }
     }
 
     #[inline(always)]
-    fn front<'a>(&self, _before: &[LaneRec], text: &'a [u8]) -> Option<(LaneRec, &'a [u8])> {
-        let (record, rest) = lane_then(text)?;
-        Some((record, after_end(rest)?))
-    }
-
-    fn may_follow(&self, _before: &[LaneRec], _item: &LaneRec) -> bool {
-        true
-    }
-
-    #[inline(always)]
-    fn push(item: &LaneRec, out: &mut Vec<u8>) -> Result<(), AllocError> {
-        push_lane_record(out, item)
+    fn push(rec: &LaneRec, out: &mut Vec<u8>) -> Result<(), AllocError> {
+        push_lane_record(out, rec)
     }
 }

@@ -20,16 +20,17 @@ mod pager;
 mod pages;
 mod parts;
 mod places;
+mod records;
 mod rows;
 mod source;
 mod versions;
 mod writing;
 
-use crate::guest::GuestLines;
-use crate::keys::{GUEST_KEY, LINK_KEY, PAGER_KEY, SOURCE_KEY};
-use crate::link::LinkLines;
-use crate::pager::PagerLines;
-use crate::source::SourceLines;
+use crate::guest::{GUEST_KEY, GuestLines};
+use crate::link::{LINK_KEY, LinkLines};
+use crate::pager::{PAGER_KEY, PagerLines};
+use crate::records::Records;
+use crate::source::{SOURCE_KEY, SourceLines};
 use crate::versions::{header, push_lane};
 pub use contents::read_contents;
 pub use forms::Sizes;
@@ -74,11 +75,11 @@ pub fn write_session(alloc: Global, session: &Session) -> Result<Vec<u8>, AllocE
     push_keyed(&mut out, PAGES_KEY, geometry.pages())?;
     push_keyed(&mut out, CELLS_KEY, geometry.cells())?;
     push_counted::<InitLines>(&mut out, INIT_KEY, session.init())?;
-    push_counted::<GuestLines>(&mut out, GUEST_KEY, session.guest())?;
-    push_counted::<SourceLines>(&mut out, SOURCE_KEY, session.source())?;
-    push_counted::<LinkLines>(&mut out, LINK_KEY, session.link())?;
+    push_counted::<Records<GuestLines>>(&mut out, GUEST_KEY, session.guest())?;
+    push_counted::<Records<SourceLines>>(&mut out, SOURCE_KEY, session.source())?;
+    push_counted::<Records<LinkLines>>(&mut out, LINK_KEY, session.link())?;
     push_lane(&mut out, session)?;
-    push_counted::<PagerLines>(&mut out, PAGER_KEY, session.pager())?;
+    push_counted::<Records<PagerLines>>(&mut out, PAGER_KEY, session.pager())?;
     push_line(&mut out, CLOSING)?;
     Ok(out)
 }

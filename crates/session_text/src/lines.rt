@@ -1,11 +1,10 @@
 //! Reading a session's text line by line.
 
 ghost use Rattle.std.specs.Prelude.{◌≡◌, ◌≢◌, List, ℕ, [], ◌∷◌, ◌++◌, ◌+◌, ◌<◌, ◌^◌, length, IfSome, IfNone, OnOk, OnErr, IfErr};
-ghost use Rattle.text_lines.specs.Text.{Begins, TakesLines};
+ghost use Rattle.text_lines.specs.Text.{Begins};
 ghost use Rattle.migration_types.specs.Sessions.{Recorded};
 ghost use Rattle.session_text.specs.Grammar.{SpellsSession};
 
-use crate::crews::SessionCrew;
 use crate::parts::{Parts, Stage};
 use migration_types::{Geometry, Session};
 use std::alloc::Global;
@@ -75,15 +74,6 @@ impl SessionLines {
         }
     }
 
-    /// Takes as many of the first lines as are pages or records in plain form, and answers what follows them and how many
-    /// they were.
-    fn lines_by<'a, C: SessionCrew>(&mut self, crew: &C, bytes: &'a [u8]) -> (&'a [u8], u32)
-        requires { C.IsReady crew.now }
-        ensures { TakesLines self.old self.new bytes.now result.0.now result.1 }
-    {
-        self.parts.take_items(crew, self.stage, bytes)
-    }
-
     /// Takes the next line, or says why no text goes on with it and stays as it was.
     fn line(&mut self, line: &[u8]) -> Result<(), FaultKind>
         ensures ok { OnOk result (self.new ≡ self.old ++ line.now ∷ []) }
@@ -127,7 +117,7 @@ impl LineReader for SessionLines {
     }
 
     fn lines<'a>(&mut self, bytes: &'a [u8]) -> (&'a [u8], u32) {
-        self.lines_by(&Alone, bytes)
+        self.parts.take_items(&Alone, self.stage, bytes)
     }
 
     fn goes_on(&self) {
@@ -151,7 +141,8 @@ impl LinesApart for SessionLines {
         parts: usize,
         bytes: &'a [u8],
     ) -> (&'a [u8], u32) {
-        self.lines_by(&Team { rt, parts }, bytes)
+        self.parts
+            .take_items(&Team { rt, parts }, self.stage, bytes)
     }
 }
 

@@ -6,11 +6,18 @@ ghost use Rattle.migration_types.specs.declared.records.LinkRec.{LinkRec as Rec}
 ghost use Rattle.session_text.specs.Records.{link_line};
 
 use crate::fields::numbered_then;
-use crate::forms::Sizes;
-use crate::keys::{DOWN_KEY, UP_KEY};
+use crate::records::RecordForm;
 use migration_types::LinkRec;
 use std::alloc::AllocError;
-use text_lines::{FaultKind, LineForm, after_end, push_keyed};
+use text_lines::{FaultKind, push_keyed};
+
+/// How the line with the number of the link's records begins.
+pub(crate) const LINK_KEY: &[u8] = b"link ";
+
+/// How the line of a packet's way down begins.
+pub(crate) const DOWN_KEY: &[u8] = b"down ";
+
+const UP_KEY: &[u8] = b"up ";
 
 /// The record at the front, and what follows. Nothing follows where the text is its line alone.
 #[inline(always)]
@@ -36,14 +43,12 @@ fn push_link_record(out: &mut Vec<u8>, rec: &LinkRec) -> Result<(), AllocError>
     }
 }
 
-/// The lines of the link's log, on a machine.
+/// The lines of the link's log.
 #[derive(Clone, Copy)]
-pub(crate) struct LinkLines(pub Sizes);
+pub(crate) struct LinkLines;
 
-impl LineForm for LinkLines {
-    type Item = LinkRec;
-
-    ghost use Rattle.session_text.specs.inner.Forms.{extent_of};
+impl RecordForm for LinkLines {
+    type Record = LinkRec;
 
     ghost spell = { link_line };
 
@@ -51,27 +56,16 @@ impl LineForm for LinkLines {
 
     ghost Fits = { λ f r. LinkRecFits r };
 
-    ghost by_last = { λ a b x y h. h };
-
-    fn read(&self, _before: &[LinkRec], line: &[u8]) -> Result<LinkRec, FaultKind> {
-        match link_then(line) {
-            Some((record, rest)) if rest.is_empty() => Ok(record),
-            _ => Err(FaultKind::Form),
+    #[inline(always)]
+    fn record_then<'a>(&self, text: &'a [u8]) -> Result<(LinkRec, &'a [u8]), FaultKind> {
+        match link_then(text) {
+            Some((record, rest)) => Ok((record, rest)),
+            None => Err(FaultKind::Form),
         }
     }
 
     #[inline(always)]
-    fn front<'a>(&self, _before: &[LinkRec], text: &'a [u8]) -> Option<(LinkRec, &'a [u8])> {
-        let (record, rest) = link_then(text)?;
-        Some((record, after_end(rest)?))
-    }
-
-    fn may_follow(&self, _before: &[LinkRec], _item: &LinkRec) -> bool {
-        true
-    }
-
-    #[inline(always)]
-    fn push(item: &LinkRec, out: &mut Vec<u8>) -> Result<(), AllocError> {
-        push_link_record(out, item)
+    fn push(rec: &LinkRec, out: &mut Vec<u8>) -> Result<(), AllocError> {
+        push_link_record(out, rec)
     }
 }

@@ -11,16 +11,34 @@ ghost use Rattle.session_text.specs.Records.{placed_text, pager_line};
 
 use crate::fields::{contents_then, numbered_then, page_then};
 use crate::forms::Sizes;
-use crate::keys::{
-    ALL, FAULT_KEY, GOT_KEY, JOIN_KEY, PLACE_KEY, PULL_KEY, READY, SKIP_KEY, WANT_KEY, ZERO_KEY,
-};
+use crate::records::RecordForm;
 use crate::writing::push_contents;
 use migration_types::{Contents, LAST_RECORD, PageNo, PagerRec, Version};
 use std::alloc::{AllocError, Global};
-use text_lines::{
-    FaultKind, LineForm, after_end, after_key, end_line, number_then, push_keyed, push_line,
-    push_then,
-};
+use text_lines::{FaultKind, after_key, end_line, number_then, push_keyed, push_line, push_then};
+
+/// How the line with the number of the pager's records begins.
+pub(crate) const PAGER_KEY: &[u8] = b"pager ";
+
+const GOT_KEY: &[u8] = b"got ";
+
+const PULL_KEY: &[u8] = b"pull ";
+
+const READY: &[u8] = b"ready";
+
+const FAULT_KEY: &[u8] = b"fault ";
+
+const JOIN_KEY: &[u8] = b"join ";
+
+const WANT_KEY: &[u8] = b"want ";
+
+const PLACE_KEY: &[u8] = b"place ";
+
+const ZERO_KEY: &[u8] = b"zero ";
+
+const SKIP_KEY: &[u8] = b"skip ";
+
+const ALL: &[u8] = b"all";
 
 /// The page, the number and the contents of a placement at the front, and what follows. Nothing follows where the text is
 /// theirs alone.
@@ -161,8 +179,8 @@ pub(crate) struct PagerLines {
     pub sizes: Sizes,
 }
 
-impl LineForm for PagerLines {
-    type Item = PagerRec;
+impl RecordForm for PagerLines {
+    type Record = PagerRec;
 
     ghost use Rattle.session_text.specs.inner.Forms.{extent_of};
 
@@ -172,31 +190,14 @@ impl LineForm for PagerLines {
 
     ghost Fits = { λ f r. PagerRecFits f.version (extent_of f.sizes) r };
 
-    ghost by_last = { λ a b x y h. h };
-
-    fn read(&self, _before: &[PagerRec], line: &[u8]) -> Result<PagerRec, FaultKind> {
+    #[inline(always)]
+    fn record_then<'a>(&self, text: &'a [u8]) -> Result<(PagerRec, &'a [u8]), FaultKind> {
         let on = self.sizes;
-        let (record, rest) = pager_then(on.alloc, self.version, line, on.pages, on.cells)?;
-        if !rest.is_empty() {
-            return Err(FaultKind::Form);
-        }
-        Ok(record)
+        pager_then(on.alloc, self.version, text, on.pages, on.cells)
     }
 
     #[inline(always)]
-    fn front<'a>(&self, _before: &[PagerRec], text: &'a [u8]) -> Option<(PagerRec, &'a [u8])> {
-        let on = self.sizes;
-        let found = pager_then(on.alloc, self.version, text, on.pages, on.cells);
-        let (record, rest) = found.ok()?;
-        Some((record, after_end(rest)?))
-    }
-
-    fn may_follow(&self, _before: &[PagerRec], _item: &PagerRec) -> bool {
-        true
-    }
-
-    #[inline(always)]
-    fn push(item: &PagerRec, out: &mut Vec<u8>) -> Result<(), AllocError> {
-        push_pager_record(out, item)
+    fn push(rec: &PagerRec, out: &mut Vec<u8>) -> Result<(), AllocError> {
+        push_pager_record(out, rec)
     }
 }

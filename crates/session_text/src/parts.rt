@@ -7,14 +7,15 @@ ghost use Rattle.session_text.specs.inner.Steps.{count_at, draft_of, Steps, Step
 
 use crate::crews::SessionCrew;
 use crate::forms::Sizes;
-use crate::guest::GuestLines;
-use crate::keys::{CLOSING, GUEST_KEY, INIT_KEY, LANE_KEY, LINK_KEY, PAGER_KEY, SOURCE_KEY};
-use crate::lane::LaneLines;
-use crate::link::LinkLines;
+use crate::guest::{GUEST_KEY, GuestLines};
+use crate::keys::{CLOSING, INIT_KEY};
+use crate::lane::{LANE_KEY, LaneLines};
+use crate::link::{LINK_KEY, LinkLines};
 use crate::machine::{read_cells, read_pages};
-use crate::pager::PagerLines;
+use crate::pager::{PAGER_KEY, PagerLines};
 use crate::pages::{InitLines, next_page};
-use crate::source::SourceLines;
+use crate::records::Records;
+use crate::source::{SOURCE_KEY, SourceLines};
 use crate::versions::header;
 use migration_types::{
     GuestRec, InitPage, LaneRec, LinkRec, Logs, MOST_RECORDS, PagerRec, Seq, SourceRec, Version,
@@ -198,7 +199,7 @@ impl Parts {
             self.source = source;
             return Ok(Stage::Source);
         }
-        let form = GuestLines(self.sizes);
+        let form = Records(GuestLines(self.sizes));
         self.guest.line(&form, line)?;
         Ok(Stage::Guest)
     }
@@ -213,7 +214,7 @@ impl Parts {
             self.link = link;
             return Ok(Stage::Link);
         }
-        let form = SourceLines(self.sizes);
+        let form = Records(SourceLines(self.sizes));
         self.source.line(&form, line)?;
         Ok(Stage::Source)
     }
@@ -226,8 +227,7 @@ impl Parts {
         if self.link.is_whole() {
             return self.behind_link(line);
         }
-        let form = LinkLines(self.sizes);
-        self.link.line(&form, line)?;
+        self.link.line(&Records(LinkLines), line)?;
         Ok(Stage::Link)
     }
 
@@ -262,7 +262,7 @@ impl Parts {
             self.pager = pager;
             return Ok(Stage::Pager);
         }
-        self.lane.line(&LaneLines, line)?;
+        self.lane.line(&Records(LaneLines), line)?;
         Ok(Stage::Lane)
     }
 
@@ -277,10 +277,10 @@ impl Parts {
             }
             return Ok(Stage::Done);
         }
-        let form = PagerLines {
+        let form = Records(PagerLines {
             version: self.version,
             sizes: self.sizes,
-        };
+        });
         self.pager.line(&form, line)?;
         Ok(Stage::Pager)
     }
@@ -402,12 +402,12 @@ impl Parts {
         let version = self.version;
         match stage {
             Stage::Init => self.take_pages(crew, bytes),
-            Stage::Guest => self.guest.lines(crew, &GuestLines(sizes), bytes),
-            Stage::Source => self.source.lines(crew, &SourceLines(sizes), bytes),
-            Stage::Link => self.link.lines(crew, &LinkLines(sizes), bytes),
-            Stage::Lane => self.lane.lines(crew, &LaneLines, bytes),
+            Stage::Guest => self.guest.lines(crew, &Records(GuestLines(sizes)), bytes),
+            Stage::Source => self.source.lines(crew, &Records(SourceLines(sizes)), bytes),
+            Stage::Link => self.link.lines(crew, &Records(LinkLines), bytes),
+            Stage::Lane => self.lane.lines(crew, &Records(LaneLines), bytes),
             Stage::Pager => {
-                let form = PagerLines { version, sizes };
+                let form = Records(PagerLines { version, sizes });
                 self.pager.lines(crew, &form, bytes)
             }
             _ => (bytes, 0),

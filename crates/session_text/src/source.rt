@@ -10,11 +10,26 @@ ghost use Rattle.session_text.specs.Records.{page_text, source_line};
 
 use crate::fields::{contents_then, numbered_then};
 use crate::forms::Sizes;
-use crate::keys::{AGAIN_KEY, ASK_KEY, DONE, HALTED_KEY, SEND_KEY, STATE};
+use crate::records::RecordForm;
 use crate::writing::push_page;
 use migration_types::{Contents, PageNo, SourceRec};
 use std::alloc::{AllocError, Global};
-use text_lines::{FaultKind, LineForm, after_end, after_key, number_then, push_keyed, push_line};
+use text_lines::{FaultKind, after_key, number_then, push_keyed, push_line};
+
+/// How the line with the number of the source's records begins.
+pub(crate) const SOURCE_KEY: &[u8] = b"source ";
+
+const HALTED_KEY: &[u8] = b"halted ";
+
+const STATE: &[u8] = b"state";
+
+const SEND_KEY: &[u8] = b"send ";
+
+const AGAIN_KEY: &[u8] = b"again ";
+
+const ASK_KEY: &[u8] = b"ask ";
+
+const DONE: &[u8] = b"done";
 
 /// The page and the contents that were sent at the front, and what follows. Nothing follows where the text is theirs
 /// alone.
@@ -100,8 +115,8 @@ fn push_source_record(out: &mut Vec<u8>, rec: &SourceRec) -> Result<(), AllocErr
 #[derive(Clone, Copy)]
 pub(crate) struct SourceLines(pub Sizes);
 
-impl LineForm for SourceLines {
-    type Item = SourceRec;
+impl RecordForm for SourceLines {
+    type Record = SourceRec;
 
     ghost use Rattle.session_text.specs.inner.Forms.{extent_of};
 
@@ -111,29 +126,13 @@ impl LineForm for SourceLines {
 
     ghost Fits = { λ f r. SourceRecFits (extent_of f.0) r };
 
-    ghost by_last = { λ a b x y h. h };
-
-    fn read(&self, _before: &[SourceRec], line: &[u8]) -> Result<SourceRec, FaultKind> {
-        let (record, rest) = source_then(self.0.alloc, line, self.0.pages, self.0.cells)?;
-        if !rest.is_empty() {
-            return Err(FaultKind::Form);
-        }
-        Ok(record)
+    #[inline(always)]
+    fn record_then<'a>(&self, text: &'a [u8]) -> Result<(SourceRec, &'a [u8]), FaultKind> {
+        source_then(self.0.alloc, text, self.0.pages, self.0.cells)
     }
 
     #[inline(always)]
-    fn front<'a>(&self, _before: &[SourceRec], text: &'a [u8]) -> Option<(SourceRec, &'a [u8])> {
-        let found = source_then(self.0.alloc, text, self.0.pages, self.0.cells);
-        let (record, rest) = found.ok()?;
-        Some((record, after_end(rest)?))
-    }
-
-    fn may_follow(&self, _before: &[SourceRec], _item: &SourceRec) -> bool {
-        true
-    }
-
-    #[inline(always)]
-    fn push(item: &SourceRec, out: &mut Vec<u8>) -> Result<(), AllocError> {
-        push_source_record(out, item)
+    fn push(rec: &SourceRec, out: &mut Vec<u8>) -> Result<(), AllocError> {
+        push_source_record(out, rec)
     }
 }

@@ -4,8 +4,9 @@ ghost use Rattle.std.specs.Prelude.{◌≡◌, [], ◌++◌, OnOk};
 ghost use Rattle.text_lines.specs.Text.{ended};
 ghost use Rattle.session_text.specs.Grammar.{header, with_lane};
 
-use crate::keys::{FIRST_HEADER, LANE_KEY, SECOND_HEADER};
-use crate::lane::LaneLines;
+use crate::keys::{FIRST_HEADER, SECOND_HEADER};
+use crate::lane::{LANE_KEY, LaneLines};
+use crate::records::Records;
 use migration_types::{Session, Version};
 use std::alloc::AllocError;
 use text_lines::push_counted;
@@ -26,6 +27,6 @@ pub(crate) fn push_lane(out: &mut Vec<u8>, session: &Session) -> Result<(), Allo
 {
     match session.version() {
         Version::One => Ok(()),
-        Version::Two => push_counted::<LaneLines>(out, LANE_KEY, session.lane()),
+        Version::Two => push_counted::<Records<LaneLines>>(out, LANE_KEY, session.lane()),
     }
 }
