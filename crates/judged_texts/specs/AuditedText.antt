@@ -1,6 +1,5 @@
 -- The text that goes with the audit of a session's text.
-use Rattle.std.specs.Prelude.{ℕ, List, [], ◌∷◌, ◌++◌, codes}
-use Rattle.std.specs.Fmt.{decimal}
+use Rattle.std.specs.Prelude.{ℕ, List, [], ◌∷◌}
 use Rattle.text_lines.specs.Text.{ended}
 use Rattle.cert_text.specs.Grammar.{cert_lines}
 use Rattle.audit_report.specs.declared.report.Report.{Report}
@@ -9,15 +8,8 @@ use Rattle.judged_texts.specs.declared.auditing.Audited.{Audited}
 use Rattle.judged_texts.specs.declared.auditing.Audited.TheVariants.{Refused, Reported}
 use Rattle.judged_texts.specs.declared.wanted.Wanted.{Wanted}
 use Rattle.judged_texts.specs.declared.wanted.Wanted.TheVariants as wanted
-use Rattle.judged_texts.specs.ReportText.{first_line, report_text}
-
--- as in "session-text line 7"
-abbrev pub refusal_text : ℕ → List ℕ
-refusal_text line = codes "session-text line " ++ decimal line ++ 10 ∷ []
-
--- as in "certificate-text line 7"
-abbrev pub certificate_refusal_text : ℕ → List ℕ
-certificate_refusal_text line = codes "certificate-text line " ++ decimal line ++ 10 ∷ []
+use Rattle.report_text.specs.ReportText.{first_line, report_text}
+use Rattle.report_text.specs.RefusalText.{refusal_text}
 
 -- the certificate's spelling where the session is clean, and else the first line of the report
 abbrev pub certificate_text : Report → List ℕ
@@ -35,3 +27,8 @@ wanted_text wanted.Certificate r = certificate_text r
 abbrev pub audited_text : Wanted → Audited → List ℕ
 audited_text wanted (Refused line) = refusal_text line
 audited_text wanted (Reported r) = wanted_text wanted r
+
+-- the first line of what is told of an audit: the line at which a text is refused, or the first line of the report
+abbrev pub summary_text : Audited → List ℕ
+summary_text (Refused line) = refusal_text line
+summary_text (Reported r) = ended (first_line r ∷ [])

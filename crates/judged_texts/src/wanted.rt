@@ -3,14 +3,15 @@
 ghost use Rattle.std.specs.Prelude.{◌≡◌, [], ◌∷◌, IfOk};
 ghost use Rattle.text_lines.specs.Text.{ended};
 ghost use Rattle.audit_report.specs.Reports.{ReportFits};
-ghost use Rattle.judged_texts.specs.ReportText.{first_line};
+ghost use Rattle.report_text.specs.ReportText.{first_line};
 ghost use Rattle.judged_texts.specs.Audited.{AuditedFits};
-ghost use Rattle.judged_texts.specs.AuditedText.{refusal_text, certificate_text, wanted_text, audited_text};
+ghost use Rattle.report_text.specs.RefusalText.{refusal_text};
+ghost use Rattle.judged_texts.specs.AuditedText.{certificate_text, wanted_text, audited_text};
 
 use crate::auditing::Audited;
-use crate::printing::{print_report, push_first_line, push_refused_session};
 use audit_report::Report;
 use cert_text::write_cert;
+use report_text::{print_report, push_first_line, push_refused_session};
 use std::alloc::{AllocError, Global};
 
 /// What of an audit is told.

@@ -13,9 +13,9 @@ use crate::shapes::{
 };
 use crate::words::{page_reason, push, push_log, push_name, push_title, push_with, shape_reason};
 use audit_report::Report;
-use judged_texts::push_first_line;
 use merge_runs::{Taken, all_of};
 use migration_types::{LogName, Session, logs};
+use report_text::push_first_line;
 use session_story::line_at;
 use std::alloc::{AllocError, Global};
 

@@ -3,15 +3,15 @@
 ghost use Rattle.std.specs.Prelude.{[], ◌∷◌, IfOk};
 ghost use Rattle.text_lines.specs.Text.{ended};
 ghost use Rattle.audit_report.specs.Reports.{IsReport};
-ghost use Rattle.judged_texts.specs.ReportText.{first_line};
-ghost use Rattle.judged_texts.specs.AuditedText.{refusal_text};
+ghost use Rattle.report_text.specs.ReportText.{first_line};
+ghost use Rattle.report_text.specs.RefusalText.{refusal_text};
 ghost use Rattle.session_story.specs.Told.{BeginsWith};
 
 use crate::explaining::explain;
 use crate::words::words_of;
 use audit_report::Report;
-use judged_texts::{push_first_line, push_refused_session};
 use migration_types::Session;
+use report_text::{push_first_line, push_refused_session};
 use std::alloc::{AllocError, Global};
 
 /// What happened in a session, in words, behind the first line of the report on it. Each line ends with LF. Takes a few

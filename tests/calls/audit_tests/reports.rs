@@ -2,7 +2,7 @@
 
 use crate::texts::{FRESH, HANDOVER, OVER, PULLED, SEEN};
 use audit_report::{Report, audit};
-use judged_texts::print_report;
+use report_text::print_report;
 use migration_types::Session;
 use session_text::read_session;
 use std::alloc::{AllocError, Global};

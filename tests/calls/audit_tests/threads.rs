@@ -3,7 +3,8 @@
 use audit_report::{Report, audit};
 use cert_check::{Verdict, check, check_par};
 use cert_text::read_cert;
-use judged_texts::{check_texts, print_report};
+use judged_texts::check_texts;
+use report_text::print_report;
 use migration_types::{Cert, Session};
 use session_text::read_session;
 use std::alloc::{AllocError, Global};

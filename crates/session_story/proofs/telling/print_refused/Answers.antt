@@ -1,5 +1,5 @@
 use Rattle.std.proofs.Common.{ℕ, List, ◌++◌, ap, ◌∙◌}
-use Rattle.judged_texts.specs.AuditedText.{refusal_text}
+use Rattle.report_text.specs.RefusalText.{refusal_text}
 use Rattle.session_story.proofs.telling.print_refused.Goals as goal
 
 pub returns : goal.returns

@@ -1,10 +1,10 @@
-//! The text of a report.
+//! The text of a report, and the line of a text that is refused.
 
 ghost use Rattle.std.specs.Prelude.{◌≡◌, [], ◌∷◌, ◌++◌, IfOk, OnOk};
 ghost use Rattle.text_lines.specs.Text.{ended};
 ghost use Rattle.audit_report.specs.Reports.{ReportFits};
-ghost use Rattle.judged_texts.specs.AuditedText.{refusal_text, certificate_refusal_text};
-ghost use Rattle.judged_texts.specs.ReportText.{shape_line, first_line, lines_behind, report_text};
+ghost use Rattle.report_text.specs.RefusalText.{refusal_text, certificate_refusal_text};
+ghost use Rattle.report_text.specs.ReportText.{shape_line, first_line, lines_behind, report_text};
 
 use audit_report::Report;
 use cert_check::ShapeFault;
