@@ -5,7 +5,7 @@ use Rattle.text_lines.specs.Text.{ended}
 use Rattle.judged_texts.specs.Checked.{IsTextVerdict}
 use Rattle.cert_check.specs.declared.verdict.Verdict.{Verdict}
 use Rattle.cert_check.specs.declared.verdict.Verdict.TheVariants.{SessionText, CertText, Shape, Pages, Runs, Page, Yes}
-use Rattle.judged_texts.specs.ReportText.{shape_line}
+use Rattle.report_text.specs.ReportText.{shape_line}
 use Rattle.judged_texts.specs.Audited.{IsAudited}
 use Rattle.judged_texts.specs.AuditedText.{audited_text}
 use Rattle.judged_texts.specs.declared.wanted.Wanted.{Wanted}

@@ -3,11 +3,12 @@ use Rattle.std.specs.Prelude.{◌≡◌, ℕ, List, [], ◌∷◌}
 use Rattle.text_lines.specs.Text.{ended}
 use Rattle.migration_types.specs.Sessions.{Recorded}
 use Rattle.audit_report.specs.Reports.{IsReport}
-use Rattle.judged_texts.specs.ReportText.{first_line}
+use Rattle.report_text.specs.ReportText.{first_line}
 use Rattle.judged_texts.specs.Audited.{IsAudited}
 use Rattle.audit_report.specs.declared.report.Report.{Report}
 use Rattle.judged_texts.specs.declared.auditing.Audited.{Audited}
-use Rattle.session_story.specs.Told.{BeginsWith, summary_text}
+use Rattle.session_story.specs.Told.{BeginsWith}
+use Rattle.judged_texts.specs.AuditedText.{summary_text}
 use Rattle.commands.specs.Answers.{report_status, audited_status}
 
 -- the text begins with the first line of the session's report, and the status is that report's

@@ -10,7 +10,7 @@ use Rattle.audit_model.specs.World.{IsSafe}
 use Rattle.cert_check.specs.Verdicts.{IsVerdict}
 use Rattle.cert_check.specs.declared.verdict.Verdict.TheVariants.{Yes}
 use Rattle.audit_report.specs.Reports.{IsReport, IsClean}
-use Rattle.judged_texts.specs.ReportText.{report_text}
+use Rattle.report_text.specs.ReportText.{report_text}
 use Rattle.audit_report.specs.declared.report.Report.{Report}
 use Rattle.script.specs.Scenarios.{Scenario}
 use Rattle.script_text.specs.Scripts.{SpellsScript}

@@ -11,7 +11,7 @@ use Rattle.audit_model.specs.Shape.{IsRightShape}
 use Rattle.merge_runs.specs.Replays.{IsReplay}
 use Rattle.merge_runs.specs.declared.outcome.Replay.{Replay}
 use Rattle.cert_check.specs.Verdicts.{IsShapeFault}
-use Rattle.judged_texts.specs.ReportText.{shape_line}
+use Rattle.report_text.specs.ReportText.{shape_line}
 use Rattle.commands.specs.declared.replaying.Outcome.{Outcome}
 use Rattle.commands.specs.declared.replaying.Outcome.TheVariants.{SessionText, RunsText, Shape, NoMerging, Broken, Safe}
 use Rattle.commands.specs.Answers.{IsAnswer, numbered}

@@ -3,10 +3,10 @@
 ghost use Rattle.std.specs.Prelude.{◌≡◌, [], ◌∷◌, Ok, IfOk};
 ghost use Rattle.std.specs.Io.KnownBytes.{Appends};
 ghost use Rattle.text_lines.specs.Text.{ended};
-ghost use Rattle.judged_texts.specs.AuditedText.{refusal_text};
+ghost use Rattle.report_text.specs.RefusalText.{refusal_text};
 ghost use Rattle.commands.specs.Answers.{Says, fault_status, numbered};
 
-use judged_texts::push_refused_session;
+use report_text::push_refused_session;
 use std::alloc::{AllocError, Global};
 use std::io::Write;
 use text_lines::{push_keyed, push_line};

@@ -10,9 +10,9 @@ ghost use Rattle.commands.specs.Replayed.{IsAlong, IsOutcome, IsReplayAnswer, Is
 use crate::answer::Answer;
 use crate::status::outcome_status;
 use cert_check::{ShapeFault, shape};
-use judged_texts::{push_refused_session, push_shape};
 use merge_runs::{MergeFault, replay};
 use migration_types::{Run, Seq, Session, line_of};
+use report_text::{push_refused_session, push_shape};
 use std::alloc::{AllocError, Global};
 use text_lines::{push_keyed, push_line};
 
