@@ -1,5 +1,5 @@
 -- What the lines of some entries say of each text that begins with them.
-use Rattle.std.proofs.Common.{◌≡◌, ℕ, ◌+◌, ◌<◌, ◌^◌, List, [], ◌∷◌, ◌++◌, length, get_or, refl, sym, ap, subst, ◌∙◌, arith}
+use Rattle.std.proofs.Common.{◌≡◌, ℕ, ◌+◌, ◌<◌, ◌^◌, List, [], ◌∷◌, ◌++◌, length, get_or, refl, sym, ap, subst, ◌∙◌, arith, codes}
 use Rattle.std.specs.Prelude.{◌≢◌, ◌≤◌, Option, Some, None}
 use Rattle.std.specs.List.{AllByRecursion}
 use Rattle.std.specs.Fmt.{decimal}
@@ -13,7 +13,7 @@ use Rattle.migration_types.specs.declared.cert.Entry.TheVariants.{Nothing, Fresh
 use Rattle.migration_types.specs.declared.version.Version.{Version}
 use Rattle.migration_types.specs.Sessions.{IsNumber}
 use Rattle.migration_types.specs.Certs.{FirstFits, EntryFits}
-use Rattle.cert_text.specs.Grammar.{page_key, fresh_key, source_key, balloon_key, first_text, placed_text, source_text, entry_text, entry_line, entry_lines}
+use Rattle.cert_text.specs.Grammar.{page_key, first_text, placed_text, source_text, entry_text, entry_line, entry_lines}
 use Rattle.cert_text.specs.inner.Plain.{fresh_number}
 
 -- ---- one spelling for each entry
@@ -62,13 +62,13 @@ text_same version Nothing Nothing p q e = refl
 text_same version (Fresh n) (Fresh m) p q e =
     let a = fresh_number version n p in
     let b = fresh_number version m q in
-    ap Fresh (decimal_injective n m (omega arith) (omega arith) (append_cancel_left fresh_key (decimal n) (decimal m) e))
+    ap Fresh (decimal_injective n m (omega arith) (omega arith) (append_cancel_left (codes "fresh ") (decimal n) (decimal m) e))
 text_same version (Source s n x) (Source t m y) p q e =
-    let one = number_tells s t (placed_text n x) (placed_text m y) (omega (arith, p.0)) (omega (arith, q.0)) (append_cancel_left source_key (source_text s n x) (source_text t m y) e) in
+    let one = number_tells s t (placed_text n x) (placed_text m y) (omega (arith, p.0)) (omega (arith, q.0)) (append_cancel_left (codes "source ") (source_text s n x) (source_text t m y) e) in
     let two = placed_same n m x y p.1 q.1 p.2 q.2 one.1 in
     rw (one.0, two.0, two.1) refl
 text_same version (Balloon n x) (Balloon m y) p q e =
-    let one = placed_same n m x y p.0 q.0 p.1 q.1 (append_cancel_left balloon_key (placed_text n x) (placed_text m y) e) in
+    let one = placed_same n m x y p.0 q.0 p.1 q.1 (append_cancel_left (codes "balloon ") (placed_text n x) (placed_text m y) e) in
     rw (one.0, one.1) refl
 text_same version Nothing (Source t m y) p q e = let first : 110 ≡ 115 = ap (λ (line : List ℕ). get_or line 0 0) e in absurd (omega (arith, first))
 text_same version Nothing (Balloon m y) p q e = let first : 110 ≡ 98 = ap (λ (line : List ℕ). get_or line 0 0) e in absurd (omega (arith, first))

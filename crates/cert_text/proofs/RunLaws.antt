@@ -1,5 +1,5 @@
 -- What the lines of some runs say of each text that begins with them, and one run more.
-use Rattle.std.proofs.Common.{◌≡◌, ◌≢◌, ℕ, ◌+◌, ◌-◌, ◌<◌, ◌≤◌, ◌^◌, List, [], ◌∷◌, ◌++◌, length, map, get_or, refl, sym, ap, subst, ◌∙◌, append_assoc, length-append, arith, inl, inr}
+use Rattle.std.proofs.Common.{◌≡◌, ◌≢◌, ℕ, ◌+◌, ◌-◌, ◌<◌, ◌≤◌, ◌^◌, List, [], ◌∷◌, ◌++◌, length, map, get_or, refl, sym, ap, subst, ◌∙◌, append_assoc, length-append, arith, inl, inr, codes}
 use Rattle.std.specs.Prelude.{◌⊎◌, slice_index}
 use Rattle.std.specs.List.{AllByRecursion}
 use Rattle.std.specs.Fmt.{decimal}
@@ -17,7 +17,7 @@ use Rattle.migration_types.specs.declared.cert.Run.{Run}
 use Rattle.migration_types.specs.declared.version.Version.{Version}
 use Rattle.migration_types.specs.Limits.{most_runs}
 use Rattle.migration_types.specs.Certs.{LogFits, RunFits, Alternate, AreRuns}
-use Rattle.cert_text.specs.Runs.{runs_key, run_key, closing, log_word, run_text, run_line, runs_lines}
+use Rattle.cert_text.specs.Runs.{runs_key, closing, log_word, run_text, run_line, runs_lines}
 use Rattle.cert_text.specs.inner.Held.{MayFollow}
 use Rattle.cert_text.specs.inner.Plain.{few_runs}
 
@@ -77,8 +77,8 @@ keyed_by log told key rest same is =
     sym (append_assoc (log_word log) (32 ∷ []) rest) ∙ (ap (λ (l : LogName). (log_word l ++ 32 ∷ []) ++ rest) (sym same) ∙ ap (λ (t : List ℕ). t ++ rest) (sym is))
 
 -- behind a run's key and log stands its count
-pub count_at : (text behind count : List ℕ) (run : Run) → text ≡ run_key ++ behind → text ≡ run_line run → (behind ≡ log_word run.log ++ 32 ∷ decimal run.count → count ≡ decimal run.count) → count ≡ decimal run.count
-count_at text behind count run e is whole = whole (append_cancel_left run_key behind (run_text run) (sym e ∙ is))
+pub count_at : (text behind count : List ℕ) (run : Run) → text ≡ codes "run " ++ behind → text ≡ run_line run → (behind ≡ log_word run.log ++ 32 ∷ decimal run.count → count ≡ decimal run.count) → count ≡ decimal run.count
+count_at text behind count run e is whole = whole (append_cancel_left (codes "run ") behind (run_text run) (sym e ∙ is))
 
 -- the number that stands alone
 pub alone : (text rest : List ℕ) (n m : ℕ) → n < 2 ^ 64 → m < 2 ^ 64 → text ≡ decimal n ++ rest → NoDigit rest → text ≡ decimal m → (n ≡ m) × (rest ≡ [])
@@ -89,7 +89,7 @@ run_from x y e f = ap (λ (log : LogName). record { log = log; count = x.count }
 
 pub run_same : (version : Version) (x y : Run) → RunFits version x → RunFits version y → run_line x ≡ run_line y → x ≡ y
 run_same version x y p q e =
-    let w = word_same x.log y.log (decimal x.count) (decimal y.count) (append_cancel_left run_key (run_text x) (run_text y) e) in
+    let w = word_same x.log y.log (decimal x.count) (decimal y.count) (append_cancel_left (codes "run ") (run_text x) (run_text y) e) in
     let few_x = p.few in
     let few_y = q.few in
     run_from x y w.0 (decimal_injective x.count y.count (omega arith) (omega arith) w.1)

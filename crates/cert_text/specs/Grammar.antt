@@ -32,21 +32,12 @@ placed_text place first = decimal place ++ 32 ∷ first_text first
 abbrev pub source_text : ℕ → ℕ → Option First → List ℕ
 source_text send place first = decimal send ++ 32 ∷ placed_text place first
 
-abbrev pub fresh_key : List ℕ
-fresh_key = codes "fresh "
-
-abbrev pub source_key : List ℕ
-source_key = codes "source "
-
-abbrev pub balloon_key : List ℕ
-balloon_key = codes "balloon "
-
 -- what an entry says
 abbrev pub entry_text : Entry → List ℕ
 entry_text Nothing = codes "none"
-entry_text (Fresh first) = fresh_key ++ decimal first
-entry_text (Source send place first) = source_key ++ source_text send place first
-entry_text (Balloon place first) = balloon_key ++ placed_text place first
+entry_text (Fresh first) = codes "fresh " ++ decimal first
+entry_text (Source send place first) = codes "source " ++ source_text send place first
+entry_text (Balloon place first) = codes "balloon " ++ placed_text place first
 
 -- the entry of a page: its number, a space, and what the entry says
 abbrev pub entry_line : ℕ → Entry → List ℕ

@@ -17,15 +17,12 @@ runs_key = codes "runs "
 abbrev pub closing : List ℕ
 closing = codes "end"
 
-abbrev pub run_key : List ℕ
-run_key = codes "run "
-
 -- a run's log, a space, and its count
 abbrev pub run_text : Run → List ℕ
 run_text run = log_word run.log ++ 32 ∷ decimal run.count
 
 abbrev pub run_line : Run → List ℕ
-run_line run = run_key ++ run_text run
+run_line run = codes "run " ++ run_text run
 
 -- the number of runs, a line for each, and a closing line
 abbrev pub runs_lines : List Run → List (List ℕ)

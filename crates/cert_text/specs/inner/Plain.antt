@@ -1,5 +1,5 @@
 -- No line of a certificate's text or of a text of runs has an LF.
-use Rattle.std.specs.Prelude.{ℕ, ◌+◌, ◌<◌, ◌≤◌, ◌^◌, List, [], ◌∷◌, ◌++◌, length, Option, Some, None, refl}
+use Rattle.std.specs.Prelude.{ℕ, ◌+◌, ◌<◌, ◌≤◌, ◌^◌, List, [], ◌∷◌, ◌++◌, length, Option, Some, None, refl, codes}
 use Rattle.std.proofs.Common.{arith, subst, sym}
 use Rattle.std.specs.List.{AllByRecursion}
 use Rattle.std.specs.Fmt.{decimal}
@@ -16,8 +16,8 @@ use Rattle.migration_types.specs.declared.version.Version.TheVariants.{One, Two}
 use Rattle.migration_types.specs.Limits.{most_runs}
 use Rattle.migration_types.specs.Sessions.{IsNumber}
 use Rattle.migration_types.specs.Certs.{Certified, FirstFits, EntryFits, RunFits, AreRuns}
-use Rattle.cert_text.specs.Runs.{runs_text_header, runs_key, run_key, closing, log_word, run_text, run_line, runs_lines, SpellsRuns}
-use Rattle.cert_text.specs.Grammar.{header, pages_key, page_key, fresh_key, source_key, balloon_key, first_text, placed_text, source_text, entry_text, entry_line, entry_lines, SpellsCert}
+use Rattle.cert_text.specs.Runs.{runs_text_header, runs_key, closing, log_word, run_text, run_line, runs_lines, SpellsRuns}
+use Rattle.cert_text.specs.Grammar.{header, pages_key, page_key, first_text, placed_text, source_text, entry_text, entry_line, entry_lines, SpellsCert}
 
 plain_keyed : (key : List ℕ) (n : ℕ) → IsLine key → n < 2 ^ 64 → IsLine (key ++ decimal n)
 plain_keyed key n h lt = plain_append key (decimal n) h (plain_decimal n lt)
@@ -37,7 +37,7 @@ plain_log Pager = plain_codes (log_word Pager) refl
 plain_run : (version : Version) (run : Run) → RunFits version run → IsLine (run_line run)
 plain_run version run fits =
     let few = fits.few in
-    plain_append run_key (run_text run) (plain_codes run_key refl) (plain_spaced (log_word run.log) (decimal run.count) (plain_log run.log) (plain_decimal run.count (omega arith)))
+    plain_append (codes "run ") (run_text run) (plain_codes (codes "run ") refl) (plain_spaced (log_word run.log) (decimal run.count) (plain_log run.log) (plain_decimal run.count (omega arith)))
 
 -- the runs of a certificate are few, whatever its version
 pub few_runs : (version : Version) (n : ℕ) → n ≤ most_runs version → n ≤ 5242880
@@ -71,9 +71,9 @@ fresh_number Two first fits = fits
 
 plain_text : (version : Version) (entry : Entry) → EntryFits version entry → IsLine (entry_text entry)
 plain_text version Nothing fits = plain_codes (entry_text Nothing) refl
-plain_text version (Fresh first) fits = plain_append fresh_key (decimal first) (plain_codes fresh_key refl) (plain_number first (fresh_number version first fits))
-plain_text version (Sent send place first) fits = plain_append source_key (source_text send place first) (plain_codes source_key refl) (plain_spaced (decimal send) (placed_text place first) (plain_number send fits.0) (plain_placed place first fits.1 fits.2))
-plain_text version (Balloon place first) fits = plain_append balloon_key (placed_text place first) (plain_codes balloon_key refl) (plain_placed place first fits.0 fits.1)
+plain_text version (Fresh first) fits = plain_append (codes "fresh ") (decimal first) (plain_codes (codes "fresh ") refl) (plain_number first (fresh_number version first fits))
+plain_text version (Sent send place first) fits = plain_append (codes "source ") (source_text send place first) (plain_codes (codes "source ") refl) (plain_spaced (decimal send) (placed_text place first) (plain_number send fits.0) (plain_placed place first fits.1 fits.2))
+plain_text version (Balloon place first) fits = plain_append (codes "balloon ") (placed_text place first) (plain_codes (codes "balloon ") refl) (plain_placed place first fits.0 fits.1)
 
 plain_entry : (version : Version) (page : ℕ) (entry : Entry) → page < 2 ^ 64 → EntryFits version entry → IsLine (entry_line page entry)
 plain_entry version page entry lt fits = plain_append page_key (decimal page ++ 32 ∷ entry_text entry) (plain_codes page_key refl) (plain_spaced (decimal page) (entry_text entry) (plain_decimal page lt) (plain_text version entry fits))
