@@ -1,6 +1,10 @@
-//! What wakes the threads, under a lock of its own, and whether the run stops.
+//! What wakes the threads, and whether the run stops.
 
-use std::sync::{Condvar, Mutex, Wait};
+use migration_types::PageNo;
+use std::alloc::{AllocError, Global};
+use std::sync::atomic::{AtomicBool, AtomicU32, AtomicUsize, Ordering};
+use std::sync::{Mutex, Wait};
+use std::thread::Parker;
 
 /// Why a run stops. Of several, the least is kept.
 #[derive(Clone, Copy, PartialEq, Eq, PartialOrd, Ord)]
@@ -15,167 +19,211 @@ pub(crate) enum Fault {
     Astray,
 }
 
-/// A point that a virtual processor comes to.
+/// The threads that stand beside the virtual processors.
 #[derive(Clone, Copy)]
-pub(crate) enum Point {
-    /// Its move.
-    Move,
-    /// Its end.
-    End,
+pub(crate) enum Party {
+    Source,
+    Link,
+    Pager,
 }
 
-/// What has happened so far.
+/// Of a virtual processor: it waits for nothing. No page has this number.
+const NOTHING: u32 = u32::MAX;
+
+/// Of a virtual processor: what it waited for has come, and it is still to be rung. No page has this number.
+const CAME: u32 = u32::MAX - 1;
+
+/// What a virtual processor waits for, and what it waits on.
 #[derive(Drop)]
-struct Moves {
-    /// How many events there were that a party may wait for.
-    events: u64,
-    /// How many of them a virtual processor may wait for.
-    deliveries: u64,
-    /// How many virtual processors are at their move.
-    arrived: usize,
-    /// How many have ended.
-    ended: usize,
-    /// Whether the source was told that every owed page is placed.
-    is_done: bool,
-    fault: Option<Fault>,
+struct Waiter {
+    /// The page's number, `NOTHING` or `CAME`. A page is written and replaced under the target's lock alone.
+    wanted: AtomicU32,
+    parker: Parker,
 }
 
-/// What a thread remembers before it looks at a book, so that it does not wait for what came after.
-#[derive(Clone, Copy)]
-pub(crate) struct Seen {
-    events: u64,
-    deliveries: u64,
-    pub(crate) arrived: usize,
-    ended: usize,
-    is_done: bool,
-    pub(crate) is_stopped: bool,
-}
-
-impl Seen {
-    /// Whether the source, the link and the pager have nothing more to do: so many virtual processors have ended, and
-    /// the source is done; or the run stops.
-    pub(crate) fn is_over(&self, vcpus: usize) -> bool {
-        self.is_stopped || (self.is_done && self.ended >= vcpus)
-    }
-}
-
-/// Wakes the threads that wait. Its lock is taken last.
+/// Wakes the threads that wait, and takes no lock for it.
+///
+/// A thread looks at the books, and waits where it finds nothing to do; who changes a book rings those that may have
+/// something to do since. A ring ends the next wait where none is under way, so one that comes after the look is not
+/// lost; and one too many makes a thread look once more, no oftener.
 #[derive(Drop)]
 pub(crate) struct Bell {
-    moves: Mutex<Moves>,
-    /// Rung for the source, the link and the pager.
-    moved: Condvar,
-    /// Rung for the virtual processors.
-    delivered: Condvar,
+    source: Parker,
+    link: Parker,
+    pager: Parker,
+    vcpus: Vec<Waiter>,
+    /// How many virtual processors are at their move.
+    arrived: AtomicUsize,
+    /// How many have ended.
+    ended: AtomicUsize,
+    /// Whether the source was told that every owed page is placed.
+    is_done: AtomicBool,
+    is_stopped: AtomicBool,
+    /// Its lock is taken last.
+    fault: Mutex<Option<Fault>>,
 }
 
 impl Bell {
-    pub(crate) fn new() -> Bell {
-        Bell {
-            moves: Mutex::new(Moves {
-                events: 0,
-                deliveries: 0,
-                arrived: 0,
-                ended: 0,
-                is_done: false,
-                fault: None,
-            }),
-            moved: Condvar::new(),
-            delivered: Condvar::new(),
+    /// For so many virtual processors. Nothing has happened.
+    pub(crate) fn new(alloc: Global, vcpus: usize) -> Result<Bell, AllocError> {
+        let mut waiters = Vec::new(alloc);
+        for _ in 0..vcpus {
+            waiters.push(Waiter {
+                wanted: AtomicU32::new(NOTHING),
+                parker: Parker::new(),
+            })?;
         }
-    }
-
-    /// What has happened so far.
-    pub(crate) fn now<R: Wait>(&self, rt: &R) -> Seen {
-        let moves = self.moves.lock(rt);
-        Seen {
-            events: moves.events,
-            deliveries: moves.deliveries,
-            arrived: moves.arrived,
-            ended: moves.ended,
-            is_done: moves.is_done,
-            is_stopped: moves.fault.is_some(),
-        }
+        Ok(Bell {
+            source: Parker::new(),
+            link: Parker::new(),
+            pager: Parker::new(),
+            vcpus: waiters,
+            arrived: AtomicUsize::new(0),
+            ended: AtomicUsize::new(0),
+            is_done: AtomicBool::new(false),
+            is_stopped: AtomicBool::new(false),
+            fault: Mutex::new(None),
+        })
     }
 
     /// Whether the run stops.
-    pub(crate) fn is_stopped<R: Wait>(&self, rt: &R) -> bool {
-        self.moves.lock(rt).fault.is_some()
+    pub(crate) fn is_stopped(&self) -> bool {
+        self.is_stopped.load(Ordering::SeqCst)
     }
 
-    /// There was an event that the source, the link or the pager may wait for.
-    pub(crate) fn ring<R: Wait>(&self, rt: &R) {
-        let mut moves = self.moves.lock(rt);
-        moves.events = moves.events.wrapping_add(1);
-        self.moved.notify_all();
+    /// Whether each virtual processor is at its move.
+    pub(crate) fn has_each_arrived(&self) -> bool {
+        self.arrived.load(Ordering::SeqCst) >= self.vcpus.len()
     }
 
-    /// There was an event that a virtual processor may wait for too: a page may be resident that was not.
-    pub(crate) fn ring_all<R: Wait>(&self, rt: &R) {
-        let mut moves = self.moves.lock(rt);
-        moves.events = moves.events.wrapping_add(1);
-        moves.deliveries = moves.deliveries.wrapping_add(1);
-        self.moved.notify_all();
-        self.delivered.notify_all();
+    /// Whether the source, the link and the pager have nothing more to do: each virtual processor has ended, and the
+    /// source is done; or the run stops.
+    pub(crate) fn is_over(&self) -> bool {
+        let is_done = self.is_done.load(Ordering::SeqCst);
+        self.is_stopped() || (is_done && self.ended.load(Ordering::SeqCst) >= self.vcpus.len())
     }
 
-    /// A virtual processor has come to this point.
-    pub(crate) fn reach<R: Wait>(&self, rt: &R, point: Point) {
-        let mut moves = self.moves.lock(rt);
-        match point {
-            Point::Move => moves.arrived = moves.arrived.saturating_add(1),
-            Point::End => moves.ended = moves.ended.saturating_add(1),
+    fn parker(&self, party: Party) -> &Parker {
+        match party {
+            Party::Source => &self.source,
+            Party::Link => &self.link,
+            Party::Pager => &self.pager,
         }
-        moves.events = moves.events.wrapping_add(1);
-        self.moved.notify_all();
+    }
+
+    /// A party may have something to do.
+    pub(crate) fn ring(&self, party: Party) {
+        self.parker(party).unpark();
+    }
+
+    /// The source and the pager may have something to do.
+    pub(crate) fn ring_ends(&self) {
+        self.source.unpark();
+        self.pager.unpark();
+    }
+
+    fn ring_parties(&self) {
+        self.ring_ends();
+        self.link.unpark();
+    }
+
+    /// A party waits until it is rung.
+    pub(crate) fn wait<R: Wait>(&self, rt: &R, party: Party) {
+        self.parker(party).park(rt);
+    }
+
+    /// A virtual processor is at its move.
+    pub(crate) fn arrive(&self) {
+        self.arrived.fetch_add(1, Ordering::SeqCst);
+        self.ring(Party::Source);
+    }
+
+    /// A virtual processor has ended.
+    pub(crate) fn end(&self) {
+        self.ended.fetch_add(1, Ordering::SeqCst);
+        self.ring_parties();
     }
 
     /// The source was told that every owed page is placed.
-    pub(crate) fn finish<R: Wait>(&self, rt: &R) {
-        let mut moves = self.moves.lock(rt);
-        if moves.is_done {
-            return;
+    pub(crate) fn finish(&self) {
+        if !self.is_done.swap(true, Ordering::SeqCst) {
+            self.ring_parties();
         }
-        moves.is_done = true;
-        moves.events = moves.events.wrapping_add(1);
-        self.moved.notify_all();
     }
 
     /// Stops the run, keeps the least of the faults, and wakes all.
     pub(crate) fn stop<R: Wait>(&self, rt: &R, fault: Fault) {
-        let mut moves = self.moves.lock(rt);
-        let least = match moves.fault {
+        self.keep(rt, fault);
+        self.is_stopped.store(true, Ordering::SeqCst);
+        self.ring_parties();
+        for waiter in &self.vcpus {
+            waiter.parker.unpark();
+        }
+    }
+
+    fn keep<R: Wait>(&self, rt: &R, fault: Fault) {
+        let mut kept = self.fault.lock(rt);
+        let least = match *kept {
             Some(earlier) if earlier <= fault => earlier,
             _ => fault,
         };
-        moves.fault = Some(least);
-        self.moved.notify_all();
-        self.delivered.notify_all();
+        *kept = Some(least);
     }
 
-    /// Waits for an event since then, or a stop.
-    pub(crate) fn wait_past<R: Wait>(&self, rt: &R, seen: &Seen) {
-        let events = seen.events;
-        let moves = self.moves.lock(rt);
-        let _moves = self
-            .moved
-            .wait_while(rt, moves, |m| m.events == events && m.fault.is_none());
+    /// A virtual processor found that it has to wait for a page, or for the guest to resume. Said under the target's
+    /// lock, under which it looked, so that what comes after the look finds it waiting.
+    pub(crate) fn want(&self, vcpu: u8, page: PageNo) {
+        if let Some(waiter) = self.vcpus.get(usize::from(vcpu)) {
+            waiter
+                .wanted
+                .store(u32::from(page.number()), Ordering::SeqCst);
+        }
     }
 
-    /// Waits for an event since then after which a page may be resident, or a stop.
-    pub(crate) fn wait_delivered<R: Wait>(&self, rt: &R, seen: &Seen) {
-        let deliveries = seen.deliveries;
-        let moves = self.moves.lock(rt);
-        let _moves = self.delivered.wait_while(
-            rt,
-            moves,
-            |m| m.deliveries == deliveries && m.fault.is_none(),
-        );
+    /// A page is resident. Said under the target's lock.
+    pub(crate) fn came(&self, page: PageNo) {
+        let page = u32::from(page.number());
+        for waiter in &self.vcpus {
+            if waiter.wanted.load(Ordering::SeqCst) == page {
+                waiter.wanted.store(CAME, Ordering::SeqCst);
+            }
+        }
+    }
+
+    /// The guest resumes. Said under the target's lock.
+    pub(crate) fn resume(&self) {
+        for waiter in &self.vcpus {
+            if waiter.wanted.load(Ordering::SeqCst) != NOTHING {
+                waiter.wanted.store(CAME, Ordering::SeqCst);
+            }
+        }
+    }
+
+    /// Rings the virtual processors for which something came, once the target's lock is free. Of several threads that
+    /// do this at a time one rings each of them, and a page that it waits for by then stays.
+    pub(crate) fn ring_vcpus(&self) {
+        for waiter in &self.vcpus {
+            let wanted = &waiter.wanted;
+            if wanted.load(Ordering::SeqCst) == CAME
+                && wanted
+                    .compare_exchange(CAME, NOTHING, Ordering::SeqCst, Ordering::SeqCst)
+                    .is_ok()
+            {
+                waiter.parker.unpark();
+            }
+        }
+    }
+
+    /// A virtual processor waits until what it waits for has come, or the run stops.
+    pub(crate) fn wait_vcpu<R: Wait>(&self, rt: &R, vcpu: u8) {
+        if let Some(waiter) = self.vcpus.get(usize::from(vcpu)) {
+            waiter.parker.park(rt);
+        }
     }
 
     /// Why the run stopped, if it did.
     pub(crate) fn into_fault(self) -> Option<Fault> {
-        let Bell { moves, .. } = self;
-        moves.into_inner().fault
+        let Bell { fault, .. } = self;
+        fault.into_inner()
     }
 }

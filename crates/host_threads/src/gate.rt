@@ -6,6 +6,11 @@ use pager_book::TargetBook;
 /// What the threads of a run tell of, at some moments of it. Each call may wait, and the thread waits with it. Only
 /// `held` is called with a lock held, the target's.
 pub trait Gate: Sync {
+    /// Whether no call does anything. The threads then do many things under one lock, and leave calls out.
+    fn is_open(&self) -> bool {
+        false
+    }
+
     /// The pager's thread is about to place a page, or to drop it where it is resident already.
     fn placing(&self, page: PageNo);
 
@@ -20,11 +25,23 @@ pub trait Gate: Sync {
     fn held(&self, vcpu: u8, page: PageNo, book: &TargetBook);
 }
 
+/// How many things a thread does under one lock at most, where no call of the gate does anything.
+const MOST_AT_ONCE: usize = 256;
+
+/// How many things a thread does under one lock at most.
+pub(crate) fn most_at_once<G: Gate>(gate: &G) -> usize {
+    if gate.is_open() { MOST_AT_ONCE } else { 1 }
+}
+
 /// A gate that never waits.
 #[derive(Clone, Copy)]
 pub struct Open;
 
 impl Gate for Open {
+    fn is_open(&self) -> bool {
+        true
+    }
+
     fn placing(&self, _page: PageNo) {}
 
     fn offered(&self, _page: PageNo) {}

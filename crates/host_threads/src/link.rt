@@ -5,6 +5,7 @@ ghost use Rattle.link_book.specs.LinkPart.{line_of, turned};
 ghost use Rattle.page_stream.specs.declared.Packet.{Packet as Sent};
 ghost use Rattle.host_threads.specs.Passages.{HasPassed, arrives};
 
+use crate::bell::Party;
 use crate::passage::Passage;
 use crate::relay::Relay;
 use crate::shared::{Shared, Turn, of_link};
@@ -81,36 +82,46 @@ fn turn_head<L: Relay>(
     }
 }
 
-/// LinkTurn, of one line.
-fn turn<R: Wait, L: Relay>(
-    rt: &R,
-    shared: &Shared,
+/// LinkTurn, of one line, at most so often. The last that was not idle is told.
+fn turn_line<L: Relay>(
+    link: &mut LinkBook,
     passage: &mut Passage<L>,
     fates: &mut Fates<'_>,
+    most: usize,
 ) -> Turn {
-    let mut link = shared.link.lock(rt);
-    let turn = turn_head(&mut link, passage, fates.direction, fates.next());
-    if let Turn::Did = turn {
-        fates.met = fates.met.saturating_add(1);
+    let mut last = Turn::Idle;
+    for _ in 0..most {
+        match turn_head(link, passage, fates.direction, fates.next()) {
+            Turn::Idle => break,
+            Turn::Stops(fault) => return Turn::Stops(fault),
+            other => {
+                fates.met = fates.met.saturating_add(1);
+                last = other;
+            }
+        }
     }
-    turn
+    last
 }
 
-/// A turn of each line, one after another: whether a packet met its fate. None: the run stops.
+/// Turns of each line, one line after another, under one lock, and of each at most so many. The last that was not idle
+/// is told.
 fn turn_each<R: Wait, L: Relay>(
     rt: &R,
     shared: &Shared,
     passage: &mut Passage<L>,
     lines: &mut [Fates<'_>],
-) -> Option<bool> {
-    let mut has_turned = false;
+    most: usize,
+) -> Turn {
+    let mut link = shared.link.lock(rt);
+    let mut last = Turn::Idle;
     for fates in lines.iter_mut() {
-        let turned = turn(rt, shared, passage, fates);
-        if shared.tell(rt, turned)? {
-            has_turned = true;
+        match turn_line(&mut link, passage, fates, most) {
+            Turn::Idle => {}
+            Turn::Stops(fault) => return Turn::Stops(fault),
+            other => last = other,
         }
     }
-    Some(has_turned)
+    last
 }
 
 /// The link and the lane: the turns of the lines down, up and over the lane, one after another, until the run is over.
@@ -120,23 +131,25 @@ pub(crate) fn run_link<R: Wait, L: Relay + Drop>(
     shared: &Shared,
     script: &Script,
     mut passage: Passage<L>,
+    most: usize,
 ) {
-    let vcpus = script.vcpus().len();
     let mut lines = [
         Fates::new(Direction::Down, script.down()),
         Fates::new(Direction::Up, script.up()),
         Fates::new(Direction::Lane, script.lane().unwrap_or(&[])),
     ];
     for _ in rt.forever() {
-        let seen = shared.bell.now(rt);
-        if seen.is_over(vcpus) {
+        if shared.bell.is_over() {
             break;
         }
-        let Some(has_turned) = turn_each(rt, shared, &mut passage, &mut lines) else {
+        let turn = turn_each(rt, shared, &mut passage, &mut lines, most);
+        let Some(has_turned) = shared.tell(rt, turn) else {
             break;
         };
-        if !has_turned {
-            shared.bell.wait_past(rt, &seen);
+        if has_turned {
+            shared.bell.ring_ends();
+        } else {
+            shared.bell.wait(rt, Party::Link);
         }
     }
 }

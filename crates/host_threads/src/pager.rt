@@ -9,8 +9,8 @@ ghost use Rattle.pager_book.specs.PagerLists.{part_of, IsPacketOf};
 ghost use Rattle.book_events.specs.Parts.{receiving, placing};
 ghost use Rattle.host_threads.specs.Turns.{IsTurn};
 
-use crate::bell::Fault;
-use crate::gate::Gate;
+use crate::bell::{Bell, Fault, Party};
+use crate::gate::{Gate, most_at_once};
 use crate::shared::{Shared, Turn, told, told_to_all};
 use crate::side::TargetSide;
 use book_events::paging::{
@@ -18,7 +18,7 @@ use book_events::paging::{
 };
 use link_book::LinkBook;
 use migration_events::Event;
-use migration_types::{Geometry, PageNo};
+use migration_types::{Geometry, PageNo, PagerRec};
 use page_stream::{Packet, fits};
 use pager_book::{PagerBook, TargetBook};
 use std::sync::Wait;
@@ -89,11 +89,28 @@ fn attend(pager: &mut PagerBook, target: &mut TargetBook, event: Event) -> Turn
     }
 }
 
-/// PagerPop, PagerPull, PagerFlush or PagerTick.
-fn exchange_once<R: Wait>(rt: &R, shared: &Shared, event: Event) -> Turn {
-    let mut link = shared.link.lock(rt);
-    let mut pager = shared.pager.lock(rt);
-    exchange(&mut link, &mut pager, event)
+/// The page that is resident by the last record.
+fn placed_last(pager: &PagerBook) -> Option<PageNo> {
+    match pager.pager_log().last() {
+        Some(PagerRec::Place { page, .. }) => Some(*page),
+        Some(PagerRec::Zero { page }) => Some(*page),
+        _ => None,
+    }
+}
+
+/// The same as `attend`. The bell is told which virtual processors it lets go on, which the caller rings.
+fn attend_told(bell: &Bell, pager: &mut PagerBook, target: &mut TargetBook, event: Event) -> Turn {
+    let was_resumed = target.is_resumed();
+    let turn = attend(pager, target, event);
+    if let Turn::Served = turn {
+        if !was_resumed && target.is_resumed() {
+            bell.resume();
+        }
+        if let Some(page) = placed_last(pager) {
+            bell.came(page);
+        }
+    }
+    turn
 }
 
 /// PagerFault or PagerDeliver, where there is a target's book.
@@ -103,7 +120,35 @@ fn attend_once<R: Wait>(rt: &R, shared: &Shared, event: Event) -> Turn {
     match &mut *side {
         TargetSide::Guest(_) => Turn::Idle,
         TargetSide::Moving => Turn::Stops(Fault::Astray),
-        TargetSide::Target(target) => attend(&mut pager, target, event),
+        TargetSide::Target(target) => attend_told(&shared.bell, &mut pager, target, event),
+    }
+}
+
+/// PagerFault, or else PagerDeliver, at most so often. The last that was not idle is told.
+fn attend_often(bell: &Bell, pager: &mut PagerBook, target: &mut TargetBook, most: usize) -> Turn {
+    let mut last = Turn::Idle;
+    for _ in 0..most {
+        let turn = match attend_told(bell, pager, target, Event::PagerFault) {
+            Turn::Idle => attend_told(bell, pager, target, Event::PagerDeliver),
+            other => other,
+        };
+        match turn {
+            Turn::Idle => break,
+            Turn::Stops(fault) => return Turn::Stops(fault),
+            other => last = other,
+        }
+    }
+    last
+}
+
+/// The same, where there is a target's book.
+fn attend_some<R: Wait>(rt: &R, shared: &Shared, most: usize) -> Turn {
+    let mut pager = shared.pager.lock(rt);
+    let mut side = shared.target.lock(rt);
+    match &mut *side {
+        TargetSide::Guest(_) => Turn::Idle,
+        TargetSide::Moving => Turn::Stops(Fault::Astray),
+        TargetSide::Target(target) => attend_often(&shared.bell, &mut pager, target, most),
     }
 }
 
@@ -120,7 +165,11 @@ fn tick<R: Wait>(rt: &R, shared: &Shared) -> Turn {
     if asks_nothing(rt, shared) {
         return Turn::Idle;
     }
-    exchange_once(rt, shared, Event::PagerTick)
+    let mut link = shared.link.lock(rt);
+    let mut pager = shared.pager.lock(rt);
+    let turn = exchange(&mut link, &mut pager, Event::PagerTick);
+    shared.ring_over(&turn, &link);
+    turn
 }
 
 /// The oldest page that has come, if there is one.
@@ -145,6 +194,9 @@ fn place<R: Wait, G: Gate>(rt: &R, shared: &Shared, gate: &G, is_resumed: &mut b
 /// What there is to do on the pager's and the target's books: pages to settle that the guest released and a miss to learn
 /// of, or else a page to place.
 fn serve<R: Wait, G: Gate>(rt: &R, shared: &Shared, gate: &G, is_resumed: &mut bool) -> Turn {
+    if gate.is_open() {
+        return attend_some(rt, shared, most_at_once(gate));
+    }
     match attend_once(rt, shared, Event::PagerFault) {
         Turn::Idle => place(rt, shared, gate, is_resumed),
         other => other,
@@ -153,9 +205,9 @@ fn serve<R: Wait, G: Gate>(rt: &R, shared: &Shared, gate: &G, is_resumed: &mut b
 
 /// What there is to do on the link's and the pager's books: a packet to take from the link, or else one to offer, or else
 /// a packet to take from the lane, whose pages nobody asked for.
-fn take_or_offer<R: Wait>(rt: &R, shared: &Shared) -> Turn {
+fn exchange_next(link: &mut LinkBook, pager: &mut PagerBook) -> Turn {
     for event in [Event::PagerPop, Event::PagerFlush, Event::PagerPull] {
-        match exchange_once(rt, shared, event) {
+        match exchange(link, pager, event) {
             Turn::Idle => {}
             other => return other,
         }
@@ -163,15 +215,37 @@ fn take_or_offer<R: Wait>(rt: &R, shared: &Shared) -> Turn {
     Turn::Idle
 }
 
+/// The same, at most so often. The last that was not idle is told.
+fn exchange_often(link: &mut LinkBook, pager: &mut PagerBook, most: usize) -> Turn {
+    let mut last = Turn::Idle;
+    for _ in 0..most {
+        match exchange_next(link, pager) {
+            Turn::Idle => break,
+            Turn::Stops(fault) => return Turn::Stops(fault),
+            other => last = other,
+        }
+    }
+    last
+}
+
+/// The same, under one lock of each book.
+fn take_or_offer<R: Wait>(rt: &R, shared: &Shared, most: usize) -> Turn {
+    let mut link = shared.link.lock(rt);
+    let mut pager = shared.pager.lock(rt);
+    let turn = exchange_often(&mut link, &mut pager, most);
+    shared.ring_over(&turn, &link);
+    turn
+}
+
 /// The pager: what comes from the link and the lane and what the guest misses or releases, until the run is over.
-pub(crate) fn run_pager<R: Wait, G: Gate>(rt: &R, shared: &Shared, gate: &G, vcpus: usize) {
+pub(crate) fn run_pager<R: Wait, G: Gate>(rt: &R, shared: &Shared, gate: &G) {
+    let most = most_at_once(gate);
     let mut is_resumed = false;
     for _ in rt.forever() {
-        let seen = shared.bell.now(rt);
-        if seen.is_over(vcpus) {
+        if shared.bell.is_over() {
             break;
         }
-        let exchanged = take_or_offer(rt, shared);
+        let exchanged = take_or_offer(rt, shared, most);
         let Some(has_exchanged) = shared.tell(rt, exchanged) else {
             break;
         };
@@ -187,7 +261,7 @@ pub(crate) fn run_pager<R: Wait, G: Gate>(rt: &R, shared: &Shared, gate: &G, vcp
             break;
         };
         if !has_ticked {
-            shared.bell.wait_past(rt, &seen);
+            shared.bell.wait(rt, Party::Pager);
         }
     }
 }

@@ -14,7 +14,7 @@ ghost use Rattle.host_threads.specs.Runs.{HasMigrated};
 
 use crate::bell::{Bell, Fault};
 use crate::carry::Echo;
-use crate::gate::Gate;
+use crate::gate::{Gate, most_at_once};
 use crate::link::run_link;
 use crate::loopback::loopback;
 use crate::pager::run_pager;
@@ -50,7 +50,7 @@ fn books_of(alloc: Global, script: &Script) -> Result<Shared, AllocError> {
         link: Mutex::new(LinkBook::new(alloc)),
         pager: Mutex::new(pager),
         target: Mutex::new(TargetSide::Guest(guest)),
-        bell: Bell::new(),
+        bell: Bell::new(alloc, script.vcpus().len())?,
     })
 }
 
@@ -111,10 +111,11 @@ fn run_threads<R: Threads + Wait + Sync, G: Gate, L: Relay + Drop>(
         let source = scope
             .spawn(move || run_source(rt, shared, gate, script))
             .ok();
+        let most = most_at_once(gate);
         let link = scope
-            .spawn(move || run_link(rt, shared, script, passage))
+            .spawn(move || run_link(rt, shared, script, passage, most))
             .ok();
-        let pager = scope.spawn(move || run_pager(rt, shared, gate, count)).ok();
+        let pager = scope.spawn(move || run_pager(rt, shared, gate)).ok();
         if source.is_none() || link.is_none() || pager.is_none() {
             shared.bell.stop(rt, Fault::Memory);
         }

@@ -6,16 +6,17 @@ ghost use Rattle.migration_model.specs.Books.{BooksAfter};
 ghost use Rattle.book_events.specs.Parts.{IsMade, IsSame, Tells};
 ghost use Rattle.host_threads.specs.Turns.{IsTurn};
 
-use crate::bell::{Bell, Fault};
+use crate::bell::{Bell, Fault, Party};
 use crate::side::TargetSide;
 use book_events::{Came, EventFault};
 use link_book::{LinkBook, LinkFault};
+use migration_events::Direction;
 use migration_types::PageNo;
 use pager_book::{PagerBook, TargetFault};
 use source_book::SourceBook;
 use std::sync::{Mutex, Wait};
 
-/// The books, in the order in which their locks are taken, and what wakes the threads, whose lock is taken last.
+/// The books, in the order in which their locks are taken, and what wakes the threads.
 #[derive(Drop)]
 pub(crate) struct Shared {
     /// None until the halt.
@@ -42,15 +43,27 @@ pub(crate) enum Turn {
 }
 
 impl Shared {
-    /// Tells the others of a turn: whether there was an event. None: the run stops.
+    /// Rings those who may have something to do since a turn of the source or the pager on the link's book: the link,
+    /// where a packet is under way, and both ends, which may tick then, where nothing is and no arrival waits. A turn that
+    /// found nothing to do rings nobody, so that no end wakes itself again and again.
+    pub(crate) fn ring_over(&self, turn: &Turn, link: &LinkBook) {
+        if let Turn::Idle = turn {
+            return;
+        }
+        if is_under_way(link) {
+            self.bell.ring(Party::Link);
+        }
+        if link.quiet() {
+            self.bell.ring_ends();
+        }
+    }
+
+    /// Tells the virtual processors of a turn, or all that the run stops: whether there was an event. None: the run stops.
     pub(crate) fn tell<R: Wait>(&self, rt: &R, turn: Turn) -> Option<bool> {
         match turn {
-            Turn::Did | Turn::Offered(_) => {
-                self.bell.ring(rt);
-                Some(true)
-            }
+            Turn::Did | Turn::Offered(_) => Some(true),
             Turn::Served => {
-                self.bell.ring_all(rt);
+                self.bell.ring_vcpus();
                 Some(true)
             }
             Turn::Idle => Some(false),
@@ -60,6 +73,13 @@ impl Shared {
             }
         }
     }
+}
+
+/// Whether the link has a packet to turn.
+fn is_under_way(link: &LinkBook) -> bool {
+    [Direction::Down, Direction::Up, Direction::Lane]
+        .iter()
+        .any(|direction| link.head(*direction).is_some())
 }
 
 /// What is told of an event.

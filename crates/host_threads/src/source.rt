@@ -6,8 +6,8 @@ ghost use Rattle.book_events.specs.Parts.{pushing};
 ghost use Rattle.host_threads.specs.Turns.{IsTurn};
 ghost use Rattle.host_threads.specs.Sides.{Halts};
 
-use crate::bell::Fault;
-use crate::gate::Gate;
+use crate::bell::{Fault, Party};
+use crate::gate::{Gate, most_at_once};
 use crate::shared::{Shared, Turn, of_event, told};
 use crate::side::TargetSide;
 use book_events::sending::{push, serve, source_tick};
@@ -67,33 +67,55 @@ fn halt<R: Wait>(rt: &R, shared: &Shared, script: &Script) -> Turn {
     let mut source = shared.source.lock(rt);
     let mut link = shared.link.lock(rt);
     let mut side = shared.target.lock(rt);
-    halt_guest(&mut source, &mut link, &mut side, script.pivots())
+    let turn = halt_guest(&mut source, &mut link, &mut side, script.pivots());
+    shared.ring_over(&turn, &link);
+    turn
 }
 
-/// Push, Serve or SourceTick, where there is a source's book.
-fn act_once<R: Wait>(rt: &R, shared: &Shared, script: &Script, event: Event) -> Turn {
+/// What there is to do after the halt: to serve, or else to push, or else to tick.
+fn act_next(book: &mut SourceBook, link: &mut LinkBook, window: u32, has_lane: bool) -> Turn {
+    for event in [Event::Serve, Event::Push, Event::SourceTick] {
+        match act(book, link, event, window, has_lane) {
+            Turn::Idle => {}
+            other => return other,
+        }
+    }
+    Turn::Idle
+}
+
+/// The same, at most so often. The last that was not idle is told.
+fn act_often(
+    book: &mut SourceBook,
+    link: &mut LinkBook,
+    window: u32,
+    has_lane: bool,
+    most: usize,
+) -> Turn {
+    let mut last = Turn::Idle;
+    for _ in 0..most {
+        match act_next(book, link, window, has_lane) {
+            Turn::Idle => break,
+            Turn::Stops(fault) => return Turn::Stops(fault),
+            other => last = other,
+        }
+    }
+    last
+}
+
+/// The same, where there is a source's book.
+fn turn<R: Wait>(rt: &R, shared: &Shared, script: &Script, most: usize) -> Turn {
     let mut source = shared.source.lock(rt);
     let mut link = shared.link.lock(rt);
     let Some(book) = &mut *source else {
         return Turn::Idle;
     };
     let has_lane = script.lane().is_some();
-    let turn = act(book, &mut link, event, script.window(), has_lane);
+    let turn = act_often(book, &mut link, script.window(), has_lane, most);
     if book.is_done() {
-        shared.bell.finish(rt);
+        shared.bell.finish();
     }
+    shared.ring_over(&turn, &link);
     turn
-}
-
-/// What there is to do after the halt: to serve, or else to push, or else to tick.
-fn turn<R: Wait>(rt: &R, shared: &Shared, script: &Script) -> Turn {
-    for event in [Event::Serve, Event::Push, Event::SourceTick] {
-        match act_once(rt, shared, script, event) {
-            Turn::Idle => {}
-            other => return other,
-        }
-    }
-    Turn::Idle
 }
 
 /// The page that was offered, if one was.
@@ -107,17 +129,16 @@ fn page_of(turn: &Turn) -> Option<PageNo> {
 /// The source: the halt, once each virtual processor is at its move, and then what there is to serve and to push, until
 /// the run is over.
 pub(crate) fn run_source<R: Wait, G: Gate>(rt: &R, shared: &Shared, gate: &G, script: &Script) {
-    let vcpus = script.vcpus().len();
+    let most = most_at_once(gate);
     let mut is_halted = false;
     for _ in rt.forever() {
-        let seen = shared.bell.now(rt);
-        if seen.is_over(vcpus) {
+        if shared.bell.is_over() {
             break;
         }
-        let turn = if seen.arrived < vcpus {
+        let turn = if !shared.bell.has_each_arrived() {
             Turn::Idle
         } else if is_halted {
-            turn(rt, shared, script)
+            turn(rt, shared, script, most)
         } else {
             is_halted = true;
             halt(rt, shared, script)
@@ -130,7 +151,7 @@ pub(crate) fn run_source<R: Wait, G: Gate>(rt: &R, shared: &Shared, gate: &G, sc
             gate.offered(page);
         }
         if !has_turned {
-            shared.bell.wait_past(rt, &seen);
+            shared.bell.wait(rt, Party::Source);
         }
     }
 }

@@ -6,8 +6,8 @@ ghost use Rattle.guest_book.specs.Books.{part_of as guest_of};
 ghost use Rattle.target_book.specs.Kept.{geometry_of, part_of as target_of};
 ghost use Rattle.host_threads.specs.Operations.{IsGuestStep, IsTargetStep};
 
-use crate::bell::{Fault, Point};
-use crate::gate::Gate;
+use crate::bell::{Bell, Fault, Party};
+use crate::gate::{Gate, most_at_once};
 use crate::shared::{Shared, of_target};
 use crate::side::TargetSide;
 use guest_book::GuestBook;
@@ -61,117 +61,178 @@ fn step_target(book: &mut TargetBook, vcpu: u8, op: &Op) -> Step
     }
 }
 
-/// An operation at the source.
-fn step_at_source<R: Wait>(rt: &R, shared: &Shared, vcpu: u8, op: &Op) -> Step {
-    let mut side = shared.target.lock(rt);
-    match &mut *side {
-        TargetSide::Guest(book) => step_guest(book, vcpu, op),
-        _ => Step::Stops(Fault::Astray),
-    }
-}
+/// At most so many operations of a virtual processor at the source are done before others have their turn.
+const MOST_AT_SOURCE: usize = 256;
 
-/// An operation at the target. Where it is answered, the gate is lent the book.
-fn step_at_target<R: Wait, G: Gate>(rt: &R, shared: &Shared, gate: &G, vcpu: u8, op: &Op) -> Step {
-    let mut side = shared.target.lock(rt);
-    match &mut *side {
-        TargetSide::Guest(_) => Step::Waits,
-        TargetSide::Moving => Step::Stops(Fault::Astray),
-        TargetSide::Target(book) => {
-            let step = step_target(book, vcpu, op);
-            if let Step::Answered(_) = &step {
-                gate.held(vcpu, op.page(), book);
-            }
-            step
-        }
-    }
-}
-
-/// Tells the others of an operation that was answered at the target. A release may be of the page that another virtual
-/// processor waits for, and the pager has it to settle.
-fn tell_answered<R: Wait>(rt: &R, shared: &Shared, op: &Op) {
-    if let Op::Release { .. } = op {
-        shared.bell.ring_all(rt);
-    }
-}
-
-/// Does an operation at the target, however often it has to look. None: the run stops.
-fn answer_at_target<R: Wait, G: Gate>(
+/// Operations at the source, under one lock.
+fn turn_at_source<R: Wait>(
     rt: &R,
     shared: &Shared,
-    gate: &G,
     vcpu: u8,
-    op: &Op,
-) -> Option<u64> {
-    for _ in rt.forever() {
-        let seen = shared.bell.now(rt);
-        if seen.is_stopped {
-            return None;
+    ops: &[Op],
+    answers: &mut Vec<Answered>,
+) -> Result<(), Fault> {
+    let mut side = shared.target.lock(rt);
+    let TargetSide::Guest(book) = &mut *side else {
+        return Err(Fault::Astray);
+    };
+    for op in ops {
+        if answers.reserve(1).is_err() {
+            return Err(Fault::Memory);
         }
-        match step_at_target(rt, shared, gate, vcpu, op) {
-            Step::Answered(answer) => {
-                tell_answered(rt, shared, op);
-                gate.answered(vcpu, op.page());
-                return Some(answer);
-            }
-            Step::Missed => shared.bell.ring(rt),
-            Step::Waits => {}
-            Step::Stops(fault) => {
-                shared.bell.stop(rt, fault);
-                return None;
-            }
-        }
-        shared.bell.wait_delivered(rt, &seen);
-    }
-    None
-}
-
-/// Does an operation at the source. None: the run stops.
-fn answer_at_source<R: Wait>(rt: &R, shared: &Shared, vcpu: u8, op: &Op) -> Option<u64> {
-    if shared.bell.is_stopped(rt) {
-        return None;
-    }
-    match step_at_source(rt, shared, vcpu, op) {
-        Step::Answered(answer) => Some(answer),
-        Step::Missed | Step::Waits => None,
-        Step::Stops(fault) => {
-            shared.bell.stop(rt, fault);
-            None
+        match step_guest(book, vcpu, op) {
+            Step::Answered(answer) => answers.push_reserved(Answered { op: *op, answer }),
+            Step::Stops(fault) => return Err(fault),
+            Step::Missed | Step::Waits => return Err(Fault::Astray),
         }
     }
+    Ok(())
 }
 
-/// Where a virtual processor is.
-#[derive(Clone, Copy)]
-enum Place {
-    Source,
-    Target,
-}
-
-/// Does operations at one place. False: the run stops.
-fn run_ops<R: Wait, G: Gate>(
+/// Does operations at the source. False: the run stops.
+fn run_at_source<R: Wait>(
     rt: &R,
     shared: &Shared,
-    gate: &G,
     vcpu: u8,
-    place: Place,
     ops: &[Op],
     answers: &mut Vec<Answered>,
 ) -> bool {
-    for op in ops {
-        if answers.reserve(1).is_err() {
-            shared.bell.stop(rt, Fault::Memory);
+    for some in ops.chunks(MOST_AT_SOURCE) {
+        if shared.bell.is_stopped() {
             return false;
         }
-        let answer = match place {
-            Place::Source => answer_at_source(rt, shared, vcpu, op),
-            Place::Target => answer_at_target(rt, shared, gate, vcpu, op),
-        };
-        let Some(answer) = answer else {
+        if let Err(fault) = turn_at_source(rt, shared, vcpu, some, answers) {
+            shared.bell.stop(rt, fault);
             return false;
-        };
-        answers.push_reserved(Answered { op: *op, answer });
+        }
     }
     true
+}
+
+/// How far operations came that were begun one after another.
+#[derive(Clone, Copy)]
+struct Reached<'a> {
+    /// Those that were answered.
+    done: &'a [Op],
+    /// The others.
+    rest: &'a [Op],
+    /// Whether the first of the others has to wait.
+    waits: bool,
+}
+
+impl<'a> Reached<'a> {
+    /// So many were answered.
+    fn new(ops: &'a [Op], count: usize, waits: bool) -> Self {
+        let (done, rest) = ops.split_at(count.min(ops.len()));
+        Reached { done, rest, waits }
+    }
+}
+
+/// Does operations at the target, at most so many, until one has to wait. The gate is lent the book of each that is
+/// answered. The bell is told of the page of each release, since another virtual processor may wait for it, and of the
+/// page that one waits for; the pager is rung for a miss.
+fn reach<'a, G: Gate>(
+    book: &mut TargetBook,
+    bell: &Bell,
+    gate: &G,
+    vcpu: u8,
+    ops: &'a [Op],
+    answers: &mut Vec<Answered>,
+) -> Result<Reached<'a>, Fault> {
+    let count = ops.len().min(most_at_once(gate));
+    for at in 0..count {
+        let op = &ops[at];
+        if answers.reserve(1).is_err() {
+            return Err(Fault::Memory);
+        }
+        match step_target(book, vcpu, op) {
+            Step::Answered(answer) => {
+                answers.push_reserved(Answered { op: *op, answer });
+                if let Op::Release { page } = op {
+                    bell.came(*page);
+                }
+                gate.held(vcpu, op.page(), book);
+            }
+            Step::Missed => {
+                bell.want(vcpu, op.page());
+                bell.ring(Party::Pager);
+                return Ok(Reached::new(ops, at, true));
+            }
+            Step::Waits => {
+                bell.want(vcpu, op.page());
+                return Ok(Reached::new(ops, at, true));
+            }
+            Step::Stops(fault) => return Err(fault),
+        }
+    }
+    Ok(Reached::new(ops, count, false))
+}
+
+/// The same, under one lock. Before the halt the first one waits.
+fn turn_at_target<'a, R: Wait, G: Gate>(
+    rt: &R,
+    shared: &Shared,
+    gate: &G,
+    vcpu: u8,
+    ops: &'a [Op],
+    answers: &mut Vec<Answered>,
+) -> Result<Reached<'a>, Fault> {
+    let mut side = shared.target.lock(rt);
+    match &mut *side {
+        TargetSide::Guest(_) => {
+            if let Some(op) = ops.first() {
+                shared.bell.want(vcpu, op.page());
+            }
+            Ok(Reached::new(ops, 0, true))
+        }
+        TargetSide::Moving => Err(Fault::Astray),
+        TargetSide::Target(book) => reach(book, &shared.bell, gate, vcpu, ops, answers),
+    }
+}
+
+/// Tells of an operation that was answered at the target. Of a release the others are told first: another virtual
+/// processor may wait for the page, and the pager has it to settle.
+fn tell_answered<G: Gate>(shared: &Shared, gate: &G, vcpu: u8, op: &Op) {
+    if let Op::Release { .. } = op {
+        shared.bell.ring_vcpus();
+        shared.bell.ring(Party::Pager);
+    }
+    gate.answered(vcpu, op.page());
+}
+
+/// Does operations at the target, however often it has to look. False: the run stops.
+fn run_at_target<R: Wait, G: Gate>(
+    rt: &R,
+    shared: &Shared,
+    gate: &G,
+    vcpu: u8,
+    ops: &[Op],
+    answers: &mut Vec<Answered>,
+) -> bool {
+    let mut rest = ops;
+    for _ in rt.forever() {
+        if shared.bell.is_stopped() {
+            return false;
+        }
+        let reached = match turn_at_target(rt, shared, gate, vcpu, rest, answers) {
+            Ok(reached) => reached,
+            Err(fault) => {
+                shared.bell.stop(rt, fault);
+                return false;
+            }
+        };
+        for op in reached.done {
+            tell_answered(shared, gate, vcpu, op);
+        }
+        rest = reached.rest;
+        if rest.is_empty() {
+            return true;
+        }
+        if reached.waits {
+            shared.bell.wait_vcpu(rt, vcpu);
+        }
+    }
+    false
 }
 
 /// A virtual processor: its operations before the move, and then those after it. Answers what it did.
@@ -185,10 +246,10 @@ pub(crate) fn run_vcpu<R: Wait, G: Gate>(
 ) -> Transcript {
     let mut answers = Vec::new(alloc);
     let (before, after) = (script.before_move.as_slice(), script.after_move.as_slice());
-    if run_ops(rt, shared, gate, vcpu, Place::Source, before, &mut answers) {
-        shared.bell.reach(rt, Point::Move);
-        if run_ops(rt, shared, gate, vcpu, Place::Target, after, &mut answers) {
-            shared.bell.reach(rt, Point::End);
+    if run_at_source(rt, shared, vcpu, before, &mut answers) {
+        shared.bell.arrive();
+        if run_at_target(rt, shared, gate, vcpu, after, &mut answers) {
+            shared.bell.end();
         }
     }
     Seq::from_vec(answers)
