@@ -115,7 +115,7 @@ pub fn audit_by<J: Judges>(
 ///
 /// The pages are judged by threads side by side, for which alone the call waits; a small session is judged by the
 /// calling thread. Takes a few passes over the records and the runs. The only error is want of memory, for a few
-/// numbers for each page, one for each record that is of a page, the cells of a page for each thread, and the runs.
+/// numbers for each page, the cells of all pages, and the runs.
 pub fn audit<R: Threads + Sync>(
     rt: &R,
     alloc: Global,

@@ -4,16 +4,12 @@ ghost use Rattle.std.specs.Prelude.{⊤, ◌≡◌, ◌<◌, ◌↔◌, IsTrue, 
 ghost use Rattle.std.specs.Thread.{IsSync};
 ghost use Rattle.migration_types.specs.Sessions.{IsSession};
 ghost use Rattle.audit_model.specs.Certificates.{IsRightEntry};
-ghost use Rattle.page_facts.specs.Findings.{AreFindings, AreSessionLists, IsFindings};
-ghost use Rattle.page_facts.specs.Frames.{one_page};
+ghost use Rattle.page_facts.specs.Findings.{AreFindings, IsFindings};
 ghost use Rattle.cert_check.specs.Verdicts.{AreRightEntries, IsFirstBadPage};
 ghost use Rattle.cert_check.specs.inner.WrongEntries.{IsWrongAt};
 
 use migration_types::{Entry, PageNo, Session};
-use page_facts::{
-    Alone, Findings, Frame, InThreads, Judges, SessionLists, facts_of, frame_for, is_right_entry,
-    judge_page, lists_for,
-};
+use page_facts::{Alone, Findings, InThreads, Judges, facts_of, is_right_entry};
 use rayon::prelude::*;
 use std::alloc::{AllocError, Global};
 use std::marker::Sync;
@@ -48,45 +44,6 @@ fn is_right(session: &Session, findings: &Findings, page: PageNo, entry: &Entry)
     is_right_entry(session, page, &facts, entry)
 }
 
-/// The first page whose entry is not right, by the lists of the session, one page after the other.
-fn first_in(
-    session: &Session,
-    lists: &SessionLists,
-    frame: &mut Frame,
-    entries: &[Entry],
-) -> Option<usize>
-    requires limits { IsSession session.now }
-    requires pages { length entries.now ≡ session.now.geometry.pages }
-    requires lists { AreSessionLists session.now lists.now }
-    requires frame { frame.old.cells.geometry ≡ one_page session.now.geometry.cells }
-    ensures { MatchOption result (AreRightEntries session.now entries.now) (IsFirstBadPage session.now entries.now) }
-{
-    for page in 0..entries.len() {
-        let number = PageNo::new(page as u16);
-        let findings = judge_page(session, lists, frame, number);
-        if !is_right(session, &findings, number, &entries[page]) {
-            return Some(page);
-        }
-    }
-    None
-}
-
-/// Page after page, up to the first whose entry is not right. Takes a few passes over each log and one over the entries,
-/// and memory for a few numbers for each page, one for each record that is of a page, and the cells of one page.
-impl EntryJudges for Alone {
-    fn first_bad_page(
-        &self,
-        alloc: Global,
-        session: &Session,
-        entries: &[Entry],
-    ) -> Result<Option<usize>, AllocError> {
-        session.keeps_limits();
-        let lists = lists_for(alloc, session)?;
-        let mut frame = frame_for(alloc, session)?;
-        Ok(first_in(session, &lists, &mut frame, entries))
-    }
-}
-
 /// Whether the entry of a page is not right, by what is found of all pages.
 fn is_wrong_at(session: &Session, found: &[Findings], entries: &[Entry], page: usize) -> bool
     requires limits { IsSession session.now }
@@ -97,6 +54,37 @@ fn is_wrong_at(session: &Session, found: &[Findings], entries: &[Entry], page: u
 {
     let number = PageNo::new(page as u16);
     !is_right(session, &found[page], number, &entries[page])
+}
+
+/// The first page whose entry is not right, by what is found of all pages, one page after the other.
+fn first_in(session: &Session, found: &[Findings], entries: &[Entry]) -> Option<usize>
+    requires limits { IsSession session.now }
+    requires found { AreFindings session.now found.now }
+    requires pages { length entries.now ≡ session.now.geometry.pages }
+    ensures { MatchOption result (AreRightEntries session.now entries.now) (IsFirstBadPage session.now entries.now) }
+{
+    for page in 0..entries.len() {
+        let wrong = is_wrong_at(session, found, entries, page);
+        if wrong {
+            return Some(page);
+        }
+    }
+    None
+}
+
+/// All pages are judged as one range, and then their entries, up to the first that is not right. Takes one pass over each
+/// log and one more for the looks, one over the entries, and memory for the cells of all pages and some numbers for each.
+impl EntryJudges for Alone {
+    fn first_bad_page(
+        &self,
+        alloc: Global,
+        session: &Session,
+        entries: &[Entry],
+    ) -> Result<Option<usize>, AllocError> {
+        session.keeps_limits();
+        let found = self.findings(alloc, session)?;
+        Ok(first_in(session, &found, entries))
+    }
 }
 
 /// The first page whose entry is not right, by what is found of all pages. Entries of many pages are looked at by threads
@@ -124,7 +112,7 @@ fn first_of<R: Threads + Sync>(
     )
 }
 
-/// All pages are judged side by side, and then all entries. Takes memory for what is found of each page too.
+/// All pages are judged side by side, and then all entries.
 impl<R: Threads + Sync> EntryJudges for InThreads<'_, R> {
     ghost ready = { IsSync R.row };
 

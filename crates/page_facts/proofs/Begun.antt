@@ -1,5 +1,5 @@
 -- A range at the start.
-use Rattle.std.proofs.Common.{◌≡◌, ◌≢◌, ℕ, ◌+◌, ◌<◌, ◌≤◌, Bool, true, false, cond, List, ◌∷◌, length, refl, sym, ap, ◌∙◌, arith, eq-eqb}
+use Rattle.std.proofs.Common.{◌≡◌, ◌≢◌, ℕ, ◌+◌, ◌≤◌, Bool, true, false, cond, List, ◌∷◌, length, refl, sym, ap, ◌∙◌, arith, eq-eqb}
 use Rattle.std.specs.Prelude.{slice_index, ◌==◌}
 use Rattle.std.proofs.lemmas.Bool.{eqb-true}
 use Rattle.std.proofs.lemmas.Option.{slice_get_within}
@@ -7,7 +7,6 @@ use Rattle.migration_types.specs.declared.pages.InitPage.{InitPage}
 use Rattle.migration_types.specs.Extents.{Extent}
 use Rattle.migration_types.specs.Memory.{Memory, initial, with_content}
 use Rattle.migration_types.specs.Sessions.{Recorded}
-use Rattle.page_store.specs.Frames.{memory_of}
 use Rattle.page_facts.specs.declared.range.Seen.{Seen}
 use Rattle.page_facts.specs.declared.range.Range.{Range}
 use Rattle.page_facts.specs.Ranges.{IsRange}

@@ -1,25 +1,15 @@
 -- The pages that records send and place.
 use Rattle.std.proofs.Common.{◌≡◌, ℕ, Bool, false, Option, refl, sym}
-use Rattle.migration_types.specs.declared.records.SourceRec.{SourceRec}
-use Rattle.migration_types.specs.declared.records.SourceRec.TheVariants.{Halted, State, Send, Again, Ask, Done}
 use Rattle.migration_types.specs.declared.records.PagerRec.{PagerRec}
 use Rattle.migration_types.specs.declared.records.PagerRec.TheVariants.{Got, Pull, Ready, Fault, Join, Want, Place, Zero, Skip, All}
 use Rattle.migration_types.specs.Extents.{Extent}
 use Rattle.migration_types.specs.declared.version.Version.{Version}
-use Rattle.migration_types.specs.Sessions.{SourceRecFits, PagerRecFits}
+use Rattle.migration_types.specs.Sessions.{PagerRecFits}
 use Rattle.audit_model.specs.Shape.{is_placement_of}
 use Rattle.page_tables.specs.Tables.{or_here}
 use Rattle.page_tables.proofs.Noting.{noted_none}
-use Rattle.page_facts.specs.Moved.{SourcePage, PagerPage, placed_by}
+use Rattle.page_facts.specs.Moved.{PagerPage, placed_by}
 use Rattle.page_facts.proofs.Judging.{here_by}
-
-pub source_page : (e : Extent) (r : SourceRec) → SourceRecFits e r → SourcePage e.pages r
-source_page e (Send p content) f = f.0
-source_page e (Halted h) f = tt
-source_page e State f = tt
-source_page e (Again i) f = tt
-source_page e (Ask i) f = tt
-source_page e Done f = tt
 
 pub pager_page : (version : Version) (e : Extent) (r : PagerRec) → PagerRecFits version e r → PagerPage e.pages r
 pager_page version e (Place p got content) f = f.0

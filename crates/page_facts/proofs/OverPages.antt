@@ -19,8 +19,8 @@ use Rattle.audit_model.specs.declared.reasons.PageReason.TheVariants.{Read as Wr
 use Rattle.audit_model.specs.Names.{if_there}
 use Rattle.audit_model.specs.Faults.{GuestFault, SourceFault, PagerFault, if_fault, HasNoPageFault}
 use Rattle.audit_model.specs.FirstFault.{IsFirstPageFault}
-use Rattle.page_lists.specs.Lists.{AreWithin}
-use Rattle.page_lists.specs.Paged.{guest_page, source_page, pager_page}
+use Rattle.paged.specs.Paged.{AreWithin}
+use Rattle.paged.specs.Paged.{guest_page, source_page, pager_page}
 use Rattle.page_facts.specs.declared.findings.Findings.{Findings}
 use Rattle.page_facts.specs.declared.page_fault.PageFault.{PageFault}
 use Rattle.page_facts.specs.Findings.{AreFindings, IsFindings}

@@ -7,19 +7,18 @@ use Rattle.migration_types.specs.declared.records.GuestRec.TheVariants.{Read, Wr
 use Rattle.migration_types.specs.Extents.{Extent}
 use Rattle.migration_types.specs.Memory.{Memory}
 use Rattle.migration_types.specs.Sessions.{Recorded}
-use Rattle.audit_model.specs.Flat.{flat, in_ledger, home, is_target}
+use Rattle.audit_model.specs.Flat.{flat, home, is_target}
 use Rattle.audit_model.specs.Shape.{passes}
 use Rattle.audit_model.specs.Certificates.{is_touch_of}
 use Rattle.page_store.specs.Frames.{memory_of}
 use Rattle.page_tables.proofs.Noting.{noted_none}
-use Rattle.page_lists.specs.Paged.{guest_page}
-use Rattle.page_lists.specs.Places.{of_page, is_page}
+use Rattle.paged.specs.Paged.{guest_page}
+use Rattle.paged.specs.Paged.{of_page, is_page}
 use Rattle.page_facts.specs.Tables.{or_here, first_before}
 use Rattle.page_facts.specs.Judged.{is_late_touch}
-use Rattle.page_facts.specs.Frames.{cells_by, released_by, wrong_at}
 use Rattle.page_facts.specs.declared.range.Seen.{Seen}
 use Rattle.page_facts.specs.declared.range.Range.{Range}
-use Rattle.page_facts.specs.Ranges.{IsSeen, IsSeenOn, touch_at, memory_by, IsStepOn, AreSeen}
+use Rattle.page_facts.specs.Ranges.{cells_by, released_by, wrong_at, IsSeen, IsSeenOn, touch_at, memory_by, IsStepOn, AreSeen}
 use Rattle.page_facts.proofs.Framing.{flat_same, ledger_same, wrong_same, flat_on, ledger_on, wrong_on}
 
 -- ---- lists with an item given anew

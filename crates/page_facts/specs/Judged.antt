@@ -1,8 +1,8 @@
--- Tests of a page's records, and the first touch of each page.
-use Rattle.std.specs.Prelude.{ℕ, Bool, true, false, not, ◌==◌, ◌&&◌, ◌||◌, Option, Some, None, slice_get, if◌then◌else◌}
+-- Tests of a page's records.
+use Rattle.std.specs.Prelude.{ℕ, Bool, false, not, ◌==◌, ◌&&◌, ◌||◌, Option, Some, None, slice_get}
 use Rattle.std.specs.Str.{bytes_eq}
 use Rattle.migration_types.specs.declared.records.GuestRec.{GuestRec}
-use Rattle.migration_types.specs.declared.records.GuestRec.TheVariants.{Read, Write, Release}
+use Rattle.migration_types.specs.declared.records.GuestRec.TheVariants.{Read}
 use Rattle.migration_types.specs.declared.records.SourceRec.{SourceRec}
 use Rattle.migration_types.specs.declared.records.SourceRec.TheVariants.{Send}
 use Rattle.migration_types.specs.declared.records.PagerRec.{PagerRec}
@@ -12,8 +12,6 @@ use Rattle.migration_types.specs.Sessions.{Recorded}
 use Rattle.audit_model.specs.Flat.{flat, in_ledger, home, is_target, at_halt}
 use Rattle.audit_model.specs.Shape.{passes, is_release}
 use Rattle.audit_model.specs.Certificates.{is_touch_of}
-use Rattle.page_tables.specs.Tables.{Values}
-use Rattle.page_facts.specs.Tables.{first_before, noted, IsTable}
 
 -- a read of the page whose value is not the flat answer
 abbrev pub is_wrong_read : Recorded → ℕ → ℕ → GuestRec → Bool
@@ -39,14 +37,3 @@ abbrev pub is_altered : Recorded → ℕ → ℕ → PagerRec → Bool
 is_altered s page n (Place p got content) = (p == page) && not (bytes_eq content (page_of s.geometry.cells (flat s (at_halt s)) p))
 is_altered s page n (Zero p) = (p == page) && not (in_ledger s (at_halt s) p)
 is_altered s page n _ = false
-
--- the table after a record
-abbrev pub touched_by : Bool → ℕ → GuestRec → (ℕ → Option ℕ) → ℕ → Option ℕ
-touched_by late n (Read vcpu p c value) at = if late then noted p n at else at
-touched_by late n (Write vcpu p c value) at = if late then noted p n at else at
-touched_by late n (Release vcpu p) at = if late then noted p n at else at
-touched_by late n _ at = at
-
--- the first read, write or release of each page after handover, before record n
-abbrev pub AreTouches : Recorded → ℕ → Values (Option ℕ) → Type 0
-AreTouches s n table = IsTable s.geometry.pages table (λ p. first_before (is_late_touch s p) s.guest n)

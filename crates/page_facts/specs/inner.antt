@@ -2,5 +2,4 @@
 pub mod EntryTests
 pub mod FirstOfLog
 pub mod Frontier
-pub mod Others
 pub mod Parts

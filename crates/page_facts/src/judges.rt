@@ -1,20 +1,23 @@
 //! Who judges the pages of a session: the calling thread alone, or threads side by side.
 
-ghost use Rattle.std.specs.Prelude.{⊤, ◌<◌, IfOk};
+ghost use Rattle.std.specs.Prelude.{⊤, ◌≡◌, ◌<◌, ◌≤◌, ◌+◌, length, IfOk, OnOk};
+ghost use Rattle.std.specs.List.{AllByRecursion};
 ghost use Rattle.std.specs.Thread.{IsSync};
 ghost use Rattle.migration_types.specs.Sessions.{IsSession};
-ghost use Rattle.page_facts.specs.Findings.{AreFindings, AreSessionLists};
+ghost use Rattle.page_facts.specs.Tables.{IsTable};
+ghost use Rattle.page_facts.specs.Looks.{first_look};
+ghost use Rattle.page_facts.specs.Findings.{AreFindings};
 ghost use Rattle.page_facts.specs.inner.Parts.{IsPart};
 
-use crate::findings::{Findings, findings_of, judge_page};
-use crate::frame::{Frame, frame_for};
-use crate::session_lists::{SessionLists, lists_par};
-use migration_types::{PageNo, Session, logs};
-use rayon::iter::plumbing::{Consumer, Folder, drive};
-use rayon::prelude::*;
+use crate::findings::{Findings, findings_of};
+use crate::looks::first_looks;
+use crate::range_judge::judge_range;
+use migration_types::{Session, logs};
+use page_tables::Table;
+use rayon::current_num_threads;
 use std::alloc::{AllocError, Global};
 use std::marker::Sync;
-use std::thread::Threads;
+use std::thread::{Threads, map_indices};
 
 /// How many records and pages are worth a thread of their own.
 const WORTH_A_THREAD: usize = 16384;
@@ -59,59 +62,11 @@ impl<R: Threads + Sync> Judges for InThreads<'_, R> {
     }
 }
 
-/// What is found of some pages that follow one another, and a frame to judge the next one with.
+/// What is found of some pages that follow one another.
 #[derive(Drop)]
 pub(crate) struct Part {
-    pub(crate) frame: Frame,
+    pub(crate) first: usize,
     pub(crate) found: Vec<Findings>,
-}
-
-/// Judges the pages that it takes, in turn, with a frame of its own for each part of them.
-#[derive(Clone, Copy)]
-struct PartJudge<'a> {
-    alloc: Global,
-    session: &'a Session,
-    lists: &'a SessionLists,
-}
-
-impl Folder for PartJudge<'_> {
-    type Input = usize;
-
-    type Result = Result<Part, AllocError>;
-
-    ghost means = { λ judge pages part. IfOk part (IsPart judge.session.now pages) };
-
-    ghost takes = { λ judge page. page < judge.session.now.geometry.pages };
-
-    ghost ready = { λ judge. IsSession judge.session.now × AreSessionLists judge.session.now judge.lists.now };
-
-    fn start(&self) -> Result<Part, AllocError> {
-        Ok(Part {
-            frame: frame_for(self.alloc, self.session)?,
-            found: Vec::new(self.alloc),
-        })
-    }
-
-    fn take(&self, so_far: Result<Part, AllocError>, page: usize) -> Result<Part, AllocError> {
-        let mut part = so_far?;
-        let number = PageNo::new(page as u16);
-        let findings = judge_page(self.session, self.lists, &mut part.frame, number);
-        part.found.push(findings)?;
-        Ok(part)
-    }
-}
-
-impl Consumer for PartJudge<'_> {
-    fn merge(
-        &self,
-        left: Result<Part, AllocError>,
-        right: Result<Part, AllocError>,
-    ) -> Result<Part, AllocError> {
-        let mut low = left?;
-        let mut high = right?;
-        low.found.append(&mut high.found)?;
-        Ok(low)
-    }
 }
 
 /// How many pages and records there are to judge.
@@ -131,12 +86,88 @@ fn is_small(session: &Session) -> bool {
     work_of(session) < 2 * WORTH_A_THREAD
 }
 
-/// How few pages are worth a thread, as if all had as many records.
-fn least_pages(session: &Session) -> usize {
-    session.geometry().pages() as usize * WORTH_A_THREAD / work_of(session) + 1
+/// Judges one of the parts that have so many pages each.
+fn judge_part(
+    alloc: Global,
+    session: &Session,
+    looks: &Table<Option<u32>>,
+    size: usize,
+    number: usize,
+) -> Result<Part, AllocError>
+    requires limits { IsSession session.now }
+    requires looks { IsTable session.now.geometry.pages looks.now (first_look session.now (length session.now.guest)) }
+    ensures { IfOk result (IsPart session.now) }
+{
+    let pages = session.geometry().pages() as usize;
+    let first = number.saturating_mul(size).min(pages);
+    let count = size.min(pages - first);
+    if count == 0 {
+        let found = Vec::new(alloc);
+        return Ok(Part { first, found });
+    }
+    let found = judge_range(alloc, session, looks, first, count)?;
+    Ok(Part { first, found })
 }
 
-/// What the logs of a session say of each page, page 0 first, by threads side by side.
+/// Adds a part to the pages before it, where it begins where they end.
+fn add_part(_session: &Session, all: &mut Part, part: Part) -> Result<(), AllocError>
+    requires limits { IsSession _session.now }
+    requires all { IsPart _session.now all.old }
+    requires part { IsPart _session.now part }
+    ensures first { all.new.first ≡ all.old.first }
+    ensures all { OnOk result (IsPart _session.now all.new) }
+{
+    if part.first == all.first + all.found.len() {
+        let mut found = part.found;
+        all.found.append(&mut found)?;
+    }
+    Ok(())
+}
+
+/// Adds parts to the pages before them, in turn.
+fn add_parts(
+    session: &Session,
+    all: &mut Part,
+    parts: Vec<Result<Part, AllocError>>,
+) -> Result<(), AllocError>
+    requires limits { IsSession session.now }
+    requires all { IsPart session.now all.old }
+    requires parts { AllByRecursion (λ part. IfOk part (IsPart session.now)) parts.items }
+    ensures first { all.new.first ≡ all.old.first }
+    ensures all { OnOk result (IsPart session.now all.new) }
+{
+    for part in parts {
+        add_part(session, all, part?)?;
+    }
+    Ok(())
+}
+
+/// What is found of all pages, where it is known of the first of them: the others are judged as one range.
+fn complete(
+    alloc: Global,
+    session: &Session,
+    looks: &Table<Option<u32>>,
+    part: Part,
+) -> Result<Vec<Findings>, AllocError>
+    requires limits { IsSession session.now }
+    requires looks { IsTable session.now.geometry.pages looks.now (first_look session.now (length session.now.guest)) }
+    requires part { IsPart session.now part }
+    requires first { part.first ≡ 0 }
+    ensures { IfOk result (λ found. AreFindings session.now found.items) }
+{
+    let pages = session.geometry().pages() as usize;
+    let mut found = part.found;
+    let first = found.len();
+    if first >= pages {
+        return Ok(found);
+    }
+    let mut rest = judge_range(alloc, session, looks, first, pages - first)?;
+    found.append(&mut rest)?;
+    Ok(found)
+}
+
+/// What the logs say of each page of a session, page 0 first, by threads side by side: a range of pages for each
+/// processor.
 fn findings_par<R: Threads + Sync>(
     rt: &R,
     alloc: Global,
@@ -145,16 +176,17 @@ fn findings_par<R: Threads + Sync>(
     ensures { IfOk result (λ found. AreFindings session.now found.items) }
 {
     session.keeps_limits();
-    let lists = lists_par(rt, alloc, session)?;
+    let looks = first_looks(alloc, session)?;
     let pages = session.geometry().pages() as usize;
-    let judge = PartJudge {
-        alloc,
-        session,
-        lists: &lists,
-    };
-    let numbers = (0..pages)
-        .into_par_iter()
-        .with_min_len(least_pages(session));
-    let part = drive(rt, numbers, &judge)?;
-    Ok(part.found)
+    let parts = current_num_threads(rt);
+    let size = pages.div_ceil(parts);
+    let judge = |number: usize| -> Result<Part, AllocError>
+        requires { IsSession session.now × IsTable session.now.geometry.pages looks (first_look session.now (length session.now.guest)) }
+        ensures { IfOk result (IsPart session.entry.now) }
+    { judge_part(alloc, session, &looks, size, number) };
+    let found = Vec::with_capacity(alloc, pages)?;
+    let mut all = Part { first: 0, found };
+    let judged = map_indices(rt, alloc, parts, &judge)?;
+    add_parts(session, &mut all, judged)?;
+    complete(alloc, session, &looks, all)
 }

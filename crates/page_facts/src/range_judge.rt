@@ -8,17 +8,15 @@ ghost use Rattle.page_facts.specs.Judged.{is_wrong_send};
 ghost use Rattle.page_facts.specs.Looks.{first_look};
 ghost use Rattle.page_facts.specs.Ranges.{AreSeen, IsRange};
 ghost use Rattle.page_facts.specs.Columns.{AreFirst, ArePlaced};
-ghost use Rattle.page_facts.specs.RangeFindings.{AreReleased, AreNone, AreFindingsFrom, IsJudged};
-ghost use Rattle.page_facts.specs.Findings.{IsFindings, AreFindings};
+ghost use Rattle.page_facts.specs.RangeFindings.{AreReleased, AreNone, IsJudged};
+ghost use Rattle.page_facts.specs.Findings.{AreFindingsFrom};
 
-use crate::findings::Findings;
-use crate::guest::releases_at;
-use crate::looks::first_looks;
+use crate::findings::{Findings, tell};
 use crate::machine::halt_place;
 use crate::range::{Range, run_range};
 use crate::range_moved::{Placed, run_pager, run_source};
 use crate::range_start::range_for;
-use migration_types::{PageNo, Session};
+use migration_types::Session;
 use page_tables::Table;
 use std::alloc::{AllocError, Global};
 
@@ -59,64 +57,15 @@ fn released_of(_session: &Session, alloc: Global, range: &Range) -> Result<Vec<b
 }
 
 /// The item at an index.
-fn item_at<T: Copy>(column: &Vec<T>, index: usize) -> T
+pub(crate) fn item_at<T: Copy>(column: &Vec<T>, index: usize) -> T
     requires { index < length column.now.items }
     ensures { slice_get column.now.items index ≡ Some result }
 {
     column[index]
 }
 
-/// What is found of the page at an index.
-fn findings_at(
-    session: &Session,
-    looks: &Table<Option<u32>>,
-    judged: &Judged,
-    index: usize,
-) -> Findings
-    requires limits { IsSession session.now }
-    requires looks { IsTable session.now.geometry.pages looks.now (first_look session.now (length session.now.guest)) }
-    requires judged { IsJudged session.now judged.now }
-    requires index { index < length judged.now.range.seen.items }
-    ensures { IsFindings session.now (judged.now.range.first + index) result }
-{
-    session.keeps_limits();
-    let seen = item_at(&judged.range.seen, index);
-    let page = PageNo::new((judged.range.first + index) as u16);
-    Findings {
-        wrong_read: seen.wrong,
-        wrong_send: item_at(&judged.wrong, index),
-        placement: item_at(&judged.placed.once, index),
-        again: item_at(&judged.placed.again, index),
-        altered: item_at(&judged.placed.altered, index),
-        touch: seen.touch,
-        releases: releases_at(session, seen.touch),
-        look: looks.at(page),
-        released: item_at(&judged.released, index),
-    }
-}
-
-/// What is found of each page of the range.
-fn tell(
-    alloc: Global,
-    session: &Session,
-    looks: &Table<Option<u32>>,
-    judged: &Judged,
-) -> Result<Vec<Findings>, AllocError>
-    requires limits { IsSession session.now }
-    requires looks { IsTable session.now.geometry.pages looks.now (first_look session.now (length session.now.guest)) }
-    requires judged { IsJudged session.now judged.now }
-    ensures { IfOk result (λ found. AreFindingsFrom session.now judged.now.range.first (length judged.now.range.seen.items) found.items) }
-{
-    let count = judged.range.seen.len();
-    let mut found = Vec::with_capacity(alloc, count)?;
-    for index in 0..count {
-        found.push(findings_at(session, looks, judged, index))?;
-    }
-    Ok(found)
-}
-
 /// What the logs say of each page of a range that is as it was at the start.
-pub(crate) fn judge_from_start(
+fn judge_from_start(
     alloc: Global,
     session: &Session,
     looks: &Table<Option<u32>>,
@@ -167,14 +116,4 @@ pub fn judge_range(
 {
     let start = range_for(alloc, session, first, count)?;
     judge_from_start(alloc, session, looks, start)
-}
-
-/// What the logs say of each page of the session, as one range.
-pub(crate) fn judge_all(alloc: Global, session: &Session) -> Result<Vec<Findings>, AllocError>
-    ensures { IfOk result (λ found. AreFindings session.now found.items) }
-{
-    session.keeps_limits();
-    let looks = first_looks(alloc, session)?;
-    let pages = session.geometry().pages() as usize;
-    judge_range(alloc, session, &looks, 0, pages)
 }

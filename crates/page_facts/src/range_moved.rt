@@ -4,17 +4,16 @@ ghost use Rattle.std.specs.Prelude.{◌≡◌, ◌≤◌, ◌<◌, ◌+◌, leng
 ghost use Rattle.migration_types.specs.Sessions.{IsSession};
 ghost use Rattle.audit_model.specs.Flat.{at_halt};
 ghost use Rattle.audit_model.specs.Shape.{is_placement_of};
-ghost use Rattle.page_lists.specs.Paged.{pager_page};
 ghost use Rattle.page_facts.specs.Moved.{differs, is_again};
 ghost use Rattle.page_facts.specs.Judged.{is_wrong_send};
 ghost use Rattle.page_facts.specs.Ranges.{AreSeen};
 ghost use Rattle.page_facts.specs.declared.range.Seen.{Seen};
 ghost use Rattle.page_facts.specs.Columns.{AreFirst, IsNoted, IsOutside, IsAt, sent_wrong, placed_wrong, ArePlaced};
 
-use crate::frame::or_here;
 use crate::moved::differs;
-use crate::range::Range;
+use crate::range::{Range, or_here};
 use migration_types::{Contents, PageNo, PagerRec, Session, SourceRec};
+use paged::Paged;
 
 /// What was placed of each page of a range.
 #[derive(Drop)]
@@ -84,17 +83,6 @@ fn placed_wrong(range: &Range, index: usize, rec: &PagerRec) -> bool
     }
 }
 
-/// The page that the pager places.
-fn placed_page(rec: &PagerRec) -> Option<PageNo>
-    ensures { result ≡ pager_page rec.now }
-{
-    match rec {
-        PagerRec::Place { page, .. } => Some(*page),
-        PagerRec::Zero { page } => Some(*page),
-        _ => None,
-    }
-}
-
 /// Takes in the source's record of this number, where it sends a page of the range.
 fn take_send(
     session: &Session,
@@ -129,7 +117,7 @@ fn take_place(session: &Session, range: &Range, placed: &mut Placed, rec: &Pager
     requires placed { ArePlaced session.now range.now n placed.old }
     ensures { ArePlaced session.now range.now (n + 1) placed.new }
 {
-    let Some(page) = placed_page(rec) else {
+    let Some(page) = rec.page() else {
         return;
     };
     let Some(index) = index_of(range, page) else {

@@ -13,7 +13,7 @@ use crate::values::{Held, instead_of, other_of};
 use audit_model::PageReason;
 use migration_types::{LogName, PageNo, PagerRec, Session, SourceRec};
 use page_facts::PageFault;
-use page_lists::Paged;
+use paged::Paged;
 use std::alloc::{AllocError, Global};
 
 /// What is told of a faulty record besides its page's story.

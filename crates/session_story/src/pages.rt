@@ -3,7 +3,6 @@
 ghost use Rattle.std.specs.Prelude.{◌≡◌, ◌<◌, IfOk, length};
 ghost use Rattle.audit_model.specs.Flat.{at_halt};
 ghost use Rattle.audit_model.specs.Shape.{is_send_of};
-ghost use Rattle.page_facts.specs.Findings.{IsFindings};
 ghost use Rattle.page_facts.specs.Tables.{first_before};
 ghost use Rattle.session_story.specs.Pages.{IsHandover, IsPageStory, changes};
 ghost use Rattle.session_story.specs.Scans.{last_before};
@@ -11,7 +10,7 @@ ghost use Rattle.session_story.specs.Scans.{last_before};
 use crate::questions::{GuestQuestion, LaneQuestion, LinkQuestion, PagerQuestion, SourceQuestion};
 use crate::scans::{first_of, last_of};
 use migration_types::{PageNo, Session};
-use page_facts::{Findings, frame_for, halt_place, judge_page, lists_for};
+use page_facts::{Findings, findings_for, halt_place};
 use std::alloc::{AllocError, Global};
 
 /// The guest's records of its move.
@@ -72,17 +71,6 @@ pub fn send_of(session: &Session, page: PageNo) -> Option<u32>
 {
     session.keeps_limits();
     first_of(session, &SourceQuestion::SendOf(page), session.source())
-}
-
-/// What the logs say of a page.
-fn findings_for(alloc: Global, session: &Session, page: PageNo) -> Result<Findings, AllocError>
-    requires { page < session.now.geometry.pages }
-    ensures { IfOk result (IsFindings session.now page) }
-{
-    session.keeps_limits();
-    let lists = lists_for(alloc, session)?;
-    let mut frame = frame_for(alloc, session)?;
-    Ok(judge_page(session, &lists, &mut frame, page))
 }
 
 /// The story of a page. Takes a few passes over each log, and as much memory as judging does, which is the only error.

@@ -5,8 +5,7 @@ use crate::texts::{Logs, session_of};
 use audit_model::PageReason;
 use migration_types::{Entry, First, LogName, PageNo, Session};
 use page_facts::{
-    PageFacts, PageFault, facts_of, first_page_fault, frame_for, is_right_entry, judge_page,
-    lists_for,
+    PageFacts, PageFault, facts_of, findings_for, first_page_fault, is_right_entry,
 };
 use std::alloc::Global;
 
@@ -460,10 +459,7 @@ fn facts_in(alloc: Global, session: &Session, page: PageNo) -> Option<PageFacts>
     if page.index() >= session.geometry().pages() as usize {
         return None;
     }
-    session.keeps_limits();
-    let lists = lists_for(alloc, session).ok()?;
-    let mut frame = frame_for(alloc, session).ok()?;
-    let findings = judge_page(session, &lists, &mut frame, page);
+    let findings = findings_for(alloc, session, page).ok()?;
     Some(facts_of(session, &findings, page))
 }
 

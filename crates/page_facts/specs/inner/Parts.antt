@@ -1,12 +1,10 @@
--- What is found of some pages, in the order in which they were judged.
-use Rattle.std.specs.Prelude.{◌≡◌, ℕ, List}
-use Rattle.std.specs.List.{AllZip}
+-- What is found of some pages that follow one another.
+use Rattle.std.specs.Prelude.{◌+◌, ◌≤◌, length}
 use Rattle.migration_types.specs.Sessions.{Recorded}
-use Rattle.page_facts.specs.Frames.{one_page}
-use Rattle.page_facts.specs.Findings.{IsFindings}
+use Rattle.page_facts.specs.Findings.{AreFindingsFrom}
 use Rattle.page_facts.specs.declared.judges.Part.{Part}
 
--- these pages were judged, and the frame can judge another
-pub record IsPart (s : Recorded) (pages : List ℕ) (part : Part) : Type 0 where
-  pub frame : part.frame.cells.geometry ≡ one_page s.geometry.cells
-  pub found : AllZip (IsFindings s) pages part.found.items
+-- they are pages of the machine
+pub record IsPart (s : Recorded) (part : Part) : Type 0 where
+  pub within : part.first + length part.found.items ≤ s.geometry.pages
+  pub found : AreFindingsFrom s part.first (length part.found.items) part.found.items

@@ -1,4 +1,4 @@
-use Rattle.std.proofs.Common.{◌≡◌, ℕ, ◌+◌, List, refl, sym, ap, ◌∙◌}
+use Rattle.std.proofs.Common.{ℕ, ◌+◌, List, refl, ap, ◌∙◌}
 use Rattle.migration_types.specs.Memory.{Memory, with_content}
 use Rattle.page_store.specs.Frames.{memory_of}
 use Rattle.page_facts.proofs.Begun.{content_at, content_off}

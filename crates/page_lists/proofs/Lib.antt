@@ -1,4 +1,0 @@
-pub mod Counting
-pub mod Placing
-pub mod Listed
-pub mod Reading

@@ -1,3 +1,0 @@
-pub mod Paged
-pub mod Places
-pub mod Lists
