@@ -63,8 +63,8 @@ pub fn check_by<J: EntryJudges>(
 /// write or release, and a released page is never sent and comes back as zeros. So the merging that the certificate's
 /// runs spell has no record whose demand fails. Nothing is assumed of who made the certificate.
 ///
-/// Takes one pass over the runs and a few over the records. The only error is want of memory, for a few numbers for each
-/// page, one for each record that is of a page, and the cells of one page.
+/// Takes one pass over the runs and a few over the records, and memory for a few numbers for each page and for the cells
+/// of all pages. The only error: there is no memory for them.
 pub fn check(alloc: Global, session: &Session, cert: &Cert) -> Result<Verdict, AllocError>
     ensures verdict { IfOk result (IsVerdict session.now cert.now) }
     ensures safe { result ≡ Ok Verdict.Yes → IsSafe session.now }

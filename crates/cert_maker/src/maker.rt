@@ -28,8 +28,8 @@ pub enum MakeFault {
 /// The right certificate of a session with these runs, in the session's version. (A session of the first version that
 /// needs an entry of the second is not of the right shape, and its certificate is of the second.) Each entry with a
 /// placement and a first touch names the earliest look that covers the placement. Takes one pass over the runs and a
-/// few over the records, and memory for the entries, a few numbers for each page, one for each record that is of a
-/// page, and the cells of one page. On an error the runs are dropped.
+/// few over the records, and memory for the entries, a few numbers for each page and the cells of all pages. On an error
+/// the runs are dropped.
 pub fn make(alloc: Global, session: &Session, runs: Seq<Run>) -> Result<Cert, MakeFault>
     requires { AreRuns Two runs }
     ensures { MatchResult result (IsMade session.now runs) (IsRefused session.now runs) }

@@ -222,8 +222,8 @@ pub fn first_fault_in(session: &Session, found: &[Findings]) -> Option<PageFault
 }
 
 /// The fault of least line, and then of least reason, of a session's pages; none where no record is a fault. Takes a
-/// few passes over each log, memory for some numbers for each page and one for each record that is of a page, and for
-/// the cells of one page. The only error is want of that memory.
+/// few passes over each log, and memory for some numbers for each page and for the cells of all pages. The only error:
+/// there is no memory for them.
 pub fn first_page_fault(alloc: Global, session: &Session) -> Result<Option<PageFault>, AllocError>
     ensures { IfOk result (λ fault. MatchOption fault (HasNoPageFault session.now) (λ f. IsFirstPageFault session.now f.reason (f.log, f.place))) }
 {
