@@ -9,9 +9,9 @@ ghost use Rattle.page_facts.specs.Looks.{first_look};
 ghost use Rattle.page_facts.specs.Findings.{AreFindings};
 ghost use Rattle.page_facts.specs.inner.Parts.{IsPart};
 
-use crate::findings::{Findings, findings_of};
+use crate::findings::Findings;
 use crate::looks::first_looks;
-use crate::range_judge::judge_range;
+use crate::range_judge::{findings_of, judge_range};
 use migration_types::{Session, logs};
 use page_tables::Table;
 use rayon::current_num_threads;

@@ -21,8 +21,9 @@ mod range_start;
 mod right_entry;
 
 pub use facts::{PageFacts, facts_of};
-pub use findings::{Findings, findings_for, findings_of};
+pub use findings::Findings;
 pub use judges::{Alone, InThreads, Judges};
 pub use machine::halt_place;
 pub use page_fault::{PageFault, fault_of, first_fault_in, first_page_fault};
+pub use range_judge::{findings_for, findings_of};
 pub use right_entry::is_right_entry;

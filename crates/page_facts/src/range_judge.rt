@@ -4,19 +4,18 @@ ghost use Rattle.std.specs.Prelude.{◌≡◌, ◌≤◌, ◌<◌, ◌+◌, leng
 ghost use Rattle.migration_types.specs.Sessions.{IsSession};
 ghost use Rattle.audit_model.specs.Flat.{at_halt};
 ghost use Rattle.page_facts.specs.Tables.{IsTable};
-ghost use Rattle.page_facts.specs.Judged.{is_wrong_send};
 ghost use Rattle.page_facts.specs.Looks.{first_look};
 ghost use Rattle.page_facts.specs.Ranges.{AreSeen, IsRange};
-ghost use Rattle.page_facts.specs.Columns.{AreFirst, ArePlaced};
-ghost use Rattle.page_facts.specs.RangeFindings.{AreReleased, AreNone, IsJudged};
-ghost use Rattle.page_facts.specs.Findings.{AreFindingsFrom};
+ghost use Rattle.page_facts.specs.RangeFindings.{AreReleased, IsJudged};
+ghost use Rattle.page_facts.specs.Findings.{IsFindings, AreFindings, AreFindingsFrom};
 
-use crate::findings::{Findings, tell};
+use crate::findings::{Findings, Placed, Sent, findings_at};
+use crate::looks::first_looks;
 use crate::machine::halt_place;
 use crate::range::{Range, run_range};
-use crate::range_moved::{Placed, run_pager, run_source};
+use crate::range_moved::{run_pager, run_source};
 use crate::range_start::range_for;
-use migration_types::Session;
+use migration_types::{PageNo, Session};
 use page_tables::Table;
 use std::alloc::{AllocError, Global};
 
@@ -27,19 +26,10 @@ pub struct Judged {
     pub range: Range,
     /// Whether each was released at the halt.
     pub released: Vec<bool>,
-    /// The first send of each that is not right.
-    pub wrong: Vec<Option<u32>>,
+    /// What was sent of each.
+    pub sent: Sent,
     /// What was placed of each.
     pub placed: Placed,
-}
-
-/// A column with no number.
-fn no_numbers(alloc: Global, count: usize) -> Result<Vec<Option<u32>>, AllocError>
-    ensures many { IfOk result (λ column. length column.items ≡ count) }
-    ensures none { IfOk result (λ column. AreNone column.items) }
-{
-    let none: Option<u32> = None;
-    Ok(vec![in alloc; none; count]?)
 }
 
 /// Whether each page of the range is released.
@@ -64,6 +54,26 @@ pub(crate) fn item_at<T: Copy>(column: &Vec<T>, index: usize) -> T
     column[index]
 }
 
+/// What is found of each page of the range.
+fn tell(
+    alloc: Global,
+    session: &Session,
+    looks: &Table<Option<u32>>,
+    judged: &Judged,
+) -> Result<Vec<Findings>, AllocError>
+    requires limits { IsSession session.now }
+    requires looks { IsTable session.now.geometry.pages looks.now (first_look session.now (length session.now.guest)) }
+    requires judged { IsJudged session.now judged.now }
+    ensures { IfOk result (λ found. AreFindingsFrom session.now judged.now.range.first (length judged.now.range.seen.items) found.items) }
+{
+    let count = judged.range.seen.len();
+    let mut found = Vec::with_capacity(alloc, count)?;
+    for index in 0..count {
+        found.push(findings_at(session, looks, judged, index))?;
+    }
+    Ok(found)
+}
+
 /// What the logs say of each page of a range that is as it was at the start.
 fn judge_from_start(
     alloc: Global,
@@ -77,23 +87,18 @@ fn judge_from_start(
     ensures { IfOk result (λ found. AreFindingsFrom session.now start.first (length start.seen.items) found.items) }
 {
     let mut range = start;
-    let count = range.seen.len();
     let halt = halt_place(session.guest());
     run_range(session, &mut range, 0, halt);
     let released = released_of(session, alloc, &range)?;
-    let mut wrong = no_numbers(alloc, count)?;
-    run_source(session, &range, &mut wrong);
-    let mut placed = Placed {
-        once: no_numbers(alloc, count)?,
-        again: no_numbers(alloc, count)?,
-        altered: no_numbers(alloc, count)?,
-    };
+    let mut sent = Sent::none(alloc, session, &range)?;
+    run_source(session, &range, &mut sent);
+    let mut placed = Placed::none(alloc, session, &range)?;
     run_pager(session, &range, &mut placed);
     run_range(session, &mut range, halt, session.guest().len());
     let judged = Judged {
         range,
         released,
-        wrong,
+        sent,
         placed,
     };
     tell(alloc, session, looks, &judged)
@@ -116,4 +121,27 @@ pub fn judge_range(
 {
     let start = range_for(alloc, session, first, count)?;
     judge_from_start(alloc, session, looks, start)
+}
+
+/// What the logs say of each page of a session, page 0 first, by one pass over each log and one more for the looks. Takes
+/// memory for the cells of all pages and some numbers for each. An error: there is no memory for them.
+pub fn findings_of(alloc: Global, session: &Session) -> Result<Vec<Findings>, AllocError>
+    ensures { IfOk result (λ found. AreFindings session.now found.items) }
+{
+    session.keeps_limits();
+    let looks = first_looks(alloc, session)?;
+    let pages = session.geometry().pages() as usize;
+    judge_range(alloc, session, &looks, 0, pages)
+}
+
+/// What the logs say of one page, by the same passes. Takes memory for the cells of this page and a number for each. An
+/// error: there is no memory for them.
+pub fn findings_for(alloc: Global, session: &Session, page: PageNo) -> Result<Findings, AllocError>
+    requires { page < session.now.geometry.pages }
+    ensures { IfOk result (IsFindings session.now page) }
+{
+    session.keeps_limits();
+    let looks = first_looks(alloc, session)?;
+    let found = judge_range(alloc, session, &looks, page.index(), 1)?;
+    Ok(item_at(&found, 0))
 }

@@ -9,7 +9,7 @@ returns c =
     let number = λ (f : ℕ → Option ℕ). f c.new-page.result in
     record {
       wrong_read = at.wrong;
-      wrong_send = j.wrong.each k c.item_at.result c.item_at.ensures;
+      wrong_send = j.sent.wrong.each k c.item_at.result c.item_at.ensures;
       placement = j.placed.once.each k c.item_at-2.result c.item_at-2.ensures;
       again = j.placed.again.each k c.item_at-3.result c.item_at-3.ensures;
       altered = j.placed.altered.each k c.item_at-4.result c.item_at-4.ensures;

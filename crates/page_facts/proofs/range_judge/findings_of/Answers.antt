@@ -2,7 +2,7 @@ use Rattle.std.proofs.Common.{◌∙◌, ap}
 use Rattle.std.proofs.lemmas.Result.{IfOk-weaker}
 use Rattle.migration_types.specs.Extents.{Extent}
 use Rattle.page_facts.proofs.Parts.{findings_of_all}
-use Rattle.page_facts.proofs.findings.findings_of.Goals as goal
+use Rattle.page_facts.proofs.range_judge.findings_of.Goals as goal
 
 pub returns : goal.returns
 returns c =

@@ -1,6 +1,6 @@
 use Rattle.std.proofs.Common.{◌≡◌, ℕ, ◌+◌, subst, arith}
 use Rattle.page_facts.specs.Findings.{IsFindings}
-use Rattle.page_facts.proofs.findings.findings_for.Goals as goal
+use Rattle.page_facts.proofs.range_judge.findings_for.Goals as goal
 
 pub returns : goal.returns
 returns c =
