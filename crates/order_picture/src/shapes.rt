@@ -2,7 +2,7 @@
 
 use crate::focus::Mark;
 use crate::words::{push, push_with};
-use migration_types::{LogName, Session};
+use migration_types::{LOG_COUNT, LOGS, LogName, Session, Version, logs};
 use std::alloc::AllocError;
 
 /// Where the first row begins, in pixels, as all lengths here.
@@ -22,44 +22,57 @@ pub(crate) enum Look {
     Stuck,
 }
 
-/// The columns of a picture: one for each log, for the lane only where it has records.
+/// Where the first column begins.
+const LEFT: u64 = 72;
+
+/// What is free right of the last column.
+const RIGHT: u64 = 6;
+
+/// The columns of a picture: one for each log, for a log that not every version has only where it has records.
 #[derive(Clone, Copy)]
 pub(crate) struct Columns {
-    has_lane: bool,
+    has: [bool; LOG_COUNT],
 }
 
 impl Columns {
     /// The columns for the logs of a session.
     pub(crate) fn of(session: &Session) -> Self {
-        Columns {
-            has_lane: !session.lane().is_empty(),
+        let mut has = [true; LOG_COUNT];
+        for log in logs() {
+            has[log.index()] = log.is_in(Version::One) || session.len(log) > 0;
         }
+        Columns { has }
     }
 
     /// Whether there is one for this log.
     pub(crate) fn has(self, log: LogName) -> bool {
-        self.has_lane || log != LogName::Lane
+        self.has[log.index()]
+    }
+
+    /// Where the column begins that follows the first so many logs.
+    fn behind(self, count: usize) -> u64 {
+        let mut x = LEFT;
+        for log in LOGS.iter().take(count) {
+            if self.has(*log) {
+                x = x.saturating_add(room(*log));
+            }
+        }
+        x
     }
 
     /// The width of the picture.
     pub(crate) fn width(self) -> u64 {
-        if self.has_lane { 1084 } else { 900 }
+        self.behind(LOG_COUNT).saturating_add(RIGHT)
     }
 
-    /// The middle of a log's column; of a lane that has none that of the link's.
+    /// The middle of a log's column.
     pub(crate) fn middle(self, log: LogName) -> u64 {
-        match log {
-            LogName::Guest => 194,
-            LogName::Source => 422,
-            LogName::Link => 606,
-            LogName::Lane => self.width().saturating_sub(294),
-            LogName::Pager => self.width().saturating_sub(110),
-        }
+        self.left(log).saturating_add(half(log))
     }
 
     /// The left edge of a box in a log's column.
     fn left(self, log: LogName) -> u64 {
-        self.middle(log).saturating_sub(half(log))
+        self.behind(log.index())
     }
 
     /// The right edge of a box in a log's column.
@@ -69,7 +82,7 @@ impl Columns {
 
     /// Whether the one log's column is left of the other's.
     fn are_in_order(self, one: LogName, other: LogName) -> bool {
-        self.middle(one) < self.middle(other)
+        one.index() < other.index()
     }
 
     /// Where an arrow meets a log's box on the side of another log.
@@ -87,6 +100,14 @@ fn half(log: LogName) -> u64 {
     match log {
         LogName::Guest => 122,
         _ => 80,
+    }
+}
+
+/// The width of a log's column, with what is free right of it.
+fn room(log: LogName) -> u64 {
+    match log {
+        LogName::Guest => 270,
+        _ => 184,
     }
 }
 
