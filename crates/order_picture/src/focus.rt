@@ -119,7 +119,6 @@ fn concerned_by(session: &Session, fault: Name, page: PageNo) -> Option<Name> {
     match fault.0 {
         LogName::Guest => first_placement(session, page),
         LogName::Source => last_change(session, page).map(|place| (LogName::Guest, place)),
-        LogName::Link | LogName::Lane => None,
         LogName::Pager => {
             let first = first_placement(session, page);
             if is_one(first, fault) {
@@ -128,6 +127,7 @@ fn concerned_by(session: &Session, fault: Name, page: PageNo) -> Option<Name> {
                 first
             }
         }
+        _ => None,
     }
 }
 

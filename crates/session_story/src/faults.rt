@@ -73,8 +73,8 @@ fn page_at(session: &Session, log: LogName, place: u32) -> Option<PageNo>
     match log {
         LogName::Guest => session.guest().get(place)?.page(),
         LogName::Source => session.source().get(place)?.page(),
-        LogName::Link | LogName::Lane => None,
         LogName::Pager => session.pager().get(place)?.page(),
+        _ => None,
     }
 }
 

@@ -1,5 +1,6 @@
-//! Records in words: where one stands, and what was done.
+//! Records in words: where one stands, what was done, and what it has to name.
 
+use super::has_lane;
 use crate::lines::line_at;
 use migration_types::{GuestRec, LaneRec, LinkRec, LogName, PagerRec, Session, SourceRec};
 use std::alloc::AllocError;
@@ -184,5 +185,73 @@ pub fn push_record(
             Some(rec) => push_pager(out, rec),
             None => out.push_str("no record"),
         },
+    }
+}
+
+/// What goes down, by the link or by the lane.
+const SENDING: &str = "a `state`, a `send` or an `again` of the source";
+
+/// What a record of the guest has to name.
+fn guest_wanted(rec: &GuestRec) -> Option<&'static str> {
+    match rec {
+        GuestRec::Resume { .. } => Some("the pager's `ready`"),
+        GuestRec::See { .. } => Some("a `place` or a `zero` of the pager"),
+        _ => None,
+    }
+}
+
+/// What a record of the source has to name.
+fn source_wanted(rec: &SourceRec) -> Option<&'static str> {
+    match rec {
+        SourceRec::Halted { .. } => Some("the guest's `halt`"),
+        SourceRec::Ask { .. } => Some("an `up` of the link"),
+        SourceRec::Again { .. } => Some("a `state` or a `send` before it"),
+        _ => None,
+    }
+}
+
+/// What a record of the link has to name.
+fn link_wanted(rec: &LinkRec) -> Option<&'static str> {
+    match rec {
+        LinkRec::Down { .. } => Some(SENDING),
+        LinkRec::Up { .. } => Some("a `want` or an `all` of the pager"),
+    }
+}
+
+/// What a record of the lane has to name.
+fn lane_wanted(rec: &LaneRec) -> Option<&'static str> {
+    match rec {
+        LaneRec::Down { .. } => Some(SENDING),
+    }
+}
+
+/// What a record of the pager has to name.
+fn pager_wanted(session: &Session, rec: &PagerRec) -> Option<&'static str> {
+    match rec {
+        PagerRec::Got { .. } => Some("a `down` of the link"),
+        PagerRec::Pull { .. } => Some("a `down` of the lane"),
+        PagerRec::Fault { .. } => Some("a `miss` of the guest"),
+        PagerRec::Join { .. } => Some("a `want` before it"),
+        PagerRec::Skip { .. } if has_lane(session) => Some("a `got` or a `pull` before it"),
+        PagerRec::Skip { .. } => Some("a `got` before it"),
+        PagerRec::Place { .. } if has_lane(session) => {
+            Some("a `got` or a `pull` before it that took a `send` of the page, or a repeat of it")
+        }
+        PagerRec::Place { .. } => {
+            Some("a `got` before it that took a `send` of the page, or a repeat of it")
+        }
+        _ => None,
+    }
+}
+
+/// What the record of this log and number has to name, if it has to name one.
+pub(crate) fn wanted_by(session: &Session, log: LogName, place: u32) -> Option<&'static str> {
+    let n = place as usize;
+    match log {
+        LogName::Guest => guest_wanted(session.guest().get(n)?),
+        LogName::Source => source_wanted(session.source().get(n)?),
+        LogName::Link => link_wanted(session.link().get(n)?),
+        LogName::Lane => lane_wanted(session.lane().get(n)?),
+        LogName::Pager => pager_wanted(session, session.pager().get(n)?),
     }
 }

@@ -1,128 +1,38 @@
 //! What is wrong with the shape of a session, in words.
 
 use super::has_lane;
-use super::records::{log_word, push_place, push_record};
+use super::records::{log_word, push_place, push_record, wanted_by};
 use crate::lines::line_at;
 use crate::shapes::ShapeStory;
 use audit_model::ShapeReason;
-use migration_types::{GuestRec, LaneRec, LinkRec, LogName, PagerRec, Session, SourceRec, Version};
+use migration_types::{GuestRec, LogName, Session, Version};
 use std::alloc::AllocError;
 
-/// What a record has to name, and the log and the number that it names.
-#[derive(Clone, Copy)]
-struct Naming {
-    wanted: &'static str,
-    log: LogName,
-    place: u32,
-}
-
-/// What goes down, by the link or by the lane.
-const SENDING: &str = "a `state`, a `send` or an `again` of the source";
-
-fn has_to_name(wanted: &'static str, log: LogName, place: u32) -> Option<Naming> {
-    Some(Naming { wanted, log, place })
-}
-
-/// What a record of the guest has to name.
-fn guest_naming(rec: &GuestRec) -> Option<Naming> {
-    match *rec {
-        GuestRec::Resume { ready } => has_to_name("the pager's `ready`", LogName::Pager, ready),
-        GuestRec::See { placement } => has_to_name(
-            "a `place` or a `zero` of the pager",
-            LogName::Pager,
-            placement,
-        ),
-        _ => None,
+/// The record that the record of this log and number names, if it names one.
+fn named_by(session: &Session, log: LogName, place: u32) -> Option<(LogName, u32)> {
+    let row = session.row((log, place))?;
+    for field in row.fields() {
+        if let Some(name) = field.name() {
+            return Some(name);
+        }
     }
-}
-
-/// What a record of the source has to name.
-fn source_naming(rec: &SourceRec) -> Option<Naming> {
-    match *rec {
-        SourceRec::Halted { halt } => has_to_name("the guest's `halt`", LogName::Guest, halt),
-        SourceRec::Ask { up } => has_to_name("an `up` of the link", LogName::Link, up),
-        SourceRec::Again { sending } => has_to_name(
-            "a `state` or a `send` before it",
-            LogName::Source,
-            sending,
-        ),
-        _ => None,
-    }
-}
-
-/// What a record of the link has to name.
-fn link_naming(rec: &LinkRec) -> Option<Naming> {
-    match *rec {
-        LinkRec::Down { sending } => has_to_name(SENDING, LogName::Source, sending),
-        LinkRec::Up { asking } => has_to_name(
-            "a `want` or an `all` of the pager",
-            LogName::Pager,
-            asking,
-        ),
-    }
-}
-
-/// What a record of the lane has to name.
-fn lane_naming(rec: &LaneRec) -> Option<Naming> {
-    match *rec {
-        LaneRec::Down { sending } => has_to_name(SENDING, LogName::Source, sending),
-    }
-}
-
-/// What a record of the pager has to name.
-fn pager_naming(session: &Session, rec: &PagerRec) -> Option<Naming> {
-    match *rec {
-        PagerRec::Got { down } => has_to_name("a `down` of the link", LogName::Link, down),
-        PagerRec::Pull { down } => has_to_name("a `down` of the lane", LogName::Lane, down),
-        PagerRec::Fault { miss } => has_to_name("a `miss` of the guest", LogName::Guest, miss),
-        PagerRec::Join { want } => has_to_name("a `want` before it", LogName::Pager, want),
-        PagerRec::Skip { got } => has_to_name(
-            if has_lane(session) {
-                "a `got` or a `pull` before it"
-            } else {
-                "a `got` before it"
-            },
-            LogName::Pager,
-            got,
-        ),
-        PagerRec::Place { got, .. } => has_to_name(
-            if has_lane(session) {
-                "a `got` or a `pull` before it that took a `send` of the page, or a repeat of it"
-            } else {
-                "a `got` before it that took a `send` of the page, or a repeat of it"
-            },
-            LogName::Pager,
-            got,
-        ),
-        _ => None,
-    }
-}
-
-/// What the record has to name.
-fn naming_of(session: &Session, story: &ShapeStory) -> Option<Naming> {
-    let n = story.place as usize;
-    match story.log {
-        LogName::Guest => guest_naming(session.guest().get(n)?),
-        LogName::Source => source_naming(session.source().get(n)?),
-        LogName::Link => link_naming(session.link().get(n)?),
-        LogName::Lane => lane_naming(session.lane().get(n)?),
-        LogName::Pager => pager_naming(session, session.pager().get(n)?),
-    }
+    None
 }
 
 /// Adds what a record has to name, and what stands there.
 fn push_named(out: &mut String, session: &Session, story: &ShapeStory) -> Result<(), AllocError> {
-    let Some(naming) = naming_of(session, story) else {
+    let Some(wanted) = wanted_by(session, story.log, story.place) else {
         return Ok(());
     };
-    let wanted = naming.wanted;
+    let Some((log, place)) = named_by(session, story.log, story.place) else {
+        return Ok(());
+    };
     write!(out, "It has to name {wanted}, and names ")?;
-    if line_at(session, naming.log, naming.place).is_some() {
-        push_record(out, session, naming.log, naming.place)?;
+    if line_at(session, log, place).is_some() {
+        push_record(out, session, log, place)?;
         return out.push_str(".\n");
     }
-    let word = log_word(naming.log);
-    let place = naming.place;
+    let word = log_word(log);
     write!(out, "{word} {place}, which is not there.\n")
 }
 
