@@ -6,10 +6,10 @@ ghost use Rattle.order_picture.specs.Pictures.{fault_of, IsFocus};
 
 use crate::records::{Name, is_one};
 use crate::subjects::page_of;
-use audit_model::{PageReason, is_placement_of};
+use audit_model::is_placement_of;
 use audit_report::Report;
 use migration_types::{GuestRec, LogName, PageNo, Session};
-use session_story::{handover_of, last_change, send_of};
+use session_story::{Concern, concern_of, handover_of, last_change, send_of};
 
 /// Why a record stands out.
 #[derive(Clone, Copy, Debug, PartialEq, Eq)]
@@ -83,23 +83,6 @@ fn first_placement(session: &Session, page: PageNo) -> Option<Name> {
     Some((LogName::Pager, u32::try_from(place).ok()?))
 }
 
-/// Whether the report is of a placement over a release.
-fn is_over(report: &Report) -> bool {
-    match report {
-        Report::Faulty { fault, .. } => match fault.reason {
-            PageReason::Over => true,
-            PageReason::Read
-            | PageReason::Early
-            | PageReason::Given
-            | PageReason::Stale
-            | PageReason::Twice
-            | PageReason::Altered
-            | PageReason::Unfit => false,
-        },
-        Report::Shape(_) | Report::Knot(_) | Report::Clean(_) => false,
-    }
-}
-
 /// The guest's first release of a page at the target.
 fn first_release(session: &Session, page: PageNo) -> Option<Name> {
     let resume = handover_of(session).resume?;
@@ -113,21 +96,37 @@ fn first_release(session: &Session, page: PageNo) -> Option<Name> {
     None
 }
 
-/// The record that a fault of this record, about this page, concerns: of a use the page's first placement, of a sending
-/// the last change of the page before the halt, of a placement an earlier one, or else the page's sending.
-fn concerned_by(session: &Session, fault: Name, page: PageNo) -> Option<Name> {
-    match fault.0 {
-        LogName::Guest => first_placement(session, page),
-        LogName::Source => last_change(session, page).map(|place| (LogName::Guest, place)),
-        LogName::Pager => {
-            let first = first_placement(session, page);
-            if is_one(first, fault) {
-                send_of(session, page).map(|place| (LogName::Source, place))
-            } else {
-                first
-            }
-        }
-        _ => None,
+/// Which other record a fault of this record concerns: by its reason, and of one that has not the right shape by its log.
+fn concern_in(report: &Report, log: LogName) -> Concern {
+    match report {
+        Report::Faulty { fault, .. } => concern_of(fault.reason),
+        _ => match log {
+            LogName::Guest => Concern::Placement,
+            LogName::Source => Concern::Change,
+            LogName::Pager => Concern::Origin,
+            _ => Concern::Nothing,
+        },
+    }
+}
+
+/// An earlier placement of a page than this record, or else the page's sending.
+fn origin_of(session: &Session, fault: Name, page: PageNo) -> Option<Name> {
+    let first = first_placement(session, page);
+    if is_one(first, fault) {
+        send_of(session, page).map(|place| (LogName::Source, place))
+    } else {
+        first
+    }
+}
+
+/// The record that a fault of this record, about this page, concerns.
+fn concerned_by(session: &Session, concern: Concern, fault: Name, page: PageNo) -> Option<Name> {
+    match concern {
+        Concern::Placement => first_placement(session, page),
+        Concern::Change => last_change(session, page).map(|place| (LogName::Guest, place)),
+        Concern::Origin => origin_of(session, fault, page),
+        Concern::Release => first_release(session, page),
+        Concern::Nothing => None,
     }
 }
 
@@ -145,8 +144,7 @@ pub(crate) fn focus_of(session: &Session, report: &Report) -> Focus
     };
     let page = page_of(session, name);
     let concerned = match page {
-        Some(page) if is_over(report) => first_release(session, page),
-        Some(page) => concerned_by(session, name, page),
+        Some(page) => concerned_by(session, concern_in(report, name.0), name, page),
         None => None,
     };
     Focus {

@@ -11,12 +11,12 @@ use crate::shapes::{
     Columns, Look, begin_fold, begin_label, begin_margin, push_arrow, push_attribute, push_box,
     push_column, push_stub, row_class, top_of,
 };
-use crate::words::{page_reason, push, push_log, push_name, push_title, push_with, shape_reason};
+use crate::words::{push, push_log, push_name, push_title, push_with};
 use audit_report::Report;
 use merge_runs::{Taken, all_of};
 use migration_types::{LogName, Session, logs};
 use report_text::push_first_line;
-use session_story::line_at;
+use session_story::{line_at, page_reason, shape_reason};
 use std::alloc::{AllocError, Global};
 
 /// Which order a picture shows.
@@ -182,7 +182,7 @@ fn push_wrong(
     report: &Report,
     picture: &Picture,
 ) -> Result<(), AllocError> {
-    let reason: &[u8] = match report {
+    let reason = match report {
         Report::Faulty { fault, .. } => page_reason(fault.reason),
         Report::Shape(fault) => shape_reason(fault.reason),
         Report::Knot(_) => return push(
@@ -196,7 +196,7 @@ fn push_wrong(
         None => push(out, b"the record")?,
     }
     push(out, b": ")?;
-    push(out, reason)
+    push(out, reason.as_bytes())
 }
 
 /// Adds the heading.

@@ -1,7 +1,6 @@
-//! Records in words, and why one is wrong.
+//! Records in words.
 
 use crate::records::Name;
-use audit_model::{PageReason, ShapeReason};
 use migration_types::{LogName, Session};
 use session_story::{push_place, push_record};
 use std::alloc::AllocError;
@@ -43,34 +42,4 @@ pub(crate) fn push_title(
     let mut words = String::new(*out.allocator());
     push_record(&mut words, session, name.0, name.1)?;
     push(out, words.as_bytes())
-}
-
-/// Why a record is a fault of its page.
-pub(crate) fn page_reason(reason: PageReason) -> &'static [u8] {
-    match reason {
-        PageReason::Read => b"it reads another value than a machine that never moved",
-        PageReason::Early => {
-            b"it uses the page at the target, and no look before it covers the page's placement"
-        }
-        PageReason::Given => b"it sends a page that was released at the halt",
-        PageReason::Stale => b"it sends other contents than the page had at the halt",
-        PageReason::Twice => b"it places a page that was placed before",
-        PageReason::Altered => b"it places other contents than the page had at the halt",
-        PageReason::Unfit => b"it places zeros for a page that was not released at the halt",
-        PageReason::Over => {
-            b"it places a page that was released at the target, and no look before that release covers it"
-        }
-    }
-}
-
-/// Why a record is not of the right shape.
-pub(crate) fn shape_reason(reason: ShapeReason) -> &'static [u8] {
-    match reason {
-        ShapeReason::Phases => b"it stands in the wrong phase of the handover",
-        ShapeReason::Named => b"it names no record of the kind that it has to name",
-        ShapeReason::Start => {
-            b"its log does not begin as it has to, or it stands where only the beginning may"
-        }
-        ShapeReason::SecondSend => b"it sends a page that was sent before",
-    }
 }

@@ -9,7 +9,8 @@ ghost use Rattle.session_story.specs.Explained.{IsDetail, IsFaultStory, IsLookBe
 
 use crate::looks::{Look, greatest_look};
 use crate::pages::{Handover, PageStory, handover_of, story_of};
-use crate::values::{Held, instead_of, other_of};
+use crate::reasons::{detail_of, is_read};
+use crate::values::{Held, other_of};
 use audit_model::PageReason;
 use migration_types::{LogName, PageNo, PagerRec, Session, SourceRec};
 use page_facts::PageFault;
@@ -79,7 +80,7 @@ fn page_at(session: &Session, log: LogName, place: u32) -> Option<PageNo>
 }
 
 /// The first cell in which a `send` is not of the page's contents at the halt.
-fn other_sent(
+pub(crate) fn other_sent(
     alloc: Global,
     session: &Session,
     page: PageNo,
@@ -98,7 +99,7 @@ fn other_sent(
 }
 
 /// The first cell in which a placement is not of the page's contents at the halt.
-fn other_placed(
+pub(crate) fn other_placed(
     alloc: Global,
     session: &Session,
     page: PageNo,
@@ -117,56 +118,13 @@ fn other_placed(
 }
 
 /// The look before a page's first use at the target that reached furthest.
-fn look_before(session: &Session, page: &PageStory) -> Option<Look>
+pub(crate) fn look_before(session: &Session, page: &PageStory) -> Option<Look>
     requires { IsPageStory session.now page.now.page page.now }
     ensures { IsLookBeforeTouch session.now page.now.page result }
 {
     match page.found.touch {
         Some(first) => greatest_look(session, first as usize),
         None => None,
-    }
-}
-
-/// What is told of a faulty record besides its page's story.
-fn detail_of(
-    alloc: Global,
-    session: &Session,
-    reason: PageReason,
-    log: LogName,
-    place: u32,
-    page: &PageStory,
-) -> Result<Detail, AllocError>
-    requires page { page.now.page < session.now.geometry.pages }
-    requires story { IsPageStory session.now page.now.page page.now }
-    requires there { place < log_length session.now log }
-    requires guest { reason ≡ PageReason.Read → log ≡ LogName.Guest }
-    requires early { reason ≡ PageReason.Early → log ≡ LogName.Guest }
-    ensures { IfOk result (IsDetail session.now reason log place page.now.page) }
-{
-    let n = place as usize;
-    match reason {
-        PageReason::Read => Ok(Detail::Instead(instead_of(alloc, session, n)?)),
-        PageReason::Early => Ok(Detail::Seen(greatest_look(session, n))),
-        PageReason::Stale => Ok(Detail::Other(other_sent(alloc, session, page.page, n)?)),
-        PageReason::Altered => Ok(Detail::Other(other_placed(alloc, session, page.page, n)?)),
-        PageReason::Over => Ok(Detail::Seen(look_before(session, page))),
-        PageReason::Given | PageReason::Twice | PageReason::Unfit => Ok(Detail::Plain),
-    }
-}
-
-/// Whether it is a wrong read.
-fn is_read(reason: PageReason) -> bool
-    ensures { result ≡ is_read reason }
-{
-    match reason {
-        PageReason::Read => true,
-        PageReason::Early
-        | PageReason::Given
-        | PageReason::Stale
-        | PageReason::Twice
-        | PageReason::Altered
-        | PageReason::Unfit
-        | PageReason::Over => false,
     }
 }
 

@@ -2,6 +2,7 @@
 
 mod faults;
 mod knots;
+mod reasons;
 mod records;
 mod shapes;
 
@@ -11,7 +12,9 @@ use crate::words::faults::push_fault;
 use crate::words::knots::push_knot;
 use crate::words::shapes::push_shape_story;
 use migration_types::{Session, Version};
+pub use reasons::page_reason;
 pub use records::{log_word, push_place, push_record};
+pub use shapes::shape_reason;
 use std::alloc::{AllocError, Global};
 
 /// Whether the lane of a session has records: of other sessions nothing is said of a lane.

@@ -1,12 +1,13 @@
 //! The fault of a page in words.
 
 use super::has_lane;
+use super::reasons::{push_order, push_plain};
 use super::records::{push_place, push_record};
 use crate::faults::{Cause, Detail, FaultStory};
 use crate::looks::Look;
 use crate::pages::PageStory;
 use crate::values::Held;
-use audit_model::{PageReason, delivery};
+use audit_model::delivery;
 use migration_types::{LogName, PagerRec, Session, SourceRec};
 use std::alloc::AllocError;
 
@@ -191,47 +192,6 @@ fn push_placed(
     }
 }
 
-/// Adds the last change of a page before the halt.
-fn push_changed(out: &mut String, session: &Session, page: &PageStory) -> Result<(), AllocError> {
-    let Some(changed) = page.changed else {
-        return out.push_str("The guest neither writes nor releases it before the halt.\n");
-    };
-    out.push_str("Its last change before the halt: ")?;
-    push_record(out, session, LogName::Guest, changed)?;
-    out.push_str(".\n")
-}
-
-/// Adds what is wrong where nothing else is told.
-fn push_plain(out: &mut String, session: &Session, fault: &FaultStory) -> Result<(), AllocError> {
-    match fault.reason {
-        PageReason::Given => {
-            out.push_str(
-                "The page is released at the halt, so that it is not sent; the pager places it as zeros.\n",
-            )?;
-            push_changed(out, session, &fault.page)
-        }
-        PageReason::Unfit => {
-            out.push_str(
-                "The page is not released at the halt, so that zeros are not what it has to be.\n",
-            )?;
-            push_changed(out, session, &fault.page)
-        }
-        PageReason::Twice => {
-            out.push_str("A page is placed once, and this one was placed before: ")?;
-            match fault.page.found.placement {
-                Some(placement) => push_record(out, session, LogName::Pager, placement)?,
-                None => {}
-            }
-            out.push_str(".\n")
-        }
-        PageReason::Read
-        | PageReason::Early
-        | PageReason::Stale
-        | PageReason::Altered
-        | PageReason::Over => Ok(()),
-    }
-}
-
 /// Adds what is wrong.
 fn push_wrong(out: &mut String, session: &Session, fault: &FaultStory) -> Result<(), AllocError> {
     match &fault.detail {
@@ -372,27 +332,6 @@ fn push_story(out: &mut String, session: &Session, fault: &FaultStory) -> Result
         },
         "the guest does not use it at the target",
     )
-}
-
-/// Adds how an order of the records shows the fault.
-fn push_order(out: &mut String, fault: &FaultStory) -> Result<(), AllocError> {
-    out.push_str(match fault.reason {
-        PageReason::Early => match fault.page.found.placement {
-            Some(_) => {
-                "The order that the audit shows puts the placement, and all that has to come after it, behind this use, which then finds no page.\n"
-            }
-            None => "In every order of the records the use finds no page.\n",
-        },
-        PageReason::Over => {
-            "The order that the audit shows puts the placement, and all that has to come after it, behind the release, and so over the zeros.\n"
-        }
-        PageReason::Read
-        | PageReason::Given
-        | PageReason::Stale
-        | PageReason::Twice
-        | PageReason::Altered
-        | PageReason::Unfit => "It is wrong in every order of the records.\n",
-    })
 }
 
 /// Adds what went wrong with a page before the guest read it.

@@ -109,3 +109,15 @@ pub(crate) fn push_shape_story(
         ShapeReason::SecondSend => push_second(out, session, story),
     }
 }
+
+/// Why a record is not of the right shape.
+pub fn shape_reason(reason: ShapeReason) -> &'static str {
+    match reason {
+        ShapeReason::Phases => "it stands in the wrong phase of the handover",
+        ShapeReason::Named => "it names no record of the kind that it has to name",
+        ShapeReason::Start => {
+            "its log does not begin as it has to, or it stands where only the beginning may"
+        }
+        ShapeReason::SecondSend => "it sends a page that was sent before",
+    }
+}

@@ -1,0 +1,82 @@
+//! What the reason of a page's fault says: what is told besides the page's story, whether a cause comes first, and which
+//! other record is concerned.
+
+ghost use Rattle.std.specs.Prelude.{◌≡◌, ◌<◌, IfOk};
+ghost use Rattle.migration_types.specs.Sessions.{log_length};
+ghost use Rattle.session_story.specs.Pages.{IsPageStory};
+ghost use Rattle.session_story.specs.Explained.{IsDetail, is_read};
+
+use crate::faults::{Detail, look_before, other_placed, other_sent};
+use crate::looks::greatest_look;
+use crate::pages::PageStory;
+use crate::values::instead_of;
+use audit_model::PageReason;
+use migration_types::{LogName, Session};
+use std::alloc::{AllocError, Global};
+
+/// What is told of a faulty record besides its page's story.
+pub(crate) fn detail_of(
+    alloc: Global,
+    session: &Session,
+    reason: PageReason,
+    log: LogName,
+    place: u32,
+    page: &PageStory,
+) -> Result<Detail, AllocError>
+    requires page { page.now.page < session.now.geometry.pages }
+    requires story { IsPageStory session.now page.now.page page.now }
+    requires there { place < log_length session.now log }
+    requires guest { reason ≡ PageReason.Read → log ≡ LogName.Guest }
+    requires early { reason ≡ PageReason.Early → log ≡ LogName.Guest }
+    ensures { IfOk result (IsDetail session.now reason log place page.now.page) }
+{
+    let n = place as usize;
+    match reason {
+        PageReason::Read => Ok(Detail::Instead(instead_of(alloc, session, n)?)),
+        PageReason::Early => Ok(Detail::Seen(greatest_look(session, n))),
+        PageReason::Stale => Ok(Detail::Other(other_sent(alloc, session, page.page, n)?)),
+        PageReason::Altered => Ok(Detail::Other(other_placed(alloc, session, page.page, n)?)),
+        PageReason::Over => Ok(Detail::Seen(look_before(session, page))),
+        PageReason::Given | PageReason::Twice | PageReason::Unfit => Ok(Detail::Plain),
+    }
+}
+
+/// Whether it is a wrong read.
+pub(crate) fn is_read(reason: PageReason) -> bool
+    ensures { result ≡ is_read reason }
+{
+    match reason {
+        PageReason::Read => true,
+        PageReason::Early
+        | PageReason::Given
+        | PageReason::Stale
+        | PageReason::Twice
+        | PageReason::Altered
+        | PageReason::Unfit
+        | PageReason::Over => false,
+    }
+}
+
+/// Which other record of its page a fault concerns.
+#[derive(Clone, Copy, Debug, PartialEq, Eq)]
+pub enum Concern {
+    /// The page's first placement.
+    Placement,
+    /// The page's last change before the halt.
+    Change,
+    /// An earlier placement of the page, or else its sending.
+    Origin,
+    /// The page's first release at the target.
+    Release,
+    Nothing,
+}
+
+/// Which other record a fault of this reason concerns.
+pub fn concern_of(reason: PageReason) -> Concern {
+    match reason {
+        PageReason::Read | PageReason::Early => Concern::Placement,
+        PageReason::Given | PageReason::Stale => Concern::Change,
+        PageReason::Twice | PageReason::Altered | PageReason::Unfit => Concern::Origin,
+        PageReason::Over => Concern::Release,
+    }
+}
