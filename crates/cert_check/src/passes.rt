@@ -1,43 +1,45 @@
-//! How the records of each log are judged for the shape, one after the other.
+//! How the records of each log are judged for the shape, one after the other, and the first fault of a log.
 
-ghost use Rattle.std.specs.Prelude.{◌≡◌, ◌||◌, true};
+ghost use Rattle.std.specs.Prelude.{◌≡◌, ◌||◌, true, MatchOption, IfOk};
 ghost use Rattle.migration_types.specs.declared.records.LogName.TheVariants.{Guest, Source, Link, Lane, Pager};
+ghost use Rattle.migration_types.specs.Sessions.{IsSession};
 ghost use Rattle.audit_model.specs.Names.{log_length};
 ghost use Rattle.audit_model.specs.Shape.{in_phase_by, is_halt, is_resume, guest_named, source_named, link_named, lane_named, pager_named, source_start, pager_start};
 ghost use Rattle.page_tables.specs.Tables.{pages_of, values, IsWith};
 ghost use Rattle.page_facts.specs.Moved.{SourcePage};
-ghost use Rattle.cert_check.specs.inner.FirstOfLog.{first_reason, is_unmarked, marked_by, reason_at, AreSent};
+ghost use Rattle.cert_check.specs.inner.FirstOfLog.{first_reason, is_unmarked, marked_by, reason_at, AreSent, IsRightLog, IsFirstOfLog};
 ghost use Rattle.cert_check.specs.inner.Phases.{ArePhases, ArePhasesAfter};
 
-use crate::log_passes::Pass;
+use crate::log_passes::{Found, Pass, first_found};
 use audit_model::{
     ShapeReason, guest_named, in_phase, is_halt, is_resume, lane_named, link_named, pager_named,
     pager_start, source_named, source_start,
 };
-use migration_types::{GuestRec, PagerRec, Session, SourceRec};
+use migration_types::{GuestRec, LogName, PagerRec, Session, SourceRec};
 use page_tables::Table;
+use std::alloc::{AllocError, Global};
 
 /// Whether the guest's log had a `halt`, and a `resume`.
 #[derive(Clone, Copy)]
-pub(crate) struct Phases {
-    pub halted: bool,
-    pub resumed: bool,
+struct Phases {
+    halted: bool,
+    resumed: bool,
 }
 
 /// The pass over the guest's log.
-pub(crate) struct GuestPass;
+struct GuestPass;
 
 /// The pass over the source's log, with a mark for each page that was sent.
-pub(crate) struct SourcePass;
+struct SourcePass;
 
 /// The pass over the link's log.
-pub(crate) struct LinkPass;
+struct LinkPass;
 
 /// The pass over the lane's log.
-pub(crate) struct LanePass;
+struct LanePass;
 
 /// The pass over the pager's log.
-pub(crate) struct PagerPass;
+struct PagerPass;
 
 /// Why a guest record is not of the right shape.
 fn guest_reason(session: &Session, rec: &GuestRec, phases: Phases) -> Option<ShapeReason>
@@ -211,5 +213,54 @@ impl Pass for PagerPass {
 
     fn judge(session: &Session, _nothing: &mut (), n: usize) -> Option<ShapeReason> {
         pager_reason(session, n, &session.pager()[n])
+    }
+}
+
+/// The first fault of the guest's log.
+fn guest_fault(session: &Session) -> Option<Found<ShapeReason>>
+    requires { IsSession session.now }
+    ensures { MatchOption result (IsRightLog session.now Guest) (λ f. IsFirstOfLog session.now Guest f.place f.reason) }
+{
+    let mut phases = Phases {
+        halted: false,
+        resumed: false,
+    };
+    first_found::<GuestPass>(session, &mut phases, 0, session.guest().len())
+}
+
+/// The first fault of the source's log.
+fn source_fault(alloc: Global, session: &Session) -> Result<Option<Found<ShapeReason>>, AllocError>
+    requires { IsSession session.now }
+    ensures { IfOk result (λ o. MatchOption o (IsRightLog session.now Source) (λ f. IsFirstOfLog session.now Source f.place f.reason)) }
+{
+    let mut sent = Table::no_marks(alloc, session.geometry().pages())?;
+    let fault = first_found::<SourcePass>(session, &mut sent, 0, session.source().len());
+    Ok(fault)
+}
+
+/// The first fault of a log.
+pub(crate) fn fault_of(
+    alloc: Global,
+    session: &Session,
+    log: LogName,
+) -> Result<Option<Found<ShapeReason>>, AllocError>
+    requires { IsSession session.now }
+    ensures { IfOk result (λ o. MatchOption o (IsRightLog session.now log) (λ f. IsFirstOfLog session.now log f.place f.reason)) }
+{
+    match log {
+        LogName::Guest => Ok(guest_fault(session)),
+        LogName::Source => source_fault(alloc, session),
+        LogName::Link => {
+            let fault = first_found::<LinkPass>(session, &mut (), 0, session.link().len());
+            Ok(fault)
+        }
+        LogName::Lane => {
+            let fault = first_found::<LanePass>(session, &mut (), 0, session.lane().len());
+            Ok(fault)
+        }
+        LogName::Pager => {
+            let fault = first_found::<PagerPass>(session, &mut (), 0, session.pager().len());
+            Ok(fault)
+        }
     }
 }

@@ -1,6 +1,5 @@
-use Rattle.std.proofs.Common.{◌≡◌, ℕ, Bool, false, true, not, refl, sym, subst, arith, get_or}
+use Rattle.std.proofs.Common.{◌≡◌, Bool, false, true, not, refl, sym, subst, arith, get_or}
 use Rattle.std.specs.Prelude.{IsTrue}
-use Rattle.audit_model.specs.Certificates.{IsRightEntry}
 use Rattle.std.proofs.lemmas.Option.{slice_get-get_or, slice_get_within}
 use Rattle.migration_types.specs.declared.cert.Entry.{Entry}
 use Rattle.migration_types.specs.declared.cert.Entry.TheVariants.{Nothing}

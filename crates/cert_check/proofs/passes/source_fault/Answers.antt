@@ -3,7 +3,7 @@ use Rattle.migration_types.specs.declared.records.LogName.TheVariants.{Source}
 use Rattle.migration_types.specs.declared.records.SourceRec.{SourceRec}
 use Rattle.migration_types.specs.Extents.{Extent}
 use Rattle.cert_check.proofs.FirstOfLog.{of_found}
-use Rattle.cert_check.proofs.shape_fault.source_fault.Goals as goal
+use Rattle.cert_check.proofs.passes.source_fault.Goals as goal
 
 pub first_found-fault-requires-clause-at : goal.first_found-fault-requires-clause-at
 first_found-fault-requires-clause-at c = record {
