@@ -46,25 +46,15 @@ fn is_of_memory(error: &io::Error) -> bool {
     error.kind() == ErrorKind::OutOfMemory
 }
 
-/// The fault of an error in reading.
-fn read_fault(error: &io::Error) -> PumpFault
-    ensures { IsOfReading result }
+/// The fault of an error: this one, or that memory was refused.
+fn fault_of(error: &io::Error, fault: PumpFault) -> PumpFault
+    ensures reading { IsOfReading fault → IsOfReading result }
+    ensures writing { IsOfWriting fault → IsOfWriting result }
 {
     if is_of_memory(error) {
         PumpFault::Memory
     } else {
-        PumpFault::Read
-    }
-}
-
-/// The fault of an error in writing.
-fn write_fault(error: &io::Error) -> PumpFault
-    ensures { IsOfWriting result }
-{
-    if is_of_memory(error) {
-        PumpFault::Memory
-    } else {
-        PumpFault::Write
+        fault
     }
 }
 
@@ -85,7 +75,7 @@ fn write_bytes<W: Write>(writer: &mut W, bytes: &[u8]) -> Result<(), PumpFault>
         match writer.write(rest) {
             Ok(0) => return Err(PumpFault::Write),
             Ok(count) => rest = &rest[count..],
-            Err(error) => return Err(write_fault(&error)),
+            Err(error) => return Err(fault_of(&error, PumpFault::Write)),
         }
     }
     Ok(())
@@ -173,7 +163,7 @@ pub fn pump<R: Read, W: Write>(
     while turn < turns {
         let length = match reader.read(buffer.as_mut_slice()) {
             Ok(length) => length,
-            Err(error) => return Err(read_fault(&error)),
+            Err(error) => return Err(fault_of(&error, PumpFault::Read)),
         };
         if length == 0 {
             if stream.is_between_packets() {

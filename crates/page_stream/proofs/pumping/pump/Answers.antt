@@ -1,4 +1,4 @@
-use Rattle.std.proofs.Common.{rules, ◌≡◌, ◌≤◌, length, take, drop, arith, sym, ◌∙◌, refl}
+use Rattle.std.proofs.Common.{rules, ◌≡◌, ◌≤◌, length, take, drop, arith, sym, ◌∙◌, refl, inl}
 use Rattle.std.proofs.lemmas.Result.{err_from_is_err_and}
 use Rattle.page_stream.proofs.Turns.{so_far_begins, so_far_goes, so_far_stops, read_piece, until_memory, until_turns, until_read}
 use Rattle.page_stream.proofs.pumping.pump.Goals as goal
@@ -19,7 +19,7 @@ loop-turn-init g c = rw c.new-stream.ensures (record {
 
 pub returns-in-Err-clause-until : goal.returns-in-Err-clause-until
 returns-in-Err-clause-until g c =
-    until_read c.args.geometry _ _ _ _ _ c.loop-turn.stream.rest c.loop-turn.count c.loop-turn.turn c.args.turns c.read_fault.result c.loop-turn.invariant.so_far c.in-Err.ensures.bytes c.read_fault.ensures
+    until_read c.args.geometry _ _ _ _ _ c.loop-turn.stream.rest c.loop-turn.count c.loop-turn.turn c.args.turns c.fault_of.result c.loop-turn.invariant.so_far c.in-Err.ensures.bytes (c.fault_of.ensures.reading (inl refl))
 
 pub returns-in_err-count-clause-until : goal.returns-in_err-count-clause-until
 returns-in_err-count-clause-until g c =
