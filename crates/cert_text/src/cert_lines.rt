@@ -50,18 +50,6 @@ impl Model for CertLines {
 }
 
 impl CertLines {
-    /// No line came yet. Takes no memory.
-    pub fn new(alloc: Global) -> Self
-        ensures { result ≡ [] }
-    {
-        CertLines {
-            stage: Stage::Header,
-            pages: 0,
-            entries: Vec::new(alloc),
-            runs: RunLines::new(alloc, Version::One),
-        }
-    }
-
     /// Takes as many of the first lines as are in plain form, and answers what follows them and how many they were.
     fn lines_by<'a, C: ItemCrew<RunForm>>(&mut self, crew: &C, bytes: &'a [u8]) -> (&'a [u8], u32)
         requires { C.IsReady crew.now }
@@ -151,7 +139,12 @@ impl LinesApart for CertLines {
 
 impl Rewind for CertLines {
     fn empty(alloc: Global) -> Self {
-        CertLines::new(alloc)
+        CertLines {
+            stage: Stage::Header,
+            pages: 0,
+            entries: Vec::new(alloc),
+            runs: RunLines::new(alloc, Version::One),
+        }
     }
 
     fn count(&self) -> u32 {

@@ -33,16 +33,6 @@ impl Model for RunsText {
 }
 
 impl RunsText {
-    /// No line came yet. Takes no memory.
-    pub fn new(alloc: Global) -> Self
-        ensures { result ≡ [] }
-    {
-        RunsText {
-            headed: false,
-            runs: RunLines::new(alloc, Version::Two),
-        }
-    }
-
     /// Takes as many of the first lines as are in plain form, and answers what follows them and how many they were.
     fn lines_by<'a, C: ItemCrew<RunForm>>(&mut self, crew: &C, bytes: &'a [u8]) -> (&'a [u8], u32)
         requires { C.IsReady crew.now }
@@ -105,7 +95,10 @@ impl LinesApart for RunsText {
 
 impl Rewind for RunsText {
     fn empty(alloc: Global) -> Self {
-        RunsText::new(alloc)
+        RunsText {
+            headed: false,
+            runs: RunLines::new(alloc, Version::Two),
+        }
     }
 
     fn count(&self) -> u32 {
