@@ -32,16 +32,6 @@ impl Model for SessionLines {
 }
 
 impl SessionLines {
-    /// A reader that no line came to.
-    pub(crate) fn new(alloc: Global) -> Self
-        ensures { result ≡ [] }
-    {
-        SessionLines {
-            stage: Stage::Header,
-            parts: Parts::new(alloc),
-        }
-    }
-
     /// Some text begins with the lines so far. Runs nothing: each reader keeps it.
     fn goes_on(&self)
         ensures { Begins SpellsSession self.now }
@@ -148,7 +138,10 @@ impl LinesApart for SessionLines {
 
 impl Rewind for SessionLines {
     fn empty(alloc: Global) -> Self {
-        SessionLines::new(alloc)
+        SessionLines {
+            stage: Stage::Header,
+            parts: Parts::new(alloc),
+        }
     }
 
     fn count(&self) -> u32 {

@@ -32,17 +32,6 @@ fn link_then(text: &[u8]) -> Option<(LinkRec, &[u8])>
     Some((LinkRec::Up { asking }, rest))
 }
 
-/// Adds the line of a record of the link.
-#[inline(always)]
-fn push_link_record(out: &mut Vec<u8>, rec: &LinkRec) -> Result<(), AllocError>
-    ensures { OnOk result (out.new.items ≡ out.old.items ++ (link_line rec.now ++ 10 ∷ [])) }
-{
-    match *rec {
-        LinkRec::Down { sending } => push_keyed(out, DOWN_KEY, sending),
-        LinkRec::Up { asking } => push_keyed(out, UP_KEY, asking),
-    }
-}
-
 /// The lines of the link's log.
 #[derive(Clone, Copy)]
 pub(crate) struct LinkLines;
@@ -66,6 +55,9 @@ impl RecordForm for LinkLines {
 
     #[inline(always)]
     fn push(rec: &LinkRec, out: &mut Vec<u8>) -> Result<(), AllocError> {
-        push_link_record(out, rec)
+        match *rec {
+            LinkRec::Down { sending } => push_keyed(out, DOWN_KEY, sending),
+            LinkRec::Up { asking } => push_keyed(out, UP_KEY, asking),
+        }
     }
 }
