@@ -1,0 +1,6 @@
+pub mod Cuts
+pub mod CutOnce
+pub mod Filling
+pub mod Said
+pub mod WhatIsRead
+pub mod Names

@@ -1,0 +1,4 @@
+pub mod Cutting
+pub mod Answers
+pub mod Told
+pub mod inner

@@ -1,0 +1,49 @@
+-- What is told of the texts under names.
+use Rattle.std.specs.Prelude.{◌≡◌, ℕ, ◌≤◌, Bool, true, false, List, Option, IfSome, codes, length, if◌then◌else◌, ◌&&◌}
+use Rattle.std.specs.Str.{bytes_eq}
+use Rattle.std.specs.Io.KnownBytes.{Appends}
+use Rattle.command_texts.specs.Cutting.{IsCutAtEnd}
+
+-- the name of the input
+abbrev pub is_dash : List ℕ → Bool
+is_dash name = bytes_eq name (codes "-")
+
+-- the bytes that a name stands for, where they are known
+abbrev pub bytes_under : List ℕ → (List ℕ → Option (List ℕ)) → Option (List ℕ) → Option (List ℕ)
+bytes_under name files input = if is_dash name then input else files name
+
+-- these bytes were read: there are at most so many, and where it is known what was there, they are that
+pub record AreRead (known : Option (List ℕ)) (bytes : List ℕ) : Type 0 where
+  pub few : length bytes ≤ 268435456
+  pub whole : IfSome known (λ xs. bytes ≡ xs)
+
+-- the text that a name stands for
+abbrev pub IsNamed : List ℕ → (List ℕ → Option (List ℕ)) → Option (List ℕ) → List ℕ → Type 0
+IsNamed name files input text = AreRead (bytes_under name files input) text
+
+-- the two texts of an input
+pub record AreOfInput (input : Option (List ℕ)) (texts : List ℕ × List ℕ) : Type 0 where
+  pub bytes : List ℕ
+  pub are_read : AreRead input bytes
+  pub are_cut : IsCutAtEnd bytes texts.0 texts.1
+
+abbrev pub AreTextsBy : Bool → Option (List ℕ) → Option (List ℕ) → Option (List ℕ) → List ℕ × List ℕ → Type 0
+AreTextsBy true first second input texts = AreOfInput input texts
+AreTextsBy false first second input texts = AreRead first texts.0 × AreRead second texts.1
+
+-- the two texts that two names stand for: those of one input, where both name it
+abbrev pub AreNamed : List ℕ → List ℕ → (List ℕ → Option (List ℕ)) → Option (List ℕ) → List ℕ × List ℕ → Type 0
+AreNamed first second files input texts =
+    AreTextsBy (is_dash first && is_dash second) (bytes_under first files input) (bytes_under second files input) input texts
+
+-- the output gained the text of an answer, and the status is the answer's
+pub record TellsOf (IsAnswer : List ℕ → ℕ → Type 0) (old new : Option (List ℕ)) (status : ℕ) : Type 0 where
+  pub text : List ℕ
+  pub is_answer : IsAnswer text status
+  pub written : Appends old new text
+
+-- the answer to such texts was told
+pub record Tells {T : Type 0} (AreTexts : T → Type 0) (IsAnswerTo : T → List ℕ → ℕ → Type 0) (old new : Option (List ℕ)) (status : ℕ) : Type 0 where
+  pub texts : T
+  pub are_texts : AreTexts texts
+  pub told : TellsOf (IsAnswerTo texts) old new status

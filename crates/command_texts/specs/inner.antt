@@ -1,0 +1,3 @@
+-- What serves proofs alone.
+pub mod Ends
+pub mod Takings

@@ -1,0 +1,121 @@
+//! Answers and faults, with their statuses.
+
+ghost use Rattle.std.specs.Prelude.{◌≡◌, [], ◌∷◌, Ok, IfOk, if◌then◌else◌};
+ghost use Rattle.std.specs.Io.KnownBytes.{Appends};
+ghost use Rattle.text_lines.specs.Text.{ended};
+ghost use Rattle.command_texts.specs.Answers.{Says, fault_status, numbered};
+
+use std::alloc::{AllocError, Global};
+use std::io::Write;
+use text_lines::{push_keyed, push_line};
+
+/// The status where all is well.
+pub const ACCEPTED: u8 = 0;
+
+/// The status of another answer.
+pub const REFUSED: u8 = 1;
+
+/// The status of words that are no command.
+pub const USAGE: u8 = 2;
+
+/// The status of a text that was not read, of a link that failed, or of an output that was not written.
+pub const FAILED: u8 = 3;
+
+/// The status where memory ran out.
+pub const MEMORY: u8 = 4;
+
+/// What a command writes, and its status.
+#[derive(Drop)]
+pub struct Answer {
+    pub text: Vec<u8>,
+    pub status: u8,
+}
+
+/// Why there is no answer.
+#[derive(Clone, Copy)]
+pub enum Fault<'a> {
+    /// The text under this name was not read whole.
+    File(&'a str),
+    /// The link of a migration failed.
+    Link,
+    /// The output was not written.
+    Output,
+    /// Memory was refused.
+    Memory,
+}
+
+/// Tells a fault on a line of its own, and answers its status. Where that line is not written the status is the same.
+pub fn tell<E: Write>(fault: Fault<'_>, errors: &mut E) -> u8
+    ensures { result ≡ fault_status fault.entry }
+{
+    match fault {
+        Fault::File(name) => {
+            let _ = writeln!(errors, "file {name}");
+            FAILED
+        }
+        Fault::Link => {
+            let _ = errors.write_all(b"link\n");
+            FAILED
+        }
+        Fault::Output => {
+            let _ = errors.write_all(b"output\n");
+            FAILED
+        }
+        Fault::Memory => {
+            let _ = errors.write_all(b"out of memory\n");
+            MEMORY
+        }
+    }
+}
+
+/// An answer, or the fault that there is none.
+pub fn given(answer: Result<Answer, AllocError>) -> Result<Answer, Fault<'static>>
+    ensures { IfOk result (λ given. answer ≡ Ok given) }
+{
+    match answer {
+        Ok(answer) => Ok(answer),
+        Err(_) => Err(Fault::Memory),
+    }
+}
+
+/// The answer that says this alone, where all is not well.
+pub fn remark(alloc: Global, line: &[u8]) -> Result<Answer, AllocError>
+    ensures { IfOk result (λ answer. Says answer (ended (line.now ∷ [])) 1) }
+{
+    let mut text = Vec::new(alloc);
+    push_line(&mut text, line)?;
+    Ok(Answer {
+        text,
+        status: REFUSED,
+    })
+}
+
+/// The answer to a text that is refused at this line, which the key tells.
+pub fn refused(alloc: Global, key: &[u8], line: u32) -> Result<Answer, AllocError>
+    ensures { IfOk result (λ answer. Says answer (numbered key.now line) 1) }
+{
+    let mut text = Vec::new(alloc);
+    push_keyed(&mut text, key, line)?;
+    Ok(Answer {
+        text,
+        status: REFUSED,
+    })
+}
+
+/// The status of an answer, by whether all is well.
+pub fn status_where(well: bool) -> u8
+    ensures { result ≡ (if well then 0 else 1) }
+{
+    if well { ACCEPTED } else { REFUSED }
+}
+
+/// Writes an answer's text, and answers its status.
+pub fn written<O: Write>(answer: &Answer, output: &mut O) -> Result<u8, Fault<'static>>
+    ensures status { IfOk result (λ status. status ≡ answer.now.status) }
+    ensures text { IfOk result (λ status. Appends (O.contents output.old) (O.contents output.new) answer.now.text.items) }
+{
+    if output.write_all(answer.text.as_slice()).is_err() {
+        return Err(Fault::Output);
+    }
+    Ok(answer.status)
+}

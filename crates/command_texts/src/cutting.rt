@@ -1,0 +1,104 @@
+//! Cutting an input into two texts, as it is read.
+
+ghost use Rattle.std.specs.Prelude.{◌≡◌, ◌≤◌, ◌↔◌, ℕ, List, ◌++◌, take, length, codes, IsTrue, IfSome, IfNone};
+ghost use Rattle.command_texts.specs.Cutting.{IsCutAtEnd};
+ghost use Rattle.command_texts.specs.inner.Ends.{CameAs, EndsThere, IsLacking, NoEndYet};
+
+use crate::taking::Taker;
+use std::alloc::{AllocError, Global};
+use std::thread::Threads;
+use text_lines::{after_key, is_line, next_line};
+
+/// The line that ends the first text.
+const END: &[u8] = b"end";
+
+/// Whether a line that goes on so becomes the line `end`, by what it lacks of it, where it may become it.
+fn completes(lacking: Option<&[u8]>, rest: &[u8]) -> bool
+    ensures { (start : List ℕ) → IsLacking start lacking.entry → IsTrue result ↔ start ++ rest.now ≡ codes "end" }
+{
+    match lacking {
+        Some(lacking) => is_line(rest, lacking),
+        None => false,
+    }
+}
+
+/// What a line that goes on so lacks of the line `end`, where it may still become it.
+fn lacking_after(lacking: Option<&'static [u8]>, rest: &[u8]) -> Option<&'static [u8]>
+    ensures { (start : List ℕ) → IsLacking start lacking.entry → IsLacking (start ++ rest.now) result }
+{
+    match lacking {
+        Some(lacking) => after_key(lacking, rest),
+        None => None,
+    }
+}
+
+/// The place in a piece behind the first line `end`, where there is one. What the line before the piece lacks of that
+/// line, where it may become it, is given, and afterwards that of the last line.
+fn find_end(lacking: &mut Option<&'static [u8]>, piece: &[u8]) -> Option<usize>
+    ensures found { IfSome result (λ at. (at ≤ length piece.now) × ((input : List ℕ) → NoEndYet input lacking.old → EndsThere (input ++ take at piece.now))) }
+    ensures none { IfNone result ((input : List ℕ) → NoEndYet input lacking.old → NoEndYet (input ++ piece.now) lacking.new) }
+{
+    let mut rest = piece;
+    while let Some((line, after)) = next_line(rest) {
+        if completes(*lacking, line) {
+            return Some(piece.len() - after.len());
+        }
+        *lacking = Some(END);
+        rest = after;
+    }
+    *lacking = lacking_after(*lacking, rest);
+    None
+}
+
+/// Takes an input that holds two texts: the first ends with the first line `end`, and the second is what follows.
+/// Without such a line the first is all of the input and the second is empty.
+#[derive(Drop)]
+pub struct Both<A: Taker, B: Taker> {
+    first: A,
+    second: B,
+    /// Whether the first text ended.
+    ended: bool,
+    /// What the last line of the first text lacks of the line `end`, where it may become it.
+    lacking: Option<&'static [u8]>,
+}
+
+impl<A: Taker, B: Taker> Taker for Both<A, B> {
+    type Found = (A::Found, B::Found);
+
+    ghost is_found = { λ input found. (texts : List ℕ × List ℕ) × IsCutAtEnd input texts.0 texts.1 × A.is_found texts.0 found.0 × B.is_found texts.1 found.1 };
+
+    ghost came = { λ both input. CameAs (A.came both.first) (B.came both.second) both.ended both.lacking input };
+
+    fn new(alloc: Global) -> Self {
+        Both {
+            first: A::new(alloc),
+            second: B::new(alloc),
+            ended: false,
+            lacking: Some(END),
+        }
+    }
+
+    fn take<H: Threads + Sync>(
+        &mut self,
+        rt: &H,
+        parts: usize,
+        piece: &[u8],
+    ) -> Result<(), AllocError> {
+        if self.ended {
+            return self.second.take(rt, parts, piece);
+        }
+        match find_end(&mut self.lacking, piece) {
+            Some(place) => {
+                let (first, second) = piece.split_at(place);
+                self.ended = true;
+                self.first.take(rt, parts, first)?;
+                self.second.take(rt, parts, second)
+            }
+            None => self.first.take(rt, parts, piece),
+        }
+    }
+
+    fn end(self) -> (A::Found, B::Found) {
+        (self.first.end(), self.second.end())
+    }
+}

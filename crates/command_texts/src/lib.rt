@@ -1,0 +1,17 @@
+//! What the program's commands have in common: the texts under names are read, each command answers to what was found of
+//! them by a text and a status, and the answer is written.
+#![tactic(auto)]
+
+mod answer;
+mod cutting;
+mod naming;
+mod performing;
+mod reading;
+mod taking;
+
+pub use answer::{
+    ACCEPTED, Answer, Fault, REFUSED, USAGE, given, refused, remark, status_where, tell,
+};
+pub use performing::{OnOne, OnTwo, perform_one, perform_two};
+pub use reading::TextSource;
+pub use taking::Taker;
