@@ -1,5 +1,5 @@
 -- An answer that says what is right.
-use Rattle.std.proofs.Common.{◌≡◌, ℕ, List, IfOk, Result, Ok, Err, subst}
+use Rattle.std.proofs.Common.{◌≡◌, ℕ, ◌<◌, List, IfOk, Result, Ok, Err, subst}
 use Rattle.std.specs.declared.alloc.AllocError.{AllocError}
 use Rattle.command_texts.specs.declared.answer.Answer.{Answer}
 use Rattle.command_texts.specs.declared.answer.Fault.{Fault}
@@ -15,3 +15,13 @@ says_right IsRight text_of status_of value (Err e) is h = tt
 pub given_holds : (P : Answer → Type 0) (made : Result Answer AllocError) (given : Result Answer Fault) → IfOk made P → IfOk given (λ g. made ≡ Ok g) → IfOk given P
 given_holds P made (Ok g) is same = subst (λ (r : Result Answer AllocError). IfOk r P) same is
 given_holds P made (Err fault) is same = tt
+
+-- and so does what follows from it of its status
+pub given_few : (P : Answer → Type 0) (made : Result Answer AllocError) (given : Result Answer Fault) → ((a : Answer) → P a → a.status < 2) → IfOk made P → IfOk given (λ g. made ≡ Ok g) → IfOk given (λ a. a.status < 2)
+given_few P made (Ok g) few is same = few g (subst (λ (r : Result Answer AllocError). IfOk r P) same is)
+given_few P made (Err fault) few is same = tt
+
+-- what follows of the status of an answer from what it says
+pub few_of : (P : Answer → Type 0) (given : Result Answer Fault) → ((a : Answer) → P a → a.status < 2) → IfOk given P → IfOk given (λ a. a.status < 2)
+few_of P (Ok g) few is = few g is
+few_of P (Err fault) few is = tt

@@ -44,6 +44,9 @@ pub enum Fault<'a> {
     Memory,
 }
 
+/// An answer, or the fault that there is none.
+pub type Given = Result<Answer, Fault<'static>>;
+
 /// Tells a fault on a line of its own, and answers its status. Where that line is not written the status is the same.
 pub fn tell<E: Write>(fault: Fault<'_>, errors: &mut E) -> u8
     ensures { result ≡ fault_status fault.entry }
@@ -69,7 +72,7 @@ pub fn tell<E: Write>(fault: Fault<'_>, errors: &mut E) -> u8
 }
 
 /// An answer, or the fault that there is none.
-pub fn given(answer: Result<Answer, AllocError>) -> Result<Answer, Fault<'static>>
+pub fn given(answer: Result<Answer, AllocError>) -> Given
     ensures { IfOk result (λ given. answer ≡ Ok given) }
 {
     match answer {

@@ -10,7 +10,7 @@ mod reading;
 mod taking;
 
 pub use answer::{
-    ACCEPTED, Answer, Fault, REFUSED, USAGE, given, refused, remark, status_where, tell,
+    ACCEPTED, Answer, Fault, Given, REFUSED, USAGE, given, refused, remark, status_where, tell,
 };
 pub use performing::{OnOne, OnTwo, perform_one, perform_two};
 pub use reading::TextSource;

@@ -1,9 +1,9 @@
 //! Commands, whatever they answer: the texts under their names are read, and the answer is written.
 
-ghost use Rattle.std.specs.Prelude.{◌<◌, ℕ, List, IfOk};
+ghost use Rattle.std.specs.Prelude.{⊤, ◌<◌, ℕ, List, IfOk};
 ghost use Rattle.command_texts.specs.Told.{AreNamed, IsNamed, Tells};
 
-use crate::answer::{Answer, Fault, written};
+use crate::answer::{Fault, Given, written};
 use crate::naming::{read_named, read_pair};
 use crate::reading::TextSource;
 use crate::taking::Taker;
@@ -12,53 +12,51 @@ use std::io::{Read, Write};
 use std::thread::Threads;
 
 /// A command on one text.
-pub trait OnOne<R> {
+pub trait OnOne {
     /// Takes its text.
     type Text: Taker;
+
+    // What lets it answer.
+    ghost ready: { Type 0 } = { ⊤ };
 
     /// This is its answer to a text, and its status.
     ghost is_answer: { Self → List ℕ → List ℕ → ℕ → Type 0 };
 
-    /// Its answer to what was found of a text. There is none where memory ran out, or where a link failed.
-    fn answer(
-        &self,
-        rt: &R,
-        alloc: Global,
-        found: &<Self::Text as Taker>::Found,
-    ) -> Result<Answer, Fault<'static>>
-        ensures { (text : List ℕ) → Self.Text.is_found text found.now → IfOk result (λ answer. is_answer self.now text answer.text.items answer.status) };
-
-    /// Its status is 0 or 1.
-    ghost few: { (command : Self) (text answer : List ℕ) (status : ℕ) → is_answer command text answer status → status < 2 };
+    /// Its answer to what was found of a text, with a status of 0 or 1. There is none where memory ran out or a link failed.
+    fn answer(&self, alloc: Global, found: &<Self::Text as Taker>::Found) -> Given
+        requires ready { ready }
+        ensures few { (text : List ℕ) → Self.Text.is_found text found.now → IfOk result (λ answer. answer.status < 2) }
+        ensures told { (text : List ℕ) → Self.Text.is_found text found.now → IfOk result (λ answer. is_answer self.now text answer.text.items answer.status) };
 }
 
 /// A command on two texts.
-pub trait OnTwo<R> {
+pub trait OnTwo {
     /// Takes the first.
     type First: Taker;
 
     /// Takes the second.
     type Second: Taker;
 
+    // What lets it answer.
+    ghost ready: { Type 0 } = { ⊤ };
+
     /// This is its answer to two texts, and its status.
     ghost is_answer: { Self → List ℕ × List ℕ → List ℕ → ℕ → Type 0 };
 
-    /// Its answer to what was found of two texts. There is none where memory ran out.
+    /// Its answer to what was found of two texts, with a status of 0 or 1. There is none where memory ran out.
     fn answer(
         &self,
-        rt: &R,
         alloc: Global,
         first: &<Self::First as Taker>::Found,
         second: &<Self::Second as Taker>::Found,
-    ) -> Result<Answer, Fault<'static>>
-        ensures { (texts : List ℕ × List ℕ) → Self.First.is_found texts.0 first.now → Self.Second.is_found texts.1 second.now → IfOk result (λ answer. is_answer self.now texts answer.text.items answer.status) };
-
-    /// Its status is 0 or 1.
-    ghost few: { (command : Self) (texts : List ℕ × List ℕ) (answer : List ℕ) (status : ℕ) → is_answer command texts answer status → status < 2 };
+    ) -> Given
+        requires ready { ready }
+        ensures few { (texts : List ℕ × List ℕ) → Self.First.is_found texts.0 first.now → Self.Second.is_found texts.1 second.now → IfOk result (λ answer. answer.status < 2) }
+        ensures told { (texts : List ℕ × List ℕ) → Self.First.is_found texts.0 first.now → Self.Second.is_found texts.1 second.now → IfOk result (λ answer. is_answer self.now texts answer.text.items answer.status) };
 }
 
 /// Does a command on the text under a name.
-pub fn perform_one<'a, C: OnOne<R>, R: Threads + Sync, S: TextSource, I: Read, O: Write>(
+pub fn perform_one<'a, C: OnOne, R: Threads + Sync, S: TextSource, I: Read, O: Write>(
     rt: &R,
     alloc: Global,
     command: &C,
@@ -67,16 +65,17 @@ pub fn perform_one<'a, C: OnOne<R>, R: Threads + Sync, S: TextSource, I: Read, O
     input: &mut I,
     output: &mut O,
 ) -> Result<u8, Fault<'a>>
+    requires ready { C.ready }
     ensures few { IfOk result (λ status. status < 2) }
     ensures told { IfOk result (Tells (IsNamed name.entry.now (S.bytes_of texts.now) (I.remaining input.old)) (C.is_answer command.now) (O.contents output.old) (O.contents output.new)) }
 {
     let found = read_named::<C::Text, R, S, I>(rt, alloc, name, texts, input)?;
-    let answer = command.answer(rt, alloc, &found)?;
+    let answer = command.answer(alloc, &found)?;
     written(&answer, output)
 }
 
 /// Does a command on the texts under two names, which are read in this order.
-pub fn perform_two<'a, C: OnTwo<R>, R: Threads + Sync, S: TextSource, I: Read, O: Write>(
+pub fn perform_two<'a, C: OnTwo, R: Threads + Sync, S: TextSource, I: Read, O: Write>(
     rt: &R,
     alloc: Global,
     command: &C,
@@ -86,12 +85,13 @@ pub fn perform_two<'a, C: OnTwo<R>, R: Threads + Sync, S: TextSource, I: Read, O
     input: &mut I,
     output: &mut O,
 ) -> Result<u8, Fault<'a>>
+    requires ready { C.ready }
     ensures few { IfOk result (λ status. status < 2) }
     ensures told { IfOk result (Tells (AreNamed first.entry.now second.entry.now (S.bytes_of texts.now) (I.remaining input.old)) (C.is_answer command.now) (O.contents output.old) (O.contents output.new)) }
 {
     let (found, other) = read_pair::<C::First, C::Second, R, S, I>(
         rt, alloc, first, second, texts, input,
     )?;
-    let answer = command.answer(rt, alloc, &found, &other)?;
+    let answer = command.answer(alloc, &found, &other)?;
     written(&answer, output)
 }

@@ -5,11 +5,10 @@ use Rattle.command_texts.proofs.performing.perform_one.Goals as goal
 pub returns-clause-few : goal.returns-clause-few
 returns-clause-few g c =
     let n = c.in_ok-found.ensures.named in
-    let a = c.in_ok-answer.answer in
-    few_written c.written.result a.status (g.met.C.OnOne.few c.args.command.now n.0 a.text.items a.status (c.in_ok-answer.ensures n.0 n.2)) c.written.ensures.status
+    few_written c.written.result c.in_ok-answer.answer.status (c.in_ok-answer.ensures.few n.0 n.2) c.written.ensures.status
 
 pub returns-clause-told : goal.returns-clause-told
 returns-clause-told g c =
     let n = c.in_ok-found.ensures.named in
     tells (IsNamed c.args.name.now (g.S.TextSource.bytes_of c.args.texts.now) (g.I.Read.remaining c.args.input.now)) (g.C.OnOne.is_answer c.args.command.now) _ _ n.0 c.in_ok-answer.answer c.written.result n.1
-    (c.in_ok-answer.ensures n.0 n.2) c.written.ensures.status c.written.ensures.text
+    (c.in_ok-answer.ensures.told n.0 n.2) c.written.ensures.status c.written.ensures.text

@@ -1,0 +1,4 @@
+pub mod Outcomes
+pub mod Statuses
+pub mod Closed
+pub mod Judged

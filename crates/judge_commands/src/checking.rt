@@ -1,0 +1,84 @@
+//! The verdict on a session and its certificate, as a line and a status.
+
+ghost use Rattle.std.specs.Prelude.{◌≡◌, ◌++◌, ℕ, List, IfOk, OnOk};
+ghost use Rattle.std.specs.Thread.{IsSync};
+ghost use Rattle.text_lines.specs.Answer.{IsRead};
+ghost use Rattle.session_text.specs.Grammar.{SpellsSession};
+ghost use Rattle.cert_text.specs.Grammar.{SpellsCert};
+ghost use Rattle.judge_commands.specs.Answers.{IsVerdictAnswer, verdict_line, verdict_status};
+
+use cert_check::Verdict;
+use cert_text::CertReader;
+use command_texts::{Answer, Given, OnTwo, given, status_where};
+use judged_texts::check_read;
+use migration_types::{Cert, Session};
+use report_text::{push_refused_certificate, push_refused_session, push_shape};
+use session_text::SessionReader;
+use std::alloc::{AllocError, Global};
+use std::thread::Threads;
+use text_lines::{push_keyed, push_line};
+
+/// The status of a verdict.
+pub fn verdict_status(verdict: Verdict) -> u8
+    ensures { result ≡ verdict_status verdict }
+{
+    status_where(matches!(verdict, Verdict::Yes))
+}
+
+/// Adds the line of a verdict.
+pub fn push_verdict(out: &mut Vec<u8>, verdict: Verdict) -> Result<(), AllocError>
+    ensures { OnOk result (out.new.items ≡ out.old.items ++ verdict_line verdict) }
+{
+    match verdict {
+        Verdict::SessionText(line) => push_refused_session(out, line),
+        Verdict::CertText(line) => push_refused_certificate(out, line),
+        Verdict::Shape(fault) => push_shape(out, &fault),
+        Verdict::Pages => push_line(out, b"pages"),
+        Verdict::Runs(line) => push_keyed(out, b"runs line ", line),
+        Verdict::Page(line) => push_keyed(out, b"page line ", line),
+        Verdict::Yes => push_line(out, b"yes"),
+    }
+}
+
+/// The verdict on a session and a certificate, by what was read of their texts.
+fn judge_read<R: Threads + Sync>(
+    rt: &R,
+    alloc: Global,
+    session: &Result<Session, u32>,
+    cert: &Result<Cert, u32>,
+) -> Result<Answer, AllocError>
+    ensures { (first second : List ℕ) → IsRead SpellsSession first session.now → IsRead SpellsCert second cert.now → IfOk result (λ answer. IsVerdictAnswer first second answer.text.items answer.status) }
+{
+    let verdict = check_read(rt, alloc, session, cert)?;
+    let mut text = Vec::new(alloc);
+    push_verdict(&mut text, verdict)?;
+    Ok(Answer {
+        text,
+        status: verdict_status(verdict),
+    })
+}
+
+/// `check`: the verdict on a session and its certificate.
+#[derive(Clone, Copy)]
+pub struct CheckCommand<'a, R> {
+    pub rt: &'a R,
+}
+
+impl<R: Threads + Sync> OnTwo for CheckCommand<'_, R> {
+    type First = SessionReader;
+
+    type Second = CertReader;
+
+    ghost ready = { IsSync R.row };
+
+    ghost is_answer = { λ _ texts. IsVerdictAnswer texts.0 texts.1 };
+
+    fn answer(
+        &self,
+        alloc: Global,
+        session: &Result<Session, u32>,
+        cert: &Result<Cert, u32>,
+    ) -> Given {
+        given(judge_read(self.rt, alloc, session, cert))
+    }
+}

@@ -1,0 +1,10 @@
+//! What the commands answer that judge a session by its text, alone or with a certificate or runs.
+#![tactic(auto)]
+
+mod auditing;
+mod checking;
+mod replaying;
+
+pub use auditing::{AuditCommand, report_status};
+pub use checking::{CheckCommand, push_verdict, verdict_status};
+pub use replaying::ReplayCommand;
