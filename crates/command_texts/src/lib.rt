@@ -11,7 +11,9 @@ mod taking;
 
 pub use answer::{
     ACCEPTED, Answer, Fault, Given, REFUSED, USAGE, given, refused, remark, status_where, tell,
+    written,
 };
+pub use naming::read_named;
 pub use performing::{OnOne, OnTwo, perform_one, perform_two};
 pub use reading::TextSource;
 pub use taking::Taker;

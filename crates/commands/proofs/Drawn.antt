@@ -13,10 +13,10 @@ use Rattle.migration_types.specs.Sessions.{Recorded}
 use Rattle.session_text.specs.Grammar.{SpellsSession}
 use Rattle.cert_text.specs.Runs.{SpellsRuns}
 use Rattle.order_picture.specs.Svg.{IsSvg}
-use Rattle.commands.specs.declared.answer.Answer.{Answer}
-use Rattle.commands.specs.Answers.{Says, numbered}
+use Rattle.command_texts.specs.declared.answer.Answer.{Answer}
+use Rattle.command_texts.specs.Answers.{Says, numbered}
 use Rattle.commands.specs.Drawings.{Drawing, SessionText, RunsText, Drawn, IsDrawing, IsDrawingAlong, IsDrawAnswer, IsDrawAlongAnswer, drawing_text, drawing_status}
-use Rattle.commands.proofs.Said.{says_right}
+use Rattle.command_texts.proofs.Said.{says_right}
 
 -- what was told of a session alone, and of a session with runs, was told of what the words ask for
 pub told_alone : (job : Asked (Bor Text)) (name : Bor Text) (further : Option (Bor Text)) (P : Asked Text → Type 0) → job ≡ Draw name further → further ≡ None → P (Draw name.now None) → P (asked_names job)

@@ -1,13 +1,5 @@
-pub mod Cuts
-pub mod Filling
-pub mod Statuses
-pub mod Said
-pub mod Migrated
-pub mod Closed
-pub mod CutOnce
+pub mod Settled
 pub mod Judged
 pub mod Recorded
-pub mod WhatIsRead
-pub mod Outcomes
-pub mod Names
 pub mod Drawn
+pub mod Explained

@@ -6,7 +6,7 @@ use Rattle.migration_types.specs.Sessions.{Recorded}
 use Rattle.session_text.specs.Grammar.{SpellsSession}
 use Rattle.cert_text.specs.Runs.{SpellsRuns}
 use Rattle.order_picture.specs.Svg.{IsSvg}
-use Rattle.commands.specs.Answers.{IsAnswer, numbered}
+use Rattle.command_texts.specs.Answers.{IsAnswer, numbered}
 
 -- a text is refused at this line, or this is the picture
 pub data Drawing : Type 0 where
@@ -33,9 +33,8 @@ drawing_text (Drawn text) = text
 
 -- 0 for a picture, and 1 for a text that is refused
 abbrev pub drawing_status : Drawing → ℕ
-drawing_status (SessionText line) = 1
-drawing_status (RunsText line) = 1
 drawing_status (Drawn text) = 0
+drawing_status other = 1
 
 -- `draw` with a session: what becomes of it
 abbrev pub IsDrawAnswer : List ℕ → List ℕ → ℕ → Type 0

@@ -9,7 +9,7 @@ use Rattle.audit_report.specs.declared.report.Report.{Report}
 use Rattle.judged_texts.specs.declared.auditing.Audited.{Audited}
 use Rattle.session_story.specs.Told.{BeginsWith}
 use Rattle.judged_texts.specs.AuditedText.{summary_text}
-use Rattle.commands.specs.Answers.{report_status, audited_status}
+use Rattle.judge_commands.specs.Answers.{report_status, audited_status}
 
 -- the text begins with the first line of the session's report, and the status is that report's
 pub record TellsReport (s : Recorded) (text : List ℕ) (status : ℕ) : Type 0 where

@@ -1,9 +1,3 @@
-pub mod Cutting
-pub mod Answers
 pub mod Explained
-pub mod Replayed
-pub mod Steps
-pub mod Migrations
 pub mod Drawings
 pub mod Told
-pub mod inner

@@ -1,7 +1,5 @@
 -- What the program tells of the texts that the words name.
-use Rattle.std.specs.Prelude.{◌≡◌, ℕ, ◌≤◌, Bool, true, false, List, Option, Some, None, IfSome, codes, length, if◌then◌else◌, ◌&&◌}
-use Rattle.std.specs.Str.{bytes_eq}
-use Rattle.std.specs.Io.KnownBytes.{Appends}
+use Rattle.std.specs.Prelude.{ℕ, List, Option, Some, None}
 use Rattle.command_words.specs.declared.asked.Asked.{Asked}
 use Rattle.command_words.specs.declared.asked.Asked.TheVariants.{One, Two, Migrate, Draw}
 use Rattle.command_words.specs.declared.asked.OneText.{OneText}
@@ -9,13 +7,13 @@ use Rattle.command_words.specs.declared.asked.OneText.TheVariants.{Certify, Audi
 use Rattle.command_words.specs.declared.asked.TwoTexts.{TwoTexts}
 use Rattle.command_words.specs.declared.asked.TwoTexts.TheVariants.{Check, Replay, Steps}
 use Rattle.judged_texts.specs.declared.wanted.Wanted.TheVariants as wanted
-use Rattle.commands.specs.Answers.{IsAuditAnswer, IsVerdictAnswer}
-use Rattle.commands.specs.Cutting.{IsCutAtEnd}
+use Rattle.command_texts.specs.Told.{AreNamed, IsNamed, Tells}
+use Rattle.judge_commands.specs.Answers.{IsAuditAnswer, IsVerdictAnswer}
+use Rattle.judge_commands.specs.Replayed.{IsReplayAnswer}
+use Rattle.host_commands.specs.Steps.{IsStepsAnswer}
+use Rattle.host_commands.specs.Migrations.{IsMigrateAnswer}
 use Rattle.commands.specs.Drawings.{IsDrawAnswer, IsDrawAlongAnswer}
 use Rattle.commands.specs.Explained.{IsExplainAnswer}
-use Rattle.commands.specs.Replayed.{IsReplayAnswer}
-use Rattle.commands.specs.Steps.{IsStepsAnswer}
-use Rattle.commands.specs.Migrations.{IsMigrateAnswer}
 
 -- the answer of a command on one text
 abbrev pub IsOneAnswer : OneText → List ℕ → List ℕ → ℕ → Type 0
@@ -28,50 +26,6 @@ abbrev pub IsTwoAnswer : TwoTexts → List ℕ × List ℕ → List ℕ → ℕ 
 IsTwoAnswer Check texts = IsVerdictAnswer texts.0 texts.1
 IsTwoAnswer Replay texts = IsReplayAnswer texts.0 texts.1
 IsTwoAnswer Steps texts = IsStepsAnswer texts.0 texts.1
-
--- the name of the input
-abbrev pub is_dash : List ℕ → Bool
-is_dash name = bytes_eq name (codes "-")
-
--- the bytes that a name stands for, where they are known
-abbrev pub bytes_under : List ℕ → (List ℕ → Option (List ℕ)) → Option (List ℕ) → Option (List ℕ)
-bytes_under name files input = if is_dash name then input else files name
-
--- these bytes were read: there are at most so many, and where it is known what was there, they are that
-pub record AreRead (known : Option (List ℕ)) (bytes : List ℕ) : Type 0 where
-  pub few : length bytes ≤ 268435456
-  pub whole : IfSome known (λ xs. bytes ≡ xs)
-
--- the text that a name stands for
-abbrev pub IsNamed : List ℕ → (List ℕ → Option (List ℕ)) → Option (List ℕ) → List ℕ → Type 0
-IsNamed name files input text = AreRead (bytes_under name files input) text
-
--- the two texts of an input
-pub record AreOfInput (input : Option (List ℕ)) (texts : List ℕ × List ℕ) : Type 0 where
-  pub bytes : List ℕ
-  pub are_read : AreRead input bytes
-  pub are_cut : IsCutAtEnd bytes texts.0 texts.1
-
-abbrev pub AreTextsBy : Bool → Option (List ℕ) → Option (List ℕ) → Option (List ℕ) → List ℕ × List ℕ → Type 0
-AreTextsBy true first second input texts = AreOfInput input texts
-AreTextsBy false first second input texts = AreRead first texts.0 × AreRead second texts.1
-
--- the two texts that two names stand for: those of one input, where both name it
-abbrev pub AreNamed : List ℕ → List ℕ → (List ℕ → Option (List ℕ)) → Option (List ℕ) → List ℕ × List ℕ → Type 0
-AreNamed first second files input texts =
-    AreTextsBy (is_dash first && is_dash second) (bytes_under first files input) (bytes_under second files input) input texts
-
--- the output gained the text of an answer, and the status is the answer's
-pub record TellsOf (IsAnswer : List ℕ → ℕ → Type 0) (old new : Option (List ℕ)) (status : ℕ) : Type 0 where
-  pub text : List ℕ
-  pub is_answer : IsAnswer text status
-  pub written : Appends old new text
-
--- the answer to such texts was told
-pub record Tells {T : Type 0} (AreTexts : T → Type 0) (IsAnswerTo : T → List ℕ → ℕ → Type 0) (old new : Option (List ℕ)) (status : ℕ) : Type 0 where
-  pub texts : T
-  pub are_texts : AreTexts texts
-  pub told : TellsOf (IsAnswerTo texts) old new status
 
 -- what a command asks for was told of the texts under its names
 abbrev pub TellsAsked : Asked (List ℕ) → (List ℕ → Option (List ℕ)) → Option (List ℕ) → Option (List ℕ) → Option (List ℕ) → ℕ → Type 0

@@ -1,18 +1,36 @@
 //! The picture of a session, as a text and a status.
 
 ghost use Rattle.std.specs.Prelude.{ℕ, List, IfOk};
+ghost use Rattle.std.specs.Thread.{IsSync};
 ghost use Rattle.text_lines.specs.Answer.{IsRead};
 ghost use Rattle.session_text.specs.Grammar.{SpellsSession};
 ghost use Rattle.cert_text.specs.Runs.{SpellsRuns};
 ghost use Rattle.order_picture.specs.Svg.{IsSvg};
+ghost use Rattle.report_text.specs.RefusalText.{refusal_text};
+ghost use Rattle.command_texts.specs.Answers.{Says};
 ghost use Rattle.commands.specs.Drawings.{IsDrawAnswer, IsDrawAlongAnswer};
 
-use crate::answer::{ACCEPTED, Answer, refused, refused_session};
 use audit_report::audit;
+use cert_text::RunsReader;
+use command_texts::{ACCEPTED, Answer, Given, OnOne, OnTwo, REFUSED, given, refused};
 use migration_types::{Run, Seq, Session};
 use order_picture::{Shown, picture_text, plan, plan_along};
+use report_text::push_refused_session;
+use session_text::SessionReader;
 use std::alloc::{AllocError, Global};
 use std::thread::Threads;
+
+/// The answer where the text of a session is refused at this line.
+fn refused_session(alloc: Global, line: u32) -> Result<Answer, AllocError>
+    ensures { IfOk result (λ answer. Says answer (refusal_text line) 1) }
+{
+    let mut text = Vec::new(alloc);
+    push_refused_session(&mut text, line)?;
+    Ok(Answer {
+        text,
+        status: REFUSED,
+    })
+}
 
 /// The picture of a session in the order of its report.
 fn drawn<R: Threads + Sync>(rt: &R, alloc: Global, session: &Session) -> Result<Vec<u8>, AllocError>
@@ -38,7 +56,7 @@ fn drawn_along<R: Threads + Sync>(
 }
 
 /// The picture of a session, by what was read of its text.
-pub fn draw_read<R: Threads + Sync>(
+fn draw_read<R: Threads + Sync>(
     rt: &R,
     alloc: Global,
     session: &Result<Session, u32>,
@@ -58,7 +76,7 @@ pub fn draw_read<R: Threads + Sync>(
 }
 
 /// The picture of a session along runs, by what was read of their texts.
-pub fn draw_along_read<R: Threads + Sync>(
+fn draw_along_read<R: Threads + Sync>(
     rt: &R,
     alloc: Global,
     session: &Result<Session, u32>,
@@ -78,5 +96,48 @@ pub fn draw_along_read<R: Threads + Sync>(
             Err(line) => refused(alloc, b"runs-text line ", *line),
         },
         Err(line) => refused_session(alloc, *line),
+    }
+}
+
+/// `draw` with a session: its picture.
+#[derive(Clone, Copy)]
+pub struct DrawCommand<'a, R> {
+    pub rt: &'a R,
+}
+
+impl<R: Threads + Sync> OnOne for DrawCommand<'_, R> {
+    type Text = SessionReader;
+
+    ghost ready = { IsSync R.row };
+
+    ghost is_answer = { λ _. IsDrawAnswer };
+
+    fn answer(&self, alloc: Global, session: &Result<Session, u32>) -> Given {
+        given(draw_read(self.rt, alloc, session))
+    }
+}
+
+/// `draw` with a session and runs: its picture along them.
+#[derive(Clone, Copy)]
+pub struct DrawAlongCommand<'a, R> {
+    pub rt: &'a R,
+}
+
+impl<R: Threads + Sync> OnTwo for DrawAlongCommand<'_, R> {
+    type First = SessionReader;
+
+    type Second = RunsReader;
+
+    ghost ready = { IsSync R.row };
+
+    ghost is_answer = { λ _. IsDrawAlongAnswer };
+
+    fn answer(
+        &self,
+        alloc: Global,
+        session: &Result<Session, u32>,
+        runs: &Result<Seq<Run>, u32>,
+    ) -> Given {
+        given(draw_along_read(self.rt, alloc, session, runs))
     }
 }

@@ -1,15 +1,17 @@
 //! What happened in a session, as a text and a status.
 
 ghost use Rattle.std.specs.Prelude.{ℕ, List, IfOk};
+ghost use Rattle.std.specs.Thread.{IsSync};
 ghost use Rattle.text_lines.specs.Answer.{IsRead};
 ghost use Rattle.session_text.specs.Grammar.{SpellsSession};
 ghost use Rattle.commands.specs.Explained.{IsExplainAnswer, TellsReport};
 
-use crate::answer::{Answer, REFUSED};
-use crate::status::report_status;
 use audit_report::audit;
+use command_texts::{Answer, Given, OnOne, REFUSED, given};
+use judge_commands::report_status;
 use migration_types::Session;
 use session_story::{print_explained, print_refused};
+use session_text::SessionReader;
 use std::alloc::{AllocError, Global};
 use std::thread::Threads;
 
@@ -30,7 +32,7 @@ fn explained<R: Threads + Sync>(
 }
 
 /// What happened in a session, by what was read of its text.
-pub fn explain_read<R: Threads + Sync>(
+fn explain_read<R: Threads + Sync>(
     rt: &R,
     alloc: Global,
     session: &Result<Session, u32>,
@@ -43,5 +45,23 @@ pub fn explain_read<R: Threads + Sync>(
             text: print_refused(alloc, *line)?,
             status: REFUSED,
         }),
+    }
+}
+
+/// `explain`: what happened in a session.
+#[derive(Clone, Copy)]
+pub struct ExplainCommand<'a, R> {
+    pub rt: &'a R,
+}
+
+impl<R: Threads + Sync> OnOne for ExplainCommand<'_, R> {
+    type Text = SessionReader;
+
+    ghost ready = { IsSync R.row };
+
+    ghost is_answer = { λ _. IsExplainAnswer };
+
+    fn answer(&self, alloc: Global, session: &Result<Session, u32>) -> Given {
+        given(explain_read(self.rt, alloc, session))
     }
 }

@@ -2,58 +2,21 @@
 
 ghost use Rattle.std.specs.Prelude.{◌≡◌, ◌≢◌, ◌<◌, ◌≤◌, ℕ, List, IfOk, IfSome, MatchResult, length, true};
 ghost use Rattle.clap.specs.Words.{kind_of, takes};
-ghost use Rattle.command_words.specs.Table.{asked_names};
 ghost use Rattle.command_words.specs.Words.{IsPlain, asked, asked_by, postcopy_words, word_texts};
-ghost use Rattle.commands.specs.Answers.{fault_status};
-ghost use Rattle.commands.specs.Drawings.{IsDrawAnswer, IsDrawAlongAnswer};
-ghost use Rattle.commands.specs.Migrations.{IsMigrateAnswer};
-ghost use Rattle.commands.specs.Told.{AreNamed, AreOfInput, IsNamed, IsOneAnswer, IsTwoAnswer, Tells, TellsAsked};
+ghost use Rattle.command_texts.specs.Answers.{fault_status};
+ghost use Rattle.command_texts.specs.Told.{AreOfInput, Tells};
+ghost use Rattle.commands.specs.Told.{IsTwoAnswer, TellsAsked};
 
-use crate::answer::{Fault, USAGE, tell, written};
-use crate::answering::{draw_along_named, draw_named, migrate_named, one_answer, two_answer};
-use crate::reading::TextSource;
+use crate::answering::perform;
 use clap::error::ErrorKind;
-use command_words::{Asked, Carrier, Job, OneText, TwoTexts, read_words};
+use command_texts::{Fault, TextSource, USAGE, perform_two, tell};
+use command_words::{TwoTexts, read_words};
+use judge_commands::CheckCommand;
 use std::alloc::Global;
 use std::io::{Read, Write};
 use std::net::{Net, TcpListener, TcpStream};
 use std::sync::Wait;
 use std::thread::Threads;
-
-// Does a command on the text under a name.
-fn perform_one<'a, R: Threads + Sync, S: TextSource, I: Read, O: Write>(
-    rt: &R,
-    alloc: Global,
-    task: OneText,
-    name: &'a str,
-    texts: &S,
-    input: &mut I,
-    output: &mut O,
-) -> Result<u8, Fault<'a>>
-    ensures few { IfOk result (λ status. status < 2) }
-    ensures told { IfOk result (Tells (IsNamed name.entry.now (S.bytes_of texts.now) (I.remaining input.old)) (IsOneAnswer task) (O.contents output.old) (O.contents output.new)) }
-{
-    let answer = one_answer(rt, alloc, task, name, texts, input)?;
-    written(&answer, output)
-}
-
-// Does a command on the texts under two names, read in this order.
-fn perform_two<'a, R: Threads + Sync, S: TextSource, I: Read, O: Write>(
-    rt: &R,
-    alloc: Global,
-    task: TwoTexts,
-    first: &'a str,
-    second: &'a str,
-    texts: &S,
-    input: &mut I,
-    output: &mut O,
-) -> Result<u8, Fault<'a>>
-    ensures few { IfOk result (λ status. status < 2) }
-    ensures told { IfOk result (Tells (AreNamed first.entry.now second.entry.now (S.bytes_of texts.now) (I.remaining input.old)) (IsTwoAnswer task) (O.contents output.old) (O.contents output.new)) }
-{
-    let answer = two_answer(rt, alloc, task, first, second, texts, input)?;
-    written(&answer, output)
-}
 
 // Judges the two texts of the input.
 fn check_input<R: Threads + Sync, S: TextSource, I: Read, O: Write>(
@@ -66,114 +29,16 @@ fn check_input<R: Threads + Sync, S: TextSource, I: Read, O: Write>(
     ensures few { IfOk result (λ status. status < 2) }
     ensures told { IfOk result (Tells (AreOfInput (I.remaining input.old)) (IsTwoAnswer TwoTexts.Check) (O.contents output.old) (O.contents output.new)) }
 {
-    perform_two(rt, alloc, TwoTexts::Check, "-", "-", texts, input, output)
-}
-
-// Runs the migration of the script under a name.
-fn perform_migrate<
-    'a,
-    R: Threads + Wait + Sync + Net<Listener = TcpListener, Stream = TcpStream>,
-    S: TextSource,
-    I: Read,
-    O: Write,
->(
-    rt: &R,
-    alloc: Global,
-    carrier: Carrier,
-    name: &'a str,
-    texts: &S,
-    input: &mut I,
-    output: &mut O,
-) -> Result<u8, Fault<'a>>
-    ensures few { IfOk result (λ status. status < 2) }
-    ensures told { IfOk result (Tells (IsNamed name.entry.now (S.bytes_of texts.now) (I.remaining input.old)) IsMigrateAnswer (O.contents output.old) (O.contents output.new)) }
-{
-    let answer = migrate_named(rt, alloc, carrier, name, texts, input)?;
-    written(&answer, output)
-}
-
-// Draws the session under a name.
-fn perform_draw<'a, R: Threads + Sync, S: TextSource, I: Read, O: Write>(
-    rt: &R,
-    alloc: Global,
-    name: &'a str,
-    texts: &S,
-    input: &mut I,
-    output: &mut O,
-) -> Result<u8, Fault<'a>>
-    ensures few { IfOk result (λ status. status < 2) }
-    ensures told { IfOk result (Tells (IsNamed name.entry.now (S.bytes_of texts.now) (I.remaining input.old)) IsDrawAnswer (O.contents output.old) (O.contents output.new)) }
-{
-    let answer = draw_named(rt, alloc, name, texts, input)?;
-    written(&answer, output)
-}
-
-// Draws the session under the first name along the runs under the second.
-fn perform_draw_along<'a, R: Threads + Sync, S: TextSource, I: Read, O: Write>(
-    rt: &R,
-    alloc: Global,
-    first: &'a str,
-    second: &'a str,
-    texts: &S,
-    input: &mut I,
-    output: &mut O,
-) -> Result<u8, Fault<'a>>
-    ensures few { IfOk result (λ status. status < 2) }
-    ensures told { IfOk result (Tells (AreNamed first.entry.now second.entry.now (S.bytes_of texts.now) (I.remaining input.old)) IsDrawAlongAnswer (O.contents output.old) (O.contents output.new)) }
-{
-    let answer = draw_along_named(rt, alloc, first, second, texts, input)?;
-    written(&answer, output)
-}
-
-// Draws the session under a name, along the runs under a further one where there is one.
-fn perform_drawing<'a, R: Threads + Sync, S: TextSource, I: Read, O: Write>(
-    rt: &R,
-    alloc: Global,
-    name: &'a str,
-    further: Option<&'a str>,
-    texts: &S,
-    input: &mut I,
-    output: &mut O,
-) -> Result<u8, Fault<'a>>
-    ensures few { IfOk result (λ status. status < 2) }
-    ensures told { IfOk result (TellsAsked (asked_names (Asked.Draw name.entry further.entry)) (S.bytes_of texts.now) (I.remaining input.old) (O.contents output.old) (O.contents output.new)) }
-{
-    match further {
-        None => perform_draw(rt, alloc, name, texts, input, output),
-        Some(second) => perform_draw_along(rt, alloc, name, second, texts, input, output),
-    }
-}
-
-// Does what the words ask for.
-fn perform<
-    'a,
-    R: Threads + Wait + Sync + Net<Listener = TcpListener, Stream = TcpStream>,
-    S: TextSource,
-    I: Read,
-    O: Write,
->(
-    rt: &R,
-    alloc: Global,
-    job: Job<'a>,
-    texts: &S,
-    input: &mut I,
-    output: &mut O,
-) -> Result<u8, Fault<'a>>
-    ensures few { IfOk result (λ status. status < 2) }
-    ensures told { IfOk result (TellsAsked (asked_names job.entry) (S.bytes_of texts.now) (I.remaining input.old) (O.contents output.old) (O.contents output.new)) }
-{
-    match job {
-        Asked::One(task, name) => perform_one(rt, alloc, task, name, texts, input, output),
-        Asked::Two(task, first, second) => {
-            perform_two(rt, alloc, task, first, second, texts, input, output)
-        }
-        Asked::Migrate(carrier, name) => {
-            perform_migrate(rt, alloc, carrier, name, texts, input, output)
-        }
-        Asked::Draw(name, further) => {
-            perform_drawing(rt, alloc, name, further, texts, input, output)
-        }
-    }
+    perform_two(
+        rt,
+        alloc,
+        &CheckCommand { rt },
+        "-",
+        "-",
+        texts,
+        input,
+        output,
+    )
 }
 
 // The status of a job, whose fault is told.

@@ -11,7 +11,8 @@
 
 ghost use Rattle.std.specs.Prelude.{◌≤◌};
 
-use commands::{Fault, TextSource, USAGE, run, tell};
+use command_texts::{Fault, TextSource, USAGE, tell};
+use commands::run;
 use std::alloc::{AllocError, Global};
 use std::io::{ErrorKind, Write};
 use std::process::ExitCode;

@@ -2,7 +2,9 @@
 
 use audit_model::ShapeReason;
 use cert_check::{ShapeFault, Verdict};
-use commands::{TextSource, push_verdict, run, verdict_status};
+use command_texts::TextSource;
+use commands::run;
+use judge_commands::{push_verdict, verdict_status};
 use migration_types::LogName;
 use std::alloc::Global;
 use std::cell::Cell;

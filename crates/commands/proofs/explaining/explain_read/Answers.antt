@@ -1,11 +1,10 @@
-use Rattle.std.proofs.Common.{◌≡◌, ℕ, List, IfOk, Result, Ok, Err, subst}
+use Rattle.std.proofs.Common.{ℕ, List, IfOk, Result, Ok, Err, refl, subst}
 use Rattle.std.specs.declared.alloc.AllocError.{AllocError}
-use Rattle.text_lines.specs.Text.{IsRefusalLine}
 use Rattle.text_lines.specs.Answer.{IsRead}
 use Rattle.migration_types.specs.Sessions.{Recorded}
 use Rattle.session_text.specs.Grammar.{SpellsSession}
 use Rattle.judged_texts.specs.declared.auditing.Audited.TheVariants.{Refused, Reported}
-use Rattle.commands.specs.declared.answer.Answer.{Answer}
+use Rattle.command_texts.specs.declared.answer.Answer.{Answer}
 use Rattle.commands.specs.Explained.{IsExplainAnswer, TellsReport}
 use Rattle.commands.proofs.explaining.explain_read.Goals as goal
 
@@ -21,5 +20,5 @@ returns-in_ok-print_refused-in-Err g c = λ text read. record {
   audited = Refused c.in-Err.line;
   is_audited = subst (λ (r : Result Recorded ℕ). IsRead SpellsSession text r) c.in-Err.is read;
   begins = c.in_ok-print_refused-in-Err.ensures;
-  is_status = Rattle.std.proofs.Common.refl;
+  is_status = refl;
 }

@@ -6,7 +6,7 @@ use Rattle.command_words.specs.Table.{asked_names}
 use Rattle.command_words.specs.Words.{asked_by, word_texts}
 use Rattle.command_words.proofs.Plain.{taken_plain, bare_not_taken}
 use Rattle.commands.specs.Told.{TellsAsked}
-use Rattle.commands.proofs.Statuses.{if_some, settled_asked, two_words}
+use Rattle.commands.proofs.Settled.{if_some, settled_asked, two_words}
 use Rattle.commands.proofs.program.run.Goals as goal
 
 pub returns-then-words-le1-clause-told : goal.returns-then-words-le1-clause-told

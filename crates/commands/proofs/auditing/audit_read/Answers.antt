@@ -1,8 +1,0 @@
-use Rattle.judged_texts.specs.Audited.{IsAudited}
-use Rattle.judged_texts.specs.AuditedText.{audited_text}
-use Rattle.commands.specs.Answers.{audited_status}
-use Rattle.commands.proofs.Said.{says_right}
-use Rattle.commands.proofs.auditing.audit_read.Goals as goal
-
-pub returns-in-Ok : goal.returns-in-Ok
-returns-in-Ok g c = λ text read. says_right (IsAudited text) (audited_text c.args.wanted) audited_status c.in-Ok.audited c.told.result (c.in-Ok.ensures.audited text read) c.told.ensures

@@ -1,6 +1,0 @@
-use Rattle.std.proofs.Common.{[], refl}
-use Rattle.commands.proofs.Cuts.{nothing_yet}
-use Rattle.commands.proofs.cutting.BothTaker.new.Goals as goal
-
-pub returns : goal.returns
-returns g c = record { first = []; second = []; parts = refl; first_came = c.new.ensures; second_came = c.new-2.ensures; cut = (nothing_yet _ refl, refl) }

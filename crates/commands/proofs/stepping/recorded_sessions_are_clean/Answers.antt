@@ -1,5 +1,0 @@
-use Rattle.commands.proofs.Recorded.{steps_clean}
-use Rattle.commands.proofs.stepping.recorded_sessions_are_clean.Goals as goal
-
-pub returns : goal.returns
-returns c = steps_clean

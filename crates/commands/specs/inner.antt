@@ -1,4 +1,0 @@
--- What serves proofs alone.
-pub mod Ends
-pub mod Takings
-pub mod Found

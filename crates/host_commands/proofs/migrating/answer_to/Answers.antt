@@ -1,0 +1,14 @@
+use Rattle.host_commands.specs.Migrations.{IsMigrateAnswer, Records}
+use Rattle.command_texts.proofs.Said.{given_holds}
+use Rattle.host_commands.proofs.Migrated.{migration_told}
+use Rattle.host_commands.proofs.migrating.answer_to.Goals as goal
+
+pub returns-in-Ok : goal.returns-in-Ok
+returns-in-Ok g c = λ text script.
+    let m = c.in-Ok.migrated in
+    given_holds (λ a. IsMigrateAnswer text a.text.items a.status) c.certified.result c.given.result
+    (migration_told text (Records m.session m.cert) c.certified.result (c.args.script.now, script, c.in-Ok.ensures.migrated, c.keeps_limits.ensures, c.keeps_limits-in-Ok.ensures) c.certified.ensures)
+    c.given.ensures
+
+pub returns-in-Err : goal.returns-in-Err
+returns-in-Err g c = c.stopped.ensures c.args.script.now

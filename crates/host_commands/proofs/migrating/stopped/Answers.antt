@@ -1,0 +1,13 @@
+use Rattle.std.proofs.Common.{subst}
+use Rattle.host_checks.specs.Outcomes.{IsRunFault}
+use Rattle.host_commands.specs.Migrations.{AuditRefused, IsMigrateAnswer}
+use Rattle.command_texts.proofs.Said.{given_holds}
+use Rattle.host_commands.proofs.Migrated.{migration_told}
+use Rattle.host_commands.proofs.migrating.stopped.Goals as goal
+
+pub returns-in-AuditRefused : goal.returns-in-AuditRefused
+returns-in-AuditRefused c = λ s text script.
+    let refused = subst IsRunFault c.in-AuditRefused.is c.requires in
+    given_holds (λ a. IsMigrateAnswer text a.text.items a.status) c.reported.result c.given-in-AuditRefused.result
+    (migration_told text (AuditRefused c.in-AuditRefused.report) c.reported.result (s, script, refused.0, refused.1, refused.2) c.reported.ensures)
+    c.given-in-AuditRefused.ensures

@@ -1,0 +1,124 @@
+//! The migration of a script, as a text and a status.
+
+ghost use Rattle.std.specs.Prelude.{ℕ, List, IfOk, IfErr};
+ghost use Rattle.text_lines.specs.Answer.{Refused};
+ghost use Rattle.text_lines.specs.Text.{IsSpelling};
+ghost use Rattle.audit_report.specs.Reports.{ReportFits};
+ghost use Rattle.report_text.specs.ReportText.{report_text};
+ghost use Rattle.script.specs.Scenarios.{Scenario};
+ghost use Rattle.script_text.specs.Scripts.{SpellsScript};
+ghost use Rattle.host_checks.specs.Outcomes.{IsRunFault};
+ghost use Rattle.command_texts.specs.Answers.{Says};
+ghost use Rattle.host_commands.specs.Migrations.{IsMigrateAnswer, IsMigrationOf, certified_text};
+
+use audit_report::Report;
+use cert_text::write_cert;
+use command_texts::{ACCEPTED, Answer, Fault, REFUSED, given, refused, remark};
+use command_words::Carrier;
+use host_threads::{Migrated, Open, RunFault, migrate, migrate_tcp};
+use report_text::print_report;
+use script::Script;
+use script_text::read_script;
+use session_text::write_session;
+use std::alloc::{AllocError, Global};
+use std::net::{Net, TcpListener, TcpStream};
+use std::sync::Wait;
+use std::thread::Threads;
+use text_lines::TextFault;
+
+/// Runs the migration of a script over a carrier.
+fn carried<R: Threads + Wait + Sync + Net<Listener = TcpListener, Stream = TcpStream>>(
+    rt: &R,
+    alloc: Global,
+    carrier: Carrier,
+    script: &Script,
+) -> Result<Migrated, RunFault>
+    ensures migrated { IfOk result (λ m. IsMigrationOf script.now m.session m.cert) }
+    ensures refused { IfErr result IsRunFault }
+{
+    match carrier {
+        Carrier::Memory => migrate(rt, alloc, script, &Open),
+        Carrier::Tcp => migrate_tcp(rt, alloc, script, &Open),
+    }
+}
+
+/// The answer that a migration is: the text of its session, and after it that of its certificate.
+fn certified(alloc: Global, migrated: &Migrated) -> Result<Answer, AllocError>
+    ensures { IfOk result (λ answer. Says answer (certified_text migrated.now.session migrated.now.cert) 0) }
+{
+    let mut text = write_session(alloc, &migrated.session)?;
+    let cert = write_cert(alloc, &migrated.cert)?;
+    text.extend_from_slice(&cert)?;
+    Ok(Answer {
+        text,
+        status: ACCEPTED,
+    })
+}
+
+/// The answer that a report is.
+fn reported(alloc: Global, report: &Report) -> Result<Answer, AllocError>
+    requires { ReportFits report.now }
+    ensures { IfOk result (λ answer. Says answer (report_text report.now) 1) }
+{
+    let text = print_report(alloc, report)?;
+    Ok(Answer {
+        text,
+        status: REFUSED,
+    })
+}
+
+/// The answer to a run that was refused.
+fn stopped(alloc: Global, fault: &RunFault) -> Result<Answer, Fault<'static>>
+    requires { IsRunFault fault.now }
+    ensures { (s : Scenario) (text : List ℕ) → IsSpelling SpellsScript s text → IfOk result (λ answer. IsMigrateAnswer text answer.text.items answer.status) }
+{
+    match fault {
+        RunFault::LogFull => given(remark(alloc, b"log-full")),
+        RunFault::Memory => Err(Fault::Memory),
+        RunFault::AuditRefused(report) => given(reported(alloc, report)),
+        RunFault::TranscriptDiffers => given(remark(alloc, b"transcript-differs")),
+        RunFault::Link => Err(Fault::Link),
+    }
+}
+
+/// What becomes of a script, whatever its text is.
+fn answer_to<R: Threads + Wait + Sync + Net<Listener = TcpListener, Stream = TcpStream>>(
+    rt: &R,
+    alloc: Global,
+    carrier: Carrier,
+    script: &Script,
+) -> Result<Answer, Fault<'static>>
+    ensures { (text : List ℕ) → IsSpelling SpellsScript script.now text → IfOk result (λ answer. IsMigrateAnswer text answer.text.items answer.status) }
+{
+    match carried(rt, alloc, carrier, script) {
+        Ok(migrated) => {
+            migrated.session.keeps_limits();
+            migrated.cert.keeps_limits();
+            given(certified(alloc, &migrated))
+        }
+        Err(fault) => stopped(alloc, &fault),
+    }
+}
+
+/// The answer to a script's text that is not read.
+fn unread(alloc: Global, fault: TextFault) -> Result<Answer, AllocError>
+    ensures { (text : List ℕ) → Refused SpellsScript text fault.line fault.kind → IfOk result (λ answer. IsMigrateAnswer text answer.text.items answer.status) }
+{
+    refused(alloc, b"script-text line ", fault.refused_line()?)
+}
+
+/// `migrate`: what becomes of a script, by its text. Its migration is run in threads over this carrier, with a gate that
+/// never waits. The faults: there is no memory, or the link failed.
+pub fn migrate_text<R: Threads + Wait + Sync + Net<Listener = TcpListener, Stream = TcpStream>>(
+    rt: &R,
+    alloc: Global,
+    carrier: Carrier,
+    script: &[u8],
+) -> Result<Answer, Fault<'static>>
+    ensures { IfOk result (λ answer. IsMigrateAnswer script.now answer.text.items answer.status) }
+{
+    match read_script(alloc, script) {
+        Ok(script) => answer_to(rt, alloc, carrier, &script),
+        Err(fault) => given(unread(alloc, fault)),
+    }
+}
