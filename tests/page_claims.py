@@ -200,11 +200,10 @@ def wrong_words(pages):
 def wrong_ratios(pages):
     """How a record of a migration compares with one of `steps`, by the table above the sentence."""
     page = pages["docs/PERFORMANCE.md"]
-    each, run = {}, ""
+    each = {}
     for _, cells, head in rows(page):
         if head[:3] == ["Run", "Records", "Time"]:
-            run = cells[0].replace("the same", run) if cells[0].startswith("the same over") else cells[0]
-            each[run] = float(cells[2].split(" ")[0]) / number_of(cells[1])
+            each[cells[0]] = float(cells[2].split(" ")[0]) / number_of(cells[1])
     steps = next((each[it] for it in each if it.startswith("`steps`")), None)
     runs = ("`migrate`, a good link", "`migrate`, a bad link over TCP")
     said = re.search(r"takes ([\d.]+) times that of `steps` over a good link, and ([\d.]+) times over TCP with a bad one", page)
@@ -215,6 +214,20 @@ def wrong_ratios(pages):
         ratio = each[run] / steps
         if abs(ratio - float(number)) > 0.06:
             yield f"docs/PERFORMANCE.md: {number} times, and the table has {ratio:.1f}"
+
+
+def wrong_tables(pages):
+    """The page of performance: each table stands between the marks of bench/all, and the day of each is told at the top."""
+    name = "docs/PERFORMANCE.md"
+    blocks = re.findall(r"^<!-- bench: (\w+)(?:, ([\d-]+))? -->\n(.*?)^<!-- end -->$", pages[name], re.M | re.S)
+    measured = next((text for block, _, text in blocks if block == "measured"), "")
+    for block, day, _ in blocks:
+        if block != "measured" and (not day or f"Measured on {day}" not in measured):
+            yield f"{name} does not say at its top when {block} was measured"
+    for number, cells, _ in rows(re.sub(r"^<!-- bench: .*?^<!-- end -->$", lambda it: "\n" * it[0].count("\n"), pages[name], flags=re.M | re.S)):
+        yield f"{name}, line {number}: no bench writes this table: {cells[0]}"
+    if len(blocks) < 9:
+        yield f"{name} has {len(blocks)} blocks of bench/all"
 
 
 def headline(text):
@@ -281,16 +294,13 @@ def wrong_texts(pages):
 
 
 def wrong_silences(pages, sources):
-    """What is left out in silence, and a table that does not say that it is old."""
+    """What is left out in silence."""
     for name in sorted(it for it in sources.files if re.fullmatch(r"tests/[\w-]+", it)):
         for number, line in lines(read(name)):
             if re.search(r"(?:print|echo).*skipped", line):
                 yield f"{name}, line {number}: what is left out stands on the last line"
     if "left out: " not in read("tests/library"):
         yield "tests/library does not say what it left out"
-    hostile = pages["docs/PERFORMANCE.md"].partition("\n## Under hostile input\n")[2].partition("\n## ")[0]
-    if not re.search(r"\*\*This table is old\*\*|[Mm]easured (?:again |anew )?on 20\d\d-\d\d-\d\d", hostile):
-        yield "docs/PERFORMANCE.md does not say when the hostile table was measured, or that it is old"
     status = read(MAN1).partition(".SH EXIT STATUS")[2].partition(".SH ")[0]
     if "help" not in status or "version" not in status:
         yield f"{MAN1}: help and version have status 0, too"
@@ -318,5 +328,5 @@ def wrong(pages, sources):
     """All that is wrong with what is claimed."""
     found = [*wrong_counts(pages, sources), *wrong_lists(pages), *wrong_sums(pages), *wrong_costs(pages, sources), *wrong_scripts(pages)]
     found += [*wrong_definitions(pages), *wrong_house(pages), *wrong_sentences(pages), *wrong_words(pages), *wrong_ratios(pages)]
-    found += [*wrong_readme(pages), *wrong_glossary(pages), *wrong_answers(pages, sources), *wrong_texts(pages)]
+    found += [*wrong_tables(pages), *wrong_readme(pages), *wrong_glossary(pages), *wrong_answers(pages, sources), *wrong_texts(pages)]
     return [*found, *wrong_silences(pages, sources), *wrong_licence(), *wrong_installed(sources)]
