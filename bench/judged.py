@@ -68,10 +68,11 @@ class Judged:
         paths = [it for it in (self.session, self.certificate) if os.path.exists(it)]
         return {name: (name.strip("`").split(" "), paths) for name in FLOORS}
 
-    def measured(self, programs, times, counts=(ALL,)):
-        """The best runs of each command on so many processors, and on one; and of the floors."""
+    def measured(self, programs, times, counts=(ALL,), names=None):
+        """The best runs of each command, or of these, on so many processors, and on one; and of the floors."""
         counts = sorted({1, *counts})
-        found = {name: compared(programs, it.words, it.wanted, counts, times) for name, it in self.cases().items()}
+        cases = {name: it for name, it in self.cases().items() if names is None or name in names}
+        found = {name: compared(programs, it.words, it.wanted, counts, times) for name, it in cases.items()}
         for name, (words, paths) in self.floors().items():
             found[name] = compared({OURS: words[0]}, words[1:] + paths, b"", (ALL,), times)
         return found

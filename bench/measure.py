@@ -6,6 +6,7 @@ import subprocess
 import sys
 import tempfile
 import time
+import traceback
 from collections import namedtuple
 
 TOP = os.path.dirname(os.path.dirname(os.path.abspath(__file__)))
@@ -144,6 +145,17 @@ def processor_counts():
 # Making texts.
 
 
+def made_in_child(maker):
+    """Calls a maker and ends the process, whatever happens."""
+    try:
+        maker()
+        os._exit(0)
+    except BaseException:
+        traceback.print_exc()
+        sys.stderr.flush()
+        os._exit(1)
+
+
 def side_by_side(makers):
     """Calls each maker in a process of its own, as many at a time as there are processors. A child is told to hold at least
     what its parent held when it began, so the bench itself stays small."""
@@ -153,12 +165,7 @@ def side_by_side(makers):
             maker = left.pop(0)
             running += 1
             if os.fork() == 0:
-                status = 1
-                try:
-                    maker()
-                    status = 0
-                finally:
-                    os._exit(status)
+                made_in_child(maker)
         else:
             running -= 1
             if os.wait()[1]:

@@ -228,6 +228,9 @@ def wrong_tables(pages):
         yield f"{name}, line {number}: no bench writes this table: {cells[0]}"
     if len(blocks) < 9:
         yield f"{name} has {len(blocks)} blocks of bench/all"
+    setting = r"glibc\.malloc\.\w+=\d+"
+    if set(re.findall(setting, pages[name])) != set(re.findall(setting, read("postcopy"))):
+        yield f"{name} does not set what the launcher sets"
 
 
 def headline(text):
