@@ -68,11 +68,10 @@ class Judged:
         paths = [it for it in (self.session, self.certificate) if os.path.exists(it)]
         return {name: (name.strip("`").split(" "), paths) for name in FLOORS}
 
-    def measured(self, programs, times, counts=(ALL,), names=None):
-        """The best runs of each command, or of these, on so many processors, and on one; and of the floors."""
-        counts = sorted({1, *counts})
+    def measured(self, programs, times, counts=None, names=None):
+        """The best runs of each command, or of these, on all processors and on one, or on so many by its name; and of the floors."""
         cases = {name: it for name, it in self.cases().items() if names is None or name in names}
-        found = {name: compared(programs, it.words, it.wanted, counts, times) for name, it in cases.items()}
+        found = {name: compared(programs, it.words, it.wanted, (counts or {}).get(name, sorted({1, ALL})), times) for name, it in cases.items()}
         for name, (words, paths) in self.floors().items():
             found[name] = compared({OURS: words[0]}, words[1:] + paths, b"", (ALL,), times)
         return found
