@@ -1,4 +1,5 @@
-//! Commands, whatever they answer: the texts under their names are read, and the answer is written.
+//! Commands, whatever they answer: the texts under their names are read, and the answer is written. The program ends
+//! then, and all its memory goes at once: what was found of the texts is forgotten, and not freed piece by piece.
 
 ghost use Rattle.std.specs.Prelude.{⊤, ◌<◌, ℕ, List, IfOk};
 ghost use Rattle.command_texts.specs.Told.{AreNamed, IsNamed, Tells};
@@ -9,6 +10,7 @@ use crate::reading::TextSource;
 use crate::taking::Taker;
 use std::alloc::Global;
 use std::io::{Read, Write};
+use std::mem;
 use std::thread::Threads;
 
 /// A command on one text.
@@ -71,7 +73,10 @@ pub fn perform_one<'a, C: OnOne, R: Threads + Sync, S: TextSource, I: Read, O: W
 {
     let found = read_named::<C::Text, R, S, I>(rt, alloc, name, texts, input)?;
     let answer = command.answer(alloc, &found)?;
-    written(&answer, output)
+    let status = written(&answer, output);
+    mem::forget(found);
+    mem::forget(answer);
+    status
 }
 
 /// Does a command on the texts under two names, which are read in this order.
@@ -93,5 +98,8 @@ pub fn perform_two<'a, C: OnTwo, R: Threads + Sync, S: TextSource, I: Read, O: W
         rt, alloc, first, second, texts, input,
     )?;
     let answer = command.answer(alloc, &found, &other)?;
-    written(&answer, output)
+    let status = written(&answer, output);
+    mem::forget((found, other));
+    mem::forget(answer);
+    status
 }

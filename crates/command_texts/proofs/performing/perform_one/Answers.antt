@@ -5,10 +5,10 @@ use Rattle.command_texts.proofs.performing.perform_one.Goals as goal
 pub returns-clause-few : goal.returns-clause-few
 returns-clause-few g c =
     let n = c.in_ok-found.ensures.named in
-    few_written c.written.result c.in_ok-answer.answer.status (c.in_ok-answer.ensures.few n.0 n.2) c.written.ensures.status
+    few_written c.written-status.result c.in_ok-answer.answer.status (c.in_ok-answer.ensures.few n.0 n.2) c.written-status.ensures.status
 
 pub returns-clause-told : goal.returns-clause-told
 returns-clause-told g c =
     let n = c.in_ok-found.ensures.named in
-    tells (IsNamed c.args.name.now (g.S.TextSource.bytes_of c.args.texts.now) (g.I.Read.remaining c.args.input.now)) (g.C.OnOne.is_answer c.args.command.now) _ _ n.0 c.in_ok-answer.answer c.written.result n.1
-    (c.in_ok-answer.ensures.told n.0 n.2) c.written.ensures.status c.written.ensures.text
+    tells (IsNamed c.args.name.now (g.S.TextSource.bytes_of c.args.texts.now) (g.I.Read.remaining c.args.input.now)) (g.C.OnOne.is_answer c.args.command.now) _ _ n.0 c.in_ok-answer.answer c.written-status.result n.1
+    (c.in_ok-answer.ensures.told n.0 n.2) c.written-status.ensures.status c.written-status.ensures.text
