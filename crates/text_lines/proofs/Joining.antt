@@ -4,7 +4,6 @@ use Rattle.std.proofs.lemmas.List.{append-nil, map-append, take-append-drop, len
 use Rattle.std.proofs.Math.Seq.{drop-append_seam}
 use Rattle.text_lines.specs.Text.{ended}
 use Rattle.text_lines.specs.Counted.{AllFollow, TakesItems}
-use Rattle.text_lines.specs.inner.Parting.{IsPart}
 use Rattle.text_lines.proofs.Cut.{ended-append}
 use Rattle.text_lines.proofs.Counting.{all_append}
 
@@ -47,7 +46,8 @@ took_moved {X} spell Fits MayFollow law old items new x bytes rest n t some firs
   follow = subst (AllFollow MayFollow old) t.items (follow_first MayFollow law old items x some first (subst (AllFollow MayFollow []) (sym t.items) t.follow) may);
 }
 
-took_front : {X : Type 0} (spell : X → List ℕ) (Fits : X → Type 0) (MayFollow : List X → X → Type 0) (old new : List X) (piece rest after : List ℕ) (n : ℕ) → TakesItems spell Fits MayFollow old new piece rest n → TakesItems spell Fits MayFollow old new (piece ++ after) (rest ++ after) n
+-- taken at the front of a piece, and so at the front of more
+pub took_front : {X : Type 0} (spell : X → List ℕ) (Fits : X → Type 0) (MayFollow : List X → X → Type 0) (old new : List X) (piece rest after : List ℕ) (n : ℕ) → TakesItems spell Fits MayFollow old new piece rest n → TakesItems spell Fits MayFollow old new (piece ++ after) (rest ++ after) n
 took_front spell Fits MayFollow old new piece rest after n t = record {
   taken = t.taken;
   items = t.items;
@@ -57,27 +57,19 @@ took_front spell Fits MayFollow old new piece rest after n t = record {
   follow = t.follow;
 }
 
-drop_rest : (bytes front rest : List ℕ) (at to : ℕ) → at ≤ length bytes → drop at bytes ≡ front ++ rest → to + length rest ≡ length bytes → rest ≡ drop to bytes
-drop_rest bytes front rest at to le e whole =
-    let xs = take at bytes ++ front in
-    let cut : bytes ≡ xs ++ rest = sym (take-append-drop at bytes) ∙ (ap (λ (x : List ℕ). take at bytes ++ x) e ∙ sym (append_assoc (take at bytes) front rest)) in
-    let k : length xs ≡ to = omega (arith, ap length cut, length-append xs rest) in
-    sym (drop-append_seam xs rest) ∙ (ap (drop (length xs)) (sym cut) ∙ ap (λ (n : ℕ). drop n bytes) k)
+-- taken of a piece to its end, and then of what follows it
+pub took_on : {X : Type 0} (spell : X → List ℕ) (Fits : X → Type 0) (MayFollow : List X → X → Type 0) (old mid new : List X) (bytes front last rest after : List ℕ) (m n : ℕ) → bytes ≡ front ++ last → rest ≡ [] → TakesItems spell Fits MayFollow mid new last after n → TakesItems spell Fits MayFollow old mid front rest m → TakesItems spell Fits MayFollow old new bytes after (m + n)
+took_on {X} spell Fits MayFollow old mid new bytes front last rest after m n cut none u t =
+    let whole = subst (λ (x : List ℕ). TakesItems spell Fits MayFollow old mid front x m) none t in
+    took_more spell Fits MayFollow old mid new bytes last after m n
+    (subst (λ (x : List ℕ). TakesItems spell Fits MayFollow old mid x last m) (sym cut) (took_front spell Fits MayFollow old mid front [] last m whole)) u
 
-took_at : {X : Type 0} (spell : X → List ℕ) (Fits : X → Type 0) (MayFollow : List X → X → Type 0) (old new : List X) (bytes rest : List ℕ) (at to n : ℕ) → at ≤ length bytes → to + length rest ≡ length bytes → TakesItems spell Fits MayFollow old new (drop at bytes) rest n → TakesItems spell Fits MayFollow old new (drop at bytes) (drop to bytes) n
-took_at spell Fits MayFollow old new bytes rest at to n le whole t = subst (λ (r : List ℕ). TakesItems spell Fits MayFollow old new (drop at bytes) r n) (drop_rest bytes (ended (map spell t.taken)) rest at to le t.parts whole) t
-
--- what was taken of the bytes from one place to another is a part of them
-pub part_read : {X : Type 0} (spell : X → List ℕ) (Fits : X → Type 0) (MayFollow : List X → X → Type 0) (items : List X) (bytes piece rest : List ℕ) (from end n : ℕ) → from ≤ end → end ≤ length bytes → piece ≡ take (end - from) (drop from bytes) → TakesItems spell Fits MayFollow [] items piece rest n → IsPart spell Fits MayFollow bytes from (end - length rest) n items
-part_read {X} spell Fits MayFollow items bytes piece rest from end n low high cut t =
-    let behind = drop from bytes in
-    let after = drop (end - from) behind in
-    let short : length rest ≤ length piece = omega (arith, ap length t.parts, length-append (ended (map spell t.taken)) rest) in
-    let whole : piece ++ after ≡ behind = ap (λ (x : List ℕ). x ++ after) cut ∙ take-append-drop (end - from) behind in
-    let long : length after ≡ length bytes - end = omega (arith, length-drop (end - from) behind, length-drop from bytes) in
-    let pieces : length piece + length after ≡ length behind = sym (length-append piece after) ∙ ap length whole in
-    let front = subst (λ (x : List ℕ). TakesItems spell Fits MayFollow [] items x (rest ++ after) n) whole (took_front spell Fits MayFollow [] items piece rest after n t) in
-    record {
-      within = omega arith;
-      taken = took_at spell Fits MayFollow [] items bytes (rest ++ after) from (end - length rest) n (omega arith) (omega (arith, length-append rest after, length-drop from bytes)) front;
-    }
+-- taken of a piece, and so of more
+pub took_before : {X : Type 0} (spell : X → List ℕ) (Fits : X → Type 0) (MayFollow : List X → X → Type 0) (old new : List X) (bytes front last rest : List ℕ) (n : ℕ) → bytes ≡ front ++ last → TakesItems spell Fits MayFollow old new front rest n → TakesItems spell Fits MayFollow old new bytes (drop (length front - length rest) bytes) n
+took_before {X} spell Fits MayFollow old new bytes front last rest n cut t =
+    let taken = ended (map spell t.taken) in
+    let at : length taken ≡ length front - length rest = omega (arith, ap length t.parts, length-append taken rest) in
+    let whole : bytes ≡ taken ++ (rest ++ last) = cut ∙ (ap (λ (x : List ℕ). x ++ last) t.parts ∙ append_assoc taken rest last) in
+    let behind : rest ++ last ≡ drop (length front - length rest) bytes = sym (drop-append_seam taken (rest ++ last)) ∙ (ap (drop (length taken)) (sym whole) ∙ ap (λ (k : ℕ). drop k bytes) at) in
+    subst (λ (x : List ℕ). TakesItems spell Fits MayFollow old new bytes x n) behind
+    (subst (λ (x : List ℕ). TakesItems spell Fits MayFollow old new x (rest ++ last) n) (sym cut) (took_front spell Fits MayFollow old new front rest last n t))

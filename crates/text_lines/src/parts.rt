@@ -1,24 +1,21 @@
 //! Several threads that take items in a row at once.
 
-ghost use Rattle.std.specs.Prelude.{◌≡◌, ◌+◌, ◌-◌, ◌≤◌, ◌<◌, ◌^◌, [], List, ℕ, drop, length};
-ghost use Rattle.std.specs.List.{AllByRecursion};
+ghost use Rattle.std.specs.Prelude.{◌≤◌, [], length};
+ghost use Rattle.std.specs.Thread.{IsSend, IsSync};
 ghost use Rattle.text_lines.specs.Counted.{TakesItems};
-ghost use Rattle.text_lines.specs.inner.Parting.{IsPart};
 
 use crate::LineForm;
 use crate::counted::take_items;
 use memchr::memchr;
 use std::alloc::Global;
-use std::thread;
-use std::thread::Threads;
+use std::thread::{Threads, join_mut};
 
-/// The items of the lines from one place of a text to another.
+/// Items that were taken into a list of their own, what follows them, and how many they were.
 #[derive(Drop)]
-struct Part<T> {
-    from: usize,
-    to: usize,
-    count: u32,
+struct Part<'a, T> {
     items: Vec<T>,
+    rest: &'a [u8],
+    count: u32,
 }
 
 /// Fewer bytes than these are left to one thread.
@@ -37,91 +34,86 @@ fn line_start(bytes: &[u8], at: usize) -> usize
     }
 }
 
-/// The items of the lines that start from one place to another, as far as they are taken.
-fn read_part<F: LineForm>(
+/// Takes items at the front of the bytes into a list of their own, up to `most` of them.
+fn read_part<'a, F: LineForm>(
     form: &F,
     alloc: Global,
     most: u32,
-    bytes: &[u8],
-    low: usize,
-    high: usize,
-) -> Part<F::Item>
+    bytes: &'a [u8],
+) -> Part<'a, F::Item>
     requires { F.IsForm form.now }
-    ensures { IsPart F.spell (F.Fits form.now) F.MayFollow bytes.now result.from result.to result.count result.items.items }
+    ensures { TakesItems F.spell (F.Fits form.now) F.MayFollow [] result.items.items bytes.now result.rest.now result.count }
 {
-    let from = line_start(bytes, low);
-    let end = line_start(bytes, high);
     let mut items = Vec::new(alloc);
-    if end <= from {
-        return Part {
-            from,
-            to: from,
-            count: 0,
-            items,
-        };
-    }
-    let (_, behind) = bytes.split_at(from);
-    let (piece, _) = behind.split_at(end - from);
-    let (rest, count) = take_items(form, &mut items, most, piece);
-    Part {
-        from,
-        to: end - rest.len(),
-        count,
-        items,
-    }
+    let (rest, count) = take_items(form, &mut items, most, bytes);
+    Part { items, rest, count }
 }
 
-/// Adds a part, where it begins at this place and its first item may stand there. Answers the place behind the last
-/// item, and how many were added.
-fn add_part<F: LineForm>(
-    form: &F,
-    items: &mut Vec<F::Item>,
-    most: u32,
-    bytes: &[u8],
-    at: usize,
-    part: Part<F::Item>,
-) -> (usize, u32)
-    requires at { at ≤ length bytes.now }
-    requires form { F.IsForm form.now }
-    requires part { IsPart F.spell (F.Fits form.now) F.MayFollow bytes.now part.from part.to part.count part.items.items }
-    ensures within { result.0 ≤ length bytes.now }
-    ensures most { result.1 ≤ most }
-    ensures taken { TakesItems F.spell (F.Fits form.now) F.MayFollow items.old.items items.new.items (drop at bytes.now) (drop result.0 bytes.now) result.1 }
-{
-    let Some(first) = part.items.first() else {
-        return (at, 0);
-    };
-    if part.from != at || part.count > most || !form.may_follow(items, first) {
-        return (at, 0);
-    }
-    let mut more = part.items;
-    if items.append(&mut more).is_err() {
-        return (at, 0);
-    }
-    (part.to, part.count)
-}
-
-/// Adds parts as far as each begins where the one before it ends.
-fn add_parts<'a, F: LineForm>(
+/// Adds the items of a part of the bytes, where they are up to `most` and the first may stand there. Answers what follows
+/// those that were added, and how many they were.
+fn add_part<'a, F: LineForm>(
     form: &F,
     items: &mut Vec<F::Item>,
     most: u32,
     bytes: &'a [u8],
-    parts: Vec<Part<F::Item>>,
+    part: Part<'a, F::Item>,
 ) -> (&'a [u8], u32)
     requires form { F.IsForm form.now }
-    requires parts { AllByRecursion (λ part. IsPart F.spell (F.Fits form.now) F.MayFollow bytes.now part.from part.to part.count part.items.items) parts.items }
+    requires part { TakesItems F.spell (F.Fits form.now) F.MayFollow [] part.items.items bytes.now part.rest.now part.count }
     ensures taken { TakesItems F.spell (F.Fits form.now) F.MayFollow items.old.items items.new.items bytes.now result.0.now result.1 }
     ensures most { result.1 ≤ most }
 {
-    let mut at = 0;
-    let mut count = 0;
-    for part in parts {
-        let (to, more) = add_part(form, items, most - count, bytes, at, part);
-        at = to;
-        count += more;
+    let Some(first) = part.items.first() else {
+        return (bytes, 0);
+    };
+    if part.count > most || !form.may_follow(items, first) {
+        return (bytes, 0);
     }
-    let (_, rest) = bytes.split_at(at);
+    let mut more = part.items;
+    if items.append(&mut more).is_err() {
+        return (bytes, 0);
+    }
+    (part.rest, part.count)
+}
+
+/// Takes items as `take_parts` does, in parts that begin so many bytes apart: the first straight into the list, by the
+/// thread that asks, and each other one into a list of its own, by a thread of its own where one can be made. These lists
+/// are added in order, while those behind them are still read.
+#[cycle(each)]
+fn take_each<'a, R: Threads + Sync, X: Send + Drop, F: LineForm<Item = X> + Sync>(
+    rt: &R,
+    form: &F,
+    parts: usize,
+    size: usize,
+    items: &mut Vec<X>,
+    most: u32,
+    bytes: &'a [u8],
+) -> (&'a [u8], u32)
+    requires { F.IsForm form.now }
+    ensures taken { TakesItems F.spell (F.Fits form.now) F.MayFollow items.old.items items.new.items bytes.now result.0.now result.1 }
+    ensures most { result.1 ≤ most }
+{
+    if parts < 2 {
+        return take_items(form, items, most, bytes);
+    }
+    let before = parts - 1;
+    let alloc = *items.allocator();
+    let (front, last) = bytes.split_at(line_start(bytes, before.saturating_mul(size)));
+    let mut read_last = || -> Part<'_, X>
+        requires { F.IsForm form.now }
+        ensures { TakesItems F.spell (F.Fits form.entry.now) F.MayFollow [] result.items.items last.entry.now result.rest.now result.count }
+    { read_part(form, alloc, most, last) };
+    let mut take_front = || -> (&[u8], u32)
+        requires { IsSync R.row × IsSync F.row × IsSend X.row × F.IsForm form.now }
+        ensures taken { TakesItems F.spell (F.Fits form.entry.now) F.MayFollow items.entry.now.items items.exit.now.items front.entry.now result.0.now result.1 }
+        ensures most { result.1 ≤ most }
+    { take_each(rt, form, before, size, items, most, front) };
+    let (part, (rest, count)) = join_mut(rt, &mut read_last, &mut take_front);
+    if rest.is_empty() {
+        let (rest, more) = add_part(form, items, most - count, last, part);
+        return (rest, count + more);
+    }
+    let (_, rest) = bytes.split_at(front.len() - rest.len());
     (rest, count)
 }
 
@@ -142,17 +134,5 @@ pub fn take_parts<'a, R: Threads + Sync, X: Send + Drop, F: LineForm<Item = X> +
     if parts < 2 || most == 0 || bytes.len() < SMALL {
         return take_items(form, items, most, bytes);
     }
-    let alloc = *items.allocator();
-    let size = bytes.len() / parts + 1;
-    let read = |number: usize| -> Part<X>
-        requires { F.IsForm form.now }
-        ensures { IsPart F.spell (F.Fits form.entry.now) F.MayFollow bytes.entry.now result.from result.to result.count result.items.items }
-    {
-        let low = number.saturating_mul(size);
-        read_part(form, alloc, most, bytes, low, low.saturating_add(size))
-    };
-    match thread::map_indices(rt, alloc, parts, &read) {
-        Ok(read) => add_parts(form, items, most, bytes, read),
-        Err(_) => take_items(form, items, most, bytes),
-    }
+    take_each(rt, form, parts, bytes.len() / parts + 1, items, most, bytes)
 }
