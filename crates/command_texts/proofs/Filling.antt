@@ -1,6 +1,7 @@
 -- A read behind the filled front of a buffer.
-use Rattle.std.proofs.Common.{◌≡◌, ℕ, ◌+◌, ◌≤◌, List, ◌++◌, Option, length, take, drop, sym, ap, ◌∙◌, subst, le_refl, drop_at, length-take-le}
+use Rattle.std.proofs.Common.{◌≡◌, ℕ, ◌+◌, ◌≤◌, Bool, List, ◌++◌, Option, length, take, drop, sym, ap, ◌∙◌, subst, le_refl, drop_at, length-append, length-take-le, arith}
 use Rattle.std.proofs.lemmas.Slice.{take-put_mid_below}
+use Rattle.command_texts.specs.inner.Takings.{Fills}
 use Rattle.std.specs.Io.KnownBytes.{Consumes, Keeps}
 use Rattle.std.proofs.KnownBytes.{Consumes-trans, Consumes-kept}
 use borrow.Rule.Slice.PartMut.{put_mid, post_of}
@@ -25,3 +26,11 @@ read_nothing a b c at room xs ys within yet same = subst (Consumes a c) (sym (ta
 -- the front of a buffer that was written back
 pub front_of : (n len : ℕ) (xs rest : List ℕ) → n ≤ length xs → n ≤ len → take n (take len (xs ++ rest)) ≡ take n xs
 front_of n len xs rest within fits = take-take n len (xs ++ rest) fits ∙ take-append-le n xs rest within
+
+-- a buffer that was filled and written back
+pub fills_written : (a b : Option (List ℕ)) (xs rest : List ℕ) (len count : ℕ) (ended : Bool) → length xs ≡ len → Fills a b xs count ended → Fills a b (take len (xs ++ rest)) count ended
+fills_written a b xs rest len count ended same filled = record {
+  within = omega (arith, filled.within, length-take-le len (xs ++ rest) (omega (arith, length-append xs rest)));
+  consumed = subst (Consumes a b) (sym (front_of count len xs rest filled.within (omega (arith, filled.within)))) filled.consumed;
+  at_end = filled.at_end;
+}

@@ -2,6 +2,7 @@
 //! them by a text and a status, and the answer is written.
 #![tactic(auto)]
 
+mod ahead;
 mod answer;
 mod cutting;
 mod naming;

@@ -20,7 +20,7 @@ fn fault_at(name: &str, fault: ReadFault) -> Fault<'_> {
 }
 
 /// What is found of the text under a name; `-` is the input.
-pub fn read_named<'a, T: Taker, R: Threads + Sync, S: TextSource, I: Read>(
+pub fn read_named<'a, T: Taker, R: Threads + Sync, S: TextSource, I: Read + Send>(
     rt: &R,
     alloc: Global,
     name: &'a str,
@@ -42,7 +42,7 @@ pub fn read_named<'a, T: Taker, R: Threads + Sync, S: TextSource, I: Read>(
 }
 
 /// What is found of the two texts that the input holds: the first ends with its first line `end`.
-pub fn read_input<A: Taker, B: Taker, R: Threads + Sync, I: Read>(
+pub fn read_input<A: Taker, B: Taker, R: Threads + Sync, I: Read + Send>(
     rt: &R,
     alloc: Global,
     input: &mut I,
@@ -61,7 +61,7 @@ fn are_input(first: &str, second: &str) -> bool
 
 /// What is found of the texts under two names, which are read in this order. Where both are `-` the input holds both:
 /// the first ends with its first line `end`.
-pub fn read_pair<'a, A: Taker, B: Taker, R: Threads + Sync, S: TextSource, I: Read>(
+pub fn read_pair<'a, A: Taker, B: Taker, R: Threads + Sync, S: TextSource, I: Read + Send>(
     rt: &R,
     alloc: Global,
     first: &'a str,

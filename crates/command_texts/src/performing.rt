@@ -58,7 +58,7 @@ pub trait OnTwo {
 }
 
 /// Does a command on the text under a name.
-pub fn perform_one<'a, C: OnOne, R: Threads + Sync, S: TextSource, I: Read, O: Write>(
+pub fn perform_one<'a, C: OnOne, R: Threads + Sync, S: TextSource, I: Read + Send, O: Write>(
     rt: &R,
     alloc: Global,
     command: &C,
@@ -80,7 +80,7 @@ pub fn perform_one<'a, C: OnOne, R: Threads + Sync, S: TextSource, I: Read, O: W
 }
 
 /// Does a command on the texts under two names, which are read in this order.
-pub fn perform_two<'a, C: OnTwo, R: Threads + Sync, S: TextSource, I: Read, O: Write>(
+pub fn perform_two<'a, C: OnTwo, R: Threads + Sync, S: TextSource, I: Read + Send, O: Write>(
     rt: &R,
     alloc: Global,
     command: &C,

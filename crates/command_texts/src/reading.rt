@@ -1,19 +1,20 @@
 //! Reading texts to their ends, piece by piece.
 
-ghost use Rattle.std.specs.Prelude.{◌≡◌, ℕ, List, Option, Some, None, IfOk, OnOk, IfSome, vec_len};
+ghost use Rattle.std.specs.Prelude.{◌≡◌, ℕ, List, Option, Some, None, IfOk, OnOk, IfSome, MatchOption, vec_len};
 ghost use Rattle.command_texts.specs.Told.{AreRead};
-ghost use Rattle.command_texts.specs.inner.Takings.{Fills, TakesAll};
+ghost use Rattle.command_texts.specs.inner.Takings.{Fills, Takes, TakesAll};
 
+use crate::ahead::read_ahead;
 use crate::taking::Taker;
 use std::alloc::{AllocError, Global};
+use std::io;
 use std::io::{ErrorKind, Read};
 use std::thread::Threads;
-use std::{io, thread};
 
 /// Texts by their names, such as files.
 pub trait TextSource {
     /// A text that is being read.
-    type Text: Read + Drop;
+    type Text: Read + Drop + Send;
 
     /// The bytes that stand under a name, where they are known.
     ghost bytes_of: { Self → List ℕ → Option (List ℕ) } = { λ _ _. None };
@@ -32,52 +33,68 @@ pub enum ReadFault {
     Memory,
 }
 
+impl From<AllocError> for ReadFault {
+    fn from(_error: AllocError) -> Self {
+        ReadFault::Memory
+    }
+}
+
 /// The most bytes that an input may have.
 const MOST_BYTES: usize = 268_435_456;
 
 /// The most reads that an input may take, with the one that finds its end.
 const MOST_READS: u32 = 1_048_576;
 
-// How many bytes are taken at a time at first, by one thread.
+/// How many bytes are taken at a time at first, by one thread.
 const FIRST_BYTES: usize = 131_072;
 
-// How many bytes are taken at a time once so many came, by several threads.
-const PIECE_BYTES: usize = 1_048_576;
-
-// The most pieces that an input may have, with the one that finds its end.
-const MOST_PIECES: usize = MOST_BYTES / FIRST_BYTES + 2;
-
-/// The most threads that take parts of a piece.
-const MOST_PARTS: usize = 8;
+/// How many pieces are taken so, before several threads take larger ones.
+const FIRST_PIECES: u32 = 8;
 
 /// What is found of the text that a reader has left, which is taken piece by piece as it is read: at most 268,435,456
-/// bytes, in at most 1,048,576 reads. Of a long text the pieces are taken by several threads.
-pub fn read_text<H: Threads + Sync, R: Read, T: Taker>(
+/// bytes, in at most 1,048,576 reads. Of a long text the pieces are taken by several threads, and the next one is read
+/// meanwhile.
+pub fn read_text<H: Threads + Sync, R: Read + Send, T: Taker>(
     rt: &H,
     alloc: Global,
     reader: &mut R,
 ) -> Result<T::Found, ReadFault>
     ensures { IfOk result (λ found. (text : List ℕ) × AreRead (R.remaining reader.old) text × T.is_found text found) }
 {
+    let most = Left {
+        bytes: MOST_BYTES,
+        reads: MOST_READS,
+    };
     let mut taker = T::new(alloc);
-    read_within(rt, alloc, reader, &mut taker, MOST_BYTES, MOST_READS)?;
+    read_within(rt, alloc, reader, &mut taker, most)?;
     Ok(taker.end())
+}
+
+/// How many bytes of an input may yet come, in how many reads.
+#[derive(Clone, Copy)]
+pub(crate) struct Left {
+    pub(crate) bytes: usize,
+    pub(crate) reads: u32,
 }
 
 /// What was read to the front of a buffer.
 #[derive(Clone, Copy)]
-struct Filled {
+pub(crate) struct Filled {
     /// How many bytes.
-    count: usize,
+    pub(crate) count: usize,
     /// Whether nothing is left.
-    ended: bool,
+    pub(crate) ended: bool,
     /// How many reads may yet be made.
-    reads: u32,
+    pub(crate) reads: u32,
 }
 
 /// Reads until the buffer is full or nothing is left, in at most so many reads. A read that was interrupted counts, and is
 /// made again.
-fn fill<R: Read>(reader: &mut R, buffer: &mut [u8], reads: u32) -> Result<Filled, ReadFault>
+pub(crate) fn fill<R: Read>(
+    reader: &mut R,
+    buffer: &mut [u8],
+    reads: u32,
+) -> Result<Filled, ReadFault>
     ensures { IfOk result (λ filled. Fills (R.remaining reader.old) (R.remaining reader.new) buffer.new filled.count filled.ended) }
 {
     let mut count = 0;
@@ -109,55 +126,52 @@ fn fill<R: Read>(reader: &mut R, buffer: &mut [u8], reads: u32) -> Result<Filled
 }
 
 /// Gives what a reader has left to a taker, within these limits. It stops with a fault once a limit is passed.
-fn read_within<H: Threads + Sync, R: Read, T: Taker>(
+fn read_within<H: Threads + Sync, R: Read + Send, T: Taker>(
     rt: &H,
     alloc: Global,
     reader: &mut R,
     taker: &mut T,
-    most_bytes: usize,
-    most_reads: u32,
+    most: Left,
 ) -> Result<(), ReadFault>
-    ensures { OnOk result (TakesAll T.came most_bytes (R.remaining reader.old) taker.old taker.new) }
+    ensures { OnOk result (TakesAll T.came most.bytes (R.remaining reader.old) taker.old taker.new) }
 {
-    let Ok(mut buffer) = zeroes(alloc, FIRST_BYTES) else {
-        return Err(ReadFault::Memory);
-    };
-    let mut parts = 1;
-    let mut left = most_bytes;
-    let mut reads = most_reads;
-    for _ in 0..MOST_PIECES {
-        let filled = fill(reader, buffer.as_mut_slice(), reads)?;
-        if filled.count > left {
+    match read_first(rt, alloc, reader, taker, most)? {
+        Some(left) => read_ahead(rt, alloc, reader, taker, left),
+        None => Ok(()),
+    }
+}
+
+/// Gives the first pieces of what a reader has left to a taker, by one thread. Answers what may come yet, where that was
+/// not all.
+fn read_first<H: Threads + Sync, R: Read, T: Taker>(
+    rt: &H,
+    alloc: Global,
+    reader: &mut R,
+    taker: &mut T,
+    most: Left,
+) -> Result<Option<Left>, ReadFault>
+    ensures { IfOk result (λ found. MatchOption found (TakesAll T.came most.bytes (R.remaining reader.old) taker.old taker.new) (λ left. Takes T.came most.bytes left.bytes (R.remaining reader.old) (R.remaining reader.new) taker.old taker.new)) }
+{
+    let mut buffer = zeroes(alloc, FIRST_BYTES)?;
+    let mut left = most;
+    for _ in 0..FIRST_PIECES {
+        let filled = fill(reader, buffer.as_mut_slice(), left.reads)?;
+        if filled.count > left.bytes {
             return Err(ReadFault::File);
         }
-        let Ok(()) = taker.take(rt, parts, &buffer[..filled.count]) else {
-            return Err(ReadFault::Memory);
-        };
+        taker.take(rt, 1, &buffer[..filled.count])?;
         if filled.ended {
-            return Ok(());
+            return Ok(None);
         }
-        left -= filled.count;
-        reads = filled.reads;
-        if buffer.len() < PIECE_BYTES && most_bytes.saturating_sub(left) >= PIECE_BYTES {
-            let Ok(larger) = zeroes(alloc, PIECE_BYTES) else {
-                return Err(ReadFault::Memory);
-            };
-            buffer = larger;
-            parts = processors(rt);
-        }
+        left = Left {
+            bytes: left.bytes - filled.count,
+            reads: filled.reads,
+        };
     }
-    Err(ReadFault::File)
+    Ok(Some(left))
 }
 
-/// How many threads take parts of a piece: as many as there are processors, where it is known.
-fn processors<H: Threads>(rt: &H) -> usize {
-    match thread::available_parallelism(rt) {
-        Ok(count) => count.get().min(MOST_PARTS),
-        Err(_) => 1,
-    }
-}
-
-fn zeroes(alloc: Global, count: usize) -> Result<Vec<u8>, AllocError>
+pub(crate) fn zeroes(alloc: Global, count: usize) -> Result<Vec<u8>, AllocError>
     ensures { IfOk result (λ v. vec_len v ≡ count) }
 {
     vec![in alloc; 0u8; count]

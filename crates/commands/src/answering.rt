@@ -20,7 +20,7 @@ use std::sync::Wait;
 use std::thread::Threads;
 
 // Does a command on the text under a name.
-fn asked_one<'a, R: Threads + Sync, S: TextSource, I: Read, O: Write>(
+fn asked_one<'a, R: Threads + Sync, S: TextSource, I: Read + Send, O: Write>(
     rt: &R,
     alloc: Global,
     task: OneText,
@@ -60,7 +60,7 @@ fn asked_one<'a, R: Threads + Sync, S: TextSource, I: Read, O: Write>(
 }
 
 // Does a command on the texts under two names, read in this order.
-fn asked_two<'a, R: Threads + Sync, S: TextSource, I: Read, O: Write>(
+fn asked_two<'a, R: Threads + Sync, S: TextSource, I: Read + Send, O: Write>(
     rt: &R,
     alloc: Global,
     task: TwoTexts,
@@ -112,7 +112,7 @@ fn asked_migrate<
     'a,
     R: Threads + Wait + Sync + Net<Listener = TcpListener, Stream = TcpStream>,
     S: TextSource,
-    I: Read,
+    I: Read + Send,
     O: Write,
 >(
     rt: &R,
@@ -132,7 +132,7 @@ fn asked_migrate<
 }
 
 // Draws the session under a name, along the runs under a further one where there is one.
-fn asked_draw<'a, R: Threads + Sync, S: TextSource, I: Read, O: Write>(
+fn asked_draw<'a, R: Threads + Sync, S: TextSource, I: Read + Send, O: Write>(
     rt: &R,
     alloc: Global,
     name: &'a str,
@@ -164,7 +164,7 @@ pub fn perform<
     'a,
     R: Threads + Wait + Sync + Net<Listener = TcpListener, Stream = TcpStream>,
     S: TextSource,
-    I: Read,
+    I: Read + Send,
     O: Write,
 >(
     rt: &R,

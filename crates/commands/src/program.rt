@@ -19,7 +19,7 @@ use std::sync::Wait;
 use std::thread::Threads;
 
 // Judges the two texts of the input.
-fn check_input<R: Threads + Sync, S: TextSource, I: Read, O: Write>(
+fn check_input<R: Threads + Sync, S: TextSource, I: Read + Send, O: Write>(
     rt: &R,
     alloc: Global,
     texts: &S,
@@ -83,7 +83,7 @@ fn refuse<O: Write, E: Write>(error: clap::Error, output: &mut O, errors: &mut E
 pub fn run<
     R: Threads + Wait + Sync + Net<Listener = TcpListener, Stream = TcpStream>,
     S: TextSource,
-    I: Read,
+    I: Read + Send,
     O: Write,
     E: Write,
 >(

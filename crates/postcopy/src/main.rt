@@ -25,7 +25,10 @@ struct Disk<'a, R> {
     rt: &'a R,
 }
 
-impl<R: Files> TextSource for Disk<'_, R> {
+impl<R: Files> TextSource for Disk<'_, R>
+where
+    R::File: Send,
+{
     type Text = R::File;
 
     fn text(&self, name: &str) -> io::Result<R::File> {

@@ -91,7 +91,7 @@ struct Outcome {
 // Runs the program on these words after its name, over the two texts and an input.
 fn ran_over<
     R: Threads + Wait + Sync + AllocGlobal + Net<Listener = TcpListener, Stream = TcpStream>,
-    I: Read,
+    I: Read + Send,
 >(rt: &R, words: &[&str], input: &mut I) -> Outcome {
     let alloc = rt.alloc();
     let shelf = Shelf {
@@ -642,15 +642,20 @@ fn an_input_that_fails(rt: HostRuntime) {
     none_is_wrong(&rt, wrong_input(&rt));
 }
 
-// Gives so many bytes, of which the first is LF, each time as many as are asked for or one. It leaves the others as they are.
+// Gives so many bytes, of which the first is LF, each time as many as are asked for or one, and then an error or the end.
+// It leaves the others as they are.
 #[derive(Drop)]
 struct Plenty {
     left: usize,
     one_by_one: bool,
+    fails: bool,
 }
 
 impl Read for Plenty {
     fn read(&mut self, buf: &mut [u8]) -> io::Result<usize> {
+        if self.fails && self.left == 0 {
+            return Err(io::Error::from(ErrorKind::BrokenPipe));
+        }
         let most = if self.one_by_one { 1 } else { buf.len() };
         let count = most.min(self.left).min(buf.len());
         if let Some(first) = buf.first_mut() {
@@ -675,7 +680,11 @@ static LIMITS: [(usize, bool, bool); 4] = [
 fn is_limit_kept<
     R: Threads + Wait + Sync + AllocGlobal + Net<Listener = TcpListener, Stream = TcpStream>,
 >(rt: &R, left: usize, one_by_one: bool, fits: bool) -> bool {
-    let mut input = Plenty { left, one_by_one };
+    let mut input = Plenty {
+        left,
+        one_by_one,
+        fails: false,
+    };
     let found = ran_over(rt, AUDIT.as_slice(), &mut input);
     if fits {
         is_outcome(&found, 1, EMPTY_SESSION_LINE, b"")
@@ -700,6 +709,36 @@ fn wrong_limit<
 #[test]
 fn limits_of_an_input(rt: HostRuntime) {
     if let Some(left) = wrong_limit(&rt) {
+        panic!(rt; "at {left}");
+    }
+}
+
+// After how many bytes an input fails: in the first pieces, and in each of some that are read ahead.
+static FAILING: [usize; 6] = [
+    1_000_000, 1_048_576, 2_000_000, 3_145_728, 4_000_000, 9_000_000,
+];
+
+// A count of bytes after which a failure is not told.
+fn untold_failure<
+    R: Threads + Wait + Sync + AllocGlobal + Net<Listener = TcpListener, Stream = TcpStream>,
+>(rt: &R) -> Option<usize> {
+    for left in &FAILING {
+        let mut input = Plenty {
+            left: *left,
+            one_by_one: false,
+            fails: true,
+        };
+        let found = ran_over(rt, AUDIT.as_slice(), &mut input);
+        if !is_outcome(&found, 3, b"", b"file -\n") {
+            return Some(*left);
+        }
+    }
+    None
+}
+
+#[test]
+fn a_long_input_that_fails(rt: HostRuntime) {
+    if let Some(left) = untold_failure(&rt) {
         panic!(rt; "at {left}");
     }
 }

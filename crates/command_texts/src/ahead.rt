@@ -1,0 +1,98 @@
+//! Reading ahead: the next piece of a long text is read by a thread of its own while the parts of this one are taken.
+
+ghost use Rattle.std.specs.Prelude.{ℕ, List, ◌++◌, IfOk, OnOk};
+ghost use Rattle.std.specs.Thread.{IsSync};
+ghost use Rattle.command_texts.specs.inner.Takings.{Fills, TakesAll};
+
+use crate::reading::{Filled, Left, ReadFault, fill, zeroes};
+use crate::taking::Taker;
+use std::alloc::{AllocError, Global};
+use std::io::Read;
+use std::mem;
+use std::thread::{Threads, available_parallelism, join_mut};
+
+/// How many bytes are read and taken at a time.
+const PIECE_BYTES: usize = 2_097_152;
+
+/// More pieces than an input may have.
+const MOST_PIECES: u32 = 1_024;
+
+/// The most threads that take parts of a piece.
+const MOST_PARTS: usize = 8;
+
+/// Gives what a reader has left to a taker, within these limits: while a piece is taken the next one is read. It stops
+/// with a fault once a limit is passed.
+pub(crate) fn read_ahead<H: Threads + Sync, R: Read + Send, T: Taker>(
+    rt: &H,
+    alloc: Global,
+    reader: &mut R,
+    taker: &mut T,
+    most: Left,
+) -> Result<(), ReadFault>
+    ensures { OnOk result (TakesAll T.came most.bytes (R.remaining reader.old) taker.old taker.new) }
+{
+    let parts = processors(rt);
+    let mut piece = zeroes(alloc, PIECE_BYTES)?;
+    let mut next = zeroes(alloc, PIECE_BYTES)?;
+    let mut left = most.bytes;
+    let mut filled = fill(reader, piece.as_mut_slice(), most.reads)?;
+    for _ in 0..MOST_PIECES {
+        if filled.count > left {
+            return Err(ReadFault::File);
+        }
+        left -= filled.count;
+        let came = &piece[..filled.count];
+        if filled.ended {
+            taker.take(rt, parts, came)?;
+            return Ok(());
+        }
+        filled = take_and_fill(
+            rt,
+            taker,
+            parts,
+            came,
+            reader,
+            filled.reads,
+            next.as_mut_slice(),
+        )?;
+        mem::swap(&mut piece, &mut next);
+    }
+    Err(ReadFault::File)
+}
+
+/// Gives a piece to a taker and fills the buffer for the next one, at once where more than one thread is asked for.
+fn take_and_fill<H: Threads + Sync, R: Read + Send, T: Taker>(
+    rt: &H,
+    taker: &mut T,
+    parts: usize,
+    piece: &[u8],
+    reader: &mut R,
+    reads: u32,
+    next: &mut [u8],
+) -> Result<Filled, ReadFault>
+    ensures filled { IfOk result (λ filled. Fills (R.remaining reader.old) (R.remaining reader.new) next.new filled.count filled.ended) }
+    ensures taken { OnOk result ((text : List ℕ) → T.came taker.old text → T.came taker.new (text ++ piece.now)) }
+{
+    if parts < 2 {
+        taker.take(rt, parts, piece)?;
+        return fill(reader, next, reads);
+    }
+    let mut fill_next = || -> Result<Filled, ReadFault>
+        ensures { IfOk result (λ filled. Fills (R.remaining reader.entry.now) (R.remaining reader.exit.now) next.exit.now filled.count filled.ended) }
+    { fill(reader, next, reads) };
+    let mut take_piece = || -> Result<(), AllocError>
+        requires { IsSync H.row }
+        ensures { OnOk result ((text : List ℕ) → T.came taker.entry.now text → T.came taker.exit.now (text ++ piece.entry.now)) }
+    { taker.take(rt, parts, piece) };
+    let (filled, taken) = join_mut(rt, &mut fill_next, &mut take_piece);
+    taken?;
+    filled
+}
+
+/// How many threads take parts of a piece: as many as there are processors, where it is known.
+fn processors<H: Threads>(rt: &H) -> usize {
+    match available_parallelism(rt) {
+        Ok(count) => count.get().min(MOST_PARTS),
+        Err(_) => 1,
+    }
+}
