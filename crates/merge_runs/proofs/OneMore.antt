@@ -8,23 +8,27 @@ use Rattle.migration_types.specs.declared.records.LogName.TheVariants.{Guest, So
 use Rattle.migration_types.specs.declared.records.GuestRec.{GuestRec}
 use Rattle.migration_types.specs.declared.records.SourceRec.{SourceRec}
 use Rattle.migration_types.specs.declared.records.PagerRec.{PagerRec}
+use Rattle.migration_types.specs.declared.records.PagerRec.TheVariants.{Got, Pull, Ready, Fault, Join, Want, Place, Zero, Skip, All}
 use Rattle.migration_types.specs.Extents.{Extent}
 use Rattle.migration_types.specs.Memory.{Memory}
 use Rattle.migration_types.specs.Receipts.{Name}
 use Rattle.migration_types.specs.Sessions.{Recorded}
+use Rattle.audit_model.specs.declared.home.Home.{Home}
 use Rattle.audit_model.specs.Flat.{changed, flat}
 use Rattle.audit_model.specs.Names.{same_log}
 use Rattle.audit_model.specs.Mergings.{Cursors, at_start, run_names, StandsAfter}
 use Rattle.audit_model.specs.Walks.{next, cursors_from}
 use Rattle.audit_model.specs.World.{World, start, step, run_from, world_after, guest_step, pager_step, Demand, IsSafeOrder, guest_demand, source_demand, pager_demand, if_record, IsFirstBroken}
-use Rattle.flat_machine.specs.declared.machine.Machine.{Machine}
 use Rattle.flat_machine.specs.Machines.{memory_after}
 use Rattle.flat_machine.proofs.Stepping.{memory_next}
-use Rattle.page_store.specs.Frames.{memory_of}
+use Rattle.page_store.specs.Frames.{Frames, memory_of}
+use Rattle.merge_runs.specs.declared.moving.Moving.{Moving}
 use Rattle.merge_runs.specs.declared.replaying.Replaying.{Replaying}
 use Rattle.merge_runs.specs.inner.Moving.{world_of}
 use Rattle.merge_runs.specs.inner.Demands.{guest_met, source_met, pager_met}
-use Rattle.merge_runs.specs.inner.Replaying.{AllMet, Breaks, noted, AreSized, IsReplaying, HasRun, IsGuestStep, IsPagerStep}
+use Rattle.merge_runs.specs.inner.Unmoved.{frames_of, IsApart}
+use Rattle.merge_runs.specs.inner.Replaying.{AllMet, Breaks, noted, unmoved_frames, AreSized, IsReplaying, HasOne, HasRun, IsGuestStep, IsSourceStep, IsPagerStep}
+use Rattle.merge_runs.proofs.Leaving.{unmoved_more}
 use Rattle.merge_runs.proofs.Walking.{cursors_append, cursors_run, own_moved}
 use Rattle.merge_runs.proofs.Demanding.{guest_yes, guest_from, source_yes, source_from, pager_yes, pager_from}
 
@@ -99,6 +103,46 @@ pub link_or_lane : (s : Recorded) (log : LogName) → (log ≡ Link) ⊎ (log �
 link_or_lane s log (inl e) = subst (λ l. IsCalm s l) (sym e) (record { still = λ n w. refl; asks_nothing = λ n w. tt; other = refl })
 link_or_lane s log (inr e) = subst (λ l. IsCalm s l) (sym e) (record { still = λ n w. refl; asks_nothing = λ n w. tt; other = refl })
 
+-- the machine that never moved stays where a record changes neither it nor the source
+frames_on : (own : Option Frames) (old new : Frames) → memory_of new ≡ memory_of old → memory_of (frames_of own new) ≡ memory_of (frames_of own old)
+frames_on None old new same = same
+frames_on (Some own) old new same = refl
+
+same_frames : (old new : Replaying) → new.moving ≡ old.moving → new.unmoved ≡ old.unmoved → memory_of (unmoved_frames new) ≡ memory_of (unmoved_frames old)
+same_frames old new moving unmoved = ap (λ (own : Option Frames). memory_of (frames_of own new.moving.source.frames)) unmoved ∙ ap (λ (m : Moving). memory_of (frames_of old.unmoved m.source.frames)) moving
+
+apart_on : (old : Replaying) (own : Option Frames) (home : Home) → IsApart old.unmoved old.moving.home → own ≡ old.unmoved → home ≡ old.moving.home → IsApart own home
+apart_on old own home apart unmoved same = subst (λ (o : Option Frames). IsApart o home) (sym unmoved) (subst (λ (h : Home). IsApart old.unmoved h) (sym same) apart)
+
+pager_home : (r : PagerRec) (w : World) → (pager_step r w).home ≡ w.home
+pager_home (Place p got content) w = refl
+pager_home (Zero p) w = refl
+pager_home (Got d) w = refl
+pager_home (Pull d) w = refl
+pager_home Ready w = refl
+pager_home (Fault i) w = refl
+pager_home (Join i) w = refl
+pager_home (Want p) w = refl
+pager_home (Skip g) w = refl
+pager_home All w = refl
+
+pager_source : (r : PagerRec) (w : World) → (pager_step r w).source ≡ w.source
+pager_source (Place p got content) w = refl
+pager_source (Zero p) w = refl
+pager_source (Got d) w = refl
+pager_source (Pull d) w = refl
+pager_source Ready w = refl
+pager_source (Fault i) w = refl
+pager_source (Join i) w = refl
+pager_source (Want p) w = refl
+pager_source (Skip g) w = refl
+pager_source All w = refl
+
+source_kept : {n : ℕ} (r : PagerRec) (old new : Replaying) → IsPagerStep r n old new → memory_of (unmoved_frames new) ≡ memory_of (unmoved_frames old)
+source_kept r old new on =
+    ap (λ (own : Option Frames). memory_of (frames_of own new.moving.source.frames)) on.unmoved
+    ∙ frames_on old.unmoved old.moving.source.frames new.moving.source.frames (ap (λ (w : World). w.source) on.moving.world ∙ pager_source r (world_of old.moving))
+
 module _ (s : Recorded) (order : List Name) where
   world_more : (name : Name) → world_after s (order ++ name ∷ []) ≡ step s name (world_after s order)
   world_more name = run_append s (start s) order (name ∷ [])
@@ -107,21 +151,22 @@ module _ (s : Recorded) (order : List Name) where
   cursors_more name = cursors_append at_start order (name ∷ [])
 
   -- a record that changes no machine
-  quiet_more : (name : Name) (old new : Replaying) (met : Bool) → IsReplaying s order old → ((w : World) → step s name w ≡ w) → same_log name.0 Guest ≡ false → new.moving ≡ old.moving → new.flat ≡ old.flat → new.first_broken ≡ noted met old.first_broken name → (met ≡ true → Demand s name (world_after s order)) → (Demand s name (world_after s order) → met ≡ true) → IsReplaying s (order ++ name ∷ []) new
-  quiet_more name old new met is still other moving flat_is first holds back = record {
+  quiet_more : (name : Name) (old new : Replaying) (met : Bool) → IsReplaying s order old → ((w : World) → step s name w ≡ w) → same_log name.0 Guest ≡ false → new.moving ≡ old.moving → new.unmoved ≡ old.unmoved → new.first_broken ≡ noted met old.first_broken name → (met ≡ true → Demand s name (world_after s order)) → (Demand s name (world_after s order) → met ≡ true) → IsReplaying s (order ++ name ∷ []) new
+  quiet_more name old new met is still other moving unmoved first holds back = record {
     world = ap world_of moving ∙ is.world ∙ sym (still (world_after s order)) ∙ sym (world_more name);
-    flat = ap (λ (m : Machine). memory_of m.frames) flat_is ∙ is.flat ∙ sym (ap (λ (c : Cursors). flat s (c Guest)) (cursors_more name) ∙ ap (λ b. flat s (cond b (suc (cursors_from at_start order Guest)) (cursors_from at_start order Guest))) other);
+    flat = same_frames old new moving unmoved ∙ is.flat ∙ sym (ap (λ (c : Cursors). flat s (c Guest)) (cursors_more name) ∙ ap (λ b. flat s (cond b (suc (cursors_from at_start order Guest)) (cursors_from at_start order Guest))) other);
+    apart = apart_on old new.unmoved new.moving.home is.apart unmoved (ap (λ (m : Moving). m.home) moving);
     broken = subst (λ (o : Option Name). MatchOption o (AllMet s (start s) (order ++ name ∷ [])) (Breaks s (start s) (order ++ name ∷ []))) (sym first) (broken_more s (start s) order name old.first_broken met holds back is.broken);
   }
 
   -- nor demands anything
-  calm_more : (log : LogName) (n : ℕ) (r : Replaying) → IsCalm s log → IsReplaying s order r → IsReplaying s (order ++ (log, n) ∷ []) r
+  pub calm_more : (log : LogName) (n : ℕ) (r : Replaying) → IsCalm s log → IsReplaying s order r → IsReplaying s (order ++ (log, n) ∷ []) r
   calm_more log n r calm is = quiet_more (log, n) r r true is (calm.still n) calm.other refl refl refl (λ e. calm.asks_nothing n (world_after s order)) (λ d. refl)
 
-  pub source_more : (n : ℕ) (r : SourceRec) (old new : Replaying) → slice_get s.source n ≡ Some r → AreSized s.geometry old → IsReplaying s order old → new.moving ≡ old.moving → new.flat ≡ old.flat → new.first_broken ≡ noted (source_met old.moving.source.frames.geometry.cells r (world_of old.moving)) old.first_broken (Source, n) → IsReplaying s (order ++ (Source, n) ∷ []) new
-  source_more n r old new at sized is moving flat_is first =
-      quiet_more (Source, n) old new (source_met s.geometry.cells r (world_after s order)) is (λ w. refl) refl moving flat_is
-      (first ∙ ap (λ b. noted b old.first_broken (Source, n)) (ap (λ (e : Extent). source_met e.cells r (world_of old.moving)) sized.moving.source.frames ∙ ap (λ (w : World). source_met s.geometry.cells r w) is.world))
+  pub source_more : (n : ℕ) (r : SourceRec) (old new : Replaying) → slice_get s.source n ≡ Some r → AreSized s.geometry old → IsReplaying s order old → IsSourceStep r n old new → IsReplaying s (order ++ (Source, n) ∷ []) new
+  source_more n r old new at sized is on =
+      quiet_more (Source, n) old new (source_met s.geometry.cells r (world_after s order)) is (λ w. refl) refl on.moving on.unmoved
+      (on.broken ∙ ap (λ b. noted b old.first_broken (Source, n)) (ap (λ (e : Extent). source_met e.cells r (world_of old.moving)) sized.moving.source.frames ∙ ap (λ (w : World). source_met s.geometry.cells r w) is.world))
       (λ e. subst (λ (o : Option SourceRec). if_record (source_demand s) o (world_after s order)) (sym at) (source_yes s r (world_after s order) e))
       (λ d. source_from s r (world_after s order) (subst (λ (o : Option SourceRec). if_record (source_demand s) o (world_after s order)) at d))
 
@@ -131,7 +176,8 @@ module _ (s : Recorded) (order : List Name) where
       let first : new.first_broken ≡ noted met old.first_broken (Pager, n) = on.broken ∙ ap (λ b. noted b old.first_broken (Pager, n)) (ap (λ (e : Extent). pager_met e.cells r (world_of old.moving)) sized.moving.source.frames ∙ ap (λ (w : World). pager_met s.geometry.cells r w) is.world) in
       record {
         world = on.moving.world ∙ ap (λ (w : World). pager_step r w) is.world ∙ sym (ap (λ (o : Option PagerRec). changed pager_step o (world_after s order)) at) ∙ sym (world_more (Pager, n));
-        flat = ap (λ (m : Machine). memory_of m.frames) on.flat ∙ is.flat ∙ sym (ap (λ (c : Cursors). flat s (c Guest)) (cursors_more (Pager, n)));
+        flat = source_kept r old new on ∙ is.flat ∙ sym (ap (λ (c : Cursors). flat s (c Guest)) (cursors_more (Pager, n)));
+        apart = apart_on old new.unmoved new.moving.home is.apart on.unmoved (ap (λ (w : World). w.home) on.moving.world ∙ pager_home r (world_of old.moving));
         broken = subst (λ (o : Option Name). MatchOption o (AllMet s (start s) (order ++ (Pager, n) ∷ [])) (Breaks s (start s) (order ++ (Pager, n) ∷ []))) (sym first) (broken_more s (start s) order (Pager, n) old.first_broken met
             (λ e. subst (λ (o : Option PagerRec). if_record (pager_demand s) o (world_after s order)) (sym at) (pager_yes s r (world_after s order) e))
             (λ d. pager_from s r (world_after s order) (subst (λ (o : Option PagerRec). if_record (pager_demand s) o (world_after s order)) at d)) is.broken);
@@ -139,12 +185,14 @@ module _ (s : Recorded) (order : List Name) where
 
   pub guest_more : (n : ℕ) (r : GuestRec) (old new : Replaying) → slice_get s.guest n ≡ Some r → cursors_from at_start order Guest ≡ n → IsReplaying s order old → IsGuestStep r n old new → IsReplaying s (order ++ (Guest, n) ∷ []) new
   guest_more n r old new at here is on =
-      let flat_is : memory_of old.flat.frames ≡ flat s n = is.flat ∙ ap (λ k. flat s k) here in
+      let flat_is : memory_of (unmoved_frames old) ≡ flat s n = is.flat ∙ ap (λ k. flat s k) here in
       let met = guest_met (flat s n) r (world_after s order) in
       let first : new.first_broken ≡ noted met old.first_broken (Guest, n) = on.broken ∙ ap (λ b. noted b old.first_broken (Guest, n)) (ap (λ (f : Memory). guest_met f r (world_of old.moving)) flat_is ∙ ap (λ (w : World). guest_met (flat s n) r w) is.world) in
+      let more = unmoved_more r (world_of old.moving) old.moving.source.frames new.moving.source.frames new.moving.home old.unmoved new.unmoved is.apart refl (ap (λ (w : World). w.source) on.moving.world) (ap (λ (w : World). w.home) on.moving.world) on.unmoved in
       record {
         world = on.moving.world ∙ ap (λ (w : World). guest_step r w) is.world ∙ sym (ap (λ (o : Option GuestRec). changed guest_step o (world_after s order)) at) ∙ sym (world_more (Guest, n));
-        flat = on.flat.frames.memory_is ∙ ap (λ (m : Memory). memory_after r m) flat_is ∙ memory_next s n r at ∙ ap (λ k. flat s (suc k)) (sym here) ∙ sym (ap (λ (c : Cursors). flat s (c Guest)) (cursors_more (Guest, n)));
+        flat = more.0 ∙ ap (λ (m : Memory). memory_after r m) flat_is ∙ memory_next s n r at ∙ ap (λ k. flat s (suc k)) (sym here) ∙ sym (ap (λ (c : Cursors). flat s (c Guest)) (cursors_more (Guest, n)));
+        apart = more.1;
         broken = subst (λ (o : Option Name). MatchOption o (AllMet s (start s) (order ++ (Guest, n) ∷ [])) (Breaks s (start s) (order ++ (Guest, n) ∷ []))) (sym first) (broken_more s (start s) order (Guest, n) old.first_broken met
             (λ e. subst (λ (o : Option GuestRec). if_record (guest_demand s n) o (world_after s order)) (sym at) (guest_yes s n r (world_after s order) e))
             (λ d. guest_from s n r (world_after s order) (subst (λ (o : Option GuestRec). if_record (guest_demand s n) o (world_after s order)) at d)) is.broken);
@@ -160,7 +208,7 @@ pub run_none : (s : Recorded) (log : LogName) (from : ℕ) (r : Replaying) → H
 run_none s log from r order here is = subst (λ (xs : List Name). IsReplaying s xs r) (sym (append-nil order)) is
 
 -- a run of one record more
-pub run_more : (s : Recorded) (log : LogName) (from k : ℕ) (first old new : Replaying) → HasRun s log from k first old → ((order : List Name) → cursors_from at_start order log ≡ from + k → IsReplaying s order old → IsReplaying s (order ++ (log, from + k) ∷ []) new) → HasRun s log from (k + 1) first new
+pub run_more : (s : Recorded) (log : LogName) (from k : ℕ) (first old new : Replaying) → HasRun s log from k first old → HasOne s (log, from + k) old new → HasRun s log from (k + 1) first new
 run_more s log from k first old new ran more order here is =
     subst (λ (xs : List Name). IsReplaying s xs new) (sym (longer ∙ sym (append_assoc order (run_names log from k) ((log, from + k) ∷ [])))) (more (order ++ run_names log from k) there (ran order here is))
   where
@@ -172,8 +220,3 @@ run_more s log from k first old new ran more order here is =
         ap (λ (c : Cursors). c log) (cursors_append at_start order (run_names log from k) ∙ cursors_run (cursors_from at_start order) log from k)
         ∙ own_moved (cursors_from at_start order) log k
         ∙ ap (λ m. m + k) here
-
--- records that change no machine and demand nothing
-pub calm_run : (s : Recorded) (log : LogName) → IsCalm s log → (from count : ℕ) (r : Replaying) → HasRun s log from count r r
-calm_run s log calm from zero r = run_none s log from r
-calm_run s log calm from (suc count) r = let one : count + 1 ≡ suc count = omega arith in subst (λ n. HasRun s log from n r r) one (run_more s log from count r r r (calm_run s log calm from count r) (λ order here is. calm_more s order log (from + count) r calm is))

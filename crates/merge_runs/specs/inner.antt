@@ -3,3 +3,4 @@ pub mod Demands
 pub mod Moving
 pub mod Replaying
 pub mod Targets
+pub mod Unmoved

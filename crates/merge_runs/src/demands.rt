@@ -1,14 +1,16 @@
 //! What each record demands of the machines before it.
 
-ghost use Rattle.std.specs.Prelude.{◌≡◌, not};
+ghost use Rattle.std.specs.Prelude.{◌≡◌, ◌<◌, not};
 ghost use Rattle.migration_types.specs.Sessions.{GuestRecFits};
 ghost use Rattle.audit_model.specs.World.{memory_at};
 ghost use Rattle.page_store.specs.Frames.{memory_of};
 ghost use Rattle.page_tables.specs.Tables.{values};
 ghost use Rattle.merge_runs.specs.inner.Moving.{world_of, HasPage, HasCell, GuestHas, SourceHas, PagerHas};
+ghost use Rattle.merge_runs.specs.inner.Unmoved.{frames_of};
 ghost use Rattle.merge_runs.specs.inner.Demands.{finds, has_left, is_open, guest_met, source_met, pager_met};
 
 use crate::moving::Moving;
+use crate::unmoved::frames_of;
 use audit_model::Home;
 use migration_types::{GuestRec, PageNo, PagerRec, SourceRec};
 use page_store::Store;
@@ -57,12 +59,21 @@ fn is_open(moving: &Moving, page: PageNo) -> bool
     !moving.target.placed.at(page) && !moving.target.touched.at(page)
 }
 
+/// The value of a cell on the machine that never moved.
+fn value_unmoved(moving: &Moving, unmoved: &Option<Store>, page: PageNo, cell: u16) -> u64
+    requires page { page < (frames_of unmoved.now moving.now.source.frames).geometry.pages }
+    requires cell { cell < (frames_of unmoved.now moving.now.source.frames).geometry.cells }
+    ensures { result ≡ memory_of (frames_of unmoved.now moving.now.source.frames) page cell }
+{
+    frames_of(unmoved, &moving.source.frames).read(page, cell)
+}
+
 /// Whether the demand of a record of the guest is met: a read finds its page, and its value both where the guest is and
 /// on the machine that never moved, and a write finds its page.
-pub(crate) fn guest_met(moving: &Moving, flat: &Store, rec: &GuestRec) -> bool
+pub(crate) fn guest_met(moving: &Moving, unmoved: &Option<Store>, rec: &GuestRec) -> bool
     requires moving { GuestHas moving.now rec.now }
-    requires flat { GuestRecFits flat.now.geometry rec.now }
-    ensures { result ≡ guest_met (memory_of flat.now) rec.now (world_of moving.now) }
+    requires unmoved { GuestRecFits (frames_of unmoved.now moving.now.source.frames).geometry rec.now }
+    ensures { result ≡ guest_met (memory_of (frames_of unmoved.now moving.now.source.frames)) rec.now (world_of moving.now) }
 {
     match *rec {
         GuestRec::Read {
@@ -73,7 +84,7 @@ pub(crate) fn guest_met(moving: &Moving, flat: &Store, rec: &GuestRec) -> bool
         } => {
             finds(moving, page)
                 && value_here(moving, page, cell) == value
-                && flat.read(page, cell) == value
+                && value_unmoved(moving, unmoved, page, cell) == value
         }
         GuestRec::Write { page, .. } => finds(moving, page),
         _ => true,

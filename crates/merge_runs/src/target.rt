@@ -78,8 +78,7 @@ impl Target {
         ensures { IsPlaced self.old self.new page (with_content page contents.now (memory_of self.old.frames)) }
     {
         self.frames.install(page, contents);
-        self.resident.set(page, true);
-        self.placed.set(page, true);
+        self.mark_placed(page);
     }
 
     /// Places a page as zeros.
@@ -88,6 +87,14 @@ impl Target {
         ensures { IsPlaced self.old self.new page (with_zeros page (memory_of self.old.frames)) }
     {
         self.frames.release(page);
+        self.mark_placed(page);
+    }
+
+    /// Marks a page as placed, and so as resident.
+    fn mark_placed(&mut self, page: PageNo)
+        requires { HasPage self.old page }
+        ensures { IsPlaced self.old self.new page (memory_of self.old.frames) }
+    {
         self.resident.set(page, true);
         self.placed.set(page, true);
     }

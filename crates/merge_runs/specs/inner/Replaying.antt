@@ -2,8 +2,9 @@
 use Rattle.std.specs.Prelude.{◌≡◌, ℕ, Bool, List, [], ◌∷◌, ◌++◌, Option, Some, None, if◌then◌else◌}
 use Rattle.std.specs.Option.{MatchOption}
 use Rattle.migration_types.specs.declared.records.LogName.{LogName}
-use Rattle.migration_types.specs.declared.records.LogName.TheVariants.{Guest, Pager}
+use Rattle.migration_types.specs.declared.records.LogName.TheVariants.{Guest, Source, Pager}
 use Rattle.migration_types.specs.declared.records.GuestRec.{GuestRec}
+use Rattle.migration_types.specs.declared.records.SourceRec.{SourceRec}
 use Rattle.migration_types.specs.declared.records.PagerRec.{PagerRec}
 use Rattle.migration_types.specs.Extents.{Extent}
 use Rattle.migration_types.specs.Receipts.{Name}
@@ -12,11 +13,11 @@ use Rattle.audit_model.specs.Flat.{flat}
 use Rattle.audit_model.specs.Mergings.{at_start, run_names}
 use Rattle.audit_model.specs.Walks.{cursors_from}
 use Rattle.audit_model.specs.World.{World, start, step, run_from, world_after, guest_step, pager_step, Demand}
-use Rattle.flat_machine.specs.Machines.{IsSized as IsMachineSized, IsAfter}
-use Rattle.page_store.specs.Frames.{memory_of}
+use Rattle.page_store.specs.Frames.{Frames, memory_of}
 use Rattle.merge_runs.specs.declared.replaying.Replaying.{Replaying}
 use Rattle.merge_runs.specs.inner.Moving.{world_of, IsSized, IsMoved}
-use Rattle.merge_runs.specs.inner.Demands.{guest_met, pager_met}
+use Rattle.merge_runs.specs.inner.Demands.{guest_met, source_met, pager_met}
+use Rattle.merge_runs.specs.inner.Unmoved.{frames_of, IsApart, IsUnmovedAfter, IsSized as IsUnmovedSized}
 
 -- from a world on, each of these records finds its demand met
 abbrev pub AllMet : Recorded → World → List Name → Type 0
@@ -40,16 +41,26 @@ or_this (Some first) name = Some first
 abbrev pub noted : Bool → Option Name → Name → Option Name
 noted met first name = if met then first else or_this first name
 
+-- the frames of the machine that never moved
+abbrev pub unmoved_frames : Replaying → Frames
+unmoved_frames r = frames_of r.unmoved r.moving.source.frames
+
 -- what a replay keeps is of this geometry
 pub record AreSized (e : Extent) (r : Replaying) : Type 0 where
   pub moving : IsSized e r.moving
-  pub flat : IsMachineSized e r.flat
+  pub unmoved : IsUnmovedSized e r.unmoved
 
 -- what a replay keeps after these records
 pub record IsReplaying (s : Recorded) (order : List Name) (r : Replaying) : Type 0 where
   pub world : world_of r.moving ≡ world_after s order
-  pub flat : memory_of r.flat.frames ≡ flat s (cursors_from at_start order Guest)
+  pub flat : memory_of (unmoved_frames r) ≡ flat s (cursors_from at_start order Guest)
+  pub apart : IsApart r.unmoved r.moving.home
   pub broken : MatchOption r.first_broken (AllMet s (start s) order) (Breaks s (start s) order)
+
+-- the record of this name was replayed, which is the next one of its log
+abbrev pub HasOne : Recorded → Name → Replaying → Replaying → Type 0
+HasOne s name old new =
+    (order : List Name) → cursors_from at_start order name.0 ≡ name.1 → IsReplaying s order old → IsReplaying s (order ++ name ∷ []) new
 
 -- the next records of a log were replayed
 abbrev pub HasRun : Recorded → LogName → ℕ → ℕ → Replaying → Replaying → Type 0
@@ -60,11 +71,17 @@ HasRun s log from count old new =
 -- one record of the guest more
 pub record IsGuestStep (r : GuestRec) (n : ℕ) (old new : Replaying) : Type 0 where
   pub moving : IsMoved old.moving new.moving (guest_step r (world_of old.moving))
-  pub flat : IsAfter r old.flat new.flat
-  pub broken : new.first_broken ≡ noted (guest_met (memory_of old.flat.frames) r (world_of old.moving)) old.first_broken (Guest, n)
+  pub unmoved : IsUnmovedAfter r old.moving.source.frames old.unmoved new.unmoved
+  pub broken : new.first_broken ≡ noted (guest_met (memory_of (unmoved_frames old)) r (world_of old.moving)) old.first_broken (Guest, n)
+
+-- one record of the source more
+pub record IsSourceStep (r : SourceRec) (n : ℕ) (old new : Replaying) : Type 0 where
+  pub moving : new.moving ≡ old.moving
+  pub unmoved : new.unmoved ≡ old.unmoved
+  pub broken : new.first_broken ≡ noted (source_met old.moving.source.frames.geometry.cells r (world_of old.moving)) old.first_broken (Source, n)
 
 -- one record of the pager more
 pub record IsPagerStep (r : PagerRec) (n : ℕ) (old new : Replaying) : Type 0 where
   pub moving : IsMoved old.moving new.moving (pager_step r (world_of old.moving))
-  pub flat : new.flat ≡ old.flat
+  pub unmoved : new.unmoved ≡ old.unmoved
   pub broken : new.first_broken ≡ noted (pager_met old.moving.source.frames.geometry.cells r (world_of old.moving)) old.first_broken (Pager, n)

@@ -47,6 +47,6 @@ loop-place-preserved c =
     record {
       within = within_after s at after run.log run.count i.within c.moved-taken.ensures own;
       at = c.moved-taken.ensures ∙ ap (λ (e : Cursors). moved e run.log run.count) i.at ∙ sym (cursors_on s runs place no_run c.loop-place-test.true);
-      sized = c.run_log.ensures.sized;
-      run = run_on s runs place no_run c.loop-place-test.true at c.of.result c.loop-place.replaying c.run_log.new.replaying i.at c.of.ensures c.run_log.ensures.run i.run;
+      sized = c.in_ok-run_log.ensures.sized;
+      run = run_on s runs place no_run c.loop-place-test.true at c.of.result c.loop-place.replaying c.run_log.new.replaying i.at c.of.ensures c.in_ok-run_log.ensures.run i.run;
     }

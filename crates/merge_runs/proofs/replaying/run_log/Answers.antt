@@ -1,8 +1,10 @@
-use Rattle.merge_runs.proofs.OneMore.{link_or_lane, calm_run}
+use Rattle.merge_runs.proofs.OneMore.{run_more}
 use Rattle.merge_runs.proofs.replaying.run_log.Goals as goal
 
-pub returns-in-Link-clause-run : goal.returns-in-Link-clause-run
-returns-in-Link-clause-run c =
-    let s = c.args.session.now in
-    let log = c.args.log in
-    calm_run s log (link_or_lane s log c.in-Link.is) c.args.from c.args.count c.args.replaying.now
+pub loop-k-preserved : goal.loop-k-preserved
+loop-k-preserved c =
+    let step = c.in_ok-step.ensures in
+    record {
+      sized = step.sized;
+      run = run_more c.args.session.now c.args.log c.args.from c.loop-k.k c.args.replaying.now c.loop-k.replaying c.step.new.replaying c.loop-k.invariant.run step.one;
+    }
