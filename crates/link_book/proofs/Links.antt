@@ -1,10 +1,12 @@
 -- Each arrival has its record, after each call.
-use Rattle.std.proofs.Common.{◌≡◌, ℕ, Bool, true, false, cond, Option, Some, None, ◌<◌, ◌≤◌, List, [], ◌∷◌, ◌++◌, length, sym, ap, ◌∙◌, subst, length-append, arith}
-use Rattle.std.specs.Prelude.{slice_get}
+use Rattle.std.proofs.Common.{◌≡◌, ℕ, Bool, true, false, cond, Option, Some, None, is_some, ◌<◌, ◌≤◌, List, [], ◌∷◌, ◌++◌, length, sym, subst, length-append, arith}
+use Rattle.std.specs.Prelude.{slice_get, Result, Ok, Err, OnOk, OnErr}
 use Rattle.std.specs.List.{AllByRecursion}
 use Rattle.std.proofs.lemmas.Option.{slice_get_within}
 use Rattle.migration_types.specs.Limits.{most_records}
+use Rattle.migration_types.specs.declared.records.LinkRec.{LinkRec}
 use Rattle.migration_types.specs.declared.records.LinkRec.TheVariants.{Down, Up}
+use Rattle.migration_types.specs.declared.records.LaneRec.{LaneRec}
 use Rattle.migration_types.specs.declared.records.LaneRec.TheVariants.{Down as LaneDown}
 use Rattle.migration_events.specs.declared.events.Fate.{Fate}
 use Rattle.migration_events.specs.declared.events.Fate.TheVariants.{Deliver, Lose, Repeat, Back}
@@ -13,8 +15,8 @@ use Rattle.migration_events.specs.declared.events.Direction.TheVariants.{Down as
 use Rattle.page_stream.specs.declared.Packet.{Packet}
 use Rattle.page_stream.specs.Packets.{number_of}
 use Rattle.link_book.specs.declared.Arrival.{Arrival}
-use Rattle.link_book.specs.LinkPart.{LinkPart, Channel, Outcome, goes, fate_of, channel_turned, with_arrival, turned, log_length}
-use Rattle.link_book.specs.Links.{IsRecorded, IsLink, arrival, channel}
+use Rattle.link_book.specs.LinkPart.{LinkPart, Outcome, goes, fate_of, channel_turned, with_arrival, link_says, lane_says, turned, log_length}
+use Rattle.link_book.specs.Links.{IsRecorded, IsLink, HasTurned, arrival, channel}
 use Rattle.link_book.proofs.Lists.{get_old, get_new}
 
 -- the records of a channel's arrivals stay where they are when the log gains another
@@ -67,24 +69,66 @@ turned_keeps OverLane fate b h short = record {
   lane = keeps LaneDown (goes OverLane) fate b.lane_log b.lane b.lane_arrivals h.lane;
 }
 
-grows : {R : Type 0} (names : ℕ → R) (came : Option ℕ) (log : List R) → length log < most_records → length (with_arrival names came log) ≤ most_records
-grows names None log h = omega arith
-grows names (Some n) log h = simp length-append (omega arith)
+-- the book after a turn that the log has room for
+kept : (d : Direction) (fate : Fate) (b after : LinkPart) → IsLink b → after ≡ turned d fate b → log_length d after ≤ most_records → IsLink after
+kept d fate b after h same few = subst IsLink (sym same) (turned_keeps d fate b h (subst (λ (a : LinkPart). log_length d a ≤ most_records) same few))
 
-has_place : (d : Direction) (fate : Fate) (b : LinkPart) → log_length d b < most_records → log_length d (turned d fate b) ≤ most_records
-has_place Downward fate b h = grows Down _ b.log h
-has_place Upward fate b h = grows Up _ b.log h
-has_place OverLane fate b h = grows LaneDown _ b.lane_log h
+-- the book after a turn of each channel, be it refused or not
+pub down_kept : {T E : Type 0} (d : Direction) (fate : Fate) (b : LinkPart) (log : List LinkRec) (line : List Packet) (xs : List Arrival) (r : Result T E) → d ≡ Downward → IsLink b
+    → OnOk r (HasTurned (link_says d) (channel_turned (goes d) fate (length b.log) b.down b.down_arrivals) b.log log line xs) → OnOk r (length log ≤ most_records)
+    → OnErr r ((log ≡ b.log) × (line ≡ b.down) × (xs ≡ b.down_arrivals)) → IsLink (record b { log = log; down = line; down_arrivals = xs })
+down_kept Downward fate b log line xs (Ok done) is h to few stays =
+    kept Downward fate b (record b { log = log; down = line; down_arrivals = xs }) h (λ k. record b { log = to.log_is k; down = (to.channel_is k).line; down_arrivals = (to.channel_is k).arrivals }) few
+down_kept Downward fate b log line xs (Err fault) is h to few stays =
+    let same : record b { log = log; down = line; down_arrivals = xs } ≡ b = λ k. record b { log = stays.0 k; down = stays.1 k; down_arrivals = stays.2 k } in
+    subst IsLink (sym same) h
+down_kept Upward fate b log line xs r is h to few stays = absurd (cc)
+down_kept OverLane fate b log line xs r is h to few stays = absurd (cc)
 
--- the book after a turn, where the log had a place
-pub turn_keeps : (d : Direction) (fate : Fate) (b after : LinkPart) → IsLink b → log_length d b < most_records → after ≡ turned d fate b → IsLink after
-turn_keeps d fate b after h place same = subst IsLink (sym same) (turned_keeps d fate b h (has_place d fate b place))
+pub up_kept : {T E : Type 0} (d : Direction) (fate : Fate) (b : LinkPart) (log : List LinkRec) (line : List Packet) (xs : List Arrival) (r : Result T E) → d ≡ Upward → IsLink b
+    → OnOk r (HasTurned (link_says d) (channel_turned (goes d) fate (length b.log) b.up b.up_arrivals) b.log log line xs) → OnOk r (length log ≤ most_records)
+    → OnErr r ((log ≡ b.log) × (line ≡ b.up) × (xs ≡ b.up_arrivals)) → IsLink (record b { log = log; up = line; up_arrivals = xs })
+up_kept Upward fate b log line xs (Ok done) is h to few stays =
+    kept Upward fate b (record b { log = log; up = line; up_arrivals = xs }) h (λ k. record b { log = to.log_is k; up = (to.channel_is k).line; up_arrivals = (to.channel_is k).arrivals }) few
+up_kept Upward fate b log line xs (Err fault) is h to few stays =
+    let same : record b { log = log; up = line; up_arrivals = xs } ≡ b = λ k. record b { log = stays.0 k; up = stays.1 k; up_arrivals = stays.2 k } in
+    subst IsLink (sym same) h
+up_kept Downward fate b log line xs r is h to few stays = absurd (cc)
+up_kept OverLane fate b log line xs r is h to few stays = absurd (cc)
 
--- the log has gained the record of the packet that came
-pub gained : {R : Type 0} (names : ℕ → R) (log same now : List R) (number : ℕ) (came : Option ℕ) (w : Channel) (o : Outcome) → record { channel = w; came = came } ≡ o → came ≡ Some number → same ≡ log
-    → now ≡ same ++ names number ∷ [] → now ≡ with_arrival names o.came log
-gained names log same now number came w o ok is still grown =
-    grown ∙ ap (λ l. l ++ names number ∷ []) still ∙ ap (λ c. with_arrival names c log) (sym is ∙ ap (λ (p : Outcome). p.came) ok)
+pub lane_kept : {T E : Type 0} (d : Direction) (fate : Fate) (b : LinkPart) (log : List LaneRec) (line : List Packet) (xs : List Arrival) (r : Result T E) → d ≡ OverLane → IsLink b
+    → OnOk r (HasTurned (lane_says d) (channel_turned (goes d) fate (length b.lane_log) b.lane b.lane_arrivals) b.lane_log log line xs) → OnOk r (length log ≤ most_records)
+    → OnErr r ((log ≡ b.lane_log) × (line ≡ b.lane) × (xs ≡ b.lane_arrivals)) → IsLink (record b { lane_log = log; lane = line; lane_arrivals = xs })
+lane_kept OverLane fate b log line xs (Ok done) is h to few stays =
+    kept OverLane fate b (record b { lane_log = log; lane = line; lane_arrivals = xs }) h (λ k. record b { lane_log = to.log_is k; lane = (to.channel_is k).line; lane_arrivals = (to.channel_is k).arrivals }) few
+lane_kept OverLane fate b log line xs (Err fault) is h to few stays =
+    let same : record b { lane_log = log; lane = line; lane_arrivals = xs } ≡ b = λ k. record b { lane_log = stays.0 k; lane = stays.1 k; lane_arrivals = stays.2 k } in
+    subst IsLink (sym same) h
+lane_kept Downward fate b log line xs r is h to few stays = absurd (cc)
+lane_kept Upward fate b log line xs r is h to few stays = absurd (cc)
+
+-- a log without a place has none for the record of a packet that comes
+grown : {R : Type 0} (names : ℕ → R) (came : Option ℕ) (log : List R) → most_records ≤ length log → is_some came ≡ true → most_records < length (with_arrival names came log)
+grown names None log full is = absurd (cc)
+grown names (Some n) log full is = simp length-append (omega arith)
+
+pub down_full : (d : Direction) (fate : Fate) (b : LinkPart) → d ≡ Downward → (most_records ≤ length b.log) × (is_some (channel_turned (goes d) fate (length b.log) b.down b.down_arrivals).came ≡ true)
+    → most_records < log_length d (turned d fate b)
+down_full Downward fate b is full = grown Down _ b.log full.0 full.1
+down_full Upward fate b is full = absurd (cc)
+down_full OverLane fate b is full = absurd (cc)
+
+pub up_full : (d : Direction) (fate : Fate) (b : LinkPart) → d ≡ Upward → (most_records ≤ length b.log) × (is_some (channel_turned (goes d) fate (length b.log) b.up b.up_arrivals).came ≡ true)
+    → most_records < log_length d (turned d fate b)
+up_full Upward fate b is full = grown Up _ b.log full.0 full.1
+up_full Downward fate b is full = absurd (cc)
+up_full OverLane fate b is full = absurd (cc)
+
+pub lane_full : (d : Direction) (fate : Fate) (b : LinkPart) → d ≡ OverLane → (most_records ≤ length b.lane_log) × (is_some (channel_turned (goes d) fate (length b.lane_log) b.lane b.lane_arrivals).came ≡ true)
+    → most_records < log_length d (turned d fate b)
+lane_full OverLane fate b is full = grown LaneDown _ b.lane_log full.0 full.1
+lane_full Downward fate b is full = absurd (cc)
+lane_full Upward fate b is full = absurd (cc)
 
 -- the oldest arrival's number is within the log
 pub oldest_within : {R : Type 0} (names : ℕ → R) (log : List R) (xs : List Arrival) (x : Arrival) → AllByRecursion (IsRecorded names log) xs → slice_get xs 0 ≡ Some x → x.number < length log

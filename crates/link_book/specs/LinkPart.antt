@@ -94,6 +94,15 @@ abbrev pub with_arrival : {R : Type 0} → (ℕ → R) → Option ℕ → List R
 with_arrival names None log = log
 with_arrival names (Some number) log = log ++ names number ∷ []
 
+-- the record of a packet that went this way, by its number
+abbrev pub link_says : Direction → ℕ → LinkRec
+link_says Downward = Down
+link_says Upward = Up
+link_says OverLane = Down
+
+abbrev pub lane_says : Direction → ℕ → LaneRec
+lane_says direction = LaneDown
+
 abbrev pub went_down : Outcome → LinkPart → LinkPart
 went_down o b = record b { log = with_arrival Down o.came b.log; down = o.channel.line; down_arrivals = o.channel.arrivals }
 

@@ -7,7 +7,7 @@ use Rattle.migration_types.specs.declared.records.LaneRec.TheVariants.{Down as L
 use Rattle.page_stream.specs.declared.Packet.{Packet}
 use Rattle.page_stream.specs.Packets.{number_of}
 use Rattle.link_book.specs.declared.Arrival.{Arrival}
-use Rattle.link_book.specs.LinkPart.{LinkPart, Channel}
+use Rattle.link_book.specs.LinkPart.{LinkPart, Channel, Outcome, with_arrival}
 
 -- the links' part, and whether room was made that no offer has used
 pub record Linked : Type 0 where
@@ -19,6 +19,11 @@ arrival number packet = record { number = number; packet = packet }
 
 abbrev pub channel : List Packet → List Arrival → Channel
 channel line arrivals = record { line = line; arrivals = arrivals }
+
+-- a channel is what a turn has made of it, and its log says of a packet that came that it has arrived
+pub record HasTurned {R : Type 0} (names : ℕ → R) (o : Outcome) (before log : List R) (line : List Packet) (arrivals : List Arrival) : Type 0 where
+  pub channel_is : channel line arrivals ≡ o.channel
+  pub log_is : log ≡ with_arrival names o.came before
 
 -- the arrival's number is that of the record that its packet came
 abbrev pub IsRecorded : {R : Type 0} → (ℕ → R) → List R → Arrival → Type 0

@@ -1,7 +1,7 @@
 //! The lines of packets under way, those that have arrived, and the logs of the link and of the lane.
 #![tactic(auto)]
 
-ghost use Rattle.std.specs.Prelude.{◌≡◌, ◌<◌, true, false, None, length, slice_get, drop, if◌then◌else◌, IfSome, IsTrue, OnOk, OnErr, IsErrOf};
+ghost use Rattle.std.specs.Prelude.{◌≡◌, ◌==◌, ◌&&◌, ◌<◌, [], true, false, None, length, slice_get, drop, if◌then◌else◌, IfSome, IsTrue, OnOk, OnErr, IsErrOf};
 ghost use Rattle.std.specs.Option.{option_map};
 
 mod arrivals;
@@ -24,6 +24,33 @@ pub struct Arrival {
     pub packet: Packet,
 }
 
+/// A channel: the packets under way, oldest first, and those that have arrived, oldest first.
+#[derive(Drop)]
+struct Channel {
+    line: VecDeque<Packet>,
+    arrivals: VecDeque<Arrival>,
+}
+
+impl Channel {
+    /// Nothing was sent.
+    fn new(alloc: Global) -> Channel
+        ensures line { result.line.items ≡ [] }
+        ensures arrivals { result.arrivals.items ≡ [] }
+    {
+        Channel {
+            line: VecDeque::new(alloc),
+            arrivals: VecDeque::new(alloc),
+        }
+    }
+
+    /// Whether nothing is under way, and no arrival waits.
+    fn is_quiet(&self) -> bool
+        ensures { result ≡ (length self.now.line.items == 0) && (length self.now.arrivals.items == 0) }
+    {
+        self.line.is_empty() && self.arrivals.is_empty()
+    }
+}
+
 /// The book of the link, which carries packets down and up, and of the lane, a second link down: for each channel a line of
 /// packets under way, oldest first, and those that have arrived, oldest first; and for the link and for the lane a log
 /// of arrivals, of at most 1,048,576 records each. The number of each arrival is that of the record that it came. An
@@ -34,12 +61,9 @@ pub struct LinkBook {
     alloc: Global,
     log: Vec<LinkRec>,
     lane_log: Vec<LaneRec>,
-    down: VecDeque<Packet>,
-    up: VecDeque<Packet>,
-    lane: VecDeque<Packet>,
-    down_arrivals: VecDeque<Arrival>,
-    up_arrivals: VecDeque<Arrival>,
-    lane_arrivals: VecDeque<Arrival>,
+    down: Channel,
+    up: Channel,
+    lane: Channel,
     /// Whether each line has a place to spare, which no offer has used.
     has_room: bool,
 }
@@ -51,10 +75,10 @@ impl Model for LinkBook {
 
     ghost Value = { Linked };
 
-    ghost view = { λ b. record { part = record { log = b.log.items; lane_log = b.lane_log.items; down = b.down.items; up = b.up.items; lane = b.lane.items; down_arrivals = b.down_arrivals.items; up_arrivals = b.up_arrivals.items; lane_arrivals = b.lane_arrivals.items }; has_room = b.has_room } };
+    ghost view = { λ b. record { part = record { log = b.log.items; lane_log = b.lane_log.items; down = b.down.line.items; up = b.up.line.items; lane = b.lane.line.items; down_arrivals = b.down.arrivals.items; up_arrivals = b.up.arrivals.items; lane_arrivals = b.lane.arrivals.items }; has_room = b.has_room } };
 
-    ghost invariant = { λ b. IsLink (record { log = b.log.items; lane_log = b.lane_log.items; down = b.down.items; up = b.up.items; lane = b.lane.items; down_arrivals = b.down_arrivals.items; up_arrivals = b.up_arrivals.items; lane_arrivals = b.lane_arrivals.items })
-        × (IsTrue b.has_room → (deque_len b.down < deque_capacity b.down) × (deque_len b.up < deque_capacity b.up) × (deque_len b.lane < deque_capacity b.lane)) };
+    ghost invariant = { λ b. IsLink (record { log = b.log.items; lane_log = b.lane_log.items; down = b.down.line.items; up = b.up.line.items; lane = b.lane.line.items; down_arrivals = b.down.arrivals.items; up_arrivals = b.up.arrivals.items; lane_arrivals = b.lane.arrivals.items })
+        × (IsTrue b.has_room → (deque_len b.down.line < deque_capacity b.down.line) × (deque_len b.up.line < deque_capacity b.up.line) × (deque_len b.lane.line < deque_capacity b.lane.line)) };
 }
 
 impl LinkBook {
@@ -69,12 +93,9 @@ impl LinkBook {
             alloc,
             log: Vec::new(alloc),
             lane_log: Vec::new(alloc),
-            down: VecDeque::new(alloc),
-            up: VecDeque::new(alloc),
-            lane: VecDeque::new(alloc),
-            down_arrivals: VecDeque::new(alloc),
-            up_arrivals: VecDeque::new(alloc),
-            lane_arrivals: VecDeque::new(alloc),
+            down: Channel::new(alloc),
+            up: Channel::new(alloc),
+            lane: Channel::new(alloc),
             has_room: false,
         }
     }
@@ -84,9 +105,9 @@ impl LinkBook {
         ensures ok { OnOk result (self.new ≡ record self.old { has_room = true }) }
         ensures err { OnErr result (self.new ≡ self.old) }
     {
-        self.down.reserve(1)?;
-        self.up.reserve(1)?;
-        self.lane.reserve(1)?;
+        self.down.line.reserve(1)?;
+        self.up.line.reserve(1)?;
+        self.lane.line.reserve(1)?;
         self.has_room = true;
         Ok(())
     }
@@ -98,9 +119,9 @@ impl LinkBook {
         ensures { self.new ≡ record { part = if front then with_front packet self.old.part else with_back packet self.old.part; has_room = false } }
     {
         if front {
-            self.down.push_front_reserved(packet);
+            self.down.line.push_front_reserved(packet);
         } else {
-            self.down.push_back_reserved(packet);
+            self.down.line.push_back_reserved(packet);
         }
         self.has_room = false;
     }
@@ -110,7 +131,7 @@ impl LinkBook {
         requires { IsTrue self.old.has_room }
         ensures { self.new ≡ record { part = with_up packet self.old.part; has_room = false } }
     {
-        self.up.push_back_reserved(packet);
+        self.up.line.push_back_reserved(packet);
         self.has_room = false;
     }
 
@@ -120,7 +141,7 @@ impl LinkBook {
         requires { IsTrue self.old.has_room }
         ensures { self.new ≡ record { part = with_lane packet self.old.part; has_room = false } }
     {
-        self.lane.push_back_reserved(packet);
+        self.lane.line.push_back_reserved(packet);
         self.has_room = false;
     }
 
@@ -132,71 +153,14 @@ impl LinkBook {
         ensures full { IsErrOf result LinkFault.LogFull → 1048576 < log_length direction (turned direction fate self.old.part) }
         ensures err { OnErr result (self.new ≡ self.old) }
     {
+        let alloc = self.alloc;
         match direction {
-            Direction::Down => self.turn_down(fate),
-            Direction::Up => self.turn_up(fate),
-            Direction::Lane => self.turn_lane(fate),
+            Direction::Down => turn_line(alloc, &mut self.log, &mut self.down, direction, fate),
+            Direction::Up => turn_line(alloc, &mut self.log, &mut self.up, direction, fate),
+            Direction::Lane => {
+                turn_line(alloc, &mut self.lane_log, &mut self.lane, direction, fate)
+            }
         }
-    }
-
-    /// A turn of the line down.
-    fn turn_down(&mut self, fate: Fate) -> Result<(), LinkFault>
-        ensures ok { OnOk result (self.new ≡ record self.old { part = turned Direction.Down fate self.old.part }) }
-        ensures full { IsErrOf result LinkFault.LogFull → 1048576 < log_length Direction.Down (turned Direction.Down fate self.old.part) }
-        ensures err { OnErr result (self.new ≡ self.old) }
-    {
-        let came = turn_line(
-            self.alloc,
-            &mut self.log,
-            &mut self.down,
-            &mut self.down_arrivals,
-            Direction::Down,
-            fate,
-        )?;
-        if let Some(sending) = came {
-            self.log.push_reserved(LinkRec::Down { sending });
-        }
-        Ok(())
-    }
-
-    /// A turn of the line up.
-    fn turn_up(&mut self, fate: Fate) -> Result<(), LinkFault>
-        ensures ok { OnOk result (self.new ≡ record self.old { part = turned Direction.Up fate self.old.part }) }
-        ensures full { IsErrOf result LinkFault.LogFull → 1048576 < log_length Direction.Up (turned Direction.Up fate self.old.part) }
-        ensures err { OnErr result (self.new ≡ self.old) }
-    {
-        let came = turn_line(
-            self.alloc,
-            &mut self.log,
-            &mut self.up,
-            &mut self.up_arrivals,
-            Direction::Up,
-            fate,
-        )?;
-        if let Some(asking) = came {
-            self.log.push_reserved(LinkRec::Up { asking });
-        }
-        Ok(())
-    }
-
-    /// A turn of the lane's line.
-    fn turn_lane(&mut self, fate: Fate) -> Result<(), LinkFault>
-        ensures ok { OnOk result (self.new ≡ record self.old { part = turned Direction.Lane fate self.old.part }) }
-        ensures full { IsErrOf result LinkFault.LogFull → 1048576 < log_length Direction.Lane (turned Direction.Lane fate self.old.part) }
-        ensures err { OnErr result (self.new ≡ self.old) }
-    {
-        let came = turn_line(
-            self.alloc,
-            &mut self.lane_log,
-            &mut self.lane,
-            &mut self.lane_arrivals,
-            Direction::Lane,
-            fate,
-        )?;
-        if let Some(sending) = came {
-            self.lane_log.push_reserved(LaneRec::Down { sending });
-        }
-        Ok(())
     }
 
     /// The packet at the head of a line, whose turn is next. `None`: none is under way there.
@@ -204,9 +168,9 @@ impl LinkBook {
         ensures { option_map (λ p. p.now) result ≡ slice_get (line_of direction self.now.part) 0 }
     {
         match direction {
-            Direction::Down => self.down.front(),
-            Direction::Up => self.up.front(),
-            Direction::Lane => self.lane.front(),
+            Direction::Down => self.down.line.front(),
+            Direction::Up => self.up.line.front(),
+            Direction::Lane => self.lane.line.front(),
         }
     }
 
@@ -216,7 +180,7 @@ impl LinkBook {
         ensures oldest { option_map (λ a. arrival a.0 a.1.now) result ≡ slice_get self.now.part.down_arrivals 0 }
         ensures within { IfSome result (λ a. a.0 < length self.now.part.log) }
     {
-        arrivals::oldest(&self.down_arrivals)
+        arrivals::oldest(&self.down.arrivals)
     }
 
     /// The oldest arrival at the source, with the number of the link's record. `None`: there is none.
@@ -225,7 +189,7 @@ impl LinkBook {
         ensures oldest { option_map (λ a. arrival a.0 a.1.now) result ≡ slice_get self.now.part.up_arrivals 0 }
         ensures within { IfSome result (λ a. a.0 < length self.now.part.log) }
     {
-        arrivals::oldest(&self.up_arrivals)
+        arrivals::oldest(&self.up.arrivals)
     }
 
     /// The oldest arrival over the lane, with the number of the lane's record. `None`: there is none.
@@ -234,7 +198,7 @@ impl LinkBook {
         ensures oldest { option_map (λ a. arrival a.0 a.1.now) result ≡ slice_get self.now.part.lane_arrivals 0 }
         ensures within { IfSome result (λ a. a.0 < length self.now.part.lane_log) }
     {
-        arrivals::oldest(&self.lane_arrivals)
+        arrivals::oldest(&self.lane.arrivals)
     }
 
     /// Takes out the oldest arrival at the target. `None`: there is none, and nothing changes. Takes no memory.
@@ -242,7 +206,7 @@ impl LinkBook {
         ensures oldest { option_map (λ a. arrival a.0 a.1) result ≡ slice_get self.old.part.down_arrivals 0 }
         ensures rest { self.new ≡ record self.old { part = record self.old.part { down_arrivals = drop 1 self.old.part.down_arrivals } } }
     {
-        arrivals::take(&mut self.down_arrivals)
+        arrivals::take(&mut self.down.arrivals)
     }
 
     /// Takes out the oldest arrival at the source. `None`: there is none, and nothing changes. Takes no memory.
@@ -250,7 +214,7 @@ impl LinkBook {
         ensures oldest { option_map (λ a. arrival a.0 a.1) result ≡ slice_get self.old.part.up_arrivals 0 }
         ensures rest { self.new ≡ record self.old { part = record self.old.part { up_arrivals = drop 1 self.old.part.up_arrivals } } }
     {
-        arrivals::take(&mut self.up_arrivals)
+        arrivals::take(&mut self.up.arrivals)
     }
 
     /// Takes out the oldest arrival over the lane. `None`: there is none, and nothing changes. Takes no memory.
@@ -258,33 +222,28 @@ impl LinkBook {
         ensures oldest { option_map (λ a. arrival a.0 a.1) result ≡ slice_get self.old.part.lane_arrivals 0 }
         ensures rest { self.new ≡ record self.old { part = record self.old.part { lane_arrivals = drop 1 self.old.part.lane_arrivals } } }
     {
-        arrivals::take(&mut self.lane_arrivals)
+        arrivals::take(&mut self.lane.arrivals)
     }
 
     /// How many packets are under way down.
     pub fn down_len(&self) -> usize
         ensures { result ≡ length self.now.part.down }
     {
-        self.down.len()
+        self.down.line.len()
     }
 
     /// How many packets are under way over the lane. Takes no memory.
     pub fn lane_len(&self) -> usize
         ensures { result ≡ length self.now.part.lane }
     {
-        self.lane.len()
+        self.lane.line.len()
     }
 
     /// Whether nothing is under way and no arrival waits, over the lane neither.
     pub fn quiet(&self) -> bool
         ensures { result ≡ is_quiet self.now.part }
     {
-        self.down.is_empty()
-            && self.up.is_empty()
-            && self.lane.is_empty()
-            && self.down_arrivals.is_empty()
-            && self.up_arrivals.is_empty()
-            && self.lane_arrivals.is_empty()
+        self.down.is_quiet() && self.up.is_quiet() && self.lane.is_quiet()
     }
 
     /// The link's log.

@@ -1,20 +1,79 @@
 //! A turn of one line.
 
-ghost use Rattle.std.specs.Prelude.{◌≡◌, ◌<◌, ◌≤◌, [], ◌∷◌, ◌++◌, true, length, is_some, IfOk, OnOk, OnErr, IsErrOf, vec_len, vec_capacity};
+ghost use Rattle.std.specs.Prelude.{◌≡◌, ◌<◌, ◌≤◌, ℕ, [], ◌∷◌, ◌++◌, true, length, is_some, IfOk, OnOk, OnErr, IsErrOf, vec_len, vec_capacity};
 ghost use Rattle.std.specs.VecDeque.{deque_len, deque_capacity};
+ghost use Rattle.migration_events.specs.declared.events.Direction.{Direction as Way};
 ghost use Rattle.page_stream.specs.Packets.{number_of};
 ghost use Rattle.link_book.specs.LinkPart.{goes, channel_turned};
-ghost use Rattle.link_book.specs.Links.{arrival, channel};
+ghost use Rattle.link_book.specs.Links.{arrival, channel, HasTurned};
 
-use crate::{Arrival, LinkFault};
+use crate::{Arrival, Channel, LinkFault};
 use migration_events::{Direction, Fate, make_room};
+use migration_types::{LaneRec, LinkRec};
 use page_stream::Packet;
 use std::alloc::Global;
 use std::collections::VecDeque;
 
+/// A record that says of a packet that it has arrived.
+pub trait Receipt {
+    /// The record of a packet that went this way, by the packet's number.
+    ghost says: { Way → ℕ → Self };
+
+    /// The record of a packet that went this way, by the packet's number.
+    fn of(direction: Direction, number: u32) -> Self
+        ensures { result ≡ says direction number };
+}
+
+impl Receipt for LinkRec {
+    ghost use Rattle.link_book.specs.LinkPart.{link_says};
+
+    ghost says = { link_says };
+
+    fn of(direction: Direction, number: u32) -> LinkRec {
+        match direction {
+            Direction::Down | Direction::Lane => LinkRec::Down { sending: number },
+            Direction::Up => LinkRec::Up { asking: number },
+        }
+    }
+}
+
+impl Receipt for LaneRec {
+    ghost use Rattle.link_book.specs.LinkPart.{lane_says};
+
+    ghost says = { lane_says };
+
+    fn of(_direction: Direction, number: u32) -> LaneRec {
+        LaneRec::Down { sending: number }
+    }
+}
+
+/// The head of a channel's line meets its fate. Where it arrives, the log says so. On an error nothing changes. A place to
+/// spare in the line stays.
+pub fn turn_line<R: Receipt>(
+    alloc: Global,
+    log: &mut Vec<R>,
+    channel: &mut Channel,
+    direction: Direction,
+    fate: Fate,
+) -> Result<(), LinkFault>
+    requires { length log.old.items ≤ 1048576 }
+    ensures ok { OnOk result (HasTurned (R.says direction) (channel_turned (goes direction) fate (length log.old.items) channel.old.line.items channel.old.arrivals.items) log.old.items log.new.items channel.new.line.items channel.new.arrivals.items) }
+    ensures few { OnOk result (length log.new.items ≤ 1048576) }
+    ensures full { IsErrOf result LinkFault.LogFull → (1048576 ≤ length log.old.items)
+        × (is_some (channel_turned (goes direction) fate (length log.old.items) channel.old.line.items channel.old.arrivals.items).came ≡ true) }
+    ensures err { OnErr result ((log.new.items ≡ log.old.items) × (channel.new.line.items ≡ channel.old.line.items) × (channel.new.arrivals.items ≡ channel.old.arrivals.items)) }
+    ensures room { deque_len channel.old.line < deque_capacity channel.old.line → deque_len channel.new.line < deque_capacity channel.new.line }
+{
+    let line = &mut channel.line;
+    if let Some(number) = meet_fate(alloc, log, line, &mut channel.arrivals, direction, fate)? {
+        log.push_reserved(R::of(direction, number));
+    }
+    Ok(())
+}
+
 /// The head of a line meets its fate. Where it arrives, its number is answered, and the log, which does not change, has
 /// a place for the record of it. On an error nothing changes. A place to spare in the line stays.
-pub fn turn_line<R>(
+fn meet_fate<R>(
     alloc: Global,
     log: &mut Vec<R>,
     line: &mut VecDeque<Packet>,
