@@ -5,19 +5,19 @@ use Rattle.std.specs.List.{AllByRecursion}
 use Rattle.migration_model.specs.Events.{run, start}
 use Rattle.migration_model.specs.Books.{IsScript, Recording}
 use Rattle.migration_model.specs.Promise.{SomeRunIsDone}
-use Rattle.migration_model.specs.Worked.{ComesOut, events_of_one, events_of_two, offers, script_of_lane, script_of_one, script_of_release, script_of_two, small_source, source_calls, source_offers, source_records, woken_next, worked_runs}
+use Rattle.migration_model.specs.Worked.{ComesOut, offers, run_of_lane, run_of_one, run_of_release, run_of_two, small_source, source_calls, source_offers, source_records, woken_next, worked_runs}
 
 pub runs_come_out : AllByRecursion ComesOut worked_runs
 runs_come_out = (refl, (refl, (refl, (refl, tt))))
 
-pub woken_of_two : woken_next (run (take 17 events_of_two) (start script_of_two)) ≡ 0 ∷ 1 ∷ []
+pub woken_of_two : woken_next (run (take 17 run_of_two.events) (start run_of_two.script)) ≡ 0 ∷ 1 ∷ []
 woken_of_two = refl
 
 pub source_worked : offers source_calls small_source ≡ (source_offers, source_records)
 source_worked = refl
 
 -- the scripts are within their limits, so these runs are faultless
-pub fits_of_two : IsScript script_of_two
+pub fits_of_two : IsScript run_of_two.script
 fits_of_two = record {
   geometry = record { some_pages = omega arith; few_pages = omega arith; some_cells = omega arith; few_cells = omega arith; few_in_all = omega arith };
   init = record { each = (record { page = omega arith; content = record { count = refl; each = (omega arith, tt) }; not_zeros = λ all. let e : 7 ≡ 0 = all.0 in absurd (omega (arith, e)) }, tt); rising = λ k lt. absurd (omega (arith, lt)) };
@@ -26,7 +26,7 @@ fits_of_two = record {
   vcpus = (record { before_move = tt; after_move = ((omega arith, omega arith), tt) }, (record { before_move = tt; after_move = ((omega arith, omega arith), tt) }, tt));
 }
 
-pub fits_of_one : IsScript script_of_one
+pub fits_of_one : IsScript run_of_one.script
 fits_of_one = record {
   geometry = record { some_pages = omega arith; few_pages = omega arith; some_cells = omega arith; few_cells = omega arith; few_in_all = omega arith };
   init = record { each = tt; rising = λ k lt. absurd (omega (arith, lt)) };
@@ -35,7 +35,7 @@ fits_of_one = record {
   vcpus = (record { before_move = (omega arith, tt); after_move = ((omega arith, omega arith), tt) }, tt);
 }
 
-pub fits_of_release : IsScript script_of_release
+pub fits_of_release : IsScript run_of_release.script
 fits_of_release = record {
   geometry = record { some_pages = omega arith; few_pages = omega arith; some_cells = omega arith; few_cells = omega arith; few_in_all = omega arith };
   init = record { each = (record { page = omega arith; content = record { count = refl; each = (omega arith, tt) }; not_zeros = λ all. let e : 6 ≡ 0 = all.0 in absurd (omega (arith, e)) }, tt); rising = λ k lt. absurd (omega (arith, lt)) };
@@ -44,7 +44,7 @@ fits_of_release = record {
   vcpus = (record { before_move = tt; after_move = ((tt, omega arith), ((omega arith, omega arith), tt)) }, tt);
 }
 
-pub fits_of_lane : IsScript script_of_lane
+pub fits_of_lane : IsScript run_of_lane.script
 fits_of_lane = record {
   geometry = record { some_pages = omega arith; few_pages = omega arith; some_cells = omega arith; few_cells = omega arith; few_in_all = omega arith };
   init = record { each = (record { page = omega arith; content = record { count = refl; each = (omega arith, tt) }; not_zeros = λ all. let e : 6 ≡ 0 = all.0 in absurd (omega (arith, e)) }, tt); rising = λ k lt. absurd (omega (arith, lt)) };
@@ -55,13 +55,13 @@ fits_of_lane = record {
 
 -- the machine that a run leads to
 abbrev reached : Option Recording → Recording
-reached None = start script_of_one
+reached None = start run_of_one.script
 reached (Some m) = m
 
 pub some_run_is_done : SomeRunIsDone
 some_run_is_done = record {
-  core = reached (run events_of_one (start script_of_one));
-  is_reached = record { script = script_of_one; fits = fits_of_one; events = events_of_one; runs = refl };
+  core = reached (run run_of_one.events (start run_of_one.script));
+  is_reached = record { script = run_of_one.script; fits = fits_of_one; events = run_of_one.events; runs = refl };
   place = 7;
   done = refl;
 }

@@ -56,6 +56,10 @@ pub record BooksBefore : Type 0 where
   pub vcpus : List Vcpu
   pub guest : GuestPart
 
+-- those of a script, with what its virtual processors have left to do
+abbrev pub books_before : Scripted → List Vcpu → GuestPart → BooksBefore
+books_before script vcpus guest = record { version = script.version; init = script.init; pivots = script.pivots; window = script.window; has_lane = script.has_lane; vcpus = vcpus; guest = guest }
+
 -- from the halt on
 pub record BooksAfter : Type 0 where
   pub version : Version

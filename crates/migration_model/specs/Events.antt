@@ -15,21 +15,10 @@ use Rattle.target_book.specs.declared.Access.TheVariants.{Done, Missed, Waiting}
 use Rattle.pager_book.specs.PagerPart.{Paged, Sent, new_pager, pager_pop, pager_pull, next_fault, pager_flush, deliver, pager_tick}
 use Rattle.migration_events.specs.declared.events.Event.{Event}
 use Rattle.migration_events.specs.declared.events.Event.TheVariants.{GuestStep, Halt as HaltGuest, Push, Serve, SourceTick, LinkTurn, PagerPop, PagerPull, PagerFault, PagerFlush, PagerDeliver, PagerTick}
-use Rattle.migration_model.specs.Books.{Vcpu, Scripted, BooksBefore, BooksAfter, Books, Before, After, session_of, Recording, new_names}
+use Rattle.migration_model.specs.Books.{Vcpu, Scripted, BooksBefore, BooksAfter, Books, Before, After, books_before, session_of, Recording, new_names}
 
 abbrev pub start : Scripted → Recording
-start script = record {
-  books = Before (record {
-    version = script.version;
-    init = script.init;
-    pivots = script.pivots;
-    window = script.window;
-    has_lane = script.has_lane;
-    vcpus = script.vcpus;
-    guest = new_guest script.geometry script.init;
-  });
-  order = [];
-}
+start script = record { books = Before (books_before script script.vcpus (new_guest script.geometry script.init)); order = [] }
 
 -- GuestStep before the halt
 abbrev pub home_ops : ℕ → Vcpu → List Op → BooksBefore → BooksBefore

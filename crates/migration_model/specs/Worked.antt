@@ -1,15 +1,20 @@
 -- Worked runs: which events of a script record what, in which order, and what one book makes of a list of calls.
-use Rattle.std.specs.Prelude.{◌≡◌, ℕ, true, false, List, [], ◌∷◌, length, ◌<◌, Option, Some, None}
+use Rattle.std.specs.Prelude.{◌≡◌, ℕ, Bool, true, false, List, [], ◌∷◌, length, ◌<◌, Option, Some, None}
 use Rattle.migration_types.specs.Memory.{initial}
 use Rattle.migration_types.specs.PageSets.{no_page}
 use Rattle.migration_types.specs.Receipts.{Name}
 use Rattle.migration_types.specs.Sessions.{Recorded}
+use Rattle.migration_types.specs.declared.pages.InitPage.{InitPage}
+use Rattle.migration_types.specs.declared.version.Version.{Version}
 use Rattle.migration_types.specs.declared.version.Version.TheVariants.{One, Two}
 use Rattle.migration_types.specs.declared.records.GuestRec.{GuestRec}
 use Rattle.migration_types.specs.declared.records.GuestRec.TheVariants.{Halt, Miss, Read, Release, Resume, See}
+use Rattle.migration_types.specs.declared.records.LinkRec.{LinkRec}
 use Rattle.migration_types.specs.declared.records.LinkRec.TheVariants.{Down, Up}
+use Rattle.migration_types.specs.declared.records.LaneRec.{LaneRec}
 use Rattle.migration_types.specs.declared.records.LaneRec.TheVariants.{Down as LaneDown}
 use Rattle.migration_types.specs.declared.records.LogName.TheVariants.{Guest, Lane, Link, Pager, Source as FromSource}
+use Rattle.migration_types.specs.declared.records.PagerRec.{PagerRec}
 use Rattle.migration_types.specs.declared.records.PagerRec.TheVariants.{All, Fault, Got, Join, Place, Pull, Ready, Skip, Want, Zero}
 use Rattle.migration_types.specs.declared.records.SourceRec.{SourceRec}
 use Rattle.migration_types.specs.declared.records.SourceRec.TheVariants.{Again, Ask, Done, Halted, Send, State}
@@ -17,6 +22,7 @@ use Rattle.migration_events.specs.declared.events.Direction.TheVariants.{Down as
 use Rattle.migration_events.specs.declared.events.Event.{Event}
 use Rattle.migration_events.specs.declared.events.Event.TheVariants.{GuestStep, Halt as HaltGuest, LinkTurn, PagerDeliver, PagerFault, PagerFlush, PagerPop, PagerPull, PagerTick, Push, Serve, SourceTick}
 use Rattle.migration_events.specs.declared.events.Fate.TheVariants.{Back, Deliver, Lose, Repeat}
+use Rattle.migration_events.specs.declared.ops.Op.{Op}
 use Rattle.migration_events.specs.declared.ops.Op.TheVariants.{Read as ReadCell, Release as ReleasePage}
 use Rattle.page_stream.specs.declared.Packet.{Packet}
 use Rattle.page_stream.specs.declared.Packet.TheVariants.{All as AllPacket, Page as PagePacket, Want as WantPacket}
@@ -24,7 +30,7 @@ use Rattle.source_book.specs.SourcePart.{Offer, SourcePart, halted_source, sourc
 use Rattle.guest_book.specs.GuestPart.{new_guest}
 use Rattle.pager_book.specs.PagerPart.{deliver}
 use Rattle.migration_model.specs.Events.{run, start, step}
-use Rattle.migration_model.specs.Books.{After, Before, Books, Recording, Scripted, session_of}
+use Rattle.migration_model.specs.Books.{After, Before, Books, Recording, Scripted, Vcpu, session_of}
 
 -- what a run recorded, and in which order
 abbrev pub recording : Option Recording → Option (Recorded × List Name)
@@ -35,164 +41,111 @@ recording (Some core) = Some (session_of core.books, core.order)
 abbrev pub Records : Scripted → List Event → Recorded → List Name → Type 0
 Records script events session order = recording (run events (start script)) ≡ Some (session, order)
 
--- a run that was worked out by hand
+-- a run that was worked out by hand: a script with its events, the logs that they leave, and the order
 pub record Worked : Type 0 where
   pub script : Scripted
   pub events : List Event
-  pub session : Recorded
+  pub guest : List GuestRec
+  pub source : List SourceRec
+  pub link : List LinkRec
+  pub lane : List LaneRec
+  pub pager : List PagerRec
   pub order : List Name
 
+-- the session of the script with these logs
+abbrev pub session_worked : Worked → Recorded
+session_worked w = record { version = w.script.version; geometry = w.script.geometry; init = w.script.init; guest = w.guest; source = w.source; link = w.link; lane = w.lane; pager = w.pager }
+
 abbrev pub ComesOut : Worked → Type 0
-ComesOut w = Records w.script w.events w.session w.order
+ComesOut w = Records w.script w.events (session_worked w) w.order
+
+-- a script with so many pages of one cell and one pivot
+abbrev pub small_script : Version → ℕ → List InitPage → ℕ → Bool → List Vcpu → Scripted
+small_script version pages init window has_lane vcpus = record { version = version; geometry = record { pages = pages; cells = 1 }; init = init; pivots = 1; window = window; has_lane = has_lane; vcpus = vcpus }
+
+-- a page of one cell
+abbrev pub holding : ℕ → ℕ → InitPage
+holding page value = record { page = page; cells = value ∷ [] }
+
+-- a virtual processor that does this before its move, and this after it
+abbrev pub doing : List Op → List Op → Vcpu
+doing before after = record { before_move = before; after_move = after }
 
 -- Two virtual processors miss the same page; the page is lost on its way and sent again.
-abbrev pub script_of_two : Scripted
-script_of_two = record {
-  version = One;
-  geometry = record { pages = 2; cells = 1 };
-  init = record { page = 1; cells = 7 ∷ [] } ∷ [];
-  pivots = 1;
-  window = 4;
-  has_lane = false;
-  vcpus = record { before_move = []; after_move = ReadCell 1 0 ∷ [] } ∷ record { before_move = []; after_move = ReadCell 1 0 ∷ [] } ∷ [];
-}
-
-abbrev pub events_of_two : List Event
-events_of_two =
-    HaltGuest ∷ LinkTurn Downward Deliver ∷ PagerPop ∷ PagerDeliver ∷ GuestStep 0 ∷ GuestStep 1 ∷ PagerFault ∷ PagerFault ∷ PagerFlush
-    ∷ LinkTurn Upward Deliver ∷ Serve ∷ LinkTurn Downward Lose ∷ PagerTick ∷ LinkTurn Upward Deliver ∷ Serve ∷ LinkTurn Downward Deliver ∷ PagerPop
-    ∷ PagerDeliver ∷ GuestStep 0 ∷ GuestStep 1 ∷ []
-
-abbrev pub session_of_two : Recorded
-session_of_two = record {
-  version = One;
-  geometry = record { pages = 2; cells = 1 };
-  init = record { page = 1; cells = 7 ∷ [] } ∷ [];
+abbrev pub run_of_two : Worked
+run_of_two = record {
+  script = small_script One 2 (holding 1 7 ∷ []) 4 false (doing [] (ReadCell 1 0 ∷ []) ∷ doing [] (ReadCell 1 0 ∷ []) ∷ []);
+  events =
+      HaltGuest ∷ LinkTurn Downward Deliver ∷ PagerPop ∷ PagerDeliver ∷ GuestStep 0 ∷ GuestStep 1 ∷ PagerFault ∷ PagerFault ∷ PagerFlush
+      ∷ LinkTurn Upward Deliver ∷ Serve ∷ LinkTurn Downward Lose ∷ PagerTick ∷ LinkTurn Upward Deliver ∷ Serve ∷ LinkTurn Downward Deliver ∷ PagerPop
+      ∷ PagerDeliver ∷ GuestStep 0 ∷ GuestStep 1 ∷ [];
   guest = Halt ∷ Resume 1 ∷ Miss 0 1 ∷ Miss 1 1 ∷ See 8 ∷ Read 0 1 0 7 ∷ Read 1 1 0 7 ∷ [];
   source = Halted 0 ∷ State ∷ Ask 1 ∷ Send 1 (7 ∷ []) ∷ Ask 2 ∷ Again 3 ∷ [];
   link = Down 1 ∷ Up 3 ∷ Up 6 ∷ Down 5 ∷ [];
   lane = [];
   pager = Got 0 ∷ Ready ∷ Fault 2 ∷ Want 1 ∷ Fault 3 ∷ Join 3 ∷ Want 1 ∷ Got 3 ∷ Place 1 7 (7 ∷ []) ∷ [];
+  order =
+      (Guest, 0) ∷ (FromSource, 0) ∷ (FromSource, 1) ∷ (Link, 0) ∷ (Pager, 0) ∷ (Pager, 1) ∷ (Guest, 1) ∷ (Guest, 2) ∷ (Guest, 3)
+      ∷ (Pager, 2) ∷ (Pager, 3) ∷ (Pager, 4) ∷ (Pager, 5) ∷ (Link, 1) ∷ (FromSource, 2) ∷ (FromSource, 3) ∷ (Pager, 6) ∷ (Link, 2)
+      ∷ (FromSource, 4) ∷ (FromSource, 5) ∷ (Link, 3) ∷ (Pager, 7) ∷ (Pager, 8) ∷ (Guest, 4) ∷ (Guest, 5) ∷ (Guest, 6) ∷ [];
 }
-
-abbrev pub order_of_two : List Name
-order_of_two =
-    (Guest, 0) ∷ (FromSource, 0) ∷ (FromSource, 1) ∷ (Link, 0) ∷ (Pager, 0) ∷ (Pager, 1) ∷ (Guest, 1) ∷ (Guest, 2) ∷ (Guest, 3)
-    ∷ (Pager, 2) ∷ (Pager, 3) ∷ (Pager, 4) ∷ (Pager, 5) ∷ (Link, 1) ∷ (FromSource, 2) ∷ (FromSource, 3) ∷ (Pager, 6) ∷ (Link, 2)
-    ∷ (FromSource, 4) ∷ (FromSource, 5) ∷ (Link, 3) ∷ (Pager, 7) ∷ (Pager, 8) ∷ (Guest, 4) ∷ (Guest, 5) ∷ (Guest, 6) ∷ []
 
 -- A page comes before the state, a state comes twice, and a released page is missed.
-abbrev pub script_of_one : Scripted
-script_of_one = record {
-  version = One;
-  geometry = record { pages = 2; cells = 1 };
-  init = [];
-  pivots = 1;
-  window = 2;
-  has_lane = false;
-  vcpus = record { before_move = ReleasePage 1 ∷ []; after_move = ReadCell 1 0 ∷ [] } ∷ [];
-}
-
-abbrev pub events_of_one : List Event
-events_of_one =
-    GuestStep 0 ∷ HaltGuest ∷ Push ∷ Push ∷ SourceTick ∷ LinkTurn Downward Back ∷ LinkTurn Downward Repeat ∷ PagerPop ∷ LinkTurn Downward Deliver ∷ PagerPop
-    ∷ PagerDeliver ∷ LinkTurn Downward Deliver ∷ PagerPop ∷ LinkTurn Downward Deliver ∷ PagerPop ∷ PagerTick ∷ PagerDeliver ∷ GuestStep 0 ∷ PagerFault
-    ∷ GuestStep 0 ∷ LinkTurn Upward Deliver ∷ Serve ∷ PagerTick ∷ LinkTurn Upward Deliver ∷ Serve ∷ []
-
-abbrev pub session_of_one : Recorded
-session_of_one = record {
-  version = One;
-  geometry = record { pages = 2; cells = 1 };
-  init = [];
+abbrev pub run_of_one : Worked
+run_of_one = record {
+  script = small_script One 2 [] 2 false (doing (ReleasePage 1 ∷ []) (ReadCell 1 0 ∷ []) ∷ []);
+  events =
+      GuestStep 0 ∷ HaltGuest ∷ Push ∷ Push ∷ SourceTick ∷ LinkTurn Downward Back ∷ LinkTurn Downward Repeat ∷ PagerPop ∷ LinkTurn Downward Deliver ∷ PagerPop
+      ∷ PagerDeliver ∷ LinkTurn Downward Deliver ∷ PagerPop ∷ LinkTurn Downward Deliver ∷ PagerPop ∷ PagerTick ∷ PagerDeliver ∷ GuestStep 0 ∷ PagerFault
+      ∷ GuestStep 0 ∷ LinkTurn Upward Deliver ∷ Serve ∷ PagerTick ∷ LinkTurn Upward Deliver ∷ Serve ∷ [];
   guest = Release 0 1 ∷ Halt ∷ Resume 1 ∷ Miss 0 1 ∷ See 8 ∷ Read 0 1 0 0 ∷ [];
   source = Halted 1 ∷ State ∷ Send 0 (0 ∷ []) ∷ Again 1 ∷ Ask 4 ∷ Again 2 ∷ Ask 5 ∷ Done ∷ [];
   link = Down 2 ∷ Down 3 ∷ Down 1 ∷ Down 2 ∷ Up 5 ∷ Up 9 ∷ [];
   lane = [];
   pager = Got 1 ∷ Ready ∷ Got 2 ∷ Skip 2 ∷ Got 3 ∷ Want 0 ∷ Place 0 4 (0 ∷ []) ∷ Fault 3 ∷ Zero 1 ∷ All ∷ [];
+  order =
+      (Guest, 0) ∷ (Guest, 1) ∷ (FromSource, 0) ∷ (FromSource, 1) ∷ (FromSource, 2) ∷ (FromSource, 3) ∷ (Link, 0) ∷ (Link, 1) ∷ (Pager, 0)
+      ∷ (Pager, 1) ∷ (Guest, 2) ∷ (Link, 2) ∷ (Pager, 2) ∷ (Pager, 3) ∷ (Link, 3) ∷ (Pager, 4) ∷ (Pager, 5) ∷ (Pager, 6) ∷ (Guest, 3)
+      ∷ (Pager, 7) ∷ (Pager, 8) ∷ (Guest, 4) ∷ (Guest, 5) ∷ (Link, 4) ∷ (FromSource, 4) ∷ (FromSource, 5) ∷ (Pager, 9) ∷ (Link, 5)
+      ∷ (FromSource, 6) ∷ (FromSource, 7) ∷ [];
 }
-
-abbrev pub order_of_one : List Name
-order_of_one =
-    (Guest, 0) ∷ (Guest, 1) ∷ (FromSource, 0) ∷ (FromSource, 1) ∷ (FromSource, 2) ∷ (FromSource, 3) ∷ (Link, 0) ∷ (Link, 1) ∷ (Pager, 0)
-    ∷ (Pager, 1) ∷ (Guest, 2) ∷ (Link, 2) ∷ (Pager, 2) ∷ (Pager, 3) ∷ (Link, 3) ∷ (Pager, 4) ∷ (Pager, 5) ∷ (Pager, 6) ∷ (Guest, 3)
-    ∷ (Pager, 7) ∷ (Pager, 8) ∷ (Guest, 4) ∷ (Guest, 5) ∷ (Link, 4) ∷ (FromSource, 4) ∷ (FromSource, 5) ∷ (Pager, 9) ∷ (Link, 5)
-    ∷ (FromSource, 6) ∷ (FromSource, 7) ∷ []
 
 -- A page is released at the target before it comes.
-abbrev pub script_of_release : Scripted
-script_of_release = record {
-  version = Two;
-  geometry = record { pages = 1; cells = 1 };
-  init = record { page = 0; cells = 6 ∷ [] } ∷ [];
-  pivots = 1;
-  window = 4;
-  has_lane = false;
-  vcpus = record { before_move = []; after_move = ReleasePage 0 ∷ ReadCell 0 0 ∷ [] } ∷ [];
-}
-
-abbrev pub events_of_release : List Event
-events_of_release =
-    HaltGuest ∷ Push ∷ LinkTurn Downward Deliver ∷ PagerPop ∷ PagerDeliver ∷ GuestStep 0 ∷ LinkTurn Downward Deliver ∷ PagerPop ∷ PagerDeliver
-    ∷ GuestStep 0 ∷ []
-
-abbrev pub session_of_release : Recorded
-session_of_release = record {
-  version = Two;
-  geometry = record { pages = 1; cells = 1 };
-  init = record { page = 0; cells = 6 ∷ [] } ∷ [];
+abbrev pub run_of_release : Worked
+run_of_release = record {
+  script = small_script Two 1 (holding 0 6 ∷ []) 4 false (doing [] (ReleasePage 0 ∷ ReadCell 0 0 ∷ []) ∷ []);
+  events =
+      HaltGuest ∷ Push ∷ LinkTurn Downward Deliver ∷ PagerPop ∷ PagerDeliver ∷ GuestStep 0 ∷ LinkTurn Downward Deliver ∷ PagerPop ∷ PagerDeliver
+      ∷ GuestStep 0 ∷ [];
   guest = Halt ∷ Resume 1 ∷ Release 0 0 ∷ Read 0 0 0 0 ∷ [];
   source = Halted 0 ∷ State ∷ Send 0 (6 ∷ []) ∷ [];
   link = Down 1 ∷ Down 2 ∷ [];
   lane = [];
   pager = Got 0 ∷ Ready ∷ Got 1 ∷ Skip 2 ∷ [];
+  order =
+      (Guest, 0) ∷ (FromSource, 0) ∷ (FromSource, 1) ∷ (FromSource, 2) ∷ (Link, 0) ∷ (Pager, 0) ∷ (Pager, 1) ∷ (Guest, 1) ∷ (Guest, 2)
+      ∷ (Link, 1) ∷ (Pager, 2) ∷ (Pager, 3) ∷ (Guest, 3) ∷ [];
 }
-
-abbrev pub order_of_release : List Name
-order_of_release =
-    (Guest, 0) ∷ (FromSource, 0) ∷ (FromSource, 1) ∷ (FromSource, 2) ∷ (Link, 0) ∷ (Pager, 0) ∷ (Pager, 1) ∷ (Guest, 1) ∷ (Guest, 2)
-    ∷ (Link, 1) ∷ (Pager, 2) ∷ (Pager, 3) ∷ (Guest, 3) ∷ []
 
 -- A page is pushed over the lane.
-abbrev pub script_of_lane : Scripted
-script_of_lane = record {
-  version = Two;
-  geometry = record { pages = 1; cells = 1 };
-  init = record { page = 0; cells = 6 ∷ [] } ∷ [];
-  pivots = 1;
-  window = 4;
-  has_lane = true;
-  vcpus = record { before_move = []; after_move = ReadCell 0 0 ∷ [] } ∷ [];
-}
-
-abbrev pub events_of_lane : List Event
-events_of_lane =
-    HaltGuest ∷ Push ∷ LinkTurn Downward Deliver ∷ PagerPop ∷ PagerDeliver ∷ LinkTurn OverLane Deliver ∷ PagerPull ∷ PagerDeliver
-    ∷ GuestStep 0 ∷ []
-
-abbrev pub session_of_lane : Recorded
-session_of_lane = record {
-  version = Two;
-  geometry = record { pages = 1; cells = 1 };
-  init = record { page = 0; cells = 6 ∷ [] } ∷ [];
+abbrev pub run_of_lane : Worked
+run_of_lane = record {
+  script = small_script Two 1 (holding 0 6 ∷ []) 4 true (doing [] (ReadCell 0 0 ∷ []) ∷ []);
+  events =
+      HaltGuest ∷ Push ∷ LinkTurn Downward Deliver ∷ PagerPop ∷ PagerDeliver ∷ LinkTurn OverLane Deliver ∷ PagerPull ∷ PagerDeliver
+      ∷ GuestStep 0 ∷ [];
   guest = Halt ∷ Resume 1 ∷ See 3 ∷ Read 0 0 0 6 ∷ [];
   source = Halted 0 ∷ State ∷ Send 0 (6 ∷ []) ∷ [];
   link = Down 1 ∷ [];
   lane = LaneDown 2 ∷ [];
   pager = Got 0 ∷ Ready ∷ Pull 0 ∷ Place 0 2 (6 ∷ []) ∷ [];
+  order =
+      (Guest, 0) ∷ (FromSource, 0) ∷ (FromSource, 1) ∷ (FromSource, 2) ∷ (Link, 0) ∷ (Pager, 0) ∷ (Pager, 1) ∷ (Guest, 1) ∷ (Lane, 0)
+      ∷ (Pager, 2) ∷ (Pager, 3) ∷ (Guest, 2) ∷ (Guest, 3) ∷ [];
 }
 
-abbrev pub order_of_lane : List Name
-order_of_lane =
-    (Guest, 0) ∷ (FromSource, 0) ∷ (FromSource, 1) ∷ (FromSource, 2) ∷ (Link, 0) ∷ (Pager, 0) ∷ (Pager, 1) ∷ (Guest, 1) ∷ (Lane, 0)
-    ∷ (Pager, 2) ∷ (Pager, 3) ∷ (Guest, 2) ∷ (Guest, 3) ∷ []
-
 abbrev pub worked_runs : List Worked
-worked_runs =
-    (record { script = script_of_two; events = events_of_two; session = session_of_two; order = order_of_two })
-    ∷ (record { script = script_of_one; events = events_of_one; session = session_of_one; order = order_of_one })
-    ∷ (record { script = script_of_release; events = events_of_release; session = session_of_release; order = order_of_release })
-    ∷ (record { script = script_of_lane; events = events_of_lane; session = session_of_lane; order = order_of_lane })
-    ∷ []
+worked_runs = run_of_two ∷ run_of_one ∷ run_of_release ∷ run_of_lane ∷ []
 
 -- the virtual processors that the next delivery of the pager wakes
 abbrev pub woken_in : Books → List ℕ

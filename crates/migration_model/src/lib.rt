@@ -5,7 +5,7 @@ ghost use Rattle.std.specs.Prelude.{◌≡◌, ℕ, ◌<◌, true, List, [], ◌
 ghost use Rattle.std.specs.List.{AllByRecursion};
 ghost use Rattle.migration_model.specs.Books.{Recording, Scripted, IsScript};
 ghost use Rattle.migration_model.specs.Events.{start, step, run};
-ghost use Rattle.migration_model.specs.Worked.{ComesOut, worked_runs, script_of_two, events_of_two, woken_next, offers, source_calls, small_source, source_offers, source_records, IsRefusedWhenFull};
+ghost use Rattle.migration_model.specs.Worked.{ComesOut, worked_runs, run_of_two, woken_next, offers, source_calls, small_source, source_offers, source_records, IsRefusedWhenFull};
 ghost use Rattle.migration_model.specs.Orderly.{AreOrderly};
 ghost use Rattle.migration_model.specs.Promise.{IsFaultlessRecording, IsReached, SomeRunIsDone};
 
@@ -37,7 +37,7 @@ pub fn premises_can_be_met()
 /// wakes; what a source offers and records; and that a record for which there is no room is refused, and none but such.
 pub fn worked_runs_come_out_so()
     ensures runs { AllByRecursion ComesOut worked_runs }
-    ensures woken { woken_next (run (take 17 events_of_two) (start script_of_two)) ≡ 0 ∷ 1 ∷ [] }
+    ensures woken { woken_next (run (take 17 run_of_two.events) (start run_of_two.script)) ≡ 0 ∷ 1 ∷ [] }
     ensures source { offers source_calls small_source ≡ (source_offers, source_records) }
     ensures full { IsRefusedWhenFull }
 {}
