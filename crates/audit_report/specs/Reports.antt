@@ -93,7 +93,7 @@ pub record IsCleanWith (s : Recorded) (cert : Certified) : Type 0 where
 -- the session is clean.
 abbrev pub IsReport : Recorded → Report → Type 0
 IsReport s (Shape fault) = IsShapeFault s fault
-IsReport s (Knot left) = IsRightShape s × IsTied s left
+IsReport s (Knot left found) = IsRightShape s × IsTied s left found
 IsReport s (Faulty line fault order) = IsRightShape s × IsFaulty s line fault order
 IsReport s (Clean cert) = IsRightShape s × IsCleanWith s cert
 

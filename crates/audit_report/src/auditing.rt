@@ -78,7 +78,7 @@ fn report<J: Judges>(judges: &J, alloc: Global, session: &Session) -> Result<Rep
     }
     let found = match find_order(alloc, session)? {
         Order::Found(found) => found,
-        Order::Knot(left) => return Ok(Report::Knot(left)),
+        Order::Knot { left, found } => return Ok(Report::Knot { left, found }),
     };
     let pages = judges.findings(alloc, session)?;
     match first_fault_in(session, &pages) {

@@ -1,7 +1,7 @@
 //! Reports.
 
 use cert_check::ShapeFault;
-use cert_maker::Left;
+use cert_maker::{FoundRuns, Left};
 use migration_types::{Cert, Run, Seq};
 use page_facts::PageFault;
 
@@ -12,9 +12,12 @@ pub enum Report {
     Clean(Cert),
     /// The session has not the right shape.
     Shape(ShapeFault),
-    /// The session's logs have no merging. Of the records that can never be taken this is the first that is next in its
-    /// log.
-    Knot(Left),
+    /// The session's logs have no merging: of the records that can never be taken the first that is next in its log, and
+    /// the found order, which goes up to them.
+    Knot {
+        left: Left,
+        found: FoundRuns,
+    },
     /// The session is not safe: the first fault of a page, the line of the faulty record, and the runs of a merging in
     /// which the demand of this record fails.
     Faulty {

@@ -1,13 +1,14 @@
 -- The answers of the search for an order.
-use Rattle.std.specs.Prelude.{◌≡◌, ℕ, ◌<◌, ◌≤◌, List}
+use Rattle.std.specs.Prelude.{◌≡◌, ℕ, ◌<◌, ◌≤◌, List, Some}
 use Rattle.migration_types.specs.declared.records.LogName.{LogName}
 use Rattle.migration_types.specs.declared.cert.Run.{Run}
 use Rattle.migration_types.specs.Certs.{AreRuns}
-use Rattle.migration_types.specs.Receipts.{Name}
 use Rattle.migration_types.specs.Sessions.{Recorded, line_of, log_length}
 use Rattle.audit_model.specs.Mergings.{Cursors, HasMerging, at_start, spelled}
 use Rattle.audit_model.specs.Walks.{cursors_from}
 use Rattle.audit_model.specs.FoundOrder.{IsFound, IsFoundOrder, IsKnot}
+use Rattle.merge_runs.specs.Taken.{cursors_of, first_left}
+use Rattle.cert_maker.specs.declared.order.FoundRuns.{FoundRuns}
 use Rattle.cert_maker.specs.declared.order.Left.{Left}
 use Rattle.cert_maker.specs.declared.order.Order.{Order}
 use Rattle.cert_maker.specs.declared.order.Order.TheVariants.{Found, Knot}
@@ -25,21 +26,18 @@ pub record IsFoundFront (s : Recorded) (runs : List Run) (c : Cursors) : Type 0 
   pub at : cursors_from at_start (spelled runs) ≡ c
   pub within : (log : LogName) → c log ≤ log_length s log
 
--- the first record that is left in a knot, with its line, where there is no merging
-pub record IsTied (s : Recorded) (left : Left) : Type 0 where
+-- the first record that is left in a knot, with its line, where there is no merging; and the found order as far as it
+-- goes, behind which this record is the next of its log
+pub record IsTied (s : Recorded) (left : Left) (found : FoundRuns) : Type 0 where
   pub is_knot : IsKnot s left.line
   pub is_line : left.line ≡ line_of s (left.log, left.place)
   pub is_there : left.place < log_length s left.log
   pub has_no_merging : HasMerging s → ⊥
+  pub front : IsFoundFront s found.runs (cursors_of found.taken)
+  pub is_first : first_left s (cursors_of found.taken) ≡ Some left.log
+  pub is_next : left.place ≡ cursors_of found.taken left.log
 
 -- the answer for a session
 abbrev pub IsOrderOf : Recorded → Order → Type 0
 IsOrderOf s (Found runs) = AreFoundRuns s runs
-IsOrderOf s (Knot left) = IsTied s left
-
--- how many records of each log the found order takes, all of which are there
-pub record IsTakenInOrder (s : Recorded) (c : Cursors) : Type 0 where
-  pub order : List Name
-  pub is_found_order : IsFoundOrder s order
-  pub are_cursors : cursors_from at_start order ≡ c
-  pub within : (log : LogName) → c log ≤ log_length s log
+IsOrderOf s (Knot left found) = IsTied s left found

@@ -7,4 +7,4 @@ mod order;
 mod ready;
 
 pub use maker::{MakeFault, make, make_by};
-pub use order::{FoundRuns, Left, Order, find_order, found_runs, taken_in_order};
+pub use order::{FoundRuns, Left, Order, find_order, found_runs};

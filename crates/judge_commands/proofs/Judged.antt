@@ -33,7 +33,7 @@ use Rattle.judge_commands.proofs.Closed.{closed_session}
 clean_status : (s : Recorded) → IsFaultless s → HasMerging s → (r : Report) → IsReport s r → report_status r ≡ 0
 clean_status s f merges (report.Clean cert) is = refl
 clean_status s f merges (report.Shape fault) is = let right = f.shape fault.reason (fault.log, fault.place) in let wrong = is.is_first.is_wrong in absurd cc
-clean_status s f merges (report.Knot left) is = absurd (is.1.has_no_merging merges)
+clean_status s f merges (report.Knot left found) is = absurd (is.1.has_no_merging merges)
 clean_status s f merges (report.Faulty line fault order) is = absurd (f.clean fault.reason (fault.log, fault.place) is.1.is_first.is_fault)
 
 -- and the audit of its text

@@ -24,7 +24,7 @@ verdict_few verdict.Yes = omega arith
 report_few : (r : Report) → report_status r < 2
 report_few (report.Clean cert) = omega arith
 report_few (report.Shape fault) = omega arith
-report_few (report.Knot left) = omega arith
+report_few (report.Knot left found) = omega arith
 report_few (report.Faulty line fault order) = omega arith
 
 pub audited_few : (a : Audited) → audited_status a < 2

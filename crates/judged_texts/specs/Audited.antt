@@ -30,7 +30,7 @@ FindsClean (Reported report) = IsClean report
 abbrev pub FindsFault : Audited → Type 0
 FindsFault (Refused line) = ⊥
 FindsFault (Reported (Shape fault)) = ⊥
-FindsFault (Reported (Knot left)) = ⊥
+FindsFault (Reported (Knot left found)) = ⊥
 FindsFault (Reported (Faulty line fault order)) = Unit {0}
 FindsFault (Reported (Clean cert)) = ⊥
 

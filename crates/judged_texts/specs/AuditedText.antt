@@ -15,7 +15,7 @@ use Rattle.report_text.specs.RefusalText.{refusal_text}
 abbrev pub certificate_text : Report → List ℕ
 certificate_text (report.Clean cert) = ended (cert_lines cert)
 certificate_text (report.Shape fault) = ended (first_line (report.Shape fault) ∷ [])
-certificate_text (report.Knot left) = ended (first_line (report.Knot left) ∷ [])
+certificate_text (report.Knot left found) = ended (first_line (report.Knot left found) ∷ [])
 certificate_text (report.Faulty line fault order) = ended (first_line (report.Faulty line fault order) ∷ [])
 
 -- what is wanted of a report

@@ -21,7 +21,7 @@ use Rattle.order_picture.specs.Rows.{Covers, shows_fault, sender_of}
 abbrev pub fault_of : Report → Option Name
 fault_of (report.Shape fault) = Some (fault.log, fault.place)
 fault_of (report.Faulty line fault order) = Some (fault.log, fault.place)
-fault_of (report.Knot left) = None
+fault_of (report.Knot left found) = None
 fault_of (report.Clean cert) = None
 
 -- what a picture is about: the faulty record, and its page
@@ -41,10 +41,10 @@ pub record IsPictureOf (s : Recorded) (r : Report) (runs : List Run) (p : Pictur
   pub senders : p.senders.items ≡ map (sender_of s p.rows.items) p.rows.items
   pub taken : cursors_of p.taken ≡ cursors_from at_start order
 
--- the runs that a report is shown along: those that show its fault, or those of the found order
+-- the runs that a report is shown along: those that show its fault or stop at its knot, or those of the found order
 abbrev pub IsShownAlong : Recorded → Report → List Run → Type 0
 IsShownAlong s (report.Shape fault) runs = IsFoundOrder s (spelled runs)
-IsShownAlong s (report.Knot left) runs = IsFoundOrder s (spelled runs)
+IsShownAlong s (report.Knot left found) runs = runs ≡ found.runs
 IsShownAlong s (report.Faulty line fault order) runs = runs ≡ order
 IsShownAlong s (report.Clean cert) runs = runs ≡ cert.runs
 

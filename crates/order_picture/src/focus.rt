@@ -69,7 +69,7 @@ fn fault_of(report: &Report) -> Option<Name>
     match report {
         Report::Shape(fault) => Some((fault.log, fault.place)),
         Report::Faulty { fault, .. } => Some((fault.log, fault.place)),
-        Report::Knot(_) => None,
+        Report::Knot { .. } => None,
         Report::Clean(_) => None,
     }
 }

@@ -146,8 +146,8 @@ pub fn plan_along(
     })
 }
 
-/// The picture of a report: along the runs that show its fault; of a clean session along those of its certificate; and
-/// where there is no such order, along the found order as far as it goes. Takes a few passes over the records, and
+/// The picture of a report: along the runs that show its fault, or those that it has of a knot; of a clean session along
+/// those of its certificate; and of a session of another shape along the found order as far as it goes. Takes a few passes over the records, and
 /// memory for the names of the records and two flags for each. An error: there is no memory for them.
 pub fn plan(alloc: Global, session: &Session, report: &Report) -> Result<Picture, AllocError>
     ensures { IfOk result (IsPicture session.now report.now) }
@@ -155,7 +155,8 @@ pub fn plan(alloc: Global, session: &Session, report: &Report) -> Result<Picture
     match report {
         Report::Faulty { order, .. } => plan_along(alloc, session, report, order.as_slice()),
         Report::Clean(cert) => plan_along(alloc, session, report, cert.runs()),
-        Report::Shape(_) | Report::Knot(_) => {
+        Report::Knot { found, .. } => plan_along(alloc, session, report, found.runs.as_slice()),
+        Report::Shape(_) => {
             let found = found_runs(alloc, session)?;
             plan_along(alloc, session, report, found.runs.as_slice())
         }

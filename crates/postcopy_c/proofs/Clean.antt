@@ -19,14 +19,14 @@ has_clean : (a : Audited) (text_len : ℕ) → FindsClean a → (audited_numbers
 has_clean (Refused line) text_len h = absurd h
 has_clean (Reported (report.Clean cert)) text_len h = refl
 has_clean (Reported (report.Shape fault)) text_len h = absurd h
-has_clean (Reported (report.Knot left)) text_len h = absurd h
+has_clean (Reported (report.Knot left found)) text_len h = absurd h
 has_clean (Reported (report.Faulty line fault order)) text_len h = absurd h
 
 is_clean : (a : Audited) (text_len : ℕ) → (audited_numbers a text_len).kind ≡ CLEAN → FindsClean a
 is_clean (Refused line) text_len e = absurd (omega (arith, e))
 is_clean (Reported (report.Clean cert)) text_len e = tt
 is_clean (Reported (report.Shape fault)) text_len e = absurd (omega (arith, e))
-is_clean (Reported (report.Knot left)) text_len e = absurd (omega (arith, e))
+is_clean (Reported (report.Knot left found)) text_len e = absurd (omega (arith, e))
 is_clean (Reported (report.Faulty line fault order)) text_len e = absurd (omega (arith, e))
 
 -- a session is safe exactly where the number is that of a clean one
@@ -40,7 +40,7 @@ is_faulty : (a : Audited) (text_len : ℕ) → (audited_numbers a text_len).kind
 is_faulty (Refused line) text_len e = absurd (omega (arith, e))
 is_faulty (Reported (report.Clean cert)) text_len e = absurd (omega (arith, e))
 is_faulty (Reported (report.Shape fault)) text_len e = absurd (omega (arith, e))
-is_faulty (Reported (report.Knot left)) text_len e = absurd (omega (arith, e))
+is_faulty (Reported (report.Knot left found)) text_len e = absurd (omega (arith, e))
 is_faulty (Reported (report.Faulty line fault order)) text_len e = tt
 
 -- a page has a fault where the number is that of one

@@ -54,5 +54,5 @@ abbrev pub audited_numbers : Audited → ℕ → PostcopyAnswer
 audited_numbers (Refused line) text_len = numbers SESSION_TEXT line 0 text_len
 audited_numbers (Reported (report.Clean cert)) text_len = numbers CLEAN 0 0 text_len
 audited_numbers (Reported (report.Shape fault)) text_len = numbers SHAPE fault.line (shape_number fault.reason) text_len
-audited_numbers (Reported (report.Knot left)) text_len = numbers KNOT left.line 0 text_len
+audited_numbers (Reported (report.Knot left found)) text_len = numbers KNOT left.line 0 text_len
 audited_numbers (Reported (report.Faulty line fault order)) text_len = numbers FAULTY line (page_number fault.reason) text_len

@@ -82,7 +82,7 @@ pub(crate) fn audited_answer(audited: &Audited, text_len: usize) -> PostcopyAnsw
         Audited::Refused(line) => at_line(SESSION_TEXT, *line, text_len),
         Audited::Reported(Report::Clean(_)) => at_line(CLEAN, 0, text_len),
         Audited::Reported(Report::Shape(fault)) => misshapen(fault, text_len),
-        Audited::Reported(Report::Knot(left)) => at_line(KNOT, left.line, text_len),
+        Audited::Reported(Report::Knot { left, .. }) => at_line(KNOT, left.line, text_len),
         Audited::Reported(Report::Faulty { line, fault, .. }) => PostcopyAnswer {
             kind: FAULTY,
             line: *line,

@@ -1,6 +1,7 @@
 -- Records that wait for one another.
 use Rattle.std.proofs.Common.{◌≡◌, ℕ, zero, suc, ◌+◌, ◌<◌, ◌≤◌, ◌⊎◌, inl, inr, Bool, true, false, cond, List, [], ◌∷◌, ◌++◌, length, Option, Some, None, refl, sym, ap, ◌∙◌, subst, arith}
-use Rattle.std.specs.Prelude.{slice_get, is_some}
+use Rattle.std.specs.Prelude.{slice_get, is_some, IfOk, Result, Ok, Err}
+use Rattle.std.specs.declared.alloc.AllocError.{AllocError}
 use Rattle.std.proofs.lemmas.Bool.{cases_lt}
 use Rattle.std.proofs.lemmas.List.{length_push}
 use Rattle.std.proofs.lemmas.Option.{slice_get_within}
@@ -23,12 +24,14 @@ use Rattle.audit_model.specs.Names.{if_there, log_length, receipt, same_log}
 use Rattle.audit_model.specs.Shape.{passes, keeps, is_ready, is_placement, is_halt, is_up, goes_down, goes_up, is_down, is_miss, guest_named, source_named, link_named, lane_named, pager_named, IsRightShape}
 use Rattle.audit_model.specs.Mergings.{Cursors, at_start}
 use Rattle.audit_model.specs.Walks.{MayFollow}
-use Rattle.audit_model.specs.FoundOrder.{first_ready, IsLeastLeft}
+use Rattle.audit_model.specs.FoundOrder.{first_ready, IsKnot}
 use Rattle.audit_model.proofs.Cuts.{same_from_test}
 use Rattle.audit_model.proofs.Knots.{none_is_stuck}
-use Rattle.merge_runs.specs.Taken.{with_cursor, first_left}
-use Rattle.cert_maker.specs.Orders.{IsTakenInOrder}
-use Rattle.cert_maker.proofs.Found.{least_left}
+use Rattle.merge_runs.specs.Taken.{cursors_of, with_cursor}
+use Rattle.cert_maker.specs.declared.order.FoundRuns.{FoundRuns}
+use Rattle.cert_maker.specs.declared.order.Left.{Left}
+use Rattle.cert_maker.specs.Orders.{IsTied}
+use Rattle.merge_runs.proofs.Logs.{some_left}
 use Rattle.session_story.specs.Waits.{IsCircle}
 use Rattle.session_story.specs.inner.Waits.{IsNext, AreWaits, AreFound, one_if_none, unfound, IsCircleAt}
 use Rattle.session_story.specs.declared.waits.Waiting.{Waiting}
@@ -185,14 +188,10 @@ unfound_less found Lane n e lt = let was = ap one_if_none e in let here = none_l
 unfound_less found Pager n e lt = let was = ap one_if_none e in let here = none_left n lt in omega (arith, was, here)
 
 -- the records go round
-pub goes_round : (s : Recorded) (c : Cursors) (first : LogName) (k : Knot) → IsSession s → IsTakenInOrder s c → first_left s c ≡ Some first → IsCircleAt s c first k → IsCircle s k
-goes_round s c first k limits taken is_first at = record {
+goes_round : (s : Recorded) (c : Cursors) (first : LogName) (line : ℕ) (k : Knot) → IsKnot s line → line ≡ line_of s (first, c first) → IsCircleAt s c first k → IsCircle s k
+goes_round s c first line k is_knot is_line at = record {
   some = at.some;
-  starts = λ w is. record {
-    order = taken.order;
-    is_found_order = taken.is_found_order;
-    is_least_left = subst (λ (d : Cursors). IsLeastLeft s d (line_of s (w.log, w.place))) (sym taken.are_cursors) (least_left s c first (line_of s (w.log, w.place)) limits is_first (start w is));
-  };
+  starts = λ w is. subst (λ (n : ℕ). IsKnot s n) (is_line ∙ sym (start w is)) is_knot;
   receives = λ i w is. let each = (at.waits.each i w is).0 in subst (λ (p : ℕ). receipt s (w.log, p) ≡ Some (w.sent_log, w.sent_place)) (sym each.place_is) each.receives;
   goes_on = λ i w other is on. let log = at.waits.goes_on i w other is on in record {
     log = log;
@@ -216,6 +215,18 @@ goes_round s c first k limits taken is_first at = record {
 
     waits_for : (w other : Waiting) → c w.sent_log ≤ w.sent_place → IsNext s c other.log other → other.log ≡ w.sent_log → other.place ≤ w.sent_place
     waits_for w other le next log = let same = next.place_is ∙ ap c log in omega (arith, same, le)
+
+-- behind the found order of a knot
+module _ (s : Recorded) (left : Left) (found : FoundRuns) (tied : IsTied s left found) where
+  pub is_stuck : first_ready s (cursors_of found.taken) ≡ None
+  is_stuck = ap (λ (c : Cursors). first_ready s c) (sym tied.front.at) ∙ tied.front.is_found_order.is_complete
+
+  pub is_left : cursors_of found.taken left.log < log_length s left.log
+  is_left = some_left s (cursors_of found.taken) left.log tied.is_first
+
+  pub goes_round_from : (r : Result Knot AllocError) → IfOk r (IsCircleAt s (cursors_of found.taken) left.log) → IfOk r (IsCircle s)
+  goes_round_from (Ok knot) at = goes_round s (cursors_of found.taken) left.log left.line knot tied.is_knot (tied.is_line ∙ ap (λ (p : ℕ). line_of s (left.log, p)) tied.is_next) at
+  goes_round_from (Err e) at = tt
 
 -- what is known while the records are gone through
 pub record IsGoing (s : Recorded) (c : Cursors) (first log : LogName) (waits : List Waiting) (found : Cursors) : Type 0 where

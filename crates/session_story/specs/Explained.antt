@@ -21,16 +21,16 @@ use Rattle.session_story.specs.Pages.{IsHandover, IsPageStory, first_send}
 use Rattle.session_story.specs.Values.{IsInstead, IsOther}
 use Rattle.session_story.specs.Looks.{IsFurthestLook}
 use Rattle.session_story.specs.Counted.{IsCounts}
-use Rattle.session_story.specs.Waits.{IsCircle, TakesAll}
+use Rattle.session_story.specs.Waits.{IsCircle}
 use Rattle.session_story.specs.declared.looks.Look.{Look}
 use Rattle.session_story.specs.declared.values.Held.{Held}
 use Rattle.session_story.specs.declared.faults.Detail.{Detail}
 use Rattle.session_story.specs.declared.faults.Detail.TheVariants.{Instead, Seen, Other, Plain}
-use Rattle.session_story.specs.declared.faults.Wrong.{Wrong}
+use Rattle.session_story.specs.declared.contents.Wrong.{Wrong}
 use Rattle.session_story.specs.declared.faults.Cause.{Cause}
 use Rattle.session_story.specs.declared.faults.Cause.TheVariants.{Sent, Placed, Unplaced}
 use Rattle.session_story.specs.declared.faults.FaultStory.{FaultStory}
-use Rattle.session_story.specs.declared.shapes.ShapeStory.{ShapeStory}
+use Rattle.session_story.specs.declared.faults.ShapeStory.{ShapeStory}
 use Rattle.session_story.specs.declared.explaining.Explanation.{Explanation}
 use Rattle.session_story.specs.declared.explaining.Explanation.TheVariants as told
 use Rattle.cert_check.specs.declared.verdict.ShapeFault.{ShapeFault}
@@ -122,31 +122,27 @@ IsToldCause s reason n page cause = MatchOption cause ((c : Cause) → IsCause s
 
 -- the report's fault, which is the session's first of a page and stands at this line, with its page's story
 pub record IsFaultStory (s : Recorded) (line : ℕ) (fault : PageFault) (f : FaultStory) : Type 0 where
-  pub is_line : line ≡ line_of s (f.log, f.place)
-  pub is_log : f.log ≡ fault.log
-  pub is_place : f.place ≡ fault.place
-  pub is_reason : f.reason ≡ fault.reason
-  pub is_first : IsFirstPageFault s f.reason (f.log, f.place)
-  pub is_of : page_at s (f.log, f.place) ≡ Some f.page.page
+  pub is_line : line ≡ line_of s (fault.log, fault.place)
+  pub is_fault : f.fault ≡ fault
+  pub is_first : IsFirstPageFault s fault.reason (fault.log, fault.place)
+  pub is_of : page_at s (fault.log, fault.place) ≡ Some f.page.page
   pub page : IsPageStory s f.page.page f.page
   pub handover : IsHandover s f.handover
-  pub detail : IsDetail s f.reason f.log f.place f.page.page f.detail
-  pub cause : IsToldCause s f.reason f.place f.page.page f.cause
+  pub detail : IsDetail s fault.reason fault.log fault.place f.page.page f.detail
+  pub cause : IsToldCause s fault.reason fault.place f.page.page f.cause
 
 -- the first record that has not the right shape, and what was of its kind before
 pub record IsShapeStory (s : Recorded) (fault : ShapeFault) (t : ShapeStory) : Type 0 where
-  pub is_line : fault.line ≡ line_of s (t.log, t.place)
-  pub is_log : t.log ≡ fault.log
-  pub is_place : t.place ≡ fault.place
-  pub is_reason : t.reason ≡ fault.reason
-  pub is_first : IsFirstFault s t.reason (t.log, t.place)
+  pub is_line : fault.line ≡ line_of s (fault.log, fault.place)
+  pub is_fault : t.fault ≡ fault
+  pub is_first : IsFirstFault s fault.reason (fault.log, fault.place)
   pub handover : IsHandover s t.handover
-  pub sent : t.sent ≡ first_send s (t.log, t.place)
+  pub sent : t.sent ≡ first_send s (fault.log, fault.place)
 
 -- what is told of a session with this report
 abbrev pub IsExplanation : Recorded → Report → Explanation → Type 0
 IsExplanation s (report.Shape fault) (told.Shape story) = IsShapeStory s fault story
-IsExplanation s (report.Knot left) (told.Knot knot) = MatchOption knot (TakesAll s) (IsCircle s)
+IsExplanation s (report.Knot left found) (told.Knot knot) = IsCircle s knot
 IsExplanation s (report.Faulty line fault order) (told.Faulty story) = IsFaultStory s line fault story
 IsExplanation s (report.Clean cert) (told.Clean counts) = IsCounts s cert.entries counts
 IsExplanation s _ _ = ⊥

@@ -1,11 +1,8 @@
 -- Records that wait for one another.
-use Rattle.std.specs.Prelude.{◌≡◌, ℕ, suc, ◌<◌, ◌≤◌, length, Some, None, slice_get}
+use Rattle.std.specs.Prelude.{◌≡◌, ℕ, suc, ◌<◌, ◌≤◌, length, Some, slice_get}
 use Rattle.migration_types.specs.Sessions.{Recorded, line_of}
 use Rattle.audit_model.specs.Names.{receipt}
 use Rattle.audit_model.specs.FoundOrder.{IsKnot}
-use Rattle.audit_model.specs.Mergings.{Cursors}
-use Rattle.merge_runs.specs.Taken.{first_left}
-use Rattle.cert_maker.specs.Orders.{IsTakenInOrder}
 use Rattle.session_story.specs.declared.waits.Waiting.{Waiting}
 use Rattle.session_story.specs.declared.waits.Knot.{Knot}
 
@@ -22,9 +19,3 @@ pub record IsCircle (s : Recorded) (k : Knot) : Type 0 where
   pub receives : (i : ℕ) (w : Waiting) → slice_get k.waits.items i ≡ Some w → receipt s (w.log, w.place) ≡ Some (w.sent_log, w.sent_place)
   pub goes_on : (i : ℕ) (w other : Waiting) → slice_get k.waits.items i ≡ Some w → slice_get k.waits.items (suc i) ≡ Some other → WaitsFor w other
   pub closes : (last : ℕ) (w : Waiting) → length k.waits.items ≡ suc last → slice_get k.waits.items last ≡ Some w → (other : Waiting) × (slice_get k.waits.items k.back ≡ Some other) × WaitsFor w other
-
--- the found order takes all records
-pub record TakesAll (s : Recorded) : Type 0 where
-  pub taken : Cursors
-  pub is_taken : IsTakenInOrder s taken
-  pub none_left : first_left s taken ≡ None

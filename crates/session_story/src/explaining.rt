@@ -6,8 +6,7 @@ ghost use Rattle.session_story.specs.Counted.{IsCounts};
 ghost use Rattle.session_story.specs.Explained.{IsExplanation};
 
 use crate::counting::{Counts, counts_of};
-use crate::faults::{FaultStory, fault_at};
-use crate::shapes::{ShapeStory, shape_at};
+use crate::faults::{FaultStory, ShapeStory, fault_at, shape_at};
 use crate::waits::{Knot, circle_of};
 use audit_report::Report;
 use migration_types::{Cert, Session};
@@ -19,7 +18,7 @@ pub enum Explanation {
     /// A record that has not the right shape.
     Shape(ShapeStory),
     /// There is no order of the records: some wait for one another.
-    Knot(Option<Knot>),
+    Knot(Knot),
     /// A fault of a page.
     Faulty(FaultStory),
     /// It is clean.
@@ -42,7 +41,9 @@ pub fn explain(alloc: Global, session: &Session, report: &Report) -> Result<Expl
 {
     match report {
         Report::Shape(fault) => Ok(Explanation::Shape(shape_at(session, fault))),
-        Report::Knot(_) => Ok(Explanation::Knot(circle_of(alloc, session)?)),
+        Report::Knot { left, found } => {
+            Ok(Explanation::Knot(circle_of(alloc, session, left, found)?))
+        }
         Report::Faulty { fault, .. } => Ok(Explanation::Faulty(fault_at(alloc, session, fault)?)),
         Report::Clean(cert) => Ok(Explanation::Clean(clean_counts(session, cert))),
     }

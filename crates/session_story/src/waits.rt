@@ -6,11 +6,12 @@ ghost use Rattle.merge_runs.specs.Taken.{cursors_of};
 ghost use Rattle.audit_model.specs.Names.{log_length, receipt};
 ghost use Rattle.audit_model.specs.Shape.{IsRightShape};
 ghost use Rattle.audit_model.specs.FoundOrder.{first_ready};
-ghost use Rattle.session_story.specs.Waits.{IsCircle, TakesAll};
+ghost use Rattle.cert_maker.specs.Orders.{IsTied};
+ghost use Rattle.session_story.specs.Waits.{IsCircle};
 ghost use Rattle.session_story.specs.inner.Waits.{IsNext, IsCircleAt};
 
-use cert_maker::taken_in_order;
-use merge_runs::{Taken, first_left};
+use cert_maker::{FoundRuns, Left};
+use merge_runs::Taken;
 use migration_types::{LogName, Session};
 use std::alloc::{AllocError, Global};
 
@@ -81,16 +82,18 @@ fn circle_from(
     Ok(Knot { waits, back })
 }
 
-/// The records of a knot that wait for one another, from the one at the knot's line on. Takes each record once, and
-/// memory for the runs of the found order, which is the only error.
-pub fn circle_of(alloc: Global, session: &Session) -> Result<Option<Knot>, AllocError>
-    requires { IsRightShape session.now }
-    ensures { IfOk result (λ knot. MatchOption knot (TakesAll session.now) (IsCircle session.now)) }
+/// The records of a knot that wait for one another, from the one at the knot's line on. Looks at one record of each log,
+/// and takes memory for what these wait for, which is the only error.
+pub fn circle_of(
+    alloc: Global,
+    session: &Session,
+    left: &Left,
+    found: &FoundRuns,
+) -> Result<Knot, AllocError>
+    requires shape { IsRightShape session.now }
+    requires tied { IsTied session.now left.now found.now }
+    ensures { IfOk result (IsCircle session.now) }
 {
     session.keeps_limits();
-    let taken = taken_in_order(alloc, session)?;
-    match first_left(session, &taken) {
-        Some(first) => Ok(Some(circle_from(alloc, session, &taken, first)?)),
-        None => Ok(None),
-    }
+    circle_from(alloc, session, &found.taken, left.log)
 }

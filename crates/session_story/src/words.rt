@@ -74,8 +74,7 @@ pub(crate) fn words_of(
     let mut out = String::new(alloc);
     match explanation {
         Explanation::Shape(story) => push_shape_story(&mut out, session, story)?,
-        Explanation::Knot(Some(knot)) => push_knot(&mut out, session, knot)?,
-        Explanation::Knot(None) => {}
+        Explanation::Knot(knot) => push_knot(&mut out, session, knot)?,
         Explanation::Faulty(fault) => push_fault(&mut out, session, fault)?,
         Explanation::Clean(counts) => push_counts(&mut out, session.version(), counts)?,
     }

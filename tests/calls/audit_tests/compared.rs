@@ -101,7 +101,7 @@ fn agrees_on_orders(alloc: Global, session: &Session, numbers: &mut Numbers) -> 
             agrees_on_order(alloc, session, runs.as_slice())
                 && agrees_on_swapped(alloc, session, runs.as_slice(), numbers)
         }
-        Ok(Order::Knot(_)) => true,
+        Ok(Order::Knot { .. }) => true,
         Err(_) => false,
     }
 }
@@ -154,7 +154,7 @@ fn agrees_on_report<R: Threads + Sync>(
             shape_fault(session) == Some((fault.line, fault.reason))
                 && line_of(session, fault.log, fault.place) == fault.line
         }
-        Report::Knot(left) => {
+        Report::Knot { left, .. } => {
             shape_fault(session) == None && line_of(session, left.log, left.place) == left.line
         }
         Report::Clean(cert) => is_clean(rt, alloc, session, cert),
@@ -184,7 +184,7 @@ fn is_faulty(alloc: Global, session: &Session, fault: (u32, PageReason), order: 
 fn count_report(report: &Report, answers: &mut Answers) {
     match report {
         Report::Shape(fault) => count(&mut answers.shape[fault.reason as usize]),
-        Report::Knot(_) => count(&mut answers.knots),
+        Report::Knot { .. } => count(&mut answers.knots),
         Report::Clean(_) => count(&mut answers.clean),
         Report::Faulty { fault, .. } => count(&mut answers.page[fault.reason as usize]),
     }

@@ -65,7 +65,7 @@ fn is_certified(alloc: Global, session: &Session, text: &str) -> bool {
 /// Whether a session's logs are told as a knot, which shows at this line.
 fn is_knot(alloc: Global, session: &Session, line: u32) -> bool {
     match find_order(alloc, session) {
-        Ok(Order::Knot(left)) => {
+        Ok(Order::Knot { left, .. }) => {
             left.line == line && line_of(session, left.log, left.place) == line
         }
         _ => false,
