@@ -14,8 +14,8 @@ use audit_report::audit;
 use cert_text::RunsReader;
 use command_texts::{ACCEPTED, Answer, Given, OnOne, OnTwo, REFUSED, given, refused};
 use migration_types::{Run, Seq, Session};
-use order_picture::{Shown, picture_text, plan, plan_along};
-use report_text::push_refused_session;
+use order_picture::{print_picture, print_picture_along};
+use report_text::print_refused_session;
 use session_text::SessionReader;
 use std::alloc::{AllocError, Global};
 use std::thread::Threads;
@@ -24,10 +24,8 @@ use std::thread::Threads;
 fn refused_session(alloc: Global, line: u32) -> Result<Answer, AllocError>
     ensures { IfOk result (λ answer. Says answer (refusal_text line) 1) }
 {
-    let mut text = Vec::new(alloc);
-    push_refused_session(&mut text, line)?;
     Ok(Answer {
-        text,
+        text: print_refused_session(alloc, line)?,
         status: REFUSED,
     })
 }
@@ -37,8 +35,7 @@ fn drawn<R: Threads + Sync>(rt: &R, alloc: Global, session: &Session) -> Result<
     ensures { IfOk result (λ text. IsSvg text.items) }
 {
     let report = audit(rt, alloc, session)?;
-    let picture = plan(alloc, session, &report)?;
-    picture_text(alloc, session, &report, &picture, Shown::Reported)
+    print_picture(alloc, session, &report)
 }
 
 /// The picture of a session along runs.
@@ -51,8 +48,7 @@ fn drawn_along<R: Threads + Sync>(
     ensures { IfOk result (λ text. IsSvg text.items) }
 {
     let report = audit(rt, alloc, session)?;
-    let picture = plan_along(alloc, session, &report, runs)?;
-    picture_text(alloc, session, &report, &picture, Shown::Given)
+    print_picture_along(alloc, session, &report, runs)
 }
 
 /// The picture of a session, by what was read of its text.

@@ -8,7 +8,7 @@ use Rattle.cert_text.specs.Grammar.{SpellsCert}
 use Rattle.audit_model.specs.Mergings.{spelled}
 use Rattle.audit_model.specs.World.{IsSafeOrder}
 use Rattle.cert_check.specs.declared.verdict.Verdict.{Verdict}
-use Rattle.cert_check.specs.declared.verdict.Verdict.TheVariants.{SessionText, CertText, Shape, Pages, Runs, Page, Yes}
+use Rattle.cert_check.specs.declared.verdict.Verdict.TheVariants.{SessionText, CertText}
 use Rattle.cert_check.specs.Verdicts.{IsVerdict}
 
 -- both texts are spellings, and this is the verdict on what they spell
@@ -29,11 +29,7 @@ pub record IsCertRefused (session cert : List ℕ) (line : ℕ) : Type 0 where
 abbrev pub IsTextVerdict : List ℕ → List ℕ → Verdict → Type 0
 IsTextVerdict session cert (SessionText line) = IsRefusalLine SpellsSession session line
 IsTextVerdict session cert (CertText line) = IsCertRefused session cert line
-IsTextVerdict session cert (Shape fault) = IsJudged session cert (Shape fault)
-IsTextVerdict session cert Pages = IsJudged session cert Pages
-IsTextVerdict session cert (Runs line) = IsJudged session cert (Runs line)
-IsTextVerdict session cert (Page line) = IsJudged session cert (Page line)
-IsTextVerdict session cert Yes = IsJudged session cert Yes
+IsTextVerdict session cert verdict = IsJudged session cert verdict
 
 -- the bytes spell exactly one session
 pub record SpellsOneSession (session : List ℕ) : Type 0 where

@@ -1,17 +1,14 @@
 //! The text that goes with the audit of a session's text.
 
-ghost use Rattle.std.specs.Prelude.{◌≡◌, [], ◌∷◌, IfOk};
-ghost use Rattle.text_lines.specs.Text.{ended};
+ghost use Rattle.std.specs.Prelude.{◌≡◌, IfOk};
 ghost use Rattle.audit_report.specs.Reports.{ReportFits};
-ghost use Rattle.report_text.specs.ReportText.{first_line};
 ghost use Rattle.judged_texts.specs.Audited.{AuditedFits};
-ghost use Rattle.report_text.specs.RefusalText.{refusal_text};
 ghost use Rattle.judged_texts.specs.AuditedText.{certificate_text, wanted_text, audited_text};
 
 use crate::auditing::Audited;
 use audit_report::Report;
 use cert_text::write_cert;
-use report_text::{print_report, push_first_line, push_refused_session};
+use report_text::{print_first_line, print_refused_session, print_report};
 use std::alloc::{AllocError, Global};
 
 /// What of an audit is told.
@@ -23,31 +20,15 @@ pub enum Wanted {
     Certificate,
 }
 
-/// The line of a text that is refused.
-fn refusal(alloc: Global, line: u32) -> Result<Vec<u8>, AllocError>
-    ensures { IfOk result (λ text. text.items ≡ refusal_text line) }
-{
-    let mut text = Vec::new(alloc);
-    push_refused_session(&mut text, line)?;
-    Ok(text)
-}
-
-/// The first line of a report.
-fn summary(alloc: Global, report: &Report) -> Result<Vec<u8>, AllocError>
-    ensures { IfOk result (λ text. text.items ≡ ended (first_line report.now ∷ [])) }
-{
-    let mut text = Vec::new(alloc);
-    push_first_line(&mut text, report)?;
-    Ok(text)
-}
-
 /// The certificate of a clean session, and of another the first line of the report.
 fn certificate(alloc: Global, report: &Report) -> Result<Vec<u8>, AllocError>
     ensures { IfOk result (λ text. text.items ≡ certificate_text report.now) }
 {
     match report {
         Report::Clean(cert) => write_cert(alloc, cert),
-        Report::Shape(_) | Report::Knot(_) | Report::Faulty { .. } => summary(alloc, report),
+        Report::Shape(_) | Report::Knot { .. } | Report::Faulty { .. } => {
+            print_first_line(alloc, report)
+        }
     }
 }
 
@@ -73,7 +54,7 @@ pub fn print_audited(
     ensures { IfOk result (λ text. text.items ≡ audited_text wanted audited.now) }
 {
     match audited {
-        Audited::Refused(line) => refusal(alloc, *line),
+        Audited::Refused(line) => print_refused_session(alloc, *line),
         Audited::Reported(report) => wanted_of(alloc, report, wanted),
     }
 }

@@ -16,4 +16,4 @@ mod words;
 
 pub use focus::{Focus, Mark};
 pub use picture::{MOST_ROWS, Picture, Row, plan, plan_along};
-pub use svg::{Shown, picture_text};
+pub use svg::{Shown, picture_text, print_picture, print_picture_along};

@@ -95,6 +95,36 @@ impl Columns {
     }
 }
 
+/// Where a record's box is: in the column of its log, in a row.
+#[derive(Clone, Copy)]
+pub(crate) struct Seat {
+    pub columns: Columns,
+    pub log: LogName,
+    pub row: usize,
+}
+
+impl Seat {
+    /// The left edge of the box.
+    fn left(self) -> u64 {
+        self.columns.left(self.log)
+    }
+
+    /// Where an arrow meets the box on the side of another log.
+    fn side(self, other: LogName) -> u64 {
+        self.columns.side(self.log, other)
+    }
+
+    /// The upper edge of the row.
+    fn top(self) -> u64 {
+        top_of(self.row)
+    }
+
+    /// The middle of the row.
+    fn middle(self) -> u64 {
+        middle_of(self.row)
+    }
+}
+
 /// Half the width of a box in a log's column.
 fn half(log: LogName) -> u64 {
     match log {
@@ -164,13 +194,7 @@ fn paint(look: Look) -> &'static [u8] {
 }
 
 /// Adds the sign of the faulty record, a cross, or of what it concerns, a diamond, at the right of its box.
-fn push_sign(
-    out: &mut Vec<u8>,
-    columns: Columns,
-    look: Look,
-    log: LogName,
-    row: usize,
-) -> Result<(), AllocError> {
+fn push_sign(out: &mut Vec<u8>, seat: Seat, look: Look) -> Result<(), AllocError> {
     let sign: &[u8] = match look {
         Look::Marked(Mark::Faulty) => {
             b")'><path class='cross' d='M-4 -4L4 4M-4 4L4 -4' fill='none' stroke='#c21e1e' stroke-width='2.5'/></g>"
@@ -180,41 +204,30 @@ fn push_sign(
         }
         _ => return Ok(()),
     };
-    let x = columns.right(log).saturating_sub(12);
+    let x = seat.columns.right(seat.log).saturating_sub(12);
     push_with(out, b"<g transform='translate(", x)?;
-    push_with(out, b" ", middle_of(row))?;
+    push_with(out, b" ", seat.middle())?;
     push(out, sign)
 }
 
 /// Adds a record's box, with its sign.
-pub(crate) fn push_box(
-    out: &mut Vec<u8>,
-    columns: Columns,
-    look: Look,
-    log: LogName,
-    row: usize,
-) -> Result<(), AllocError> {
+pub(crate) fn push_box(out: &mut Vec<u8>, seat: Seat, look: Look) -> Result<(), AllocError> {
     push(out, b"<rect")?;
-    push_attribute(out, b"x", columns.left(log))?;
-    push_attribute(out, b"y", top_of(row).saturating_add(3))?;
-    push_attribute(out, b"width", half(log).saturating_mul(2))?;
+    push_attribute(out, b"x", seat.left())?;
+    push_attribute(out, b"y", seat.top().saturating_add(3))?;
+    push_attribute(out, b"width", half(seat.log).saturating_mul(2))?;
     push_attribute(out, b"height", BOX)?;
     push(out, b" rx='4'")?;
     push(out, paint(look))?;
     push(out, b"/>")?;
-    push_sign(out, columns, look, log, row)
+    push_sign(out, seat, look)
 }
 
 /// Begins a text at the left of a record's box.
-pub(crate) fn begin_label(
-    out: &mut Vec<u8>,
-    columns: Columns,
-    log: LogName,
-    row: usize,
-) -> Result<(), AllocError> {
+pub(crate) fn begin_label(out: &mut Vec<u8>, seat: Seat) -> Result<(), AllocError> {
     push(out, b"<text class='ink' fill='#1f2328'")?;
-    push_attribute(out, b"x", columns.left(log).saturating_add(7))?;
-    push_attribute(out, b"y", top_of(row).saturating_add(17))?;
+    push_attribute(out, b"x", seat.left().saturating_add(7))?;
+    push_attribute(out, b"y", seat.top().saturating_add(17))?;
     push(out, b">")
 }
 
@@ -252,32 +265,26 @@ fn begin_line(out: &mut Vec<u8>, x1: u64, y1: u64, x2: u64, y2: u64) -> Result<(
     push_attribute(out, b"y2", y2)
 }
 
-/// Adds the line down a log's column, up to behind so many rows.
-pub(crate) fn push_column(
-    out: &mut Vec<u8>,
-    columns: Columns,
-    log: LogName,
-    rows: usize,
-) -> Result<(), AllocError> {
-    let x = columns.middle(log);
-    begin_line(out, x, TOP - 6, x, top_of(rows))?;
+/// Adds the line down a log's column, as far as a row behind all others.
+pub(crate) fn push_column(out: &mut Vec<u8>, end: Seat) -> Result<(), AllocError> {
+    let x = end.columns.middle(end.log);
+    begin_line(out, x, TOP - 6, x, end.top())?;
     push(out, b" class='life' stroke='#d1d9e0'/>")
 }
 
 /// Adds an arrow from one record to another, of the page's colour or not.
 pub(crate) fn push_arrow(
     out: &mut Vec<u8>,
-    columns: Columns,
-    from: (LogName, usize),
-    to: (LogName, usize),
+    from: Seat,
+    to: Seat,
     of_page: bool,
 ) -> Result<(), AllocError> {
     begin_line(
         out,
-        columns.side(from.0, to.0),
-        middle_of(from.1),
-        columns.side(to.0, from.0),
-        middle_of(to.1),
+        from.side(to.log),
+        from.middle(),
+        to.side(from.log),
+        to.middle(),
     )?;
     if of_page {
         push(
@@ -293,20 +300,14 @@ pub(crate) fn push_arrow(
 }
 
 /// Adds the end of an arrow from a record that has no row.
-pub(crate) fn push_stub(
-    out: &mut Vec<u8>,
-    columns: Columns,
-    sender: LogName,
-    log: LogName,
-    row: usize,
-) -> Result<(), AllocError> {
-    let x = columns.side(log, sender);
-    let from = if columns.are_in_order(sender, log) {
+pub(crate) fn push_stub(out: &mut Vec<u8>, seat: Seat, sender: LogName) -> Result<(), AllocError> {
+    let x = seat.side(sender);
+    let from = if seat.columns.are_in_order(sender, seat.log) {
         x.saturating_sub(22)
     } else {
         x.saturating_add(22)
     };
-    begin_line(out, from, middle_of(row), x, middle_of(row))?;
+    begin_line(out, from, seat.middle(), x, seat.middle())?;
     push(
         out,
         b" class='arrow' stroke='#6e7781' stroke-width='1.2' stroke-dasharray='3 2' marker-end='url(#head)'/>",

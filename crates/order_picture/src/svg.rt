@@ -5,16 +5,16 @@ ghost use Rattle.order_picture.specs.Svg.{IsSvg};
 
 use crate::focus::Mark;
 use crate::labels::push_label;
-use crate::picture::{Picture, Row};
+use crate::picture::{Picture, Row, plan, plan_along};
 use crate::records::Name;
 use crate::shapes::{
-    Columns, Look, begin_fold, begin_label, begin_margin, push_arrow, push_attribute, push_box,
-    push_column, push_stub, row_class, top_of,
+    Columns, Look, Seat, begin_fold, begin_label, begin_margin, push_arrow, push_attribute,
+    push_box, push_column, push_stub, row_class, top_of,
 };
-use crate::words::{push, push_log, push_name, push_title, push_with};
+use crate::words::{Told, push, push_counts, push_log, push_many, push_told, push_with, sum_of};
 use audit_report::Report;
 use merge_runs::{Taken, all_of};
-use migration_types::{LogName, Session, logs};
+use migration_types::{LogName, Run, Session, logs};
 use report_text::push_first_line;
 use session_story::{line_at, page_reason, shape_reason};
 use std::alloc::{AllocError, Global};
@@ -26,6 +26,15 @@ pub enum Shown {
     Reported,
     /// That of given runs.
     Given,
+}
+
+/// What is drawn.
+#[derive(Clone, Copy)]
+struct Scene<'a> {
+    session: &'a Session,
+    report: &'a Report,
+    picture: &'a Picture,
+    shown: Shown,
 }
 
 const OPENING: &[u8] = b"<svg ";
@@ -100,40 +109,6 @@ fn end_text(out: &mut Vec<u8>) -> Result<(), AllocError> {
     push(out, b"</text>\n")
 }
 
-/// Adds how many records each log has, by these counts.
-fn push_counts(out: &mut Vec<u8>, count_of: &Taken) -> Result<(), AllocError> {
-    let mut is_first = true;
-    for log in logs() {
-        let count = count_of.of(log);
-        if count > 0 {
-            push(out, if is_first { b": " } else { b", " })?;
-            push_log(out, log)?;
-            push_with(out, b" ", count as u64)?;
-            is_first = false;
-        }
-    }
-    Ok(())
-}
-
-/// How many records there are by these counts.
-fn sum_of(counts: &Taken) -> u64 {
-    let mut sum: u64 = 0;
-    for log in logs() {
-        sum = sum.saturating_add(counts.of(log) as u64);
-    }
-    sum
-}
-
-/// Adds so many of something.
-fn push_many(out: &mut Vec<u8>, count: u64, one: &[u8]) -> Result<(), AllocError> {
-    push_with(out, b"", count)?;
-    push(out, one)?;
-    if count != 1 {
-        push(out, b"s")?;
-    }
-    Ok(())
-}
-
 /// Adds what the machine and the logs are.
 fn push_facts(out: &mut Vec<u8>, session: &Session) -> Result<(), AllocError> {
     let geometry = session.geometry();
@@ -147,16 +122,12 @@ fn push_facts(out: &mut Vec<u8>, session: &Session) -> Result<(), AllocError> {
 }
 
 /// Adds which order is shown.
-fn push_shown(
-    out: &mut Vec<u8>,
-    report: &Report,
-    picture: &Picture,
-    shown: Shown,
-) -> Result<(), AllocError> {
-    match shown {
+fn push_shown(out: &mut Vec<u8>, scene: &Scene<'_>) -> Result<(), AllocError> {
+    let bad = scene.picture.bad;
+    match scene.shown {
         Shown::Given => {
             push(out, b"Along the given runs")?;
-            match picture.bad {
+            match bad {
                 Some(place) => {
                     let line = (place as u64).saturating_add(3);
                     push_with(out, b", which are no merging: up to line ", line)?;
@@ -165,9 +136,9 @@ fn push_shown(
                 None => Ok(()),
             }
         }
-        Shown::Reported => match report {
+        Shown::Reported => match scene.report {
             Report::Faulty { .. } => push(out, b"In an order in which it goes wrong"),
-            _ => match picture.bad {
+            _ => match bad {
                 Some(_) => push(out, b"In the found order, as far as it goes"),
                 None => push(out, b"In the found order"),
             },
@@ -176,23 +147,18 @@ fn push_shown(
 }
 
 /// Adds what is wrong.
-fn push_wrong(
-    out: &mut Vec<u8>,
-    session: &Session,
-    report: &Report,
-    picture: &Picture,
-) -> Result<(), AllocError> {
-    let reason = match report {
+fn push_wrong(out: &mut Vec<u8>, scene: &Scene<'_>) -> Result<(), AllocError> {
+    let reason = match scene.report {
         Report::Faulty { fault, .. } => page_reason(fault.reason),
         Report::Shape(fault) => shape_reason(fault.reason),
-        Report::Knot(_) => return push(
+        Report::Knot { .. } => return push(
             out,
             b"The logs have no merging: no next record can be taken",
         ),
         Report::Clean(_) => return push(out, b"The session is safe in every merging"),
     };
-    match picture.focus.fault {
-        Some(name) => push_name(out, session, name)?,
+    match scene.picture.focus.fault {
+        Some(name) => push_told(out, scene.session, name, Told::Place)?,
         None => push(out, b"the record")?,
     }
     push(out, b": ")?;
@@ -200,46 +166,35 @@ fn push_wrong(
 }
 
 /// Adds the heading.
-fn push_heading(
-    out: &mut Vec<u8>,
-    session: &Session,
-    report: &Report,
-    picture: &Picture,
-    shown: Shown,
-) -> Result<(), AllocError> {
+fn push_heading(out: &mut Vec<u8>, scene: &Scene<'_>) -> Result<(), AllocError> {
     push(
         out,
         b"<text class='ink' fill='#1f2328' x='20' y='30' font-size='18' font-weight='bold'>",
     )?;
-    push_first_line(out, report)?;
+    push_first_line(out, scene.report)?;
     end_text(out)?;
     begin_heading(out, 52)?;
-    push_wrong(out, session, report, picture)?;
+    push_wrong(out, scene)?;
     end_text(out)?;
     begin_heading(out, 72)?;
-    push_shown(out, report, picture, shown)?;
+    push_shown(out, scene)?;
     end_text(out)?;
     push(out, b"<text class='soft' fill='#59636e' x='20' y='92'>")?;
-    push_facts(out, session)?;
+    push_facts(out, scene.session)?;
     end_text(out)
 }
 
 /// Adds a column's name, and the line down it.
-fn push_column_of(
-    out: &mut Vec<u8>,
-    columns: Columns,
-    log: LogName,
-    rows: usize,
-) -> Result<(), AllocError> {
+fn push_column_of(out: &mut Vec<u8>, end: Seat) -> Result<(), AllocError> {
     push(
         out,
         b"<text class='ink' fill='#1f2328' font-weight='bold' text-anchor='middle' y='120'",
     )?;
-    push_attribute(out, b"x", columns.middle(log))?;
+    push_attribute(out, b"x", end.columns.middle(end.log))?;
     push(out, b">")?;
-    push_log(out, log)?;
+    push_log(out, end.log)?;
     end_text(out)?;
-    push_column(out, columns, log, rows)?;
+    push_column(out, end)?;
     push(out, b"\n")
 }
 
@@ -251,7 +206,8 @@ fn push_columns(out: &mut Vec<u8>, columns: Columns, rows: usize) -> Result<(), 
     )?;
     for log in logs() {
         if columns.has(log) {
-            push_column_of(out, columns, log, rows)?;
+            let row = rows;
+            push_column_of(out, Seat { columns, log, row })?;
         }
     }
     Ok(())
@@ -265,10 +221,14 @@ fn stands_out(row: Option<&Row>) -> bool {
     }
 }
 
-/// The column and the place of a record's row.
-fn seat_of(rows: &[Row], place: usize) -> Option<(LogName, usize)> {
-    match rows.get(place) {
-        Some(Row::Record { log, .. }) => Some((*log, place)),
+/// Where the record of a row is, if the row has one.
+fn seat_of(columns: Columns, rows: &[Row], row: usize) -> Option<Seat> {
+    match rows.get(row) {
+        Some(Row::Record { log, .. }) => Some(Seat {
+            columns,
+            log: *log,
+            row,
+        }),
         _ => None,
     }
 }
@@ -292,17 +252,21 @@ fn push_received(
     let Some(sent) = session.named((*log, *number)) else {
         return Ok(());
     };
-    let columns = Columns::of(session);
+    let seat = Seat {
+        columns: Columns::of(session),
+        log: *log,
+        row: place,
+    };
     let sender = picture.senders.get(place).copied().unwrap_or(None);
     match sender {
         Some(from) => {
             let of_page = stands_out(Some(row)) && stands_out(picture.rows.get(from));
-            match seat_of(&picture.rows, from) {
-                Some(seat) => push_arrow(out, columns, seat, (*log, place), of_page)?,
+            match seat_of(seat.columns, &picture.rows, from) {
+                Some(from) => push_arrow(out, from, seat, of_page)?,
                 None => {}
             }
         }
-        None => push_stub(out, columns, sent.0, *log, place)?,
+        None => push_stub(out, seat, sent.0)?,
     }
     push(out, b"\n")
 }
@@ -311,18 +275,17 @@ fn push_received(
 fn push_seat(
     out: &mut Vec<u8>,
     session: &Session,
+    seat: Seat,
     name: Name,
     look: Look,
-    row: usize,
 ) -> Result<(), AllocError> {
-    let columns = Columns::of(session);
     if let Some(line) = line_at(session, name.0, name.1) {
-        begin_margin(out, row)?;
+        begin_margin(out, seat.row)?;
         push_with(out, b"", u64::from(line))?;
         push(out, b"</text>")?;
     }
-    push_box(out, columns, look, name.0, row)?;
-    begin_label(out, columns, name.0, row)?;
+    push_box(out, seat, look)?;
+    begin_label(out, seat)?;
     push_with(
         out,
         b"<tspan class='soft' fill='#59636e'>",
@@ -333,31 +296,27 @@ fn push_seat(
     push(out, b"</tspan></text></g>\n")
 }
 
-/// Begins the group of a record, with its title.
-fn begin_record(
-    out: &mut Vec<u8>,
-    session: &Session,
-    name: Name,
-    look: Look,
-) -> Result<(), AllocError> {
-    push(out, b"<g class='")?;
-    push(out, row_class(look))?;
-    push(out, b"'><title>")?;
-    push_title(out, session, name)
-}
-
-/// Adds the row of a record.
+/// Adds the row of a record, with a note behind its title.
 fn push_record_row(
     out: &mut Vec<u8>,
     session: &Session,
     name: Name,
-    mark: Mark,
+    look: Look,
     row: usize,
+    note: &[u8],
 ) -> Result<(), AllocError> {
-    let look = Look::Marked(mark);
-    begin_record(out, session, name, look)?;
+    push(out, b"<g class='")?;
+    push(out, row_class(look))?;
+    push(out, b"'><title>")?;
+    push_told(out, session, name, Told::Record)?;
+    push(out, note)?;
     push(out, b"</title>")?;
-    push_seat(out, session, name, look, row)
+    let seat = Seat {
+        columns: Columns::of(session),
+        log: name.0,
+        row,
+    };
+    push_seat(out, session, seat, name, look)
 }
 
 /// Adds the row of what is folded.
@@ -377,15 +336,12 @@ fn push_left_row(
     name: Name,
     row: usize,
 ) -> Result<(), AllocError> {
-    begin_record(out, session, name, Look::Stuck)?;
-    let named = session.named(name);
-    if taken.received(named) {
-        push(out, b"; not taken")?;
+    let note: &[u8] = if taken.received(session.named(name)) {
+        b"; not taken"
     } else {
-        push(out, b"; cannot be taken: what it receives was not")?;
-    }
-    push(out, b"</title>")?;
-    push_seat(out, session, name, Look::Stuck, row)
+        b"; cannot be taken: what it receives was not"
+    };
+    push_record_row(out, session, name, Look::Stuck, row, note)
 }
 
 /// Adds the rows.
@@ -396,7 +352,7 @@ fn push_rows(out: &mut Vec<u8>, session: &Session, picture: &Picture) -> Result<
     for (at, row) in picture.rows.iter().enumerate() {
         match row {
             Row::Record { log, place, mark } => {
-                push_record_row(out, session, (*log, *place), *mark, at)?
+                push_record_row(out, session, (*log, *place), Look::Marked(*mark), at, b"")?
             }
             Row::Fold(counts) => push_fold_row(out, counts, at)?,
         }
@@ -428,13 +384,9 @@ fn push_legend(out: &mut Vec<u8>, rows: usize) -> Result<(), AllocError> {
 }
 
 /// Adds what stands between the opening and the closing tag.
-fn push_inside(
-    out: &mut Vec<u8>,
-    session: &Session,
-    report: &Report,
-    picture: &Picture,
-    shown: Shown,
-) -> Result<(), AllocError> {
+fn push_inside(out: &mut Vec<u8>, scene: &Scene<'_>) -> Result<(), AllocError> {
+    let session = scene.session;
+    let picture = scene.picture;
     let left = left_count(session, &picture.taken);
     let rows = picture.rows.len().saturating_add(left);
     let columns = Columns::of(session);
@@ -449,14 +401,14 @@ fn push_inside(
         out,
         b"' font-family='system-ui, sans-serif' font-size='12'>\n<title>",
     )?;
-    push_first_line(out, report)?;
+    push_first_line(out, scene.report)?;
     push(out, b"</title>\n")?;
     push(out, STYLE)?;
     push(
         out,
         b"<rect class='paper' fill='#ffffff' width='100%' height='100%'/>\n",
     )?;
-    push_heading(out, session, report, picture, shown)?;
+    push_heading(out, scene)?;
     push_columns(out, columns, rows)?;
     push_rows(out, session, picture)?;
     push_left(out, session, picture)?;
@@ -475,10 +427,42 @@ pub fn picture_text(
     ensures { IfOk result (λ text. IsSvg text.items) }
 {
     let mut inside = Vec::new(alloc);
-    push_inside(&mut inside, session, report, picture, shown)?;
+    let scene = Scene {
+        session,
+        report,
+        picture,
+        shown,
+    };
+    push_inside(&mut inside, &scene)?;
     let mut text = Vec::new(alloc);
     text.extend_from_slice(OPENING)?;
     text.extend_from_slice(&inside)?;
     text.extend_from_slice(CLOSING)?;
     Ok(text)
+}
+
+/// The picture of a session in the order of its report. Takes what [`plan`] takes, and memory for the text, which is the
+/// only error.
+pub fn print_picture(
+    alloc: Global,
+    session: &Session,
+    report: &Report,
+) -> Result<Vec<u8>, AllocError>
+    ensures { IfOk result (λ text. IsSvg text.items) }
+{
+    let picture = plan(alloc, session, report)?;
+    picture_text(alloc, session, report, &picture, Shown::Reported)
+}
+
+/// The picture of a session along runs, with its report above it. Takes as much.
+pub fn print_picture_along(
+    alloc: Global,
+    session: &Session,
+    report: &Report,
+    runs: &[Run],
+) -> Result<Vec<u8>, AllocError>
+    ensures { IfOk result (λ text. IsSvg text.items) }
+{
+    let picture = plan_along(alloc, session, report, runs)?;
+    picture_text(alloc, session, report, &picture, Shown::Given)
 }

@@ -1,7 +1,8 @@
-//! Records in words.
+//! Records and their counts in words.
 
 use crate::records::Name;
-use migration_types::{LogName, Session};
+use merge_runs::Taken;
+use migration_types::{LogName, Session, logs};
 use session_story::{push_place, push_record};
 use std::alloc::AllocError;
 use text_lines::push_number;
@@ -22,24 +23,61 @@ pub(crate) fn push_log(out: &mut Vec<u8>, log: LogName) -> Result<(), AllocError
     push(out, log.word().as_bytes())
 }
 
-/// Adds where a record stands, as in "line 27 (pager 5)".
-pub(crate) fn push_name(
+/// What is told of a record.
+#[derive(Clone, Copy)]
+pub(crate) enum Told {
+    /// Where it stands, as in "line 27 (pager 5)".
+    Place,
+    /// That, and what it says, as in "line 12 (guest 5): virtual processor 0 reads 7 in cell 0 of page 1".
+    Record,
+}
+
+/// Adds what is told of a record.
+pub(crate) fn push_told(
     out: &mut Vec<u8>,
     session: &Session,
     name: Name,
+    told: Told,
 ) -> Result<(), AllocError> {
+    let (log, place) = name;
     let mut words = String::new(*out.allocator());
-    push_place(&mut words, session, name.0, name.1)?;
+    match told {
+        Told::Place => push_place(&mut words, session, log, place)?,
+        Told::Record => push_record(&mut words, session, log, place)?,
+    }
     push(out, words.as_bytes())
 }
 
-/// Adds a record in words, as in "line 12 (guest 5): virtual processor 0 reads 7 in cell 0 of page 1".
-pub(crate) fn push_title(
-    out: &mut Vec<u8>,
-    session: &Session,
-    name: Name,
-) -> Result<(), AllocError> {
-    let mut words = String::new(*out.allocator());
-    push_record(&mut words, session, name.0, name.1)?;
-    push(out, words.as_bytes())
+/// Adds how many records each log has, by these counts.
+pub(crate) fn push_counts(out: &mut Vec<u8>, count_of: &Taken) -> Result<(), AllocError> {
+    let mut is_first = true;
+    for log in logs() {
+        let count = count_of.of(log);
+        if count > 0 {
+            push(out, if is_first { b": " } else { b", " })?;
+            push_log(out, log)?;
+            push_with(out, b" ", count as u64)?;
+            is_first = false;
+        }
+    }
+    Ok(())
+}
+
+/// How many records there are by these counts.
+pub(crate) fn sum_of(counts: &Taken) -> u64 {
+    let mut sum: u64 = 0;
+    for log in logs() {
+        sum = sum.saturating_add(counts.of(log) as u64);
+    }
+    sum
+}
+
+/// Adds so many of something.
+pub(crate) fn push_many(out: &mut Vec<u8>, count: u64, one: &[u8]) -> Result<(), AllocError> {
+    push_with(out, b"", count)?;
+    push(out, one)?;
+    if count != 1 {
+        push(out, b"s")?;
+    }
+    Ok(())
 }

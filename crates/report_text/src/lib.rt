@@ -4,5 +4,6 @@
 mod printing;
 
 pub use printing::{
-    print_report, push_first_line, push_refused_certificate, push_refused_session, push_shape,
+    print_first_line, print_refused_session, print_report, push_first_line,
+    push_refused_certificate, push_refused_session, push_shape,
 };

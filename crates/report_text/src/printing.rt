@@ -31,6 +31,15 @@ pub fn push_refused_session(out: &mut Vec<u8>, line: u32) -> Result<(), AllocErr
     push_keyed(out, SESSION_TEXT, line)
 }
 
+/// The line that says where the text of a session is refused. An error: there is no memory for it.
+pub fn print_refused_session(alloc: Global, line: u32) -> Result<Vec<u8>, AllocError>
+    ensures { IfOk result (λ out. out.items ≡ refusal_text line) }
+{
+    let mut out = Vec::new(alloc);
+    push_refused_session(&mut out, line)?;
+    Ok(out)
+}
+
 /// Adds the line that says where the text of a certificate is refused.
 pub fn push_refused_certificate(out: &mut Vec<u8>, line: u32) -> Result<(), AllocError>
     ensures { OnOk result (out.new.items ≡ out.old.items ++ certificate_refusal_text line) }
@@ -52,11 +61,20 @@ pub fn push_first_line(out: &mut Vec<u8>, report: &Report) -> Result<(), AllocEr
     match report {
         Report::Clean(_) => push_line(out, CLEAN),
         Report::Shape(fault) => push_shape(out, fault),
-        Report::Knot(left) => push_keyed(out, KNOT, left.line),
+        Report::Knot { left, .. } => push_keyed(out, KNOT, left.line),
         Report::Faulty { line, fault, .. } => {
             push_keyed_word(out, FAULTY, *line, fault.reason.word())
         }
     }
+}
+
+/// The first line of a report. An error: there is no memory for it.
+pub fn print_first_line(alloc: Global, report: &Report) -> Result<Vec<u8>, AllocError>
+    ensures { IfOk result (λ out. out.items ≡ ended (first_line report.now ∷ [])) }
+{
+    let mut out = Vec::new(alloc);
+    push_first_line(&mut out, report)?;
+    Ok(out)
 }
 
 /// The text behind the first line: the certificate's where the report is clean, that of the order's runs where a page
@@ -68,7 +86,7 @@ fn text_behind(alloc: Global, report: &Report) -> Result<Vec<u8>, AllocError>
     match report {
         Report::Clean(cert) => write_cert(alloc, cert),
         Report::Faulty { order, .. } => write_runs(alloc, order.as_slice()),
-        Report::Shape(_) | Report::Knot(_) => Ok(Vec::new(alloc)),
+        Report::Shape(_) | Report::Knot { .. } => Ok(Vec::new(alloc)),
     }
 }
 
@@ -78,8 +96,7 @@ pub fn print_report(alloc: Global, report: &Report) -> Result<Vec<u8>, AllocErro
     requires { ReportFits report.now }
     ensures { IfOk result (λ out. out.items ≡ report_text report.now) }
 {
-    let mut out = Vec::new(alloc);
-    push_first_line(&mut out, report)?;
+    let mut out = print_first_line(alloc, report)?;
     let behind = text_behind(alloc, report)?;
     out.extend_from_slice(&behind)?;
     Ok(out)

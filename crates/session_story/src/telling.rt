@@ -11,7 +11,7 @@ use crate::explaining::explain;
 use crate::words::words_of;
 use audit_report::Report;
 use migration_types::Session;
-use report_text::{push_first_line, push_refused_session};
+use report_text::{print_first_line, print_refused_session};
 use std::alloc::{AllocError, Global};
 
 /// What happened in a session, in words, behind the first line of the report on it. Each line ends with LF. Takes a few
@@ -26,8 +26,7 @@ pub fn print_explained(
 {
     let explanation = explain(alloc, session, report)?;
     let words = words_of(alloc, session, &explanation)?;
-    let mut text = Vec::new(alloc);
-    push_first_line(&mut text, report)?;
+    let mut text = print_first_line(alloc, report)?;
     text.extend_from_slice(words.as_bytes())?;
     Ok(text)
 }
@@ -40,8 +39,7 @@ const NO_TEXT: &[u8] =
 pub fn print_refused(alloc: Global, line: u32) -> Result<Vec<u8>, AllocError>
     ensures { IfOk result (λ text. BeginsWith (refusal_text line) text.items) }
 {
-    let mut text = Vec::new(alloc);
-    push_refused_session(&mut text, line)?;
+    let mut text = print_refused_session(alloc, line)?;
     text.extend_from_slice(NO_TEXT)?;
     Ok(text)
 }

@@ -5,7 +5,7 @@ use Rattle.migration_types.specs.Certs.{Certified}
 use Rattle.migration_types.specs.Sessions.{Recorded}
 use Rattle.cert_text.specs.Grammar.{SpellsCert}
 use Rattle.cert_check.specs.declared.verdict.Verdict.{Verdict}
-use Rattle.cert_check.specs.declared.verdict.Verdict.TheVariants.{SessionText, CertText, Shape, Pages, Runs, Page, Yes}
+use Rattle.cert_check.specs.declared.verdict.Verdict.TheVariants.{CertText}
 use Rattle.cert_check.specs.Verdicts.{IsVerdict}
 
 -- the text is a spelling, and this is the verdict on what it spells
@@ -16,10 +16,5 @@ pub record IsCertJudged (s : Recorded) (cert : List ℕ) (verdict : Verdict) : T
 
 -- the text is refused, or the verdict on what it spells
 abbrev pub IsCertTextVerdict : Recorded → List ℕ → Verdict → Type 0
-IsCertTextVerdict s cert (SessionText line) = IsCertJudged s cert (SessionText line)
 IsCertTextVerdict s cert (CertText line) = IsRefusalLine SpellsCert cert line
-IsCertTextVerdict s cert (Shape fault) = IsCertJudged s cert (Shape fault)
-IsCertTextVerdict s cert Pages = IsCertJudged s cert Pages
-IsCertTextVerdict s cert (Runs line) = IsCertJudged s cert (Runs line)
-IsCertTextVerdict s cert (Page line) = IsCertJudged s cert (Page line)
-IsCertTextVerdict s cert Yes = IsCertJudged s cert Yes
+IsCertTextVerdict s cert verdict = IsCertJudged s cert verdict
