@@ -1,18 +1,21 @@
-//! The story of a faulty record.
+//! The story of a faulty record: of one with a fault of its page, and of one that has not the right shape.
 
-ghost use Rattle.std.specs.Prelude.{◌≡◌, ◌<◌, ℕ, IfOk, MatchOption};
+ghost use Rattle.std.specs.Prelude.{◌≡◌, ◌<◌, ℕ, IfOk};
 ghost use Rattle.migration_types.specs.Sessions.{log_length, line_of};
 ghost use Rattle.audit_model.specs.FirstFault.{IsFirstPageFault};
 ghost use Rattle.page_facts.specs.PageFaults.{page_at};
-ghost use Rattle.session_story.specs.Pages.{IsPageStory};
-ghost use Rattle.session_story.specs.Explained.{IsDetail, IsFaultStory, IsLookBeforeTouch, IsPlacedRight, IsSentRight, IsToldCause, IsWrongPlacement, IsWrongSend, is_read, is_unplaced, is_used_by};
+ghost use Rattle.cert_check.specs.Verdicts.{IsShapeFault};
+ghost use Rattle.session_story.specs.Pages.{IsPageStory, first_send};
+ghost use Rattle.session_story.specs.Explained.{IsDetail, IsFaultStory, IsLookBeforeTouch, IsShapeStory, IsToldCause, is_read, is_unplaced, is_used_by};
 
+use crate::contents::{Wrong, wrong_at};
 use crate::looks::{Look, greatest_look};
-use crate::pages::{Handover, PageStory, handover_of, story_of};
+use crate::pages::{Handover, PageStory, handover_of, send_of, story_of};
 use crate::reasons::{detail_of, is_read};
-use crate::values::{Held, other_of};
+use crate::values::Held;
 use audit_model::PageReason;
-use migration_types::{LogName, PageNo, PagerRec, Session, SourceRec};
+use cert_check::ShapeFault;
+use migration_types::{LogName, PageNo, Session, SourceRec};
 use page_facts::PageFault;
 use paged::Paged;
 use std::alloc::{AllocError, Global};
@@ -31,15 +34,6 @@ pub enum Detail {
     Plain,
 }
 
-/// Contents of a page that are not those that it had at the halt.
-#[derive(Clone, Copy, Debug, PartialEq, Eq)]
-pub struct Wrong {
-    /// The number of the record that has them.
-    pub place: u32,
-    /// The first cell that is another, with what the page has there at the halt.
-    pub held: Held,
-}
-
 /// What went wrong with a page before the guest read it at the target.
 #[derive(Clone, Copy, Debug, PartialEq, Eq)]
 pub enum Cause {
@@ -54,11 +48,8 @@ pub enum Cause {
 /// The first fault of a session, and the story of its page.
 #[derive(Clone, Copy, Debug, PartialEq, Eq)]
 pub struct FaultStory {
-    /// The log of the faulty record.
-    pub log: LogName,
-    /// Its number there.
-    pub place: u32,
-    pub reason: PageReason,
+    /// The faulty record, and why it is one.
+    pub fault: PageFault,
     pub page: PageStory,
     pub handover: Handover,
     pub detail: Detail,
@@ -76,44 +67,6 @@ fn page_at(session: &Session, log: LogName, place: u32) -> Option<PageNo>
         LogName::Source => session.source().get(place)?.page(),
         LogName::Pager => session.pager().get(place)?.page(),
         _ => None,
-    }
-}
-
-/// The first cell in which a `send` is not of the page's contents at the halt.
-pub(crate) fn other_sent(
-    alloc: Global,
-    session: &Session,
-    page: PageNo,
-    place: usize,
-) -> Result<Option<Held>, AllocError>
-    requires { page < session.now.geometry.pages }
-    ensures { IfOk result (λ held. IsDetail session.now PageReason.Stale LogName.Source place page (Detail.Other held)) }
-{
-    session.keeps_limits();
-    match session.source().get(place) {
-        Some(SourceRec::Send { contents, .. }) => {
-            other_of(alloc, session, page, contents.as_slice())
-        }
-        _ => Ok(None),
-    }
-}
-
-/// The first cell in which a placement is not of the page's contents at the halt.
-pub(crate) fn other_placed(
-    alloc: Global,
-    session: &Session,
-    page: PageNo,
-    place: usize,
-) -> Result<Option<Held>, AllocError>
-    requires { page < session.now.geometry.pages }
-    ensures { IfOk result (λ held. IsDetail session.now PageReason.Altered LogName.Pager place page (Detail.Other held)) }
-{
-    session.keeps_limits();
-    match session.pager().get(place) {
-        Some(PagerRec::Place { contents, .. }) => {
-            other_of(alloc, session, page, contents.as_slice())
-        }
-        _ => Ok(None),
     }
 }
 
@@ -138,52 +91,6 @@ fn is_used_by(page: &PageStory, place: u32) -> bool
     }
 }
 
-/// The `send` of a page, where it has other contents than the page has at the halt.
-fn wrong_send(
-    alloc: Global,
-    session: &Session,
-    page: &PageStory,
-) -> Result<Option<Wrong>, AllocError>
-    requires page { page.now.page < session.now.geometry.pages }
-    requires story { IsPageStory session.now page.now.page page.now }
-    ensures { IfOk result (λ wrong. MatchOption wrong (IsSentRight session.now page.now.page) (IsWrongSend session.now page.now.page)) }
-{
-    session.keeps_limits();
-    let Some(place) = page.sent else {
-        return Ok(None);
-    };
-    let Some(SourceRec::Send { contents, .. }) = session.source().get(place as usize) else {
-        return Ok(None);
-    };
-    match other_of(alloc, session, page.page, contents.as_slice())? {
-        Some(held) => Ok(Some(Wrong { place, held })),
-        None => Ok(None),
-    }
-}
-
-/// The placement of a page, where it has other contents than the page has at the halt.
-fn wrong_placement(
-    alloc: Global,
-    session: &Session,
-    page: &PageStory,
-) -> Result<Option<Wrong>, AllocError>
-    requires page { page.now.page < session.now.geometry.pages }
-    requires story { IsPageStory session.now page.now.page page.now }
-    ensures { IfOk result (λ wrong. MatchOption wrong (IsPlacedRight session.now page.now.page) (IsWrongPlacement session.now page.now.page)) }
-{
-    session.keeps_limits();
-    let Some(place) = page.found.placement else {
-        return Ok(None);
-    };
-    let Some(PagerRec::Place { contents, .. }) = session.pager().get(place as usize) else {
-        return Ok(None);
-    };
-    match other_of(alloc, session, page.page, contents.as_slice())? {
-        Some(held) => Ok(Some(Wrong { place, held })),
-        None => Ok(None),
-    }
-}
-
 /// Whether the pager never places a page that the guest uses at the target, where its first use is no release.
 fn is_unplaced(page: &PageStory) -> bool
     ensures { result ≡ is_unplaced page.now.found }
@@ -203,13 +110,22 @@ fn cause_of(
     requires story { IsPageStory session.now page.now.page page.now }
     ensures { IfOk result (IsToldCause session.now reason place page.now.page) }
 {
+    session.keeps_limits();
     if !is_read(reason) || !is_used_by(page, place) {
         return Ok(None);
     }
-    if let Some(wrong) = wrong_send(alloc, session, page)? {
+    let sent = wrong_at(alloc, session, page.page, session.source(), page.sent)?;
+    if let Some(wrong) = sent {
         return Ok(Some(Cause::Sent(wrong)));
     }
-    if let Some(wrong) = wrong_placement(alloc, session, page)? {
+    let placed = wrong_at(
+        alloc,
+        session,
+        page.page,
+        session.pager(),
+        page.found.placement,
+    )?;
+    if let Some(wrong) = placed {
         return Ok(Some(Cause::Placed(wrong)));
     }
     if is_unplaced(page) {
@@ -238,12 +154,46 @@ pub(crate) fn fault_at(
     let detail = detail_of(alloc, session, reason, log, place, &story)?;
     let cause = cause_of(alloc, session, reason, place, &story)?;
     Ok(FaultStory {
-        log,
-        place,
-        reason,
+        fault: *fault,
         page: story,
         handover: handover_of(session),
         detail,
         cause,
     })
+}
+
+/// The first record that has not the right shape.
+#[derive(Clone, Copy, Debug, PartialEq, Eq)]
+pub struct ShapeStory {
+    /// The record, and why it has not.
+    pub fault: ShapeFault,
+    pub handover: Handover,
+    /// Where the record is a `send`, the first one of its page.
+    pub sent: Option<u32>,
+}
+
+/// Where the record is a `send`, the first one of its page.
+fn first_send(session: &Session, log: LogName, place: u32) -> Option<u32>
+    ensures { result ≡ first_send session.now (log, place) }
+{
+    match log {
+        LogName::Source => match session.source().get(place as usize) {
+            Some(SourceRec::Send { page, .. }) => send_of(session, *page),
+            _ => None,
+        },
+        _ => None,
+    }
+}
+
+/// The first record of a session that has not the right shape. Takes a few passes over the logs, and no memory.
+pub(crate) fn shape_at(session: &Session, fault: &ShapeFault) -> ShapeStory
+    requires { IsShapeFault session.now fault.now }
+    ensures { IsShapeStory session.now fault.now result }
+{
+    let fault = *fault;
+    ShapeStory {
+        fault,
+        handover: handover_of(session),
+        sent: first_send(session, fault.log, fault.place),
+    }
 }

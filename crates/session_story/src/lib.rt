@@ -2,6 +2,7 @@
 //! that wait for one another, or how a clean session went.
 #![tactic(auto)]
 
+mod contents;
 mod counting;
 mod explaining;
 mod faults;
@@ -11,20 +12,19 @@ mod pages;
 mod questions;
 mod reasons;
 mod scans;
-mod shapes;
 mod telling;
 mod values;
 mod waits;
 mod words;
 
+pub use contents::Wrong;
 pub use counting::{Counts, counts_of};
 pub use explaining::{Explanation, explain};
-pub use faults::{Cause, Detail, FaultStory, Wrong};
+pub use faults::{Cause, Detail, FaultStory, ShapeStory};
 pub use lines::line_at;
 pub use looks::{Look, greatest_look};
 pub use pages::{Handover, PageStory, handover_of, last_change, send_of, story_of};
 pub use reasons::{Concern, concern_of};
-pub use shapes::ShapeStory;
 pub use telling::{print_explained, print_refused};
 pub use values::{Held, instead_of, other_of};
 pub use waits::{Knot, Waiting, circle_of};

@@ -6,7 +6,8 @@ ghost use Rattle.migration_types.specs.Sessions.{log_length};
 ghost use Rattle.session_story.specs.Pages.{IsPageStory};
 ghost use Rattle.session_story.specs.Explained.{IsDetail, is_read};
 
-use crate::faults::{Detail, look_before, other_placed, other_sent};
+use crate::contents::other_at;
+use crate::faults::{Detail, look_before};
 use crate::looks::greatest_look;
 use crate::pages::PageStory;
 use crate::values::instead_of;
@@ -30,12 +31,19 @@ pub(crate) fn detail_of(
     requires early { reason ≡ PageReason.Early → log ≡ LogName.Guest }
     ensures { IfOk result (IsDetail session.now reason log place page.now.page) }
 {
+    session.keeps_limits();
     let n = place as usize;
     match reason {
         PageReason::Read => Ok(Detail::Instead(instead_of(alloc, session, n)?)),
         PageReason::Early => Ok(Detail::Seen(greatest_look(session, n))),
-        PageReason::Stale => Ok(Detail::Other(other_sent(alloc, session, page.page, n)?)),
-        PageReason::Altered => Ok(Detail::Other(other_placed(alloc, session, page.page, n)?)),
+        PageReason::Stale => {
+            let sent = other_at(alloc, session, page.page, session.source(), n)?;
+            Ok(Detail::Other(sent))
+        }
+        PageReason::Altered => {
+            let placed = other_at(alloc, session, page.page, session.pager(), n)?;
+            Ok(Detail::Other(placed))
+        }
         PageReason::Over => Ok(Detail::Seen(look_before(session, page))),
         PageReason::Given | PageReason::Twice | PageReason::Unfit => Ok(Detail::Plain),
     }

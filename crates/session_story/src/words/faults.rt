@@ -8,7 +8,7 @@ use crate::looks::Look;
 use crate::pages::PageStory;
 use crate::values::Held;
 use audit_model::delivery;
-use migration_types::{LogName, PagerRec, Session, SourceRec};
+use migration_types::{LogName, PagerRec, Record, Session, SourceRec};
 use std::alloc::AllocError;
 
 /// Adds which record gave a cell its value.
@@ -81,10 +81,10 @@ fn push_early(
 fn push_over(
     out: &mut String,
     session: &Session,
-    fault: &FaultStory,
+    story: &FaultStory,
     seen: Option<Look>,
 ) -> Result<(), AllocError> {
-    let Some(release) = fault.page.found.touch else {
+    let Some(release) = story.page.found.touch else {
         return Ok(());
     };
     out.push_str(
@@ -94,26 +94,29 @@ fn push_over(
     out.push_str(
         ".\nNo look before this release reaches the placement, so that it may come after the release and put ",
     )?;
-    out.push_str(match session.pager().get(fault.place as usize) {
+    out.push_str(match session.pager().get(story.fault.place as usize) {
         Some(PagerRec::Zero { .. }) => "zeros over what the guest writes by then",
         _ => "old contents over the zeros",
     })?;
     out.push_str(".\n")?;
     push_seen(out, session, seen)?;
-    push_late(out, session, fault.page.found.look, "release")?;
+    push_late(out, session, story.page.found.look, "release")?;
     out.push_str(
         "Right would be a look at this placement before the release, or no placement: the pager skips a page that is released there first.\n",
     )
 }
 
-/// Adds what the page has where contents are others.
-fn push_other(
+/// Adds what the page has where the contents of a record, if it has any, are others.
+fn push_other<R: Record>(
     out: &mut String,
     session: &Session,
     held: &Held,
     done: &str,
-    contents: &[u64],
+    rec: &R,
 ) -> Result<(), AllocError> {
+    let Some(contents) = rec.contents() else {
+        return Ok(());
+    };
     let cell = held.cell;
     let value = held.value;
     let other = match contents.get(cell as usize) {
@@ -126,21 +129,6 @@ fn push_other(
     )?;
     push_giver(out, session, held)?;
     out.push_str(".\n")
-}
-
-/// Adds what is wrong with a `send`.
-fn push_sent(
-    out: &mut String,
-    session: &Session,
-    place: u32,
-    held: &Held,
-) -> Result<(), AllocError> {
-    match session.source().get(place as usize) {
-        Some(SourceRec::Send { contents, .. }) => {
-            push_other(out, session, held, "The page is sent", contents.as_slice())
-        }
-        _ => Ok(()),
-    }
 }
 
 /// The first sending of what a source's record sends.
@@ -170,42 +158,44 @@ fn push_origin(out: &mut String, session: &Session, got: u32, cell: u16) -> Resu
     Ok(())
 }
 
-/// Adds what is wrong with a placement's contents.
-fn push_placed(
+/// Adds what is wrong with the contents that a `send` or a placement has.
+fn push_contents(
     out: &mut String,
     session: &Session,
+    log: LogName,
     place: u32,
     held: &Held,
 ) -> Result<(), AllocError> {
-    match session.pager().get(place as usize) {
-        Some(PagerRec::Place { got, contents, .. }) => {
-            push_other(
-                out,
-                session,
-                held,
-                "The page is placed",
-                contents.as_slice(),
-            )?;
-            push_origin(out, session, *got, held.cell)
-        }
+    let n = place as usize;
+    if log == LogName::Source {
+        return match session.source().get(n) {
+            Some(rec) => push_other(out, session, held, "The page is sent", rec),
+            None => Ok(()),
+        };
+    }
+    let Some(rec) = session.pager().get(n) else {
+        return Ok(());
+    };
+    push_other(out, session, held, "The page is placed", rec)?;
+    match rec {
+        PagerRec::Place { got, .. } => push_origin(out, session, *got, held.cell),
         _ => Ok(()),
     }
 }
 
 /// Adds what is wrong.
-fn push_wrong(out: &mut String, session: &Session, fault: &FaultStory) -> Result<(), AllocError> {
-    match &fault.detail {
+fn push_wrong(out: &mut String, session: &Session, story: &FaultStory) -> Result<(), AllocError> {
+    match &story.detail {
         Detail::Instead(Some(held)) => push_read(out, session, held),
-        Detail::Seen(seen) => match fault.log {
-            LogName::Pager => push_over(out, session, fault, *seen),
-            _ => push_early(out, session, &fault.page, *seen),
+        Detail::Seen(seen) => match story.fault.log {
+            LogName::Pager => push_over(out, session, story, *seen),
+            _ => push_early(out, session, &story.page, *seen),
         },
-        Detail::Other(Some(held)) => match fault.log {
-            LogName::Source => push_sent(out, session, fault.place, held),
-            _ => push_placed(out, session, fault.place, held),
-        },
+        Detail::Other(Some(held)) => {
+            push_contents(out, session, story.fault.log, story.fault.place, held)
+        }
         Detail::Instead(None) | Detail::Other(None) | Detail::Plain => {
-            push_plain(out, session, fault)
+            push_plain(out, session, story)
         }
     }
 }
@@ -257,8 +247,8 @@ fn push_delivery(out: &mut String, session: &Session, page: &PageStory) -> Resul
 }
 
 /// Adds a page's story, in the order in which it should happen.
-fn push_story(out: &mut String, session: &Session, fault: &FaultStory) -> Result<(), AllocError> {
-    let page = &fault.page;
+fn push_story(out: &mut String, session: &Session, story: &FaultStory) -> Result<(), AllocError> {
+    let page = &story.page;
     let number = page.page.number();
     write!(out, "What the logs say of page {number}:\n")?;
     push_step(
@@ -273,7 +263,7 @@ fn push_story(out: &mut String, session: &Session, fault: &FaultStory) -> Result
         out,
         session,
         LogName::Guest,
-        fault.handover.halt,
+        story.handover.halt,
         "",
         "the guest is not halted",
     )?;
@@ -337,36 +327,33 @@ fn push_story(out: &mut String, session: &Session, fault: &FaultStory) -> Result
 /// Adds what went wrong with a page before the guest read it.
 fn push_cause(out: &mut String, session: &Session, cause: &Cause) -> Result<(), AllocError> {
     out.push_str("First the page went wrong: ")?;
-    match cause {
-        Cause::Sent(wrong) => {
-            push_record(out, session, LogName::Source, wrong.place)?;
-            out.push_str(".\n")?;
-            push_sent(out, session, wrong.place, &wrong.held)
-        }
-        Cause::Placed(wrong) => {
-            push_record(out, session, LogName::Pager, wrong.place)?;
-            out.push_str(".\n")?;
-            push_placed(out, session, wrong.place, &wrong.held)
-        }
+    let (log, wrong) = match cause {
+        Cause::Sent(wrong) => (LogName::Source, wrong),
+        Cause::Placed(wrong) => (LogName::Pager, wrong),
         Cause::Unplaced => {
-            out.push_str("the pager never places it, and the guest uses it at the target.\n")
+            return out.push_str(
+                "the pager never places it, and the guest uses it at the target.\n",
+            );
         }
-    }
+    };
+    push_record(out, session, log, wrong.place)?;
+    out.push_str(".\n")?;
+    push_contents(out, session, log, wrong.place, &wrong.held)
 }
 
 /// Adds the fault of a page.
 pub(crate) fn push_fault(
     out: &mut String,
     session: &Session,
-    fault: &FaultStory,
+    story: &FaultStory,
 ) -> Result<(), AllocError> {
-    if let Some(cause) = &fault.cause {
+    if let Some(cause) = &story.cause {
         push_cause(out, session, cause)?;
     }
     out.push_str("Wrong is ")?;
-    push_record(out, session, fault.log, fault.place)?;
+    push_record(out, session, story.fault.log, story.fault.place)?;
     out.push_str(".\n")?;
-    push_wrong(out, session, fault)?;
-    push_order(out, fault)?;
-    push_story(out, session, fault)
+    push_wrong(out, session, story)?;
+    push_order(out, story)?;
+    push_story(out, session, story)
 }

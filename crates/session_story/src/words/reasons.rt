@@ -39,24 +39,24 @@ fn push_changed(out: &mut String, session: &Session, page: &PageStory) -> Result
 pub(crate) fn push_plain(
     out: &mut String,
     session: &Session,
-    fault: &FaultStory,
+    story: &FaultStory,
 ) -> Result<(), AllocError> {
-    match fault.reason {
+    match story.fault.reason {
         PageReason::Given => {
             out.push_str(
                 "The page is released at the halt, so that it is not sent; the pager places it as zeros.\n",
             )?;
-            push_changed(out, session, &fault.page)
+            push_changed(out, session, &story.page)
         }
         PageReason::Unfit => {
             out.push_str(
                 "The page is not released at the halt, so that zeros are not what it has to be.\n",
             )?;
-            push_changed(out, session, &fault.page)
+            push_changed(out, session, &story.page)
         }
         PageReason::Twice => {
             out.push_str("A page is placed once, and this one was placed before: ")?;
-            match fault.page.found.placement {
+            match story.page.found.placement {
                 Some(placement) => push_record(out, session, LogName::Pager, placement)?,
                 None => {}
             }
@@ -71,9 +71,9 @@ pub(crate) fn push_plain(
 }
 
 /// Adds how an order of the records shows the fault.
-pub(crate) fn push_order(out: &mut String, fault: &FaultStory) -> Result<(), AllocError> {
-    out.push_str(match fault.reason {
-        PageReason::Early => match fault.page.found.placement {
+pub(crate) fn push_order(out: &mut String, story: &FaultStory) -> Result<(), AllocError> {
+    out.push_str(match story.fault.reason {
+        PageReason::Early => match story.page.found.placement {
             Some(_) => {
                 "The order that the audit shows puts the placement, and all that has to come after it, behind this use, which then finds no page.\n"
             }

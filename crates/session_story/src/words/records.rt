@@ -2,7 +2,7 @@
 
 use super::has_lane;
 use crate::lines::line_at;
-use migration_types::{GuestRec, LaneRec, LinkRec, LogName, PagerRec, Session, SourceRec};
+use migration_types::{Field, GuestRec, LaneRec, LinkRec, LogName, PagerRec, Session, SourceRec};
 use std::alloc::AllocError;
 
 /// The word of a log, as its section of a session's text has it.
@@ -25,132 +25,180 @@ pub fn push_place(
     }
 }
 
-/// Adds what a record of the guest says.
-fn push_guest(out: &mut String, rec: &GuestRec) -> Result<(), AllocError> {
-    match *rec {
-        GuestRec::Read {
-            vcpu,
-            page,
-            cell,
-            value,
-        } => {
-            let page = page.number();
-            write!(
-                out,
-                "virtual processor {vcpu} reads {value} in cell {cell} of page {page}"
-            )
-        }
-        GuestRec::Write {
-            vcpu,
-            page,
-            cell,
-            value,
-        } => {
-            let page = page.number();
-            write!(
-                out,
-                "virtual processor {vcpu} writes {value} into cell {cell} of page {page}"
-            )
-        }
-        GuestRec::Release { vcpu, page } => {
-            let page = page.number();
-            write!(out, "virtual processor {vcpu} releases page {page}")
-        }
-        GuestRec::Miss { vcpu, page } => {
-            let page = page.number();
-            write!(out, "virtual processor {vcpu} misses page {page}")
-        }
-        GuestRec::Halt => out.push_str("the guest is halted at the source"),
-        GuestRec::Resume { ready } => {
-            write!(
-                out,
-                "the guest is resumed at the target, for which pager {ready} was ready"
-            )
-        }
-        GuestRec::See { placement } => {
-            write!(out, "the guest looks at the placement pager {placement}")
-        }
+/// A record in words.
+#[derive(Clone, Copy)]
+struct Words {
+    /// What was done. A digit stands for the number in the record that has this place there, from 0 on.
+    said: &'static str,
+    /// What it has to name, if it has to name a record.
+    wanted: Option<&'static str>,
+}
+
+/// The words for a record that names none.
+fn plain(said: &'static str) -> Words {
+    Words { said, wanted: None }
+}
+
+/// The words for a record that has to name one.
+fn naming(said: &'static str, wanted: &'static str) -> Words {
+    Words {
+        said,
+        wanted: Some(wanted),
     }
 }
 
-/// Adds what a record of the source says.
-fn push_source(out: &mut String, rec: &SourceRec) -> Result<(), AllocError> {
+/// A record of the guest in words.
+fn guest_words(rec: &GuestRec) -> Words {
     match rec {
-        SourceRec::Halted { halt } => { write!(out, "the source learns of the halt guest {halt}") }
-        SourceRec::State => out.push_str("the source sends the processor state"),
-        SourceRec::Send { page, .. } => {
-            let page = page.number();
-            write!(out, "the source sends page {page}")
-        }
-        SourceRec::Again { sending } => {
-            write!(out, "the source sends once more what source {sending} sent")
-        }
-        SourceRec::Ask { up } => { write!(out, "the source takes what link {up} delivered") }
-        SourceRec::Done => out.push_str("the source learns that every owed page is placed"),
+        GuestRec::Read { .. } => plain("virtual processor 0 reads 3 in cell 2 of page 1"),
+        GuestRec::Write { .. } => plain("virtual processor 0 writes 3 into cell 2 of page 1"),
+        GuestRec::Release { .. } => plain("virtual processor 0 releases page 1"),
+        GuestRec::Miss { .. } => plain("virtual processor 0 misses page 1"),
+        GuestRec::Halt => plain("the guest is halted at the source"),
+        GuestRec::Resume { .. } => naming(
+            "the guest is resumed at the target, for which pager 0 was ready",
+            "the pager's `ready`",
+        ),
+        GuestRec::See { .. } => naming(
+            "the guest looks at the placement pager 0",
+            "a `place` or a `zero` of the pager",
+        ),
     }
 }
 
-/// Adds what a record of the link says.
-fn push_link(out: &mut String, rec: &LinkRec) -> Result<(), AllocError> {
-    match *rec {
-        LinkRec::Down { sending } => {
-            write!(
-                out,
-                "the link delivers to the pager what source {sending} sent"
-            )
-        }
-        LinkRec::Up { asking } => {
-            write!(
-                out,
-                "the link delivers to the source what pager {asking} sent"
-            )
-        }
-    }
-}
-
-/// Adds what a record of the lane says.
-fn push_lane(out: &mut String, rec: &LaneRec) -> Result<(), AllocError> {
-    match *rec {
-        LaneRec::Down { sending } => {
-            write!(
-                out,
-                "the lane delivers to the pager what source {sending} sent"
-            )
-        }
-    }
-}
-
-/// Adds what a record of the pager says.
-fn push_pager(out: &mut String, rec: &PagerRec) -> Result<(), AllocError> {
+/// A record of the source in words.
+fn source_words(rec: &SourceRec) -> Words {
     match rec {
-        PagerRec::Got { down } => { write!(out, "the pager takes what link {down} delivered") }
-        PagerRec::Pull { down } => { write!(out, "the pager pulls what lane {down} delivered") }
-        PagerRec::Ready => out.push_str("the pager is ready for the guest"),
-        PagerRec::Fault { miss } => { write!(out, "the pager learns of the miss guest {miss}") }
-        PagerRec::Join { want } => {
-            write!(
-                out,
-                "the pager lets a miss wait for the page that pager {want} asked for"
+        SourceRec::Halted { .. } => {
+            naming(
+                "the source learns of the halt guest 0",
+                "the guest's `halt`",
             )
         }
-        PagerRec::Want { page } => {
-            let page = page.number();
-            write!(out, "the pager asks for page {page}")
-        }
-        PagerRec::Place { page, got, .. } => {
-            let page = page.number();
-            write!(
-                out,
-                "the pager places page {page}, which came with pager {got}"
+        SourceRec::State => plain("the source sends the processor state"),
+        SourceRec::Send { .. } => plain("the source sends page 0"),
+        SourceRec::Again { .. } => naming(
+            "the source sends once more what source 0 sent",
+            "a `state` or a `send` before it",
+        ),
+        SourceRec::Ask { .. } => {
+            naming(
+                "the source takes what link 0 delivered",
+                "an `up` of the link",
             )
         }
-        PagerRec::Zero { page } => {
-            let page = page.number();
-            write!(out, "the pager places page {page} as zeros")
-        }
-        PagerRec::Skip { got } => { write!(out, "the pager drops what came with pager {got}") }
-        PagerRec::All => out.push_str("the pager says that every owed page is placed"),
+        SourceRec::Done => plain("the source learns that every owed page is placed"),
     }
+}
+
+/// What goes down, by the link or by the lane.
+const SENDING: &str = "a `state`, a `send` or an `again` of the source";
+
+/// A record of the link in words.
+fn link_words(rec: &LinkRec) -> Words {
+    match rec {
+        LinkRec::Down { .. } => naming(
+            "the link delivers to the pager what source 0 sent",
+            SENDING,
+        ),
+        LinkRec::Up { .. } => naming(
+            "the link delivers to the source what pager 0 sent",
+            "a `want` or an `all` of the pager",
+        ),
+    }
+}
+
+/// A record of the lane in words.
+fn lane_words(rec: &LaneRec) -> Words {
+    match rec {
+        LaneRec::Down { .. } => naming(
+            "the lane delivers to the pager what source 0 sent",
+            SENDING,
+        ),
+    }
+}
+
+/// What was taken and is dropped, in a session with a lane or without one.
+fn dropped(has_lane: bool) -> &'static str {
+    if has_lane {
+        "a `got` or a `pull` before it"
+    } else {
+        "a `got` before it"
+    }
+}
+
+/// What a page that is placed came with, in a session with a lane or without one.
+fn placed(has_lane: bool) -> &'static str {
+    if has_lane {
+        "a `got` or a `pull` before it that took a `send` of the page, or a repeat of it"
+    } else {
+        "a `got` before it that took a `send` of the page, or a repeat of it"
+    }
+}
+
+/// A record of the pager in words, in a session with a lane or without one.
+fn pager_words(rec: &PagerRec, has_lane: bool) -> Words {
+    match rec {
+        PagerRec::Got { .. } => naming(
+            "the pager takes what link 0 delivered",
+            "a `down` of the link",
+        ),
+        PagerRec::Pull { .. } => naming(
+            "the pager pulls what lane 0 delivered",
+            "a `down` of the lane",
+        ),
+        PagerRec::Ready => plain("the pager is ready for the guest"),
+        PagerRec::Fault { .. } => naming(
+            "the pager learns of the miss guest 0",
+            "a `miss` of the guest",
+        ),
+        PagerRec::Join { .. } => naming(
+            "the pager lets a miss wait for the page that pager 0 asked for",
+            "a `want` before it",
+        ),
+        PagerRec::Want { .. } => plain("the pager asks for page 0"),
+        PagerRec::Place { .. } => naming(
+            "the pager places page 0, which came with pager 1",
+            placed(has_lane),
+        ),
+        PagerRec::Zero { .. } => plain("the pager places page 0 as zeros"),
+        PagerRec::Skip { .. } => naming(
+            "the pager drops what came with pager 0",
+            dropped(has_lane),
+        ),
+        PagerRec::All => plain("the pager says that every owed page is placed"),
+    }
+}
+
+/// The record of this log and number in words, if it is there.
+fn words_at(session: &Session, log: LogName, place: u32) -> Option<Words> {
+    let n = place as usize;
+    match log {
+        LogName::Guest => session.guest().get(n).map(guest_words),
+        LogName::Source => session.source().get(n).map(source_words),
+        LogName::Link => session.link().get(n).map(link_words),
+        LogName::Lane => session.lane().get(n).map(lane_words),
+        LogName::Pager => {
+            let rec = session.pager().get(n)?;
+            Some(pager_words(rec, has_lane(session)))
+        }
+    }
+}
+
+/// Adds what was done, with these numbers in the place of digits.
+fn push_said(out: &mut String, said: &str, fields: &[Field]) -> Result<(), AllocError> {
+    for letter in said.chars() {
+        match letter.to_digit(10) {
+            Some(index) => {
+                if let Some(field) = fields.get(index as usize) {
+                    let number = field.number();
+                    write!(out, "{number}")?;
+                }
+            }
+            None => out.push(letter)?,
+        }
+    }
+    Ok(())
 }
 
 /// Adds where a record stands and what it says, as in "line 8 (guest 1): the guest is halted at the source". Contents
@@ -163,95 +211,13 @@ pub fn push_record(
 ) -> Result<(), AllocError> {
     push_place(out, session, log, place)?;
     out.push_str(": ")?;
-    let n = place as usize;
-    match log {
-        LogName::Guest => match session.guest().get(n) {
-            Some(rec) => push_guest(out, rec),
-            None => out.push_str("no record"),
-        },
-        LogName::Source => match session.source().get(n) {
-            Some(rec) => push_source(out, rec),
-            None => out.push_str("no record"),
-        },
-        LogName::Link => match session.link().get(n) {
-            Some(rec) => push_link(out, rec),
-            None => out.push_str("no record"),
-        },
-        LogName::Lane => match session.lane().get(n) {
-            Some(rec) => push_lane(out, rec),
-            None => out.push_str("no record"),
-        },
-        LogName::Pager => match session.pager().get(n) {
-            Some(rec) => push_pager(out, rec),
-            None => out.push_str("no record"),
-        },
-    }
-}
-
-/// What goes down, by the link or by the lane.
-const SENDING: &str = "a `state`, a `send` or an `again` of the source";
-
-/// What a record of the guest has to name.
-fn guest_wanted(rec: &GuestRec) -> Option<&'static str> {
-    match rec {
-        GuestRec::Resume { .. } => Some("the pager's `ready`"),
-        GuestRec::See { .. } => Some("a `place` or a `zero` of the pager"),
-        _ => None,
-    }
-}
-
-/// What a record of the source has to name.
-fn source_wanted(rec: &SourceRec) -> Option<&'static str> {
-    match rec {
-        SourceRec::Halted { .. } => Some("the guest's `halt`"),
-        SourceRec::Ask { .. } => Some("an `up` of the link"),
-        SourceRec::Again { .. } => Some("a `state` or a `send` before it"),
-        _ => None,
-    }
-}
-
-/// What a record of the link has to name.
-fn link_wanted(rec: &LinkRec) -> Option<&'static str> {
-    match rec {
-        LinkRec::Down { .. } => Some(SENDING),
-        LinkRec::Up { .. } => Some("a `want` or an `all` of the pager"),
-    }
-}
-
-/// What a record of the lane has to name.
-fn lane_wanted(rec: &LaneRec) -> Option<&'static str> {
-    match rec {
-        LaneRec::Down { .. } => Some(SENDING),
-    }
-}
-
-/// What a record of the pager has to name.
-fn pager_wanted(session: &Session, rec: &PagerRec) -> Option<&'static str> {
-    match rec {
-        PagerRec::Got { .. } => Some("a `down` of the link"),
-        PagerRec::Pull { .. } => Some("a `down` of the lane"),
-        PagerRec::Fault { .. } => Some("a `miss` of the guest"),
-        PagerRec::Join { .. } => Some("a `want` before it"),
-        PagerRec::Skip { .. } if has_lane(session) => Some("a `got` or a `pull` before it"),
-        PagerRec::Skip { .. } => Some("a `got` before it"),
-        PagerRec::Place { .. } if has_lane(session) => {
-            Some("a `got` or a `pull` before it that took a `send` of the page, or a repeat of it")
-        }
-        PagerRec::Place { .. } => {
-            Some("a `got` before it that took a `send` of the page, or a repeat of it")
-        }
-        _ => None,
+    match (words_at(session, log, place), session.row((log, place))) {
+        (Some(words), Some(row)) => push_said(out, words.said, row.fields()),
+        _ => out.push_str("no record"),
     }
 }
 
 /// What the record of this log and number has to name, if it has to name one.
 pub(crate) fn wanted_by(session: &Session, log: LogName, place: u32) -> Option<&'static str> {
-    let n = place as usize;
-    match log {
-        LogName::Guest => guest_wanted(session.guest().get(n)?),
-        LogName::Source => source_wanted(session.source().get(n)?),
-        LogName::Link => link_wanted(session.link().get(n)?),
-        LogName::Lane => lane_wanted(session.lane().get(n)?),
-        LogName::Pager => pager_wanted(session, session.pager().get(n)?),
-    }
+    words_at(session, log, place)?.wanted
 }

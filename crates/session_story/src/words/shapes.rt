@@ -2,8 +2,8 @@
 
 use super::has_lane;
 use super::records::{log_word, push_place, push_record, wanted_by};
+use crate::faults::ShapeStory;
 use crate::lines::line_at;
-use crate::shapes::ShapeStory;
 use audit_model::ShapeReason;
 use migration_types::{GuestRec, LogName, Session, Version};
 use std::alloc::AllocError;
@@ -21,10 +21,10 @@ fn named_by(session: &Session, log: LogName, place: u32) -> Option<(LogName, u32
 
 /// Adds what a record has to name, and what stands there.
 fn push_named(out: &mut String, session: &Session, story: &ShapeStory) -> Result<(), AllocError> {
-    let Some(wanted) = wanted_by(session, story.log, story.place) else {
+    let Some(wanted) = wanted_by(session, story.fault.log, story.fault.place) else {
         return Ok(());
     };
-    let Some((log, place)) = named_by(session, story.log, story.place) else {
+    let Some((log, place)) = named_by(session, story.fault.log, story.fault.place) else {
         return Ok(());
     };
     write!(out, "It has to name {wanted}, and names ")?;
@@ -49,7 +49,7 @@ const IDLE: &str = "The guest does nothing between its halt and its resume.";
 
 /// Adds the phase that a record of the guest breaks.
 fn push_phase(out: &mut String, session: &Session, story: &ShapeStory) -> Result<(), AllocError> {
-    let rule = match session.guest().get(story.place as usize) {
+    let rule = match session.guest().get(story.fault.place as usize) {
         Some(GuestRec::Halt) => "The guest is halted once.",
         Some(GuestRec::Resume { .. }) => "The guest is resumed once, after its halt.",
         Some(GuestRec::Release { .. }) => match session.version() {
@@ -100,12 +100,12 @@ pub(crate) fn push_shape_story(
     story: &ShapeStory,
 ) -> Result<(), AllocError> {
     out.push_str("Not of the right shape is ")?;
-    push_record(out, session, story.log, story.place)?;
+    push_record(out, session, story.fault.log, story.fault.place)?;
     out.push_str(".\n")?;
-    match story.reason {
+    match story.fault.reason {
         ShapeReason::Phases => push_phase(out, session, story),
         ShapeReason::Named => push_named(out, session, story),
-        ShapeReason::Start => push_start(out, session, story.log),
+        ShapeReason::Start => push_start(out, session, story.fault.log),
         ShapeReason::SecondSend => push_second(out, session, story),
     }
 }

@@ -52,9 +52,7 @@ returns c =
     let page = c.in_ok-story.ensures in
     λ line e. record {
       is_line = e;
-      is_log = refl;
-      is_place = refl;
-      is_reason = refl;
+      is_fault = refl;
       is_first = c.requires;
       is_of = sym c.page_at.ensures ∙ c.in-Some.is ∙ ap (λ (p : ℕ). Some p) (sym page.page_is);
       page = subst (λ (p : ℕ). IsPageStory s p c.in_ok-story.story) (sym page.page_is) page;

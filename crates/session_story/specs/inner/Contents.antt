@@ -1,0 +1,23 @@
+-- Contents of a record beside those that a page has at the halt.
+use Rattle.std.specs.Prelude.{◌≡◌, ℕ, List, Option, Some, None}
+use Rattle.migration_types.specs.Sessions.{Recorded}
+use Rattle.session_story.specs.Explained.{IsOtherIn}
+use Rattle.session_story.specs.Values.{IsOther}
+use Rattle.session_story.specs.declared.contents.Wrong.{Wrong}
+use Rattle.session_story.specs.declared.values.Held.{Held}
+
+-- of contents, if there are any, the first cell of them that is not the page's, if there is one
+abbrev pub IsOtherAt : Recorded → ℕ → Option (List ℕ) → Option Held → Type 0
+IsOtherAt s page None held = held ≡ None
+IsOtherAt s page (Some content) held = IsOtherIn s page content held
+
+-- the record of this number has contents that are not the page's, at this cell first
+pub record IsWrongAt (s : Recorded) (page : ℕ) (contents : ℕ → Option (List ℕ)) (place : Option ℕ) (w : Wrong) : Type 0 where
+  pub content : List ℕ
+  pub is_at : place ≡ Some w.place
+  pub has : contents w.place ≡ Some content
+  pub other : IsOther s page content w.held
+
+-- no record of this number has such contents
+abbrev pub AreNotWrong : Recorded → ℕ → (ℕ → Option (List ℕ)) → Option ℕ → Type 0
+AreNotWrong s page contents place = (w : Wrong) → IsWrongAt s page contents place w → ⊥

@@ -1,0 +1,62 @@
+//! Contents that are not those that a page has at the halt.
+
+ghost use Rattle.std.specs.Prelude.{◌≡◌, ◌<◌, IfOk, MatchOption, slice_get};
+ghost use Rattle.std.specs.List.{AllByRecursion};
+ghost use Rattle.migration_types.specs.Follow.{ContentFits};
+ghost use Rattle.audit_model.specs.Names.{if_there};
+ghost use Rattle.session_story.specs.inner.Contents.{AreNotWrong, IsOtherAt, IsWrongAt};
+
+use crate::values::{Held, other_of};
+use migration_types::{PageNo, Record, Session};
+use std::alloc::{AllocError, Global};
+
+/// Contents of a page that are not those that it had at the halt.
+#[derive(Clone, Copy, Debug, PartialEq, Eq)]
+pub struct Wrong {
+    /// The number of the record that has them.
+    pub place: u32,
+    /// The first cell that is another, with what the page has there at the halt.
+    pub held: Held,
+}
+
+/// The first cell in which the contents of a record, if it has any, are not the page's at the halt.
+pub(crate) fn other_at<R: Record>(
+    alloc: Global,
+    session: &Session,
+    page: PageNo,
+    log: &[R],
+    place: usize,
+) -> Result<Option<Held>, AllocError>
+    requires page { page < session.now.geometry.pages }
+    requires fits { AllByRecursion (λ rec. ContentFits session.now.geometry (R.contents rec)) log.now }
+    ensures { IfOk result (IsOtherAt session.now page (if_there R.contents (slice_get log.now place))) }
+{
+    let Some(rec) = log.get(place) else {
+        return Ok(None);
+    };
+    match rec.contents() {
+        Some(contents) => other_of(alloc, session, page, contents),
+        None => Ok(None),
+    }
+}
+
+/// The record of this number, if there is one, where its contents are not the page's at the halt.
+pub(crate) fn wrong_at<R: Record>(
+    alloc: Global,
+    session: &Session,
+    page: PageNo,
+    log: &[R],
+    place: Option<u32>,
+) -> Result<Option<Wrong>, AllocError>
+    requires page { page < session.now.geometry.pages }
+    requires fits { AllByRecursion (λ rec. ContentFits session.now.geometry (R.contents rec)) log.now }
+    ensures { IfOk result (λ wrong. MatchOption wrong (AreNotWrong session.now page (λ n. if_there R.contents (slice_get log.now n)) place) (IsWrongAt session.now page (λ n. if_there R.contents (slice_get log.now n)) place)) }
+{
+    let Some(place) = place else {
+        return Ok(None);
+    };
+    match other_at(alloc, session, page, log, place as usize)? {
+        Some(held) => Ok(Some(Wrong { place, held })),
+        None => Ok(None),
+    }
+}
