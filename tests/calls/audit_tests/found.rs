@@ -3,7 +3,7 @@
 use crate::texts::{Logs, session_of};
 use cert_maker::{MakeFault, Order, find_order, make};
 use cert_text::write_cert;
-use migration_types::{Cert, Seq, Session, line_of};
+use migration_types::{Cert, LogName, Run, Seq, Session, line_of};
 use std::alloc::Global;
 
 /// Page 1 is written, sent, missed, placed, seen twice and read.
@@ -62,11 +62,18 @@ fn is_certified(alloc: Global, session: &Session, text: &str) -> bool {
     }
 }
 
-/// Whether a session's logs are told as a knot, which shows at this line.
+/// Whether runs take the guest's first record alone, its halt.
+fn is_halt_alone(runs: &[Run]) -> bool {
+    runs.len() == 1 && runs[0].log == LogName::Guest && runs[0].count == 1
+}
+
+/// Whether a session's logs are told as a knot, which shows at this line, behind the halt.
 fn is_knot(alloc: Global, session: &Session, line: u32) -> bool {
     match find_order(alloc, session) {
-        Ok(Order::Knot { left, .. }) => {
-            left.line == line && line_of(session, left.log, left.place) == line
+        Ok(Order::Knot { left, found }) => {
+            left.line == line
+                && line_of(session, left.log, left.place) == line
+                && is_halt_alone(found.runs.as_slice())
         }
         _ => false,
     }
