@@ -72,12 +72,12 @@ entry_fits_back version pages old new entry runs e none f =
       runs = λ _. none;
     }
 
-pub live_undone : (stage : Stage) (version : Version) (pages : ℕ) (old new : List Entry) (runs : List (List ℕ)) → Live stage (record { version = version; pages = pages; entries = old; runs = runs }) → stage ≡ Entries → runs ≡ [] → (entry : Entry) × (old ≡ new ++ entry ∷ []) → Live stage (record { version = version; pages = pages; entries = new; runs = runs })
+pub live_undone : (stage : Stage) (version : Version) (pages : ℕ) (old new : List Entry) (runs : List (List ℕ)) → Live stage (record { version = version; pages = pages; entries = old; runs = runs }) → stage ≡ Entries → runs ≡ [] → (entry : Entry) × (old ≡ new ++ entry ∷ []) → Live Entries (record { version = version; pages = pages; entries = new; runs = runs })
 live_undone Header version pages old new runs live is none lost = absurd cc
 live_undone Pages version pages old new runs live is none lost = absurd cc
 live_undone Entries version pages old new runs live is none lost = entry_fits_back version pages old new lost.0 runs lost.1 none live
 
-pub entry_undone : (stage : Stage) (version : Version) (pages : ℕ) (old new : List Entry) (runs held : List (List ℕ)) → held_by stage (record { version = version; pages = pages; entries = old; runs = runs }) ≡ held → stage ≡ Entries → runs ≡ [] → (entry : Entry) × (old ≡ new ++ entry ∷ []) → (line : List ℕ) × (held ≡ held_by stage (record { version = version; pages = pages; entries = new; runs = runs }) ++ line ∷ [])
+pub entry_undone : (stage : Stage) (version : Version) (pages : ℕ) (old new : List Entry) (runs held : List (List ℕ)) → held_by stage (record { version = version; pages = pages; entries = old; runs = runs }) ≡ held → stage ≡ Entries → runs ≡ [] → (entry : Entry) × (old ≡ new ++ entry ∷ []) → (line : List ℕ) × (held ≡ held_by Entries (record { version = version; pages = pages; entries = new; runs = runs }) ++ line ∷ [])
 entry_undone Header version pages old new runs held e is none lost = absurd cc
 entry_undone Pages version pages old new runs held e is none lost = absurd cc
 entry_undone Entries version pages old new runs held e is none lost = (

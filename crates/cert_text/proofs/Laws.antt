@@ -1,13 +1,11 @@
 -- What the lines that a reader of certificates holds say of each text that begins with them.
 use Rattle.std.proofs.Common.{◌≡◌, ℕ, ◌+◌, ◌<◌, ◌≤◌, ◌^◌, List, [], ◌∷◌, ◌++◌, length, get_or, refl, sym, ap, subst, ◌∙◌, append_assoc, length-append, arith}
-use Rattle.std.specs.Prelude.{◌≢◌, Result, Ok, Err, IfErr, OnOk}
+use Rattle.std.specs.Prelude.{◌≢◌}
 use Rattle.std.specs.List.{AllByRecursion}
 use Rattle.std.specs.Fmt.{decimal}
 use Rattle.std.proofs.lemmas.List.{append_cancel_left, append-nil}
 use Rattle.std.proofs.lemmas.Fmt.{decimal_injective}
 use Rattle.text_lines.specs.Text.{Begins, TakesLines}
-use Rattle.text_lines.specs.declared.FaultKind.{FaultKind}
-use Rattle.text_lines.specs.declared.FaultKind.TheVariants.{Memory}
 use Rattle.migration_types.specs.declared.cert.Entry.{Entry}
 use Rattle.migration_types.specs.declared.version.Version.{Version}
 use Rattle.migration_types.specs.declared.version.Version.TheVariants.{One, Two}
@@ -101,15 +99,20 @@ behind_entries d lines f full b =
     (b.0.runs, b.1, (runs_of_version d.version b.0 a.told b.2.0, r.1))
 
 -- so a line that no runs' lines go on with is refused
-no_run_line : (stage : Stage) (d : CertDraft) (held : List (List ℕ)) (line : List ℕ) → held_by stage d ≡ held → stage ≡ Entries → Live stage d → length d.entries ≡ d.pages → (Begins (SpellsRunLines d.version) (d.runs ++ line ∷ []) → ⊥) → Begins SpellsCert (held ++ line ∷ []) → ⊥
+pub no_run_line : (stage : Stage) (d : CertDraft) (held : List (List ℕ)) (line : List ℕ) → held_by stage d ≡ held → stage ≡ Entries → Live stage d → length d.entries ≡ d.pages → (Begins (SpellsRunLines d.version) (d.runs ++ line ∷ []) → ⊥) → Begins SpellsCert (held ++ line ∷ []) → ⊥
 no_run_line stage d held line e is live full stops b =
     let here : held_by Entries d ≡ held = subst (λ (s : Stage). held_by s d ≡ held) is e in
     let joined : held ++ line ∷ [] ≡ entries_onto d.version d.pages d.entries (d.runs ++ line ∷ []) = ap (λ (t : List (List ℕ)). t ++ line ∷ []) (sym here) ∙ entries_onto_append d.version d.pages d.entries d.runs (line ∷ []) in
     stops (behind_entries d (d.runs ++ line ∷ []) (live_at stage Entries d is live) full (subst (Begins SpellsCert) joined b))
 
-pub run_line_refused : (stage : Stage) (d : CertDraft) (held : List (List ℕ)) (line : List ℕ) (r : Result (Unit {0}) FaultKind) → held_by stage d ≡ held → stage ≡ Entries → Live stage d → length d.entries ≡ d.pages → IfErr r (λ kind. kind ≢ Memory → Begins (SpellsRunLines d.version) (d.runs ++ line ∷ []) → ⊥) → IfErr r (λ kind. kind ≢ Memory → Begins SpellsCert (held ++ line ∷ []) → ⊥)
-run_line_refused stage d held line (Ok done) e is live full h = tt
-run_line_refused stage d held line (Err kind) e is live full h = λ other. no_run_line stage d held line e is live full (h other)
+-- a line of the runs came
+pub run_taken : (stage : Stage) (d : CertDraft) (version : Version) (runs : List (List ℕ)) (line : List ℕ) → stage ≡ Entries → Live stage d → length d.entries ≡ d.pages → version ≡ d.version → runs ≡ d.runs ++ line ∷ [] → Live Entries (record d { version = version; runs = runs }) × (held_by Entries (record d { version = version; runs = runs }) ≡ held_by stage d ++ line ∷ [])
+run_taken Header d version runs line is live full same grown = absurd cc
+run_taken Pages d version runs line is live full same grown = absurd cc
+run_taken Entries d version runs line is live full same grown = rw (same, grown) (
+  record { some_pages = live.some_pages; few_pages = live.few_pages; count = live.count; each = live.each; runs = λ less. absurd (omega (arith, full, less)) },
+  sym (entries_onto_append d.version d.pages d.entries d.runs (line ∷ [])),
+)
 
 -- ---- one more entry
 
@@ -141,17 +144,19 @@ entry_taken Entries d held line entry is e live less spelled =
     ∙ ap (λ (t : List (List ℕ)). t ++ line ∷ []) e)))
 
 -- an entry came
-pub entry_line_taken : (stage : Stage) (d : CertDraft) (version : Version) (held : List (List ℕ)) (line : List ℕ) (new : List Entry) (r : Result (Unit {0}) FaultKind) → version ≡ d.version → stage ≡ Entries → held_by stage d ≡ held → Live stage d → length d.entries < d.pages → OnOk r (TakesEntry version d.entries new line) → OnOk r (held_by stage (record d { entries = new }) ≡ held ++ line ∷ [])
-entry_line_taken stage d version held line new (Ok done) same is e live less t =
-    ap (λ (entries : List Entry). held_by stage (record d { entries = entries })) t.grown ∙ entry_taken stage d held line t.entry is e live less t.spelled
-entry_line_taken stage d version held line new (Err kind) same is e live less t = tt
+pub entry_came : (stage : Stage) (d : CertDraft) (version : Version) (line : List ℕ) (new : List Entry) → version ≡ d.version → stage ≡ Entries → Live stage d → length d.entries < d.pages → TakesEntry version d.entries new line → Live Entries (record d { entries = new }) × (held_by Entries (record d { entries = new }) ≡ held_by stage d ++ line ∷ [])
+entry_came Header d version line new same is live less t = absurd cc
+entry_came Pages d version line new same is live less t = absurd cc
+entry_came Entries d version line new same is live less t = (
+  subst (λ (entries : List Entry). EntriesFit (record d { entries = entries })) (sym t.grown) (entry_push d t.entry live less (subst (λ (v : Version). EntryFits v t.entry) same t.fits)),
+  ap (λ (entries : List Entry). held_by Entries (record d { entries = entries })) t.grown ∙ entry_taken Entries d (held_by Entries d) line t.entry refl refl live less t.spelled,
+)
 
 -- a line that is not the next page's entry is refused
-pub entry_line_refused : (stage : Stage) (d : CertDraft) (version : Version) (held : List (List ℕ)) (line : List ℕ) (r : Result (Unit {0}) FaultKind) → version ≡ d.version → stage ≡ Entries → held_by stage d ≡ held → Live stage d → length d.entries < d.pages → IfErr r (λ kind. kind ≢ Memory → (entry : Entry) → EntryFits version entry → line ≢ entry_line (length d.entries) entry) → IfErr r (λ kind. kind ≢ Memory → Begins SpellsCert (held ++ line ∷ []) → ⊥)
-entry_line_refused stage d version held line (Ok done) same is e live less h = tt
-entry_line_refused stage d version held line (Err kind) same is e live less h = λ other b.
-    let n = entry_at d line (live_at stage Entries d is live) less (goes_from stage Entries d held line e is b) in
-    h other n.0 (subst (λ (v : Version). EntryFits v n.0) (sym same) n.1) n.2
+pub no_entry_line : (stage : Stage) (d : CertDraft) (version : Version) (line : List ℕ) → version ≡ d.version → stage ≡ Entries → Live stage d → length d.entries < d.pages → ((entry : Entry) → EntryFits version entry → line ≢ entry_line (length d.entries) entry) → Begins SpellsCert (held_by stage d ++ line ∷ []) → ⊥
+no_entry_line stage d version line same is live less none b =
+    let n = entry_at d line (live_at stage Entries d is live) less (goes_from stage Entries d (held_by stage d) line refl is b) in
+    none n.0 (subst (λ (v : Version). EntryFits v n.0) (sym same) n.1) n.2
 
 -- many entries more
 entries_held : (d : CertDraft) (taken : List Entry) → entries_onto d.version d.pages (d.entries ++ taken) [] ≡ entries_onto d.version d.pages d.entries [] ++ entry_lines (length d.entries) taken

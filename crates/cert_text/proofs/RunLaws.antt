@@ -71,10 +71,16 @@ letters_of text log rest e = named log (ap initial e) (ap second e)
     named Lane h k = (h, k)
     named Pager h k = (h, k)
 
--- a log's name before a rest, by its key
-pub keyed_by : (log told : LogName) (key rest : List ℕ) → told ≡ log → key ≡ log_word told ++ 32 ∷ [] → log_word log ++ 32 ∷ rest ≡ key ++ rest
-keyed_by log told key rest same is =
-    sym (append_assoc (log_word log) (32 ∷ []) rest) ∙ (ap (λ (l : LogName). (log_word l ++ 32 ∷ []) ++ rest) (sym same) ∙ ap (λ (t : List ℕ). t ++ rest) (sym is))
+-- a log's word before a rest
+pub word_by : (log told : LogName) (word rest : List ℕ) → told ≡ log → word ≡ log_word told → log_word log ++ rest ≡ word ++ rest
+word_by log told word rest same is = ap (λ (l : LogName). log_word l ++ rest) (sym same) ∙ ap (λ (t : List ℕ). t ++ rest) (sym is)
+
+-- behind a log's word stands a space
+pub behind_word : (log told : LogName) (text word behind rest : List ℕ) → told ≡ log → word ≡ log_word told → text ≡ word ++ behind → text ≡ log_word log ++ 32 ∷ rest → behind ≡ 32 ∷ rest
+behind_word log told text word behind rest same is found e = append_cancel_left word behind (32 ∷ rest) (sym found ∙ (e ∙ word_by log told word (32 ∷ rest) same is))
+
+pub same_rest : (a b behind : List ℕ) → behind ≡ 32 ∷ a → behind ≡ 32 ∷ b → a ≡ b
+same_rest a b behind p q = let both : 32 ∷ a ≡ 32 ∷ b = sym p ∙ q in cc
 
 -- behind a run's key and log stands its count
 pub count_at : (text behind count : List ℕ) (run : Run) → text ≡ codes "run " ++ behind → text ≡ run_line run → (behind ≡ log_word run.log ++ 32 ∷ decimal run.count → count ≡ decimal run.count) → count ≡ decimal run.count

@@ -16,9 +16,6 @@ header Two = codes "postcopy-certificate 2"
 abbrev pub pages_key : List ℕ
 pages_key = codes "pages "
 
-abbrev pub page_key : List ℕ
-page_key = codes "page "
-
 -- the numbers of a page's first use at the target and of the look before it, or a dash for each
 abbrev pub first_text : Option First → List ℕ
 first_text None = codes "- -"
@@ -38,6 +35,9 @@ entry_text Nothing = codes "none"
 entry_text (Fresh first) = codes "fresh " ++ decimal first
 entry_text (Source send place first) = codes "source " ++ source_text send place first
 entry_text (Balloon place first) = codes "balloon " ++ placed_text place first
+
+abbrev pub page_key : List ℕ
+page_key = codes "page "
 
 -- the entry of a page: its number, a space, and what the entry says
 abbrev pub entry_line : ℕ → Entry → List ℕ

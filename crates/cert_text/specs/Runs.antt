@@ -1,6 +1,7 @@
 -- The text of a merging's runs. Numbers are in decimal, with no sign and no leading zero.
 use Rattle.std.specs.Prelude.{◌≡◌, ℕ, List, [], ◌∷◌, ◌++◌, codes}
 use Rattle.std.specs.Fmt.{decimal}
+pub use Rattle.text_lines.specs.Text.{closing}
 use Rattle.text_lines.specs.Counted.{counted}
 use Rattle.migration_types.specs.declared.cert.Run.{Run}
 use Rattle.migration_types.specs.declared.version.Version.{Version}
@@ -13,9 +14,6 @@ runs_text_header = codes "postcopy-runs 1"
 
 abbrev pub runs_key : List ℕ
 runs_key = codes "runs "
-
-abbrev pub closing : List ℕ
-closing = codes "end"
 
 -- a run's log, a space, and its count
 abbrev pub run_text : Run → List ℕ

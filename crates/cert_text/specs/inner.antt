@@ -2,3 +2,4 @@ pub mod Held
 pub mod CertDraft
 pub mod Plain
 pub mod Taken
+pub mod Headed

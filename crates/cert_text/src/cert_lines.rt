@@ -1,21 +1,23 @@
-//! Reading a certificate line by line.
+//! What came of a certificate, line by line.
 
 ghost use Rattle.std.specs.Prelude.{◌≡◌, ◌≢◌, ℕ, [], MatchOption};
 ghost use Rattle.migration_types.specs.declared.version.Version.{Version as Told};
 ghost use Rattle.text_lines.specs.Text.{TakesLines};
 ghost use Rattle.cert_text.specs.Grammar.{header, SpellsCert};
+ghost use Rattle.cert_text.specs.inner.CertDraft.{held_at, LiveAt};
 
 use crate::entry_lines::{drop_entry, take_entries, take_entry};
-use crate::keys::{PAGES_KEY, cert_header};
 use crate::run_lines::RunLines;
 use crate::runs::RunForm;
 use migration_types::{Cert, Entry, MOST_PAGES, Seq, Version};
 use std::alloc::Global;
-use std::marker::Model;
 use std::thread::Threads;
 use text_lines::{
-    Alone, FaultKind, ItemCrew, LineReader, LinesApart, Rewind, Team, is_line, read_some,
+    Alone, FaultKind, ItemCrew, Stages, StagesApart, StagesBack, Team, is_line, read_some,
 };
+
+/// How the line with the number of pages begins.
+pub const PAGES_KEY: &[u8] = b"pages ";
 
 /// Which line is due.
 #[derive(Clone, Copy)]
@@ -28,34 +30,28 @@ pub enum Stage {
     Entries,
 }
 
-/// Reads a certificate line by line: what its lines said so far. Contracts see the lines.
+/// What came of a certificate.
 #[derive(Drop)]
-pub struct CertLines {
-    stage: Stage,
+pub struct CertParts {
     pages: u32,
     entries: Vec<Entry>,
     runs: RunLines,
 }
 
-impl Model for CertLines {
-    ghost use Rattle.std.specs.Prelude.{ℕ, List};
-
-    ghost Value = { List (List ℕ) };
-
-    ghost use Rattle.cert_text.specs.inner.CertDraft.{held_of, LiveAt};
-
-    ghost view = { held_of };
-
-    ghost invariant = { LiveAt };
-}
-
-impl CertLines {
+impl CertParts {
     /// Takes as many of the first lines as are in plain form, and answers what follows them and how many they were.
-    fn lines_by<'a, C: ItemCrew<RunForm>>(&mut self, crew: &C, bytes: &'a [u8]) -> (&'a [u8], u32)
-        requires { C.IsReady crew.now }
-        ensures { TakesLines self.old self.new bytes.now result.0.now result.1 }
+    fn lines_by<'a, C: ItemCrew<RunForm>>(
+        &mut self,
+        crew: &C,
+        stage: Stage,
+        bytes: &'a [u8],
+    ) -> (&'a [u8], u32)
+        requires ready { C.IsReady crew.now }
+        requires live { LiveAt stage self.old }
+        ensures live { LiveAt stage self.new }
+        ensures taken { TakesLines (held_at stage self.old) (held_at stage self.new) bytes.now result.0.now result.1 }
     {
-        match self.stage {
+        match stage {
             Stage::Entries => {
                 if self.entries.len() == self.pages as usize {
                     return self.runs.lines(crew, bytes);
@@ -67,49 +63,59 @@ impl CertLines {
     }
 }
 
-impl LineReader for CertLines {
-    type Text = Cert;
+impl Stages for CertParts {
+    type Stage = Stage;
 
-    ghost spells = { SpellsCert };
+    ghost use Rattle.cert_text.specs.inner.CertDraft.{held_at, LiveAt};
 
-    ghost held = { λ s. s };
+    ghost held = { held_at };
 
-    fn line(&mut self, line: &[u8]) -> Result<(), FaultKind> {
-        match self.stage {
+    ghost Live = { LiveAt };
+
+    fn begin(alloc: Global) -> (Stage, Self) {
+        let parts = CertParts {
+            pages: 0,
+            entries: Vec::new(alloc),
+            runs: RunLines::new(alloc, Version::One),
+        };
+        (Stage::Header, parts)
+    }
+
+    fn take(&mut self, stage: Stage, line: &[u8]) -> Result<Stage, FaultKind> {
+        match stage {
             Stage::Header => {
                 let Some(version) = version_of(line) else {
                     return Err(FaultKind::Form);
                 };
                 self.runs.set_version(version);
-                self.stage = Stage::Pages;
-                Ok(())
+                Ok(Stage::Pages)
             }
             Stage::Pages => {
-                let pages = read_some(line, PAGES_KEY, MOST_PAGES)?;
-                self.pages = pages;
-                self.stage = Stage::Entries;
-                Ok(())
+                self.pages = read_some(line, PAGES_KEY, MOST_PAGES)?;
+                Ok(Stage::Entries)
             }
             Stage::Entries => {
                 if self.entries.len() == self.pages as usize {
-                    return self.runs.line(line);
+                    self.runs.line(line)?;
+                } else {
+                    take_entry(&mut self.entries, self.runs.version(), line)?;
                 }
-                take_entry(&mut self.entries, self.runs.version(), line)
+                Ok(Stage::Entries)
             }
         }
     }
 
-    fn lines<'a>(&mut self, bytes: &'a [u8]) -> (&'a [u8], u32) {
-        self.lines_by(&Alone, bytes)
+    fn lines<'a>(&mut self, stage: Stage, bytes: &'a [u8]) -> (&'a [u8], u32) {
+        self.lines_by(&Alone, stage, bytes)
     }
 
-    fn goes_on(&self) {
+    fn goes_on(&self, _stage: Stage) {
         self.runs.goes_on();
         self.runs.few();
     }
 
-    fn text(self) -> Option<Cert> {
-        match self.stage {
+    fn text(self, stage: Stage) -> Option<Cert> {
+        match stage {
             Stage::Entries => {
                 let version = self.runs.version();
                 match self.runs.text() {
@@ -121,53 +127,59 @@ impl LineReader for CertLines {
         }
     }
 
+    type Text = Cert;
+
+    ghost spells = { SpellsCert };
+
     ghost use Rattle.cert_text.specs.inner.Plain.{plain_cert};
 
     ghost plain = { plain_cert };
 }
 
-impl LinesApart for CertLines {
-    fn lines_apart<'a, H: Threads + Sync>(
-        &mut self,
-        rt: &H,
-        parts: usize,
-        bytes: &'a [u8],
-    ) -> (&'a [u8], u32) {
-        self.lines_by(&Team { rt, parts }, bytes)
-    }
-}
-
-impl Rewind for CertLines {
-    fn empty(alloc: Global) -> Self {
-        CertLines {
-            stage: Stage::Header,
-            pages: 0,
-            entries: Vec::new(alloc),
-            runs: RunLines::new(alloc, Version::One),
-        }
-    }
-
-    fn count(&self) -> u32 {
+impl StagesBack for CertParts {
+    fn count(&self, stage: Stage) -> u32 {
         self.runs.few();
-        match self.stage {
+        match stage {
             Stage::Header => 0,
             Stage::Pages => 1,
             Stage::Entries => self.entries.len() as u32 + self.runs.count() + 2,
         }
     }
 
-    fn undo(&mut self) {
-        match self.stage {
-            Stage::Header => {}
-            Stage::Pages => self.stage = Stage::Header,
+    fn undo(&mut self, stage: Stage) -> Stage {
+        match stage {
             Stage::Entries => {
                 if self.runs.count() > 0 {
                     self.runs.undo();
                 } else if !drop_entry(&mut self.entries) {
-                    self.stage = Stage::Pages;
+                    return Stage::Pages;
                 }
+                Stage::Entries
             }
+            _ => Stage::Header,
         }
+    }
+}
+
+impl StagesApart for CertParts {
+    fn lines_apart<'a, H: Threads + Sync>(
+        &mut self,
+        rt: &H,
+        parts: usize,
+        stage: Stage,
+        bytes: &'a [u8],
+    ) -> (&'a [u8], u32) {
+        self.lines_by(&Team { rt, parts }, stage, bytes)
+    }
+}
+
+/// The first line of a certificate of this version.
+pub fn cert_header(version: Version) -> &'static [u8]
+    ensures { result.now ≡ header version }
+{
+    match version {
+        Version::One => b"postcopy-certificate 1",
+        Version::Two => b"postcopy-certificate 2",
     }
 }
 

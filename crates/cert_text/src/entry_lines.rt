@@ -11,7 +11,6 @@ ghost use Rattle.migration_types.specs.Certs.{FirstFits, EntryFits};
 ghost use Rattle.cert_text.specs.Grammar.{first_text, placed_text, entry_text, entry_line, entry_lines};
 ghost use Rattle.cert_text.specs.inner.Taken.{LosesLast, TakesEntries, TakesEntry};
 
-use crate::keys::{BALLOON_KEY, FRESH_KEY, NO_FIRST, NONE, PAGE_KEY, SOURCE_KEY};
 use migration_types::{Entry, First, LAST_RECORD, Version};
 use std::alloc::AllocError;
 use text_lines::{
@@ -41,6 +40,9 @@ fn record_then(text: &[u8]) -> Option<(u32, &[u8])>
     Some((number as u32, rest))
 }
 
+/// Stands where a page was not read, written or released at the target.
+const NO_FIRST: &[u8] = b"- -";
+
 /// A page's first use and the look before it at the front, and what follows. Nothing follows where the text
 /// is theirs alone.
 #[inline(always)]
@@ -68,6 +70,18 @@ fn placed_then(text: &[u8]) -> Option<(u32, Option<First>, &[u8])>
     Some((place, first, rest))
 }
 
+/// The entry of a page that was not placed, and not used at the target.
+const NONE: &[u8] = b"none";
+
+/// How the entry of a page begins that was not placed, and whose first use at the target released it.
+const FRESH_KEY: &[u8] = b"fresh ";
+
+/// How the entry of a page that was sent begins.
+const SOURCE_KEY: &[u8] = b"source ";
+
+/// How the entry of a page that was released at the halt begins.
+const BALLOON_KEY: &[u8] = b"balloon ";
+
 /// What an entry says at the front, and what follows. Nothing follows where the text is an entry's alone.
 #[inline(always)]
 fn said_then(text: &[u8], version: Version) -> Option<(Entry, &[u8])>
@@ -92,6 +106,9 @@ fn said_then(text: &[u8], version: Version) -> Option<(Entry, &[u8])>
     let (first, rest) = record_then(after_key(text, FRESH_KEY)?)?;
     Some((Entry::Fresh { first }, rest))
 }
+
+/// How the line of a page's entry begins.
+const PAGE_KEY: &[u8] = b"page ";
 
 /// The entry of this page at the front, and what follows. Nothing follows where the text is its line alone.
 #[inline(always)]

@@ -11,26 +11,35 @@ ghost use Rattle.cert_text.specs.Runs.{SpellsRuns};
 
 use migration_types::{Cert, Run, Seq};
 use std::alloc::{AllocError, Global};
-use text_lines::{TextFault, TextReader, push_keyed, push_line, read_whole};
+use text_lines::{Staged, TextFault, TextReader, push_keyed, push_line, read_whole};
 
 mod cert_lines;
 mod entry_lines;
-mod keys;
 mod run_lines;
 mod runs;
 mod runs_text;
 
-pub use cert_lines::CertLines;
+use cert_lines::{CertParts, PAGES_KEY, cert_header};
 use entry_lines::push_entries;
-use keys::{PAGES_KEY, RUNS_HEADER, cert_header};
 use runs::push_runs;
-pub use runs_text::RunsText;
+use runs_text::{RUNS_HEADER, RunsParts};
+
+/// Reads a certificate line by line.
+pub type CertLines = Staged<CertParts>;
 
 /// Reads the text of a certificate that comes in pieces.
 pub type CertReader = TextReader<CertLines>;
 
+/// Reads a text of runs line by line.
+pub type RunsText = Staged<RunsParts>;
+
 /// Reads a text of runs that comes in pieces.
 pub type RunsReader = TextReader<RunsText>;
+
+/// A law: no certificate's text begins another, a text spells one certificate, and a certificate has one text.
+pub fn cert_texts_are_unambiguous()
+    ensures { IsUnambiguous SpellsCert }
+{}
 
 /// The certificate that the bytes spell: a header, an entry for each of 1 to 65,536 pages in order, at most 5,242,880
 /// runs of 1 to 1,048,576 records, of which no two neighbours are of one log, and a closing line. An LF ends each line.
@@ -59,6 +68,11 @@ pub fn write_cert(alloc: Global, cert: &Cert) -> Result<Vec<u8>, AllocError>
     Ok(out)
 }
 
+/// A law: no text of runs begins another, a text spells one list of runs, and a list of runs has one text.
+pub fn runs_texts_are_unambiguous()
+    ensures { IsUnambiguous SpellsRuns }
+{}
+
 /// The runs that the bytes spell: a header, at most 5,242,880 runs of 1 to 1,048,576 records, of which no two
 /// neighbours are of one log, and a closing line. An LF ends each line.
 ///
@@ -81,13 +95,3 @@ pub fn write_runs(alloc: Global, runs: &[Run]) -> Result<Vec<u8>, AllocError>
     push_runs(&mut out, runs)?;
     Ok(out)
 }
-
-/// A law: no certificate's text begins another, a text spells one certificate, and a certificate has one text.
-pub fn cert_texts_are_unambiguous()
-    ensures { IsUnambiguous SpellsCert }
-{}
-
-/// A law: no text of runs begins another, a text spells one list of runs, and a list of runs has one text.
-pub fn runs_texts_are_unambiguous()
-    ensures { IsUnambiguous SpellsRuns }
-{}

@@ -5,12 +5,11 @@ ghost use Rattle.text_lines.specs.Text.{Begins, TakesLines};
 ghost use Rattle.migration_types.specs.declared.cert.Run.{Run as Told};
 ghost use Rattle.cert_text.specs.Runs.{SpellsRunLines};
 
-use crate::keys::{CLOSING, RUNS_KEY};
-use crate::runs::RunForm;
+use crate::runs::{RUNS_KEY, RunForm};
 use migration_types::{Run, Seq, Version, most_runs};
 use std::alloc::Global;
 use std::marker::Model;
-use text_lines::{Counted, FaultKind, ItemCrew, is_line};
+use text_lines::{CLOSING, Counted, FaultKind, ItemCrew, is_line};
 
 /// Which line is due.
 #[derive(Clone, Copy)]
@@ -28,7 +27,6 @@ pub enum RunStage {
 pub struct RunLines {
     form: RunForm,
     stage: RunStage,
-    alloc: Global,
     runs: Counted<Run>,
 }
 
@@ -51,7 +49,6 @@ impl RunLines {
         RunLines {
             form: RunForm { version },
             stage: RunStage::Count,
-            alloc,
             runs: Counted::nothing(alloc),
         }
     }
@@ -80,13 +77,8 @@ impl RunLines {
     {
         match self.stage {
             RunStage::Count => {
-                let runs = Counted::announced(
-                    self.alloc,
-                    line,
-                    RUNS_KEY,
-                    most_runs(self.form.version),
-                )?;
-                self.runs = runs;
+                let most = most_runs(self.form.version);
+                self.runs.announce(line, RUNS_KEY, most)?;
                 self.stage = RunStage::Runs;
                 Ok(())
             }

@@ -1,20 +1,54 @@
 //! Lines of runs.
 
-ghost use Rattle.std.specs.Prelude.{◌≡◌, ◌≢◌, [], ◌++◌, ◌↔◌, IsTrue, IfSome, IsSomeAnd, OnOk};
+ghost use Rattle.std.specs.Prelude.{◌≡◌, ◌≢◌, ℕ, List, [], ◌∷◌, ◌++◌, ◌↔◌, IsTrue, IfSome, IsSomeAnd, OnOk, slice_index};
+ghost use Rattle.migration_types.specs.declared.records.LogName.{LogName as Log};
 ghost use Rattle.migration_types.specs.Certs.{RunFits};
 ghost use Rattle.migration_types.specs.declared.cert.Run.{Run as Told};
 ghost use Rattle.text_lines.specs.Text.{ended};
-ghost use Rattle.cert_text.specs.Runs.{run_line, runs_lines};
+ghost use Rattle.cert_text.specs.Runs.{log_word, run_line, runs_lines};
 ghost use Rattle.cert_text.specs.inner.Held.{MayFollow};
 
-use crate::keys::{CLOSING, RUN_KEY, RUNS_KEY, log_key, log_then};
 use migration_types::{LogName, MOST_RECORDS, Run, Version};
 use std::alloc::AllocError;
 use std::thread::Threads;
 use text_lines::{
-    FaultKind, ItemCrew, LineForm, Team, after_end, after_key, front_number, push_counted,
-    push_keyed, push_line, take_parts,
+    CLOSING, FaultKind, ItemCrew, LineForm, Team, after_end, after_key, end_line, front_number,
+    push_counted, push_line, push_number, take_parts,
 };
+
+/// How the line with the number of runs begins.
+pub const RUNS_KEY: &[u8] = b"runs ";
+
+/// How the line of a run begins.
+const RUN_KEY: &[u8] = b"run ";
+
+/// The log whose word begins with these letters.
+#[inline(always)]
+fn log_with_letters(first: u8, second: u8) -> LogName
+    ensures { (log : Log) → first ≡ slice_index (log_word log) 0 → second ≡ slice_index (log_word log) 1 → result ≡ log }
+{
+    match first {
+        b'g' => LogName::Guest,
+        b's' => LogName::Source,
+        b'l' if second == b'i' => LogName::Link,
+        b'l' => LogName::Lane,
+        _ => LogName::Pager,
+    }
+}
+
+/// The log whose word stands at the front, and what follows the space after it.
+#[inline(always)]
+fn log_then(text: &[u8]) -> Option<(LogName, &[u8])>
+    ensures found { IfSome result (λ found. text.now ≡ log_word found.0 ++ 32 ∷ found.1.now) }
+    ensures whole { (log : Log) (rest : List ℕ) → text.now ≡ log_word log ++ 32 ∷ rest → IsSomeAnd result (λ found. found.1.now ≡ rest) }
+{
+    let first = *text.first()?;
+    let second = *text.get(1)?;
+    let log = log_with_letters(first, second);
+    let behind = after_key(text, log.word().as_bytes())?;
+    let rest = after_key(behind, b" ")?;
+    Some((log, rest))
+}
 
 /// The run of a version at the front, and what follows. Nothing follows where the text is its line alone.
 #[inline(always)]
@@ -92,7 +126,10 @@ impl LineForm for RunForm {
     #[inline(always)]
     fn push(run: &Run, out: &mut Vec<u8>) -> Result<(), AllocError> {
         out.extend_from_slice(RUN_KEY)?;
-        push_keyed(out, log_key(run.log), run.count)
+        out.extend_from_slice(run.log.word().as_bytes())?;
+        out.push(b' ')?;
+        push_number(out, run.count)?;
+        end_line(out)
     }
 }
 

@@ -1,80 +1,64 @@
-//! Reading a text of runs line by line.
+//! What came of a text of runs, line by line.
 
-ghost use Rattle.std.specs.Prelude.{◌≡◌, []};
-ghost use Rattle.text_lines.specs.Text.{TakesLines};
 ghost use Rattle.cert_text.specs.Runs.{SpellsRuns};
 
-use crate::keys::RUNS_HEADER;
 use crate::run_lines::RunLines;
-use crate::runs::RunForm;
 use migration_types::{Run, Seq, Version};
 use std::alloc::Global;
-use std::marker::Model;
 use std::thread::Threads;
-use text_lines::{Alone, FaultKind, ItemCrew, LineReader, LinesApart, Rewind, Team, is_line};
+use text_lines::{Alone, FaultKind, Stages, StagesApart, StagesBack, Team, expect_line};
 
-/// Reads a text of runs line by line: what its lines said so far. Contracts see the lines.
+/// The first line of a text of runs.
+pub const RUNS_HEADER: &[u8] = b"postcopy-runs 1";
+
+/// What came of the runs, which are those of the second version. The stage tells whether the header came.
 #[derive(Drop)]
-pub struct RunsText {
-    headed: bool,
+pub struct RunsParts {
     runs: RunLines,
 }
 
-impl Model for RunsText {
-    ghost use Rattle.std.specs.Prelude.{ℕ, List};
+impl Stages for RunsParts {
+    type Stage = bool;
 
-    ghost Value = { List (List ℕ) };
-
-    ghost use Rattle.cert_text.specs.inner.Held.{headed_by, HeadedLive};
-
-    ghost view = { λ a. headed_by a.headed a.runs.lines };
-
-    ghost invariant = { λ a. HeadedLive a.headed a.runs };
-}
-
-impl RunsText {
-    /// Takes as many of the first lines as are in plain form, and answers what follows them and how many they were.
-    fn lines_by<'a, C: ItemCrew<RunForm>>(&mut self, crew: &C, bytes: &'a [u8]) -> (&'a [u8], u32)
-        requires { C.IsReady crew.now }
-        ensures { TakesLines self.old self.new bytes.now result.0.now result.1 }
-    {
-        if self.headed {
-            self.runs.lines(crew, bytes)
-        } else {
-            (bytes, 0)
-        }
-    }
-}
-
-impl LineReader for RunsText {
     type Text = Seq<Run>;
 
     ghost spells = { SpellsRuns };
 
-    ghost held = { λ s. s };
+    ghost use Rattle.cert_text.specs.inner.Headed.{held_at, LiveAt};
 
-    fn line(&mut self, line: &[u8]) -> Result<(), FaultKind> {
-        if self.headed {
-            return self.runs.line(line);
-        }
-        if !is_line(line, RUNS_HEADER) {
-            return Err(FaultKind::Form);
-        }
-        self.headed = true;
-        Ok(())
+    ghost held = { held_at };
+
+    ghost Live = { LiveAt };
+
+    fn begin(alloc: Global) -> (bool, Self) {
+        let runs = RunLines::new(alloc, Version::Two);
+        (false, RunsParts { runs })
     }
 
-    fn lines<'a>(&mut self, bytes: &'a [u8]) -> (&'a [u8], u32) {
-        self.lines_by(&Alone, bytes)
+    fn take(&mut self, headed: bool, line: &[u8]) -> Result<bool, FaultKind> {
+        if headed {
+            self.runs.line(line)?;
+        } else {
+            expect_line(line, RUNS_HEADER)?;
+        }
+        Ok(true)
     }
 
-    fn goes_on(&self) {
+    fn lines<'a>(&mut self, headed: bool, bytes: &'a [u8]) -> (&'a [u8], u32) {
+        if headed {
+            self.runs.lines(&Alone, bytes)
+        } else {
+            (bytes, 0)
+        }
+    }
+
+    fn goes_on(&self, _headed: bool) {
         self.runs.goes_on();
         self.runs.few();
     }
 
-    fn text(self) -> Option<Seq<Run>> {
-        if self.headed { self.runs.text() } else { None }
+    fn text(self, headed: bool) -> Option<Seq<Run>> {
+        if headed { self.runs.text() } else { None }
     }
 
     ghost use Rattle.cert_text.specs.inner.Plain.{plain_runs_text};
@@ -82,39 +66,33 @@ impl LineReader for RunsText {
     ghost plain = { plain_runs_text };
 }
 
-impl LinesApart for RunsText {
+impl StagesBack for RunsParts {
+    fn count(&self, headed: bool) -> u32 {
+        self.runs.few();
+        if headed { self.runs.count() + 1 } else { 0 }
+    }
+
+    fn undo(&mut self, _headed: bool) -> bool {
+        if self.runs.count() == 0 {
+            return false;
+        }
+        self.runs.undo();
+        true
+    }
+}
+
+impl StagesApart for RunsParts {
     fn lines_apart<'a, H: Threads + Sync>(
         &mut self,
         rt: &H,
         parts: usize,
+        headed: bool,
         bytes: &'a [u8],
     ) -> (&'a [u8], u32) {
-        self.lines_by(&Team { rt, parts }, bytes)
-    }
-}
-
-impl Rewind for RunsText {
-    fn empty(alloc: Global) -> Self {
-        RunsText {
-            headed: false,
-            runs: RunLines::new(alloc, Version::Two),
-        }
-    }
-
-    fn count(&self) -> u32 {
-        self.runs.few();
-        if self.headed {
-            self.runs.count() + 1
+        if headed {
+            self.runs.lines(&Team { rt, parts }, bytes)
         } else {
-            0
-        }
-    }
-
-    fn undo(&mut self) {
-        if self.runs.count() > 0 {
-            self.runs.undo();
-        } else {
-            self.headed = false;
+            (bytes, 0)
         }
     }
 }

@@ -1,5 +1,8 @@
 -- A reader of events takes the lines that may come, and no others.
 use Rattle.std.proofs.Common.{◌≡◌, ◌≢◌, ℕ, ◌+◌, ◌-◌, ◌<◌, ◌≤◌, ◌^◌, List, [], ◌∷◌, ◌++◌, length, map, replicate, refl, sym, ap, subst, ◌∙◌, append_assoc, length-append, arith}
+use Rattle.std.specs.Prelude.{Result, Ok, Err, IfOk, IfErr, OnErr}
+use Rattle.text_lines.specs.declared.FaultKind.{FaultKind}
+use Rattle.text_lines.specs.declared.FaultKind.TheVariants.{Memory}
 use Rattle.std.specs.List.{AllByRecursion}
 use Rattle.std.specs.Fmt.{decimal}
 use Rattle.std.proofs.lemmas.List.{append-nil, length-map, length-replicate}
@@ -16,7 +19,7 @@ use Rattle.migration_events.specs.declared.events.Event.TheVariants.{Halt}
 use Rattle.script_text.specs.declared.event_steps.EventStage.{EventStage}
 use Rattle.script_text.specs.declared.event_steps.EventStage.TheVariants.{Header, Count, Events, Done}
 use Rattle.script_text.specs.Events.{events_header, events_key, closing, event_line, event_lines, EventFits, AreEvents, SpellsEvents}
-use Rattle.script_text.specs.inner.EventHeld.{events_held, EventsLeft, EventsRest, EventsFit, EventsLive}
+use Rattle.script_text.specs.inner.EventHeld.{events_held, EventsLeft, EventsRest, EventsFit, EventsLive, EventsStep}
 use Rattle.script_text.proofs.Exactly.{exact_step, exact_refuses, exact_begins, exact_whole, exact_left}
 use Rattle.script.proofs.Lists.{all_at, all_append}
 use Rattle.script_text.proofs.Lists.{keyed_same, all_replicate, none_left}
@@ -148,6 +151,24 @@ live_not_whole stage d held is live other v s = rest_not_none stage d other v (e
 
 pub live_refuses : (stage : EventStage) (d : Part Event) (held : List (List ℕ)) (line : List ℕ) → events_held stage d ≡ held → EventsLive stage d → ((v : List Event) (more : List (List ℕ)) → EventsRest stage d v (line ∷ more) → ⊥) → Begins SpellsEvents (held ++ line ∷ []) → ⊥
 live_refuses stage d held line is live none b = exact_refuses SpellsEvents (EventsRest stage d) (events_held stage d) live.exact line none (subst (λ (t : List (List ℕ)). Begins SpellsEvents (t ++ line ∷ [])) (sym is) b)
+
+-- ---- a line that was taken, as each text's reader tells it
+
+pub taken : (stage : EventStage) (old new : Part Event) (line : List ℕ) (r : Result EventStage FaultKind) → EventsStep stage old line new r → IfOk r (λ next. EventsLive next new × (events_held next new ≡ events_held stage old ++ line ∷ []))
+taken stage old new line (Ok next) s = s
+taken stage old new line (Err kind) s = tt
+
+pub refused : (stage : EventStage) (old new : Part Event) (line : List ℕ) (r : Result EventStage FaultKind) → EventsLive stage old → EventsStep stage old line new r → IfErr r (λ kind. kind ≢ Memory → Begins SpellsEvents (events_held stage old ++ line ∷ []) → ⊥)
+refused stage old new line (Ok next) live s = tt
+refused stage old new line (Err kind) live s = λ other. live_refuses stage old (events_held stage old) line refl live (s.1 other)
+
+pub still_live : (stage : EventStage) (old new : Part Event) (line : List ℕ) (r : Result EventStage FaultKind) → EventsLive stage old → EventsStep stage old line new r → OnErr r (EventsLive stage new)
+still_live stage old new line (Ok next) live s = tt
+still_live stage old new line (Err kind) live s = subst (EventsLive stage) (sym s.0) live
+
+pub still_held : (stage : EventStage) (old new : Part Event) (line : List ℕ) (r : Result EventStage FaultKind) → EventsStep stage old line new r → OnErr r (events_held stage new ≡ events_held stage old)
+still_held stage old new line (Ok next) s = tt
+still_held stage old new line (Err kind) s = ap (events_held stage) s.0
 
 -- ---- no text begins another
 

@@ -1,6 +1,9 @@
 -- Some script's text begins with the lines so far, and where all came, it is one.
 use Rattle.std.proofs.Common.{◌≡◌, ◌≢◌, ℕ, ◌+◌, ◌-◌, ◌*◌, ◌<◌, ◌≤◌, ◌^◌, List, [], ◌∷◌, ◌++◌, length, map, replicate, refl, sym, ap, subst, ◌∙◌, length-append, arith}
-use Rattle.std.specs.Prelude.{Option, Some, None, IfSome, IsSomeAnd}
+use Rattle.std.specs.Prelude.{Option, Some, None, IfSome, IsSomeAnd, Result, Ok, Err, IfOk, IfErr, OnErr}
+use Rattle.text_lines.specs.declared.FaultKind.{FaultKind}
+use Rattle.text_lines.specs.declared.FaultKind.TheVariants.{Memory}
+use Rattle.script_text.specs.inner.ScriptDraft.{ScriptStep}
 use Rattle.std.specs.List.{AllByRecursion}
 use Rattle.std.proofs.lemmas.List.{length-map, length-replicate}
 use Rattle.text_lines.specs.Text.{Begins}
@@ -252,3 +255,21 @@ live_not_whole stage d held is live other v s = rest_not_none stage d other v (e
 
 pub live_refuses : (stage : ScriptStage) (d : ScriptDraft) (held : List (List ℕ)) (line : List ℕ) → script_held stage d ≡ held → ScriptLive stage d → ((v : Scenario) (more : List (List ℕ)) → ScriptRest stage d v (line ∷ more) → ⊥) → Begins SpellsScript (held ++ line ∷ []) → ⊥
 live_refuses stage d held line is live none b = exact_refuses SpellsScript (ScriptRest stage d) (script_held stage d) live.exact line none (subst (λ (t : List (List ℕ)). Begins SpellsScript (t ++ line ∷ [])) (sym is) b)
+
+-- ---- a line that was taken, as each text's reader tells it
+
+pub taken : (stage : ScriptStage) (old new : ScriptDraft) (line : List ℕ) (r : Result ScriptStage FaultKind) → ScriptStep stage old line new r → IfOk r (λ next. ScriptLive next new × (script_held next new ≡ script_held stage old ++ line ∷ []))
+taken stage old new line (Ok next) s = s
+taken stage old new line (Err kind) s = tt
+
+pub refused : (stage : ScriptStage) (old new : ScriptDraft) (line : List ℕ) (r : Result ScriptStage FaultKind) → ScriptLive stage old → ScriptStep stage old line new r → IfErr r (λ kind. kind ≢ Memory → Begins SpellsScript (script_held stage old ++ line ∷ []) → ⊥)
+refused stage old new line (Ok next) live s = tt
+refused stage old new line (Err kind) live s = λ other. live_refuses stage old (script_held stage old) line refl live (s.1 other)
+
+pub still_live : (stage : ScriptStage) (old new : ScriptDraft) (line : List ℕ) (r : Result ScriptStage FaultKind) → ScriptLive stage old → ScriptStep stage old line new r → OnErr r (ScriptLive stage new)
+still_live stage old new line (Ok next) live s = tt
+still_live stage old new line (Err kind) live s = subst (ScriptLive stage) (sym s.0) live
+
+pub still_held : (stage : ScriptStage) (old new : ScriptDraft) (line : List ℕ) (r : Result ScriptStage FaultKind) → ScriptStep stage old line new r → OnErr r (script_held stage new ≡ script_held stage old)
+still_held stage old new line (Ok next) s = tt
+still_held stage old new line (Err kind) s = ap (script_held stage) s.0

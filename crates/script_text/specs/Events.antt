@@ -9,6 +9,7 @@
 use Rattle.std.specs.Prelude.{◌≡◌, ℕ, ◌<◌, ◌≤◌, List, [], ◌∷◌, ◌++◌, length, codes}
 use Rattle.std.specs.List.{AllByRecursion}
 use Rattle.std.specs.Fmt.{decimal}
+pub use Rattle.text_lines.specs.Text.{closing}
 use Rattle.text_lines.specs.Counted.{counted}
 use Rattle.migration_types.specs.Limits.{vcpus, most_records}
 use Rattle.migration_events.specs.declared.events.Direction.{Direction}
@@ -17,15 +18,6 @@ use Rattle.migration_events.specs.declared.events.Fate.{Fate}
 use Rattle.migration_events.specs.declared.events.Fate.TheVariants.{Deliver, Lose, Repeat, Back}
 use Rattle.migration_events.specs.declared.events.Event.{Event}
 use Rattle.migration_events.specs.declared.events.Event.TheVariants.{GuestStep, Halt, Push, Serve, SourceTick, LinkTurn, PagerPop, PagerPull, PagerFault, PagerFlush, PagerDeliver, PagerTick}
-
-abbrev pub events_header : List ℕ
-events_header = codes "postcopy-events 1"
-
-abbrev pub events_key : List ℕ
-events_key = codes "events "
-
-abbrev pub closing : List ℕ
-closing = codes "end"
 
 abbrev pub fate_word : Fate → List ℕ
 fate_word Deliver = codes "deliver"
@@ -59,22 +51,18 @@ event_line PagerTick = codes "pager-tick"
 -- a virtual processor that there may be
 abbrev pub EventFits : Event → Type 0
 EventFits (GuestStep vcpu) = vcpu < vcpus
-EventFits Halt = Unit {0}
-EventFits Push = Unit {0}
-EventFits Serve = Unit {0}
-EventFits SourceTick = Unit {0}
-EventFits (LinkTurn direction fate) = Unit {0}
-EventFits PagerPop = Unit {0}
-EventFits PagerPull = Unit {0}
-EventFits PagerFault = Unit {0}
-EventFits PagerFlush = Unit {0}
-EventFits PagerDeliver = Unit {0}
-EventFits PagerTick = Unit {0}
+EventFits _ = Unit {0}
 
 -- events within all limits
 pub record AreEvents (events : List Event) : Type 0 where
   pub few : length events ≤ most_records
   pub each : AllByRecursion EventFits events
+
+abbrev pub events_header : List ℕ
+events_header = codes "postcopy-events 1"
+
+abbrev pub events_key : List ℕ
+events_key = codes "events "
 
 abbrev pub event_lines : List Event → List (List ℕ)
 event_lines events = events_header ∷ counted events_key event_line events (closing ∷ [])

@@ -28,30 +28,11 @@ use Rattle.session_text.specs.Grammar.{pages_key, cells_key, init_key, page_line
 use Rattle.script.specs.declared.vcpus.Vcpu.{Vcpu}
 use Rattle.script.specs.Scenarios.{Scenario, IsScenario}
 
-abbrev pub script_header : Version → List ℕ
-script_header One = codes "postcopy-script 1"
-script_header Two = codes "postcopy-script 2"
-
 abbrev pub pivots_key : List ℕ
 pivots_key = codes "pivots "
 
 abbrev pub window_key : List ℕ
 window_key = codes "window "
-
-abbrev pub down_key : List ℕ
-down_key = codes "down "
-
-abbrev pub up_key : List ℕ
-up_key = codes "up "
-
-abbrev pub lane_key : List ℕ
-lane_key = codes "lane "
-
-abbrev pub vcpus_key : List ℕ
-vcpus_key = codes "vcpus "
-
-abbrev pub vcpu_key : List ℕ
-vcpu_key = codes "vcpu "
 
 abbrev pub fate_letter : Fate → ℕ
 fate_letter Deliver = 100
@@ -64,6 +45,12 @@ abbrev pub fates_text : List Fate → List ℕ
 fates_text [] = codes "-"
 fates_text (fate ∷ fates) = map fate_letter (fate ∷ fates)
 
+abbrev pub down_key : List ℕ
+down_key = codes "down "
+
+abbrev pub up_key : List ℕ
+up_key = codes "up "
+
 abbrev pub place_text : ℕ → ℕ → List ℕ
 place_text page cell = decimal page ++ 32 ∷ decimal cell
 
@@ -74,6 +61,9 @@ abbrev pub op_line : Op → List ℕ
 op_line (Read page cell) = codes "r " ++ place_text page cell
 op_line (Write page cell value) = codes "w " ++ value_text page cell value
 op_line (Release page) = codes "z " ++ decimal page
+
+abbrev pub vcpu_key : List ℕ
+vcpu_key = codes "vcpu "
 
 -- how many operations there are before and after a move
 abbrev pub counts_line : ℕ → ℕ → List ℕ
@@ -87,9 +77,15 @@ abbrev pub vcpus_onto : List Vcpu → List (List ℕ) → List (List ℕ)
 vcpus_onto [] more = more
 vcpus_onto (vcpu ∷ vcpus) more = vcpu_onto vcpu (vcpus_onto vcpus more)
 
+abbrev pub vcpus_key : List ℕ
+vcpus_key = codes "vcpus "
+
 -- the lines of a script from one on
 abbrev pub vcpus_lines : Scenario → List (List ℕ)
 vcpus_lines s = (vcpus_key ++ decimal (length s.vcpus)) ∷ vcpus_onto s.vcpus (closing ∷ [])
+
+abbrev pub lane_key : List ℕ
+lane_key = codes "lane "
 
 -- how many links carry packets down, which scripts of the second version tell: one, or two with the lane
 abbrev pub with_lanes : Version → Option (List Fate) → List (List ℕ) → List (List ℕ)
@@ -120,6 +116,10 @@ cells_lines s = (cells_key ++ decimal s.geometry.cells) ∷ init_lines s
 
 abbrev pub pages_lines : Scenario → List (List ℕ)
 pages_lines s = (pages_key ++ decimal s.geometry.pages) ∷ cells_lines s
+
+abbrev pub script_header : Version → List ℕ
+script_header One = codes "postcopy-script 1"
+script_header Two = codes "postcopy-script 2"
 
 abbrev pub script_lines : Scenario → List (List ℕ)
 script_lines s = script_header s.version ∷ pages_lines s

@@ -3,11 +3,10 @@
 ghost use Rattle.script_text.specs.inner.EventHeld.{EventsLive, EventsStep};
 
 use crate::event_form::EventForm;
-use crate::keys::{CLOSING, EVENTS_HEADER, EVENTS_KEY};
+use crate::keys::{EVENTS_HEADER, EVENTS_KEY};
 use migration_events::Event;
 use migration_types::MOST_RECORDS;
-use std::alloc::Global;
-use text_lines::{Counted, FaultKind, is_line};
+use text_lines::{CLOSING, Counted, FaultKind, is_line};
 
 /// Which line is due.
 #[derive(Clone, Copy)]
@@ -25,7 +24,6 @@ pub enum EventStage {
 /// Takes the next line, and answers the stage after it.
 pub fn take_event_line(
     events: &mut Counted<Event>,
-    alloc: Global,
     stage: EventStage,
     line: &[u8],
 ) -> Result<EventStage, FaultKind>
@@ -40,8 +38,7 @@ pub fn take_event_line(
             Ok(EventStage::Count)
         }
         EventStage::Count => {
-            let announced = Counted::announced(alloc, line, EVENTS_KEY, MOST_RECORDS)?;
-            *events = announced;
+            events.announce(line, EVENTS_KEY, MOST_RECORDS)?;
             Ok(EventStage::Events)
         }
         EventStage::Events => take_event(events, line),

@@ -11,9 +11,6 @@ pub const EVENTS_HEADER: &[u8] = b"postcopy-events 1";
 /// How the line with the number of events begins.
 pub const EVENTS_KEY: &[u8] = b"events ";
 
-/// The last line of a text.
-pub const CLOSING: &[u8] = b"end";
-
 /// How the line of a virtual processor's step begins.
 pub const GUEST_KEY: &[u8] = b"guest ";
 

@@ -13,7 +13,7 @@ use migration_types::Seq;
 use script::Script;
 use session_text::{CELLS_KEY, INIT_KEY, InitLines, PAGES_KEY};
 use std::alloc::{AllocError, Global};
-use text_lines::{TextFault, push_counted, push_keyed, push_line, read};
+use text_lines::{CLOSING, Staged, TextFault, push_counted, push_keyed, push_line, read};
 
 mod event_form;
 mod event_reader;
@@ -27,13 +27,11 @@ mod stages;
 mod versions;
 
 use event_form::EventForm;
-use event_reader::EventLines;
+use event_reader::EventParts;
 use fates::push_fates;
-use keys::{
-    CLOSING, DOWN_KEY, EVENTS_HEADER, EVENTS_KEY, PIVOTS_KEY, UP_KEY, VCPUS_KEY, WINDOW_KEY,
-};
+use keys::{DOWN_KEY, EVENTS_HEADER, EVENTS_KEY, PIVOTS_KEY, UP_KEY, VCPUS_KEY, WINDOW_KEY};
 use op_form::push_vcpus;
-use script_reader::ScriptLines;
+use script_steps::ScriptParts;
 use versions::{push_lanes, script_header};
 
 /// The events that the bytes are the text of, at most 1,048,576.
@@ -46,7 +44,7 @@ use versions::{push_lanes, script_header};
 pub fn read_events(alloc: Global, bytes: &[u8]) -> Result<Seq<Event>, TextFault>
     ensures { Reads SpellsEvents bytes.now result }
 {
-    read(EventLines::new(alloc), bytes)
+    read(Staged::<EventParts>::new(alloc), bytes)
 }
 
 /// The text of events, at most 1,048,576, whose virtual processors have numbers below 64. `read_events` reads it back.
@@ -73,7 +71,7 @@ pub fn write_events(alloc: Global, events: &[Event]) -> Result<Vec<u8>, AllocErr
 pub fn read_script(alloc: Global, bytes: &[u8]) -> Result<Script, TextFault>
     ensures { Reads SpellsScript bytes.now result }
 {
-    read(ScriptLines::new(alloc), bytes)
+    read(Staged::<ScriptParts>::new(alloc), bytes)
 }
 
 /// The text of a script, which `read_script` reads back.

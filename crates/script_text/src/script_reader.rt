@@ -1,71 +1,39 @@
-//! Reading a script's text line by line.
+//! What came of a script, line by line.
 
-ghost use Rattle.std.specs.Prelude.{◌≡◌, []};
 ghost use Rattle.script_text.specs.Scripts.{SpellsScript};
 
 use crate::script_steps::ScriptParts;
 use crate::stages::ScriptStage;
-use migration_types::{Geometry, Seq};
 use script::Script;
 use std::alloc::Global;
-use std::marker::Model;
-use text_lines::{FaultKind, LineReader};
+use text_lines::{FaultKind, Stages};
 
-/// Reads a script's text line by line: what its lines said so far. Contracts see the lines.
-#[derive(Drop)]
-pub struct ScriptLines {
-    stage: ScriptStage,
-    parts: ScriptParts,
-}
+impl Stages for ScriptParts {
+    type Stage = ScriptStage;
 
-impl Model for ScriptLines {
-    ghost use Rattle.std.specs.Prelude.{ℕ, List};
-
-    ghost Value = { List (List ℕ) };
-
-    ghost use Rattle.script_text.specs.inner.ScriptDraft.{held_of, LiveAt};
-
-    ghost view = { held_of };
-
-    ghost invariant = { LiveAt };
-}
-
-impl ScriptLines {
-    /// No line came yet. Takes no memory.
-    pub fn new(alloc: Global) -> Self
-        ensures { result ≡ [] }
-    {
-        ScriptLines {
-            stage: ScriptStage::Header,
-            parts: ScriptParts::new(alloc),
-        }
+    fn begin(alloc: Global) -> (ScriptStage, Self) {
+        (ScriptStage::Header, ScriptParts::new(alloc))
     }
-}
 
-impl LineReader for ScriptLines {
+    fn take(&mut self, stage: ScriptStage, line: &[u8]) -> Result<ScriptStage, FaultKind> {
+        self.step(stage, line)
+    }
+
     type Text = Script;
 
     ghost spells = { SpellsScript };
 
-    ghost held = { λ s. s };
+    ghost use Rattle.script_text.specs.inner.ScriptDraft.{held_at, LiveAt};
 
-    fn line(&mut self, line: &[u8]) -> Result<(), FaultKind> {
-        match self.parts.take(self.stage, line) {
-            Ok(stage) => {
-                self.stage = stage;
-                Ok(())
-            }
-            Err(kind) => Err(kind),
-        }
-    }
+    ghost held = { held_at };
 
-    fn goes_on(&self) {
-        let _ = &self.stage;
-    }
+    ghost Live = { LiveAt };
 
-    fn text(self) -> Option<Script> {
-        match self.stage {
-            ScriptStage::Done => self.parts.into_script(),
+    fn goes_on(&self, _stage: ScriptStage) {}
+
+    fn text(self, stage: ScriptStage) -> Option<Script> {
+        match stage {
+            ScriptStage::Done => self.into_script(),
             _ => None,
         }
     }

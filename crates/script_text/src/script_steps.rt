@@ -14,10 +14,10 @@ use crate::versions::script_header;
 use migration_events::{Fate, Op};
 use migration_types::{Geometry, InitPage, Seq, Version};
 use script::{MOST_PIVOTS, MOST_VCPUS, MOST_WINDOW, Script, Vcpu, When};
-use session_text::{CLOSING, INIT_KEY, InitLines, Sizes, read_cells, read_pages};
+use session_text::{INIT_KEY, InitLines, Sizes, read_cells, read_pages};
 use std::alloc::Global;
 use std::mem;
-use text_lines::{Counted, FaultKind, is_line, read_some};
+use text_lines::{CLOSING, Counted, FaultKind, is_line, read_some};
 
 /// What came of a script.
 #[derive(Drop)]
@@ -92,7 +92,7 @@ impl ScriptParts {
     }
 
     /// Takes the next line, and answers the stage after it.
-    pub fn take(&mut self, stage: ScriptStage, line: &[u8]) -> Result<ScriptStage, FaultKind>
+    pub fn step(&mut self, stage: ScriptStage, line: &[u8]) -> Result<ScriptStage, FaultKind>
         requires { ScriptLive stage (draft_of self.old) }
         ensures { ScriptStep stage (draft_of self.old) line.now (draft_of self.new) result }
     {
@@ -155,8 +155,7 @@ impl ScriptParts {
         requires { ScriptLive ScriptStage.InitCount (draft_of self.old) }
         ensures { ScriptStep ScriptStage.InitCount (draft_of self.old) line.now (draft_of self.new) result }
     {
-        let init = Counted::announced(self.sizes.alloc, line, INIT_KEY, self.sizes.pages)?;
-        self.init = init;
+        self.init.announce(line, INIT_KEY, self.sizes.pages)?;
         Ok(ScriptStage::Init)
     }
 

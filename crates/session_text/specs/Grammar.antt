@@ -22,7 +22,9 @@ use Rattle.migration_types.specs.declared.version.Version.TheVariants.{One, Two}
 use Rattle.migration_types.specs.Receipts.{Name}
 use Rattle.migration_types.specs.declared.records.LaneRec.{LaneRec}
 use Rattle.migration_types.specs.Sessions.{Recorded, IsSession}
+pub use Rattle.text_lines.specs.Text.{closing}
 pub use Rattle.text_lines.specs.Counted.{counted}
+pub use Rattle.session_text.specs.Records.{guest_key, source_key, link_key, lane_key, pager_key}
 use Rattle.session_text.specs.Records.{guest_line, source_line, link_line, lane_line, pager_line}
 
 -- the fixed lines, and the words that other lines begin with
@@ -41,24 +43,6 @@ init_key = codes "init "
 
 abbrev pub page_key : List ℕ
 page_key = codes "page "
-
-abbrev pub guest_key : List ℕ
-guest_key = codes "guest "
-
-abbrev pub source_key : List ℕ
-source_key = codes "source "
-
-abbrev pub link_key : List ℕ
-link_key = codes "link "
-
-abbrev pub lane_key : List ℕ
-lane_key = codes "lane "
-
-abbrev pub pager_key : List ℕ
-pager_key = codes "pager "
-
-abbrev pub closing : List ℕ
-closing = codes "end"
 
 -- a page with its contents
 abbrev pub page_line : InitPage → List ℕ

@@ -40,6 +40,13 @@ page_text page contents = decimal page ++ 32 ∷ contents_text contents
 abbrev pub placed_text : ℕ → ℕ → List ℕ → List ℕ
 placed_text page got contents = decimal page ++ 32 ∷ (decimal got ++ 32 ∷ contents_text contents)
 
+-- how the line with the number of a log's records begins, for each log
+abbrev pub guest_key : List ℕ
+guest_key = codes "guest "
+
+abbrev pub source_key : List ℕ
+source_key = codes "source "
+
 abbrev pub guest_line : GuestRec → List ℕ
 guest_line (Read vcpu page cell value) = codes "r " ++ access_text vcpu page cell value
 guest_line (Write vcpu page cell value) = codes "w " ++ access_text vcpu page cell value
@@ -56,6 +63,12 @@ source_line (Send page contents) = codes "send " ++ page_text page contents
 source_line (Again sending) = codes "again " ++ decimal sending
 source_line (Ask up) = codes "ask " ++ decimal up
 source_line Done = codes "done"
+
+abbrev pub link_key : List ℕ
+link_key = codes "link "
+
+abbrev pub lane_key : List ℕ
+lane_key = codes "lane "
 
 abbrev pub link_line : LinkRec → List ℕ
 link_line (Down sending) = codes "down " ++ decimal sending
@@ -75,3 +88,6 @@ pager_line (Place page got contents) = codes "place " ++ placed_text page got co
 pager_line (Zero page) = codes "zero " ++ decimal page
 pager_line (Skip got) = codes "skip " ++ decimal got
 pager_line All = codes "all"
+
+abbrev pub pager_key : List ℕ
+pager_key = codes "pager "

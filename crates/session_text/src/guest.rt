@@ -20,20 +20,6 @@ use text_lines::{
 /// How the line with the number of the guest's records begins.
 pub(crate) const GUEST_KEY: &[u8] = b"guest ";
 
-const READ_KEY: &[u8] = b"r ";
-
-const WRITE_KEY: &[u8] = b"w ";
-
-const RELEASE_KEY: &[u8] = b"z ";
-
-const MISS_KEY: &[u8] = b"miss ";
-
-const HALT: &[u8] = b"halt";
-
-const RESUME_KEY: &[u8] = b"resume ";
-
-const SEE_KEY: &[u8] = b"see ";
-
 /// The processor, page, cell and value of a read or a write at the front, and what follows. Nothing follows where the text
 /// is theirs alone.
 #[inline(always)]
@@ -69,6 +55,16 @@ fn vcpu_page_then(text: &[u8], pages: u32) -> Option<(u8, PageNo, &[u8])>
     Some((vcpu as u8, PageNo::new(page as u16), rest))
 }
 
+const RELEASE_KEY: &[u8] = b"z ";
+
+const MISS_KEY: &[u8] = b"miss ";
+
+const HALT: &[u8] = b"halt";
+
+const RESUME_KEY: &[u8] = b"resume ";
+
+const SEE_KEY: &[u8] = b"see ";
+
 /// A record that is no read or write at the front, and what follows. Nothing follows where the text is its line alone.
 fn event_then(text: &[u8], pages: u32) -> Option<(GuestRec, &[u8])>
     requires some { 0 < pages }
@@ -96,6 +92,10 @@ fn event_then(text: &[u8], pages: u32) -> Option<(GuestRec, &[u8])>
     }
     Some((GuestRec::Halt, after_key(text, HALT)?))
 }
+
+const READ_KEY: &[u8] = b"r ";
+
+const WRITE_KEY: &[u8] = b"w ";
 
 /// The record at the front, and what follows. Nothing follows where the text is its line alone.
 fn guest_then(text: &[u8], pages: u32, cells: u32) -> Option<(GuestRec, &[u8])>

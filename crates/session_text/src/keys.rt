@@ -13,9 +13,6 @@ pub const CELLS_KEY: &[u8] = b"cells ";
 /// How the line with the number of initial pages begins.
 pub const INIT_KEY: &[u8] = b"init ";
 
-/// The last line.
-pub const CLOSING: &[u8] = b"end";
-
 // An initial page.
 
 pub(crate) const PAGE_KEY: &[u8] = b"page ";

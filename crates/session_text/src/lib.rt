@@ -34,15 +34,20 @@ use crate::source::{SOURCE_KEY, SourceLines};
 use crate::versions::{header, push_lane};
 pub use contents::read_contents;
 pub use forms::Sizes;
-pub use keys::{CELLS_KEY, CLOSING, INIT_KEY, PAGES_KEY};
-pub use lines::SessionLines;
+pub use keys::{CELLS_KEY, INIT_KEY, PAGES_KEY};
 pub use machine::{read_cells, read_pages};
 use migration_types::Session;
 pub use pages::InitLines;
+use parts::Parts;
 pub use places::has_its_line;
 pub use rows::{lines_follow, push_row};
 use std::alloc::{AllocError, Global};
-use text_lines::{TextFault, TextReader, push_counted, push_keyed, push_line, read_whole};
+use text_lines::{
+    CLOSING, Staged, TextFault, TextReader, push_counted, push_keyed, push_line, read_whole,
+};
+
+/// Reads a session's text line by line.
+pub type SessionLines = Staged<Parts>;
 
 /// Reads the text of a session that comes in pieces.
 pub type SessionReader = TextReader<SessionLines>;
@@ -60,6 +65,11 @@ pub fn read_session(alloc: Global, bytes: &[u8]) -> Result<Session, TextFault>
     read_whole::<SessionLines>(alloc, bytes)
 }
 
+/// No session's text begins another's, a text is that of one session, and a session has one text. Runs nothing.
+pub fn session_texts_are_unambiguous()
+    ensures { IsUnambiguous SpellsSession }
+{}
+
 /// The text of a session.
 ///
 /// # Errors
@@ -68,9 +78,9 @@ pub fn read_session(alloc: Global, bytes: &[u8]) -> Result<Session, TextFault>
 pub fn write_session(alloc: Global, session: &Session) -> Result<Vec<u8>, AllocError>
     ensures { IfOk result (λ bytes. IsSpelling SpellsSession session.now bytes.items) }
 {
+    let mut out = Vec::new(alloc);
     session.keeps_limits();
     let geometry = session.geometry();
-    let mut out = Vec::new(alloc);
     push_line(&mut out, header(session.version()))?;
     push_keyed(&mut out, PAGES_KEY, geometry.pages())?;
     push_keyed(&mut out, CELLS_KEY, geometry.cells())?;
@@ -83,8 +93,3 @@ pub fn write_session(alloc: Global, session: &Session) -> Result<Vec<u8>, AllocE
     push_line(&mut out, CLOSING)?;
     Ok(out)
 }
-
-/// No session's text begins another's, a text is that of one session, and a session has one text. Runs nothing.
-pub fn session_texts_are_unambiguous()
-    ensures { IsUnambiguous SpellsSession }
-{}

@@ -20,23 +20,11 @@ use text_lines::{FaultKind, after_key, end_line, number_then, push_keyed, push_l
 /// How the line with the number of the pager's records begins.
 pub(crate) const PAGER_KEY: &[u8] = b"pager ";
 
-const GOT_KEY: &[u8] = b"got ";
-
-const PULL_KEY: &[u8] = b"pull ";
-
-const READY: &[u8] = b"ready";
-
-const FAULT_KEY: &[u8] = b"fault ";
-
-const JOIN_KEY: &[u8] = b"join ";
-
 const WANT_KEY: &[u8] = b"want ";
-
-const PLACE_KEY: &[u8] = b"place ";
 
 const ZERO_KEY: &[u8] = b"zero ";
 
-const SKIP_KEY: &[u8] = b"skip ";
+const READY: &[u8] = b"ready";
 
 const ALL: &[u8] = b"all";
 
@@ -65,6 +53,8 @@ fn placed_then(
     Ok((PageNo::new(page as u16), got as u32, contents, rest))
 }
 
+const PULL_KEY: &[u8] = b"pull ";
+
 /// The number of the lane's record in a receipt from the lane at the front, which the second version alone has, and what
 /// follows. Nothing follows where the text is its line alone.
 #[inline(always)]
@@ -77,6 +67,14 @@ fn pull_then(version: Version, text: &[u8]) -> Option<(u32, &[u8])>
         Version::Two => numbered_then(text, PULL_KEY),
     }
 }
+
+const GOT_KEY: &[u8] = b"got ";
+
+const FAULT_KEY: &[u8] = b"fault ";
+
+const JOIN_KEY: &[u8] = b"join ";
+
+const SKIP_KEY: &[u8] = b"skip ";
 
 /// The record that is no placement at the front, and what follows. Nothing follows where the text is its line alone.
 fn notice_then(version: Version, text: &[u8], pages: u32) -> Option<(PagerRec, &[u8])>
@@ -111,6 +109,8 @@ fn notice_then(version: Version, text: &[u8], pages: u32) -> Option<(PagerRec, &
     }
     Some((PagerRec::All, after_key(text, ALL)?))
 }
+
+const PLACE_KEY: &[u8] = b"place ";
 
 /// The record at the front, and what follows. Nothing follows where the text is its line alone.
 #[inline(always)]

@@ -8,7 +8,7 @@ ghost use Rattle.session_text.specs.inner.Steps.{count_at, draft_of, Steps, Step
 use crate::crews::SessionCrew;
 use crate::forms::Sizes;
 use crate::guest::{GUEST_KEY, GuestLines};
-use crate::keys::{CLOSING, INIT_KEY};
+use crate::keys::INIT_KEY;
 use crate::lane::{LANE_KEY, LaneLines};
 use crate::link::{LINK_KEY, LinkLines};
 use crate::machine::{read_cells, read_pages};
@@ -22,11 +22,11 @@ use migration_types::{
     lane_lines,
 };
 use std::alloc::Global;
-use text_lines::{Counted, FaultKind, ItemCrew, is_line};
+use text_lines::{CLOSING, Counted, FaultKind, ItemCrew, expect_line, is_line};
 
 /// Which line comes next.
 #[derive(Clone, Copy, PartialEq, Eq)]
-pub(crate) enum Stage {
+pub enum Stage {
     /// The header.
     Header,
     /// The number of pages.
@@ -54,7 +54,7 @@ pub(crate) enum Stage {
 /// What came of a session: its version and geometry, and of each list the number of its items and those so far. The first
 /// version's lane has none.
 #[derive(Drop)]
-pub(crate) struct Parts {
+pub struct Parts {
     pub(crate) version: Version,
     pub(crate) sizes: Sizes,
     pub(crate) init: Counted<InitPage>,
@@ -106,7 +106,7 @@ impl Parts {
     }
 
     /// Takes the next line, and answers the stage after it.
-    pub(crate) fn take(&mut self, stage: Stage, line: &[u8]) -> Result<Stage, FaultKind>
+    pub(crate) fn step(&mut self, stage: Stage, line: &[u8]) -> Result<Stage, FaultKind>
         requires { Live stage (draft_of self.old) }
         ensures { Steps stage (draft_of self.old) line.now (draft_of self.new) result }
     {
@@ -166,8 +166,7 @@ impl Parts {
         requires { Live Stage.InitCount (draft_of self.old) }
         ensures { Steps Stage.InitCount (draft_of self.old) line.now (draft_of self.new) result }
     {
-        let init = Counted::announced(self.sizes.alloc, line, INIT_KEY, self.sizes.pages)?;
-        self.init = init;
+        self.init.announce(line, INIT_KEY, self.sizes.pages)?;
         Ok(Stage::Init)
     }
 
@@ -177,8 +176,7 @@ impl Parts {
         ensures { Steps Stage.Init (draft_of self.old) line.now (draft_of self.new) result }
     {
         if self.init.is_whole() {
-            let guest = Counted::announced(self.sizes.alloc, line, GUEST_KEY, MOST_RECORDS)?;
-            self.guest = guest;
+            self.guest.announce(line, GUEST_KEY, MOST_RECORDS)?;
             return Ok(Stage::Guest);
         }
         let form = InitLines {
@@ -195,8 +193,7 @@ impl Parts {
         ensures { Steps Stage.Guest (draft_of self.old) line.now (draft_of self.new) result }
     {
         if self.guest.is_whole() {
-            let source = Counted::announced(self.sizes.alloc, line, SOURCE_KEY, MOST_RECORDS)?;
-            self.source = source;
+            self.source.announce(line, SOURCE_KEY, MOST_RECORDS)?;
             return Ok(Stage::Source);
         }
         let form = Records(GuestLines(self.sizes));
@@ -210,8 +207,7 @@ impl Parts {
         ensures { Steps Stage.Source (draft_of self.old) line.now (draft_of self.new) result }
     {
         if self.source.is_whole() {
-            let link = Counted::announced(self.sizes.alloc, line, LINK_KEY, MOST_RECORDS)?;
-            self.link = link;
+            self.link.announce(line, LINK_KEY, MOST_RECORDS)?;
             return Ok(Stage::Link);
         }
         let form = Records(SourceLines(self.sizes));
@@ -239,14 +235,12 @@ impl Parts {
     {
         match self.version {
             Version::One => {
-                let pager = Counted::announced(self.sizes.alloc, line, PAGER_KEY, MOST_RECORDS)?;
+                self.pager.announce(line, PAGER_KEY, MOST_RECORDS)?;
                 self.lane = Counted::nothing(self.sizes.alloc);
-                self.pager = pager;
                 Ok(Stage::Pager)
             }
             Version::Two => {
-                let lane = Counted::announced(self.sizes.alloc, line, LANE_KEY, MOST_RECORDS)?;
-                self.lane = lane;
+                self.lane.announce(line, LANE_KEY, MOST_RECORDS)?;
                 Ok(Stage::Lane)
             }
         }
@@ -258,8 +252,7 @@ impl Parts {
         ensures { Steps Stage.Lane (draft_of self.old) line.now (draft_of self.new) result }
     {
         if self.lane.is_whole() {
-            let pager = Counted::announced(self.sizes.alloc, line, PAGER_KEY, MOST_RECORDS)?;
-            self.pager = pager;
+            self.pager.announce(line, PAGER_KEY, MOST_RECORDS)?;
             return Ok(Stage::Pager);
         }
         self.lane.line(&Records(LaneLines), line)?;
@@ -272,9 +265,7 @@ impl Parts {
         ensures { Steps Stage.Pager (draft_of self.old) line.now (draft_of self.new) result }
     {
         if self.pager.is_whole() {
-            if !is_line(line, CLOSING) {
-                return Err(FaultKind::Form);
-            }
+            expect_line(line, CLOSING)?;
             return Ok(Stage::Done);
         }
         let form = Records(PagerLines {
@@ -286,7 +277,7 @@ impl Parts {
     }
 
     /// How many lines came.
-    pub(crate) fn count(&self, stage: Stage) -> u32
+    pub(crate) fn came(&self, stage: Stage) -> u32
         requires live { Live stage (draft_of self.now) }
         requires few { count_at stage (draft_of self.now) < 2 ^ 32 }
         ensures { result ≡ count_at stage (draft_of self.now) }
@@ -332,7 +323,7 @@ impl Parts {
     }
 
     /// Takes the last line back, and answers the stage before it.
-    pub(crate) fn undo(&mut self, stage: Stage) -> Stage
+    pub(crate) fn step_back(&mut self, stage: Stage) -> Stage
         requires live { Live stage (draft_of self.old) }
         requires some { stage ≢ Stage.Header }
         ensures { StepsBack stage (draft_of self.old) (draft_of self.new) result }

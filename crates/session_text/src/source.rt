@@ -19,18 +19,6 @@ use text_lines::{FaultKind, after_key, number_then, push_keyed, push_line};
 /// How the line with the number of the source's records begins.
 pub(crate) const SOURCE_KEY: &[u8] = b"source ";
 
-const HALTED_KEY: &[u8] = b"halted ";
-
-const STATE: &[u8] = b"state";
-
-const SEND_KEY: &[u8] = b"send ";
-
-const AGAIN_KEY: &[u8] = b"again ";
-
-const ASK_KEY: &[u8] = b"ask ";
-
-const DONE: &[u8] = b"done";
-
 /// The page and the contents that were sent at the front, and what follows. Nothing follows where the text is theirs
 /// alone.
 #[inline(always)]
@@ -53,6 +41,16 @@ fn sent_then(
     Ok((PageNo::new(page as u16), contents, rest))
 }
 
+const HALTED_KEY: &[u8] = b"halted ";
+
+const STATE: &[u8] = b"state";
+
+const AGAIN_KEY: &[u8] = b"again ";
+
+const ASK_KEY: &[u8] = b"ask ";
+
+const DONE: &[u8] = b"done";
+
 /// The record that is no sending at the front, and what follows. Nothing follows where the text is its line alone.
 fn step_then(text: &[u8]) -> Option<(SourceRec, &[u8])>
     ensures found { IfSome result (λ found. ((e : Extent) → SourceRecFits e found.0) × (text.now ≡ source_line found.0 ++ found.1.now)) }
@@ -72,6 +70,8 @@ fn step_then(text: &[u8]) -> Option<(SourceRec, &[u8])>
     }
     Some((SourceRec::Done, after_key(text, DONE)?))
 }
+
+const SEND_KEY: &[u8] = b"send ";
 
 /// The record at the front, and what follows. Nothing follows where the text is its line alone.
 #[inline(always)]
@@ -120,11 +120,11 @@ impl RecordForm for SourceLines {
 
     ghost use Rattle.session_text.specs.inner.Forms.{extent_of};
 
-    ghost spell = { source_line };
-
     ghost IsForm = { λ f. IsExtent (extent_of f.0) };
 
     ghost Fits = { λ f r. SourceRecFits (extent_of f.0) r };
+
+    ghost spell = { source_line };
 
     #[inline(always)]
     fn record_then<'a>(&self, text: &'a [u8]) -> Result<(SourceRec, &'a [u8]), FaultKind> {

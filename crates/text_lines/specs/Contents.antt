@@ -19,8 +19,8 @@ digit_number b =
     else if nat_lt ((b + 159) % 256) 6 then ((b + 159) % 256 + 10) % 256
     else 255
 
--- each two numbers as one byte
-abbrev pub pairs_of : List ℕ → List ℕ
-pairs_of [] = []
-pairs_of (high ∷ []) = []
-pairs_of (high ∷ low ∷ rest) = (high * 16 % 256 + low) % 256 ∷ pairs_of rest
+-- each two numbers as one in a base, which is a byte
+abbrev pub pairs_in : ℕ → List ℕ → List ℕ
+pairs_in base [] = []
+pairs_in base (high ∷ []) = []
+pairs_in base (high ∷ low ∷ rest) = (high * base % 256 + low) % 256 ∷ pairs_in base rest

@@ -1,5 +1,5 @@
 -- Texts of lines: how an input is cut, what it spells, and where it stops being a text.
-use Rattle.std.specs.Prelude.{◌≡◌, ◌≢◌, ℕ, ◌<◌, ◌≤◌, ◌==◌, List, [], ◌∷◌, ◌++◌, length, take}
+use Rattle.std.specs.Prelude.{◌≡◌, ◌≢◌, ℕ, ◌<◌, ◌≤◌, ◌==◌, List, [], ◌∷◌, ◌++◌, length, take, codes}
 use Rattle.std.specs.List.{slice_split, AllByRecursion}
 
 -- the bytes of some lines, each ended by LF
@@ -10,6 +10,10 @@ ended (line ∷ lines) = line ++ 10 ∷ ended lines
 -- the lines of an input: it is cut at each LF, and the last line is what follows the last LF
 abbrev pub lines_of : List ℕ → List (List ℕ)
 lines_of input = slice_split (λ b. b == 10) input
+
+-- the last line of a text
+abbrev pub closing : List ℕ
+closing = codes "end"
 
 -- the input is the lines of a text of this value, each ended
 abbrev pub IsSpelling : {V : Type 0} → (V → List (List ℕ) → Type 0) → V → List ℕ → Type 0

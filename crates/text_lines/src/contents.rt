@@ -2,7 +2,7 @@
 
 ghost use Rattle.std.specs.Prelude.{◌≡◌, ◌≢◌, ◌^◌, ◌<◌, ◌*◌, length, List, ℕ, MatchOption, IsTrue, ◌↔◌, map, take};
 ghost use Rattle.std.specs.List.{AllByRecursion};
-ghost use Rattle.text_lines.specs.Contents.{cell_text, digit_number, pairs_of};
+ghost use Rattle.text_lines.specs.Contents.{cell_text, digit_number, pairs_in};
 
 use std::simd::prelude::*;
 
@@ -31,15 +31,15 @@ pub(crate) fn are_below(numbers: u8x16, bound: u8) -> bool
     numbers.simd_lt(u8x16::splat(bound)).to_bitmask() == 65_535
 }
 
-/// Each two of the numbers as a byte.
+/// Each two of the numbers as one in a base.
 #[inline(always)]
-fn pairs(numbers: u8x16) -> u8x8
+pub(crate) fn pairs(numbers: u8x16, base: u8) -> u8x8
     requires { length numbers ≡ 16 }
-    ensures { result ≡ pairs_of numbers }
+    ensures { result ≡ pairs_in base numbers }
 {
     let high: u8x8 = numbers.swizzle([0, 2, 4, 6, 8, 10, 12, 14]);
     let low: u8x8 = numbers.swizzle([1, 3, 5, 7, 9, 11, 13, 15]);
-    high * u8x8::splat(16) + low
+    high * u8x8::splat(base) + low
 }
 
 /// The cell that sixteen lower-case digits spell.
@@ -54,5 +54,5 @@ pub fn read_cell(text: &[u8]) -> Option<u64>
     if !are_below(numbers, 16) {
         return None;
     }
-    Some(u64::from_be_bytes(pairs(numbers).to_array()))
+    Some(u64::from_be_bytes(pairs(numbers, 16).to_array()))
 }

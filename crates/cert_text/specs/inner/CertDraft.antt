@@ -1,13 +1,14 @@
--- The lines of a reader of certificates with its fields.
+-- The lines of a reader of certificates.
 use Rattle.std.specs.Prelude.{List, ℕ}
-use Rattle.cert_text.specs.declared.cert_lines.CertLines.TheInside.{Inside}
+use Rattle.cert_text.specs.declared.cert_lines.CertParts.{CertParts}
+use Rattle.cert_text.specs.declared.cert_lines.Stage.{Stage}
 use Rattle.cert_text.specs.inner.Held.{CertDraft, held_by, Live}
 
-abbrev pub draft_of : Inside → CertDraft
-draft_of a = record { version = a.runs.version; pages = a.pages; entries = a.entries.items; runs = a.runs.lines }
+abbrev pub draft_of : CertParts → CertDraft
+draft_of p = record { version = p.runs.version; pages = p.pages; entries = p.entries.items; runs = p.runs.lines }
 
-abbrev pub held_of : Inside → List (List ℕ)
-held_of a = held_by a.stage (draft_of a)
+abbrev pub held_at : Stage → CertParts → List (List ℕ)
+held_at stage p = held_by stage (draft_of p)
 
-abbrev pub LiveAt : Inside → Type 0
-LiveAt a = Live a.stage (draft_of a)
+abbrev pub LiveAt : Stage → CertParts → Type 0
+LiveAt stage p = Live stage (draft_of p)

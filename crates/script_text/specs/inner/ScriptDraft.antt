@@ -4,25 +4,11 @@ use Rattle.text_lines.specs.declared.FaultKind.{FaultKind}
 use Rattle.text_lines.specs.declared.FaultKind.TheVariants.{Memory}
 use Rattle.script_text.specs.declared.script_steps.ScriptParts.{ScriptParts}
 use Rattle.script_text.specs.declared.stages.ScriptStage.{ScriptStage}
-use Rattle.script_text.specs.declared.script_reader.ScriptLines.TheInside.{Inside}
 use Rattle.script.specs.Scenarios.{Scenario}
 use Rattle.script_text.specs.inner.ScriptHeld.{ScriptDraft, ScriptLive, ScriptRest, script_held, vcpu_of}
 
 abbrev pub draft_of : ScriptParts → ScriptDraft
-draft_of p = record {
-  version = p.version;
-  geometry = record { pages = p.sizes.pages; cells = p.sizes.cells };
-  init = p.init;
-  pivots = p.pivots;
-  window = p.window;
-  down = p.down;
-  up = p.up;
-  lane = p.lane;
-  count = p.count;
-  vcpus = p.vcpus.items;
-  before = record { count = p.before_count; items = p.before.items };
-  after = record { count = p.after_count; items = p.after.items };
-}
+draft_of p = record { version = p.version; geometry = record { pages = p.sizes.pages; cells = p.sizes.cells }; init = p.init; pivots = p.pivots; window = p.window; down = p.down; up = p.up; lane = p.lane; count = p.count; vcpus = p.vcpus.items; before = record { count = p.before_count; items = p.before.items }; after = record { count = p.after_count; items = p.after.items } }
 
 -- the line is taken, and a stage follows; or nothing changes, and, memory aside, no script goes on with the line
 abbrev pub ScriptStep : ScriptStage → ScriptDraft → List ℕ → ScriptDraft → Result ScriptStage FaultKind → Type 0
@@ -45,8 +31,8 @@ ended d = record d {
   after = record { count = d.after.count; items = [] };
 }
 
-abbrev pub held_of : Inside → List (List ℕ)
-held_of a = script_held a.stage (draft_of a.parts)
+abbrev pub held_at : ScriptStage → ScriptParts → List (List ℕ)
+held_at stage p = script_held stage (draft_of p)
 
-abbrev pub LiveAt : Inside → Type 0
-LiveAt a = ScriptLive a.stage (draft_of a.parts)
+abbrev pub LiveAt : ScriptStage → ScriptParts → Type 0
+LiveAt stage p = ScriptLive stage (draft_of p)

@@ -7,7 +7,6 @@ use Rattle.migration_types.specs.Sessions.{lane_lines}
 use Rattle.session_text.specs.declared.parts.Parts.{Parts}
 use Rattle.session_text.specs.declared.parts.Stage.{Stage}
 use Rattle.session_text.specs.declared.parts.Stage.TheVariants.{Header, Pages, Cells, InitCount, Init, Guest, Source, Link, Lane, Pager, Done}
-use Rattle.session_text.specs.declared.lines.SessionLines.TheInside.{Inside}
 use Rattle.session_text.specs.Grammar.{SpellsSession}
 use Rattle.session_text.specs.inner.Forms.{extent_of}
 use Rattle.session_text.specs.inner.InitPages.{next_from}
@@ -49,8 +48,8 @@ count_at Lane d = length d.init.items + length d.guest.items + length d.source.i
 count_at Pager d = length d.init.items + length d.guest.items + length d.source.items + length d.link.items + lane_lines d.version (length d.lane.items) + length d.pager.items + 8
 count_at Done d = length d.init.items + length d.guest.items + length d.source.items + length d.link.items + lane_lines d.version (length d.lane.items) + length d.pager.items + 9
 
-abbrev pub held_of : Inside → List (List ℕ)
-held_of a = held_onto a.stage (draft_of a.parts) []
+abbrev pub held_at : Stage → Parts → List (List ℕ)
+held_at stage p = held_onto stage (draft_of p) []
 
-abbrev pub LiveAt : Inside → Type 0
-LiveAt a = Live a.stage (draft_of a.parts)
+abbrev pub LiveAt : Stage → Parts → Type 0
+LiveAt stage p = Live stage (draft_of p)

@@ -1,13 +1,13 @@
-use Rattle.std.proofs.Common.{refl, ap}
+use Rattle.std.proofs.Common.{ap}
 use Rattle.std.proofs.lemmas.Result.{err_from_is_err_and}
 use Rattle.session_text.specs.inner.Steps.{draft_of}
 use Rattle.session_text.proofs.Laws.{source_count_refused, guest_refused}
 use Rattle.session_text.proofs.parts.Parts.at_guest.Goals as goal
 
-pub returns-in_err-source : goal.returns-in_err-source
-returns-in_err-source c = let p = err_from_is_err_and c.from_residual.result c.from_residual.ensures.1 in rw (p.1, p.2) (
-  refl,
-  λ _ b. source_count_refused (draft_of c.args.self.now) c.args.line.now c.requires.0 c.if-is_whole.ensures c.in_err-source.ensures.refused b,
+pub returns-in_err-announce : goal.returns-in_err-announce
+returns-in_err-announce c = let p = err_from_is_err_and c.from_residual.result c.from_residual.ensures.1 in rw (p.1, p.2) (
+  ap (λ (x : _). record (draft_of c.args.self.now) { source = x }) c.in_err-announce.ensures.err,
+  λ _ b. source_count_refused (draft_of c.args.self.now) c.args.line.now c.requires.0 c.if-is_whole.ensures c.in_err-announce.ensures.refused b,
 )
 
 pub returns-in_err-line : goal.returns-in_err-line

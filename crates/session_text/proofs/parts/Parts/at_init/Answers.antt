@@ -1,4 +1,4 @@
-use Rattle.std.proofs.Common.{ℕ, List, ◌∷◌, [], ◌++◌, refl, sym, ap, arith, ◌∙◌}
+use Rattle.std.proofs.Common.{ℕ, List, ◌∷◌, [], ◌++◌, sym, ap, arith, ◌∙◌}
 use Rattle.std.proofs.lemmas.Result.{err_from_is_err_and}
 use Rattle.session_text.specs.inner.Steps.{draft_of}
 use Rattle.session_text.specs.Grammar.{init_key, page_line}
@@ -8,10 +8,10 @@ use Rattle.session_text.proofs.Sections.{onto_push}
 use Rattle.session_text.proofs.Laws.{guest_count_refused, page_refused, page_push}
 use Rattle.session_text.proofs.parts.Parts.at_init.Goals as goal
 
-pub returns-in_err-guest : goal.returns-in_err-guest
-returns-in_err-guest c = let p = err_from_is_err_and c.from_residual.result c.from_residual.ensures.1 in rw (p.1, p.2) (
-  refl,
-  λ _ b. guest_count_refused (draft_of c.args.self.now) c.args.line.now c.requires.0 c.if-is_whole.ensures c.in_err-guest.ensures.refused b,
+pub returns-in_err-announce : goal.returns-in_err-announce
+returns-in_err-announce c = let p = err_from_is_err_and c.from_residual.result c.from_residual.ensures.1 in rw (p.1, p.2) (
+  ap (λ (x : _). record (draft_of c.args.self.now) { guest = x }) c.in_err-announce.ensures.err,
+  λ _ b. guest_count_refused (draft_of c.args.self.now) c.args.line.now c.requires.0 c.if-is_whole.ensures c.in_err-announce.ensures.refused b,
 )
 
 pub returns-in_err-line : goal.returns-in_err-line
