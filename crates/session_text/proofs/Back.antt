@@ -47,7 +47,7 @@ log_back {X} {Y} Before list Fits old new y f e =
 onto_back : {X : Type 0} (key : List ℕ) (spell : X → List ℕ) (old new : Part X) (x : X) → old ≡ with_items new (x ∷ []) → part_onto key spell old [] ≡ part_onto key spell new (spell x ∷ [])
 onto_back {X} key spell old new x e = ap (λ (p : Part X). part_onto key spell p []) e ∙ onto_push key spell new x []
 
-onto_empty : {X : Type 0} (key : List ℕ) (spell : X → List ℕ) (old : Part X) → old.items ≡ [] → part_onto key spell old [] ≡ (key ++ decimal old.count) ∷ []
+pub onto_empty : {X : Type 0} (key : List ℕ) (spell : X → List ℕ) (old : Part X) → old.items ≡ [] → part_onto key spell old [] ≡ (key ++ decimal old.count) ∷ []
 onto_empty {X} key spell old e = ap (λ (t : List X). (key ++ decimal old.count) ∷ (map spell t ++ [])) e
 
 still_none : {X : Type 0} (old new : Part X) → (old.items ≡ []) × (new ≡ old) → new.items ≡ []

@@ -30,16 +30,16 @@ impl RecordForm for LaneLines {
     ghost Fits = { λ f r. LaneRecFits Two r };
 
     #[inline(always)]
+    fn push(rec: &LaneRec, out: &mut Vec<u8>) -> Result<(), AllocError> {
+        let LaneRec::Down { sending } = *rec;
+        push_keyed(out, DOWN_KEY, sending)
+    }
+
+    #[inline(always)]
     fn record_then<'a>(&self, text: &'a [u8]) -> Result<(LaneRec, &'a [u8]), FaultKind> {
         match numbered_then(text, DOWN_KEY) {
             Some((sending, rest)) => Ok((LaneRec::Down { sending }, rest)),
             None => Err(FaultKind::Form),
         }
-    }
-
-    #[inline(always)]
-    fn push(rec: &LaneRec, out: &mut Vec<u8>) -> Result<(), AllocError> {
-        let LaneRec::Down { sending } = *rec;
-        push_keyed(out, DOWN_KEY, sending)
     }
 }

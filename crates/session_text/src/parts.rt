@@ -1,9 +1,11 @@
 //! The parts of a session, line by line.
 
-ghost use Rattle.std.specs.Prelude.{◌≡◌, ◌≢◌, ◌<◌, ◌≤◌, ◌^◌, [], ◌∷◌, ◌++◌, length, IfOk, OnErr};
+ghost use Rattle.std.specs.Prelude.{◌≡◌, ◌≢◌, ◌+◌, ◌<◌, ◌≤◌, ◌^◌, ℕ, [], ◌∷◌, ◌++◌, length, IfOk, OnErr};
 ghost use Rattle.text_lines.specs.Text.{TakesLines};
 ghost use Rattle.session_text.specs.inner.Held.{held_onto, IsWhole, Live};
-ghost use Rattle.session_text.specs.inner.Steps.{count_at, draft_of, Steps, StepsBack};
+ghost use Rattle.std.specs.Fmt.{decimal};
+ghost use Rattle.session_text.specs.Grammar.{closing};
+ghost use Rattle.session_text.specs.inner.Steps.{count_at, draft_of, left_at, stage_before, Drops, Stays, Steps, StepsBack};
 
 use crate::crews::SessionCrew;
 use crate::forms::Sizes;
@@ -110,17 +112,72 @@ impl Parts {
         requires { Live stage (draft_of self.old) }
         ensures { Steps stage (draft_of self.old) line.now (draft_of self.new) result }
     {
+        if self.left(stage) == 0 {
+            return self.behind(stage, line);
+        }
+        match self.item(stage, line) {
+            Ok(()) => Ok(stage),
+            Err(kind) => Err(kind),
+        }
+    }
+
+    /// How many items of a stage's list have yet to come.
+    fn left(&self, stage: Stage) -> u32
+        ensures { result ≡ left_at stage (draft_of self.now) }
+    {
+        match stage {
+            Stage::Init => self.init.left(),
+            Stage::Guest => self.guest.left(),
+            Stage::Source => self.source.left(),
+            Stage::Link => self.link.left(),
+            Stage::Lane => self.lane.left(),
+            Stage::Pager => self.pager.left(),
+            _ => 0,
+        }
+    }
+
+    /// Takes the line of the next item of a stage's list.
+    fn item(&mut self, stage: Stage, line: &[u8]) -> Result<(), FaultKind>
+        requires live { Live stage (draft_of self.old) }
+        requires some { left_at stage (draft_of self.old) ≢ 0 }
+        ensures { Stays stage (draft_of self.old) line.now (draft_of self.new) result }
+    {
+        let sizes = self.sizes;
+        let version = self.version;
+        match stage {
+            Stage::Init => {
+                let high = sizes.pages - self.init.left();
+                self.init.line(&InitLines { sizes, high }, line)
+            }
+            Stage::Guest => self.guest.line(&Records(GuestLines(sizes)), line),
+            Stage::Source => self.source.line(&Records(SourceLines(sizes)), line),
+            Stage::Link => self.link.line(&Records(LinkLines), line),
+            Stage::Lane => self.lane.line(&Records(LaneLines), line),
+            Stage::Pager => {
+                let form = Records(PagerLines { version, sizes });
+                self.pager.line(&form, line)
+            }
+            _ => Err(FaultKind::Ended),
+        }
+    }
+
+    /// Takes the line behind all that a stage has, and answers the stage after it.
+    fn behind(&mut self, stage: Stage, line: &[u8]) -> Result<Stage, FaultKind>
+        requires live { Live stage (draft_of self.old) }
+        requires none { left_at stage (draft_of self.old) ≡ 0 }
+        ensures { Steps stage (draft_of self.old) line.now (draft_of self.new) result }
+    {
         match stage {
             Stage::Header => self.at_header(line),
             Stage::Pages => self.at_pages(line),
             Stage::Cells => self.at_cells(line),
             Stage::InitCount => self.at_init_count(line),
-            Stage::Init => self.at_init(line),
-            Stage::Guest => self.at_guest(line),
-            Stage::Source => self.at_source(line),
-            Stage::Link => self.at_link(line),
-            Stage::Lane => self.at_lane(line),
-            Stage::Pager => self.at_pager(line),
+            Stage::Init => begin_log(&mut self.guest, line, GUEST_KEY, Stage::Guest),
+            Stage::Guest => begin_log(&mut self.source, line, SOURCE_KEY, Stage::Source),
+            Stage::Source => begin_log(&mut self.link, line, LINK_KEY, Stage::Link),
+            Stage::Link => self.behind_link(line),
+            Stage::Lane => begin_log(&mut self.pager, line, PAGER_KEY, Stage::Pager),
+            Stage::Pager => take_closing(line),
             Stage::Done => Err(FaultKind::Ended),
         }
     }
@@ -170,63 +227,6 @@ impl Parts {
         Ok(Stage::Init)
     }
 
-    /// Takes an initial page, or the number of the guest's records.
-    fn at_init(&mut self, line: &[u8]) -> Result<Stage, FaultKind>
-        requires { Live Stage.Init (draft_of self.old) }
-        ensures { Steps Stage.Init (draft_of self.old) line.now (draft_of self.new) result }
-    {
-        if self.init.is_whole() {
-            self.guest.announce(line, GUEST_KEY, MOST_RECORDS)?;
-            return Ok(Stage::Guest);
-        }
-        let form = InitLines {
-            sizes: self.sizes,
-            high: self.sizes.pages - self.init.left(),
-        };
-        self.init.line(&form, line)?;
-        Ok(Stage::Init)
-    }
-
-    /// Takes a record of the guest, or the number of the source's.
-    fn at_guest(&mut self, line: &[u8]) -> Result<Stage, FaultKind>
-        requires { Live Stage.Guest (draft_of self.old) }
-        ensures { Steps Stage.Guest (draft_of self.old) line.now (draft_of self.new) result }
-    {
-        if self.guest.is_whole() {
-            self.source.announce(line, SOURCE_KEY, MOST_RECORDS)?;
-            return Ok(Stage::Source);
-        }
-        let form = Records(GuestLines(self.sizes));
-        self.guest.line(&form, line)?;
-        Ok(Stage::Guest)
-    }
-
-    /// Takes a record of the source, or the number of the link's.
-    fn at_source(&mut self, line: &[u8]) -> Result<Stage, FaultKind>
-        requires { Live Stage.Source (draft_of self.old) }
-        ensures { Steps Stage.Source (draft_of self.old) line.now (draft_of self.new) result }
-    {
-        if self.source.is_whole() {
-            self.link.announce(line, LINK_KEY, MOST_RECORDS)?;
-            return Ok(Stage::Link);
-        }
-        let form = Records(SourceLines(self.sizes));
-        self.source.line(&form, line)?;
-        Ok(Stage::Source)
-    }
-
-    /// Takes a record of the link, or the number of the records behind it.
-    fn at_link(&mut self, line: &[u8]) -> Result<Stage, FaultKind>
-        requires { Live Stage.Link (draft_of self.old) }
-        ensures { Steps Stage.Link (draft_of self.old) line.now (draft_of self.new) result }
-    {
-        if self.link.is_whole() {
-            return self.behind_link(line);
-        }
-        self.link.line(&Records(LinkLines), line)?;
-        Ok(Stage::Link)
-    }
-
     /// Takes the number of the pager's records, in the second version that of the lane's.
     fn behind_link(&mut self, line: &[u8]) -> Result<Stage, FaultKind>
         requires live { Live Stage.Link (draft_of self.old) }
@@ -246,42 +246,13 @@ impl Parts {
         }
     }
 
-    /// Takes a record of the lane, or the number of the pager's.
-    fn at_lane(&mut self, line: &[u8]) -> Result<Stage, FaultKind>
-        requires { Live Stage.Lane (draft_of self.old) }
-        ensures { Steps Stage.Lane (draft_of self.old) line.now (draft_of self.new) result }
-    {
-        if self.lane.is_whole() {
-            self.pager.announce(line, PAGER_KEY, MOST_RECORDS)?;
-            return Ok(Stage::Pager);
-        }
-        self.lane.line(&Records(LaneLines), line)?;
-        Ok(Stage::Lane)
-    }
-
-    /// Takes a record of the pager, or the closing line.
-    fn at_pager(&mut self, line: &[u8]) -> Result<Stage, FaultKind>
-        requires { Live Stage.Pager (draft_of self.old) }
-        ensures { Steps Stage.Pager (draft_of self.old) line.now (draft_of self.new) result }
-    {
-        if self.pager.is_whole() {
-            expect_line(line, CLOSING)?;
-            return Ok(Stage::Done);
-        }
-        let form = Records(PagerLines {
-            version: self.version,
-            sizes: self.sizes,
-        });
-        self.pager.line(&form, line)?;
-        Ok(Stage::Pager)
-    }
-
     /// How many lines came.
     pub(crate) fn came(&self, stage: Stage) -> u32
         requires live { Live stage (draft_of self.now) }
         requires few { count_at stage (draft_of self.now) < 2 ^ 32 }
         ensures { result ≡ count_at stage (draft_of self.now) }
     {
+        let lane = lane_lines(self.version, self.lane.came());
         match stage {
             Stage::Header => 0,
             Stage::Pages => 1,
@@ -290,89 +261,46 @@ impl Parts {
             Stage::Init => self.init.came() + 4,
             Stage::Guest => self.init.came() + self.guest.came() + 5,
             Stage::Source => self.init.came() + self.guest.came() + self.source.came() + 6,
-            Stage::Link => {
-                self.init.came() + self.guest.came() + self.source.came() + self.link.came() + 7
-            }
-            Stage::Lane => {
-                self.init.came()
-                    + self.guest.came()
-                    + self.source.came()
-                    + self.link.came()
-                    + lane_lines(self.version, self.lane.came())
-                    + 7
-            }
-            Stage::Pager => {
-                self.init.came()
-                    + self.guest.came()
-                    + self.source.came()
-                    + self.link.came()
-                    + lane_lines(self.version, self.lane.came())
-                    + self.pager.came()
-                    + 8
-            }
-            Stage::Done => {
-                self.init.came()
-                    + self.guest.came()
-                    + self.source.came()
-                    + self.link.came()
-                    + lane_lines(self.version, self.lane.came())
-                    + self.pager.came()
-                    + 9
-            }
+            Stage::Link => self.came_to_link() + 7,
+            Stage::Lane => self.came_to_link() + lane + 7,
+            Stage::Pager => self.came_to_link() + lane + self.pager.came() + 8,
+            Stage::Done => self.came_to_link() + lane + self.pager.came() + 9,
         }
     }
 
-    /// Takes the last line back, and answers the stage before it.
+    /// How many items came of the lists up to the link's.
+    fn came_to_link(&self) -> u32
+        requires { length self.now.init.items + length self.now.guest.items + length self.now.source.items + length self.now.link.items < 2 ^ 32 }
+        ensures { result ≡ length self.now.init.items + length self.now.guest.items + length self.now.source.items + length self.now.link.items }
+    {
+        self.init.came() + self.guest.came() + self.source.came() + self.link.came()
+    }
+
+    /// Takes the last line back, and answers its stage.
     pub(crate) fn step_back(&mut self, stage: Stage) -> Stage
         requires live { Live stage (draft_of self.old) }
         requires some { stage ≢ Stage.Header }
         ensures { StepsBack stage (draft_of self.old) (draft_of self.new) result }
     {
+        let before = stage_before(stage, self.version);
+        if self.drop_last(stage) { stage } else { before }
+    }
+
+    /// Lets the last item of a stage's list go, and answers whether there was one. Where there was none, the last line was
+    /// that of the stage before.
+    fn drop_last(&mut self, stage: Stage) -> bool
+        requires live { Live stage (draft_of self.old) }
+        requires some { stage ≢ Stage.Header }
+        ensures { Drops stage (draft_of self.old) (draft_of self.new) result }
+    {
         match stage {
-            Stage::Header => Stage::Header,
-            Stage::Pages => Stage::Header,
-            Stage::Cells => Stage::Pages,
-            Stage::InitCount => Stage::Cells,
-            Stage::Init => {
-                if !self.init.drop_last() {
-                    return Stage::InitCount;
-                }
-                Stage::Init
-            }
-            Stage::Guest => {
-                if !self.guest.drop_last() {
-                    return Stage::Init;
-                }
-                Stage::Guest
-            }
-            Stage::Source => {
-                if !self.source.drop_last() {
-                    return Stage::Guest;
-                }
-                Stage::Source
-            }
-            Stage::Link => {
-                if !self.link.drop_last() {
-                    return Stage::Source;
-                }
-                Stage::Link
-            }
-            Stage::Lane => {
-                if !self.lane.drop_last() {
-                    return Stage::Link;
-                }
-                Stage::Lane
-            }
-            Stage::Pager => {
-                if !self.pager.drop_last() {
-                    return match self.version {
-                        Version::One => Stage::Link,
-                        Version::Two => Stage::Lane,
-                    };
-                }
-                Stage::Pager
-            }
-            Stage::Done => Stage::Pager,
+            Stage::Init => self.init.drop_last(),
+            Stage::Guest => self.guest.drop_last(),
+            Stage::Source => self.source.drop_last(),
+            Stage::Link => self.link.drop_last(),
+            Stage::Lane => self.lane.drop_last(),
+            Stage::Pager => self.pager.drop_last(),
+            _ => false,
         }
     }
 
@@ -454,6 +382,51 @@ impl Parts {
         self.init.truncate(came);
         Err(fit as u32)
     }
+}
+
+/// The stage whose last line stands before all that a stage has.
+fn stage_before(stage: Stage, version: Version) -> Stage
+    ensures { result ≡ stage_before stage version }
+{
+    match stage {
+        Stage::Header | Stage::Pages => Stage::Header,
+        Stage::Cells => Stage::Pages,
+        Stage::InitCount => Stage::Cells,
+        Stage::Init => Stage::InitCount,
+        Stage::Guest => Stage::Init,
+        Stage::Source => Stage::Guest,
+        Stage::Link => Stage::Source,
+        Stage::Lane => Stage::Link,
+        Stage::Pager => match version {
+            Version::One => Stage::Link,
+            Version::Two => Stage::Lane,
+        },
+        Stage::Done => Stage::Pager,
+    }
+}
+
+/// Takes the number of a log's records, and answers the log's stage.
+fn begin_log<X: Drop>(
+    log: &mut Counted<X>,
+    line: &[u8],
+    key: &[u8],
+    stage: Stage,
+) -> Result<Stage, FaultKind>
+    ensures found { IfOk result (λ next. (next ≡ stage) × (log.new.items ≡ []) × (log.new.count ≤ 1048576) × (line.now ≡ key.now ++ decimal log.new.count)) }
+    ensures refused { OnErr result ((n : ℕ) → n ≤ 1048576 → line.now ≢ key.now ++ decimal n) }
+    ensures err { OnErr result (log.new ≡ log.old) }
+{
+    log.announce(line, key, MOST_RECORDS)?;
+    Ok(stage)
+}
+
+/// Takes the closing line.
+fn take_closing(line: &[u8]) -> Result<Stage, FaultKind>
+    ensures found { IfOk result (λ next. (next ≡ Stage.Done) × (line.now ≡ closing)) }
+    ensures refused { OnErr result (line.now ≢ closing) }
+{
+    expect_line(line, CLOSING)?;
+    Ok(Stage::Done)
 }
 
 /// How many pages there are before the first that leaves those behind it too little room, where the first may be at most
