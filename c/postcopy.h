@@ -14,18 +14,19 @@ extern "C" {
 /* The version that this header is of: 10,000 times its first number, 100 times its second, and its third. */
 #define POSTCOPY_VERSION 10000
 
-/* Which answer it is. No answer has the number 0. */
+/* Which answer it is. No answer has the number 0. Those of check are of postcopy_check alone, and those of a report of the
+   others. */
 enum postcopy_kind {
     POSTCOPY_YES = 1,          /* check: the certificate is right, and every merging of the session is safe */
-    POSTCOPY_CLEAN = 2,        /* certify, audit: every merging of the session is safe */
+    POSTCOPY_CLEAN = 2,        /* a report: every merging of the session is safe */
     POSTCOPY_SESSION_TEXT = 3, /* the session's text is refused at `line` */
     POSTCOPY_CERT_TEXT = 4,    /* check: the certificate's text is refused at `line` */
     POSTCOPY_SHAPE = 5,        /* the session has not the right shape: the fault at `line`, and its `reason` */
     POSTCOPY_PAGES = 6,        /* check: the session and the certificate have different numbers of pages */
     POSTCOPY_RUNS = 7,         /* check: the run at `line` of the certificate is the first that cannot be taken */
     POSTCOPY_PAGE = 8,         /* check: the entry at `line` of the certificate is the first that is not right */
-    POSTCOPY_KNOT = 9,         /* certify, audit: the session's logs have no merging, because of the record at `line` */
-    POSTCOPY_FAULTY = 10,      /* certify, audit: the session is not safe: the fault at `line`, and its `reason` */
+    POSTCOPY_KNOT = 9,         /* a report: the session's logs have no merging, because of the record at `line` */
+    POSTCOPY_FAULTY = 10,      /* a report: the session is not safe: the fault at `line`, and its `reason` */
     POSTCOPY_NO_MEMORY = 11    /* there was no memory, and nothing is said of the texts */
 };
 
@@ -71,6 +72,12 @@ postcopy_answer postcopy_certify(const uint8_t *session, size_t session_len, uin
 
 /* Writes the report on a session, in the same way. */
 postcopy_answer postcopy_audit(const uint8_t *session, size_t session_len, uint8_t *room, size_t room_len);
+
+/* Writes what happened in a session, in words behind the first line of its report, in the same way. */
+postcopy_answer postcopy_explain(const uint8_t *session, size_t session_len, uint8_t *room, size_t room_len);
+
+/* Writes the picture of a session in the order of its report, as SVG, in the same way; and of a text that is refused its line. */
+postcopy_answer postcopy_draw(const uint8_t *session, size_t session_len, uint8_t *room, size_t room_len);
 
 /* The version of the library that is linked, as POSTCOPY_VERSION tells that of this header. */
 uint32_t postcopy_version(void);

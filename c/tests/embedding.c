@@ -1,5 +1,6 @@
-/* Calls the library as hostile surroundings do. Each line of the input is 'check SESSION CERT', 'certify SESSION' or
-   'audit SESSION', where a file named - is empty. The texts and the room end where memory ends that may be touched.
+/* Calls the library as hostile surroundings do. Each line of the input is 'check SESSION CERT', or 'certify', 'audit',
+   'explain' or 'draw' with a SESSION, where a file named - is empty. The texts and the room end where memory ends that may
+   be touched.
 
    Each call is made with each allocation failing in turn, with rooms of each length up to the text's own, and by four threads at
    once on small stacks. For each line it writes the answer's numbers on a line, and then the answer's text. The first call that
@@ -98,10 +99,17 @@ typedef struct {
     uint8_t *text;
 } job;
 
+/* The calls that write a text about a session. */
+static const struct {
+    const char *command;
+    postcopy_answer (*call)(const uint8_t *session, size_t session_len, uint8_t *room, size_t room_len);
+} writers[] = {{"certify", postcopy_certify}, {"audit", postcopy_audit}, {"explain", postcopy_explain}, {"draw", postcopy_draw}};
+
 static postcopy_answer call(const job *it, uint8_t *room, size_t room_len) {
     if (!strcmp(it->command, "check")) return postcopy_check(it->session, it->session_len, it->cert, it->cert_len);
-    if (!strcmp(it->command, "certify")) return postcopy_certify(it->session, it->session_len, room, room_len);
-    if (!strcmp(it->command, "audit")) return postcopy_audit(it->session, it->session_len, room, room_len);
+    for (size_t i = 0; i < sizeof writers / sizeof *writers; i++) {
+        if (!strcmp(it->command, writers[i].command)) return writers[i].call(it->session, it->session_len, room, room_len);
+    }
     fail("no command", it->line);
     abort();
 }

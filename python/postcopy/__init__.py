@@ -24,7 +24,7 @@ from dataclasses import dataclass
 from pathlib import Path
 from typing import Optional, Union
 
-__all__ = ["Answer", "Kind", "OutOfMemory", "Reason", "Text", "audit", "certify", "check", "version"]
+__all__ = ["Answer", "Kind", "OutOfMemory", "Reason", "Text", "audit", "certify", "check", "draw", "explain", "version"]
 
 __version__ = "1.0.0"
 
@@ -95,8 +95,9 @@ class Reason(enum.IntEnum):
 class Answer:
     """An answer: its kind, the line of a text that it names, its reason, and its text.
 
-    The text is that which the program's command writes: of `certify` the certificate, or the first line of the report, and
-    of `audit` the report. `check` has none.
+    The text is that which the program's command writes: of `certify` the certificate, or the first line of the report, of
+    `audit` the report, of `explain` what happened in words, and of `draw` a picture as SVG. `check` has none. A notebook shows
+    a picture.
     """
 
     kind: Kind
@@ -114,6 +115,10 @@ class Answer:
         line = "" if self.line is None else f" line {self.line}"
         reason = "" if self.reason is None else f" {self.reason.word}"
         return f"{self.kind.word}{line}{reason}"
+
+    def _repr_svg_(self) -> Optional[str]:
+        """The picture, of the answer of `draw`, for a notebook."""
+        return self.text.decode("ascii") if self.text.startswith(b"<svg ") else None
 
 
 class _Answer(ctypes.Structure):
@@ -184,7 +189,8 @@ def _library() -> ctypes.CDLL:
         raise ImportError("there is no libpostcopy: in a checkout tools/library builds it, and tools/install installs it")
     library = ctypes.CDLL(name)
     text = [ctypes.c_void_p, ctypes.c_size_t]
-    for call in (library.postcopy_check, library.postcopy_certify, library.postcopy_audit):
+    for name in ("check", "certify", "audit", "explain", "draw"):
+        call = getattr(library, f"postcopy_{name}")
         call.argtypes, call.restype = text + text, _Answer
     library.postcopy_version.argtypes, library.postcopy_version.restype = [], ctypes.c_uint32
     return library
@@ -226,6 +232,18 @@ def certify(session: Text) -> Answer:
 def audit(session: Text) -> Answer:
     """The report on a session, as the command `audit` writes it. Raises OutOfMemory where memory is refused."""
     return _with_text(_library().postcopy_audit, session)
+
+
+def explain(session: Text) -> Answer:
+    """What happened in a session, in words behind the first line of its report, as the command `explain` writes it. Raises
+    OutOfMemory where memory is refused."""
+    return _with_text(_library().postcopy_explain, session)
+
+
+def draw(session: Text) -> Answer:
+    """The picture of a session in the order of its report, as the command `draw` writes it. The answer is of the kind of the
+    report. Raises OutOfMemory where memory is refused."""
+    return _with_text(_library().postcopy_draw, session)
 
 
 def version() -> str:

@@ -8,14 +8,17 @@ ghost use Rattle.audit_model.specs.Laws.{FindsResident, ReadsFlat, PlacedOnce, P
 ghost use Rattle.judged_texts.specs.Checked.{SpellsOneSession, OfSpelled, ReplaysClean};
 ghost use Rattle.judged_texts.specs.Audited.{IsSafeExactlyIf, IsUnsafe};
 ghost use Rattle.postcopy_c.specs.Answers.{IsVerdictAnswer, IsAuditAnswer};
+ghost use Rattle.postcopy_c.specs.Showings.{IsShownAnswer};
 
 mod answer;
 mod kinds;
 mod reasons;
+mod showing;
 mod telling;
 
 use crate::answer::{PostcopyAnswer, verdict_answer};
 use crate::kinds::{CLEAN, FAULTY, NO_MEMORY, SESSION_TEXT, YES};
+use crate::showing::{ShownAs, tell_shown};
 use crate::telling::tell_audit;
 use judged_texts::{Wanted, check_texts_alone};
 use std::alloc::Global;
@@ -63,6 +66,32 @@ pub extern "C" fn postcopy_audit(alloc: Global, session: &[u8], room: &mut [u8])
     ensures faulty { result.kind ≡ FAULTY → OfSpelled session.now IsUnsafe }
 {
     tell_audit(alloc, session, Wanted::Report, room)
+}
+
+/// What happened in a session, in words behind the first line of its report, as a text that is handed over as that of
+/// `postcopy_certify` is.
+#[unsafe(no_mangle)]
+pub extern "C" fn postcopy_explain(alloc: Global, session: &[u8], room: &mut [u8]) -> PostcopyAnswer
+    ensures told { IsShownAnswer ShownAs.Words session.now room.old room.new result }
+    ensures one_session { result.kind ≢ SESSION_TEXT → result.kind ≢ NO_MEMORY → SpellsOneSession session.now }
+    ensures safe { result.kind ≡ CLEAN → OfSpelled session.now IsSafe }
+    ensures exactly { result.kind ≢ NO_MEMORY → OfSpelled session.now (IsSafeExactlyIf (result.kind ≡ CLEAN)) }
+    ensures faulty { result.kind ≡ FAULTY → OfSpelled session.now IsUnsafe }
+{
+    tell_shown(alloc, session, ShownAs::Words, room)
+}
+
+/// The picture of a session in the order of its report, as SVG, and of a text that is refused its line; handed over in the
+/// same way.
+#[unsafe(no_mangle)]
+pub extern "C" fn postcopy_draw(alloc: Global, session: &[u8], room: &mut [u8]) -> PostcopyAnswer
+    ensures told { IsShownAnswer ShownAs.Picture session.now room.old room.new result }
+    ensures one_session { result.kind ≢ SESSION_TEXT → result.kind ≢ NO_MEMORY → SpellsOneSession session.now }
+    ensures safe { result.kind ≡ CLEAN → OfSpelled session.now IsSafe }
+    ensures exactly { result.kind ≢ NO_MEMORY → OfSpelled session.now (IsSafeExactlyIf (result.kind ≡ CLEAN)) }
+    ensures faulty { result.kind ≡ FAULTY → OfSpelled session.now IsUnsafe }
+{
+    tell_shown(alloc, session, ShownAs::Picture, room)
 }
 
 /// The version of the library.

@@ -12,7 +12,7 @@ use judged_texts::{Audited, Wanted, audit_text, print_audited};
 use std::alloc::{AllocError, Global};
 
 /// Puts a text at the front of the room where it fits; where it does not the room stays as it was.
-fn put(text: &[u8], room: &mut [u8])
+pub(crate) fn put(text: &[u8], room: &mut [u8])
     ensures { IsPut text.now room.old room.new }
 {
     if text.len() <= room.len() {

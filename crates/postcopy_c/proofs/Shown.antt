@@ -1,0 +1,31 @@
+-- What holds of the audit of a session that was read holds of what is shown of the session that a text spells.
+use Rattle.std.proofs.Common.{◌≡◌, ℕ, List, Result, Ok, Err, IfOk, sym, subst}
+use Rattle.std.specs.declared.alloc.AllocError.{AllocError}
+use Rattle.text_lines.specs.Text.{IsSpelling}
+use Rattle.migration_types.specs.Sessions.{Recorded}
+use Rattle.session_text.specs.Grammar.{SpellsSession}
+use Rattle.judged_texts.specs.declared.auditing.Audited.{Audited}
+use Rattle.judged_texts.specs.Audited.{IsAudited}
+use Rattle.postcopy_c.specs.declared.showing.ShownAs.{ShownAs}
+use Rattle.postcopy_c.specs.declared.showing.Showing.{Showing}
+use Rattle.postcopy_c.specs.Showings.{IsShowing, IsShowingOf}
+
+-- the audit alone
+pub audits : Result Showing AllocError → Result Audited AllocError
+audits (Ok showing) = Ok showing.audited
+audits (Err e) = Err e
+
+pub of_audits : (Holds : Audited → Type 0) (found : Result Showing AllocError) → IfOk (audits found) Holds → IfOk found (λ showing. Holds showing.audited)
+of_audits Holds (Ok showing) h = h
+of_audits Holds (Err e) h = tt
+
+pub to_audits : (Holds : Audited → Type 0) (found : Result Showing AllocError) → IfOk found (λ showing. Holds showing.audited) → IfOk (audits found) Holds
+to_audits Holds (Ok showing) h = h
+to_audits Holds (Err e) h = tt
+
+pub showing_of : (shown_as : ShownAs) (text : List ℕ) (s : Recorded) (found : Result Showing AllocError) → IsSpelling SpellsSession s text → IfOk found (IsShowingOf shown_as s) → IfOk found (IsShowing shown_as text)
+showing_of shown_as text s (Ok showing) spells is = record {
+  is_audited = subst (IsAudited text) (sym is.is_reported) (s, spells, is.is_report);
+  is_text = is.is_text;
+}
+showing_of shown_as text s (Err e) spells is = tt

@@ -1,0 +1,131 @@
+//! A session shown in words or as a picture, told by numbers and by a text in the caller's room.
+
+ghost use Rattle.std.specs.Prelude.{◌≡◌, ◌≢◌, IfOk};
+ghost use Rattle.audit_model.specs.World.{IsSafe};
+ghost use Rattle.audit_report.specs.Reports.{IsReport};
+ghost use Rattle.judged_texts.specs.Checked.{SpellsOneSession, OfSpelled};
+ghost use Rattle.judged_texts.specs.Audited.{HasReport, FindsClean, FindsFault, IsSafeExactlyIf, IsUnsafe};
+ghost use Rattle.postcopy_c.specs.Showings.{IsShownText, IsShowingOf, IsShowing, IsShownAnswer};
+
+use crate::answer::{PostcopyAnswer, audited_answer, out_of_memory};
+use crate::kinds::{CLEAN, FAULTY, NO_MEMORY, SESSION_TEXT};
+use crate::telling::put;
+use audit_report::{Report, audit_by};
+use judged_texts::{Audited, Wanted, print_audited};
+use migration_types::Session;
+use order_picture::{Shown, picture_text, plan};
+use page_facts::Alone;
+use session_story::{print_explained, print_refused};
+use session_text::{read_session, session_texts_are_unambiguous};
+use std::alloc::{AllocError, Global};
+
+/// As what a session is shown.
+#[derive(Clone, Copy)]
+pub enum ShownAs {
+    /// What happened, in words behind the first line of the report.
+    Words,
+    /// The picture, in the order of the report.
+    Picture,
+}
+
+/// An audit, and the text that shows it.
+#[derive(Drop)]
+pub struct Showing {
+    /// The audit.
+    pub audited: Audited,
+    /// The text.
+    pub text: Vec<u8>,
+}
+
+/// The picture of a session in the order of its report.
+fn picture_of(alloc: Global, session: &Session, report: &Report) -> Result<Vec<u8>, AllocError>
+    ensures { IfOk result (λ text. IsShownText ShownAs.Picture (Audited.Reported report.now) text.items) }
+{
+    let picture = plan(alloc, session, report)?;
+    picture_text(alloc, session, report, &picture, Shown::Reported)
+}
+
+/// The text that shows a session by its report.
+fn text_of(
+    alloc: Global,
+    session: &Session,
+    report: &Report,
+    shown_as: ShownAs,
+) -> Result<Vec<u8>, AllocError>
+    requires { IsReport session.now report.now }
+    ensures { IfOk result (λ text. IsShownText shown_as (Audited.Reported report.now) text.items) }
+{
+    match shown_as {
+        ShownAs::Words => print_explained(alloc, session, report),
+        ShownAs::Picture => picture_of(alloc, session, report),
+    }
+}
+
+/// The text that shows that a text is refused at this line.
+fn refusal_of(alloc: Global, line: u32, shown_as: ShownAs) -> Result<Vec<u8>, AllocError>
+    ensures { IfOk result (λ text. IsShownText shown_as (Audited.Refused line) text.items) }
+{
+    match shown_as {
+        ShownAs::Words => print_refused(alloc, line),
+        ShownAs::Picture => print_audited(alloc, &Audited::Refused(line), Wanted::Report),
+    }
+}
+
+/// What is shown of a session that was read. The calling thread alone judges it.
+fn show_session(alloc: Global, session: &Session, shown_as: ShownAs) -> Result<Showing, AllocError>
+    ensures shown { IfOk result (IsShowingOf shown_as session.now) }
+    ensures safe { IfOk result (λ showing. FindsClean showing.audited → IsSafe session.now) }
+    ensures exactly { IfOk result (λ showing. IsSafeExactlyIf (FindsClean showing.audited) session.now) }
+    ensures faulty { IfOk result (λ showing. FindsFault showing.audited → IsUnsafe session.now) }
+{
+    let report = audit_by(&Alone, alloc, session)?;
+    let text = text_of(alloc, session, &report, shown_as)?;
+    Ok(Showing {
+        audited: Audited::Reported(report),
+        text,
+    })
+}
+
+/// What is shown of the session that a text spells.
+fn show_text(alloc: Global, session: &[u8], shown_as: ShownAs) -> Result<Showing, AllocError>
+    ensures showing { IfOk result (IsShowing shown_as session.now) }
+    ensures one_session { IfOk result (λ showing. HasReport showing.audited → SpellsOneSession session.now) }
+    ensures safe { IfOk result (λ showing. FindsClean showing.audited → OfSpelled session.now IsSafe) }
+    ensures exactly { IfOk result (λ showing. OfSpelled session.now (IsSafeExactlyIf (FindsClean showing.audited))) }
+    ensures faulty { IfOk result (λ showing. FindsFault showing.audited → OfSpelled session.now IsUnsafe) }
+{
+    session_texts_are_unambiguous();
+    match read_session(alloc, session) {
+        Ok(recorded) => show_session(alloc, &recorded, shown_as),
+        Err(fault) => {
+            let line = fault.refused_line()?;
+            let text = refusal_of(alloc, line, shown_as)?;
+            Ok(Showing {
+                audited: Audited::Refused(line),
+                text,
+            })
+        }
+    }
+}
+
+/// Tells what is shown of the session that a text spells.
+pub(crate) fn tell_shown(
+    alloc: Global,
+    session: &[u8],
+    shown_as: ShownAs,
+    room: &mut [u8],
+) -> PostcopyAnswer
+    ensures told { IsShownAnswer shown_as session.now room.old room.new result }
+    ensures one_session { result.kind ≢ SESSION_TEXT → result.kind ≢ NO_MEMORY → SpellsOneSession session.now }
+    ensures safe { result.kind ≡ CLEAN → OfSpelled session.now IsSafe }
+    ensures exactly { result.kind ≢ NO_MEMORY → OfSpelled session.now (IsSafeExactlyIf (result.kind ≡ CLEAN)) }
+    ensures faulty { result.kind ≡ FAULTY → OfSpelled session.now IsUnsafe }
+{
+    match show_text(alloc, session, shown_as) {
+        Ok(found) => {
+            put(&found.text, room);
+            audited_answer(&found.audited, found.text.len())
+        }
+        Err(_) => out_of_memory(),
+    }
+}
