@@ -13,6 +13,8 @@ SHIPPED = "shipped/x86_64-linux"
 PROGRAM = "crates/postcopy/out/postcopy"
 LIBRARIES = ("libpostcopy.so", "libpostcopy.a")
 NAMES = ("postcopy", *LIBRARIES)
+SHIPPED_PAGE = "shipped/web"
+PAGE = "crates/postcopy_c/out/postcopy.html"
 SOURCE = "crates/session_text/src/lib.rt"
 
 # The crates that a copy has: some of those that the program is built from, and one that it is not.
@@ -101,6 +103,14 @@ def digest_of_sources(tree):
     return hashlib.sha256("".join(lines).encode()).hexdigest()
 
 
+def digest_of_page(tree):
+    names = read(f"{tree}/web/examples").decode().split()
+    files = ["c/postcopy.h", "tools/page", *(f"examples/{name}/{it}" for name in names for it in ("what", "session", "certificate"))]
+    files += [os.path.relpath(it, tree) for it in glob.glob(f"{tree}/web/*") if not it.endswith("_test.c")]
+    lines = [f"{sum_of(f'{tree}/{it}')}  {it}\n" for it in sorted(files, key=os.fsencode) if os.path.exists(f"{tree}/{it}")]
+    return hashlib.sha256("".join([f"{digest_of_sources(tree)}\n", *lines]).encode()).hexdigest()
+
+
 def read(name):
     with open(name, "rb") as file:
         return file.read()
@@ -146,6 +156,8 @@ class Room:
         for name in LIBRARIES:
             write(f"{built}/crates/postcopy_c/out/{name}", read(f"{TOP}/crates/postcopy_c/out/{name}"))
         write(f"{built}/crates/postcopy_c/out/libpostcopy_c.a", b"")
+        write(f"{built}/crates/postcopy_c/out/postcopy_c.bc", b"")
+        write(f"{built}/{PAGE}", b"<!doctype html>\n")
         self.built = built
 
     def commands(self, name, found):
@@ -194,14 +206,14 @@ YES = Ran(0, b"yes\n", b"")
 NOBODY = 65534
 
 
-def manifest(copy):
-    lines = [it.partition(" ") for it in read(f"{copy}/{SHIPPED}/manifest").decode().split("\n") if it and it[0] != "#"]
+def manifest(copy, folder=SHIPPED):
+    lines = [it.partition(" ") for it in read(f"{copy}/{folder}/manifest").decode().split("\n") if it and it[0] != "#"]
     return {name: value for name, _, value in lines}
 
 
-def rewrite(copy, name, value):
-    """Gives the manifest of a copy another value."""
-    file = f"{copy}/{SHIPPED}/manifest"
+def rewrite(copy, name, value, folder=SHIPPED):
+    """Gives a manifest of a copy another value."""
+    file = f"{copy}/{folder}/manifest"
     changed, times = re.subn(rf"(?m)^{name} .*$", f"{name} {value}", read(file).decode())
     assert times == 1, name
     write(file, changed)

@@ -1,12 +1,17 @@
 # What the scripts that read shipped/ have in common, for a POSIX shell. They set `top`, the folder of the checkout, first.
 # shellcheck shell=sh disable=SC2154
 shipped=$top/shipped/x86_64-linux
+shipped_page=$top/shipped/web
 # shellcheck disable=SC2034
 shipped_files="postcopy libpostcopy.so libpostcopy.a"
 
-# What the manifest has under a name; nothing where it has none, or there is no manifest.
+# What the manifest of a folder has under a name; nothing where it has none, or there is no manifest.
+told_in() {
+    [ ! -f "$1/manifest" ] || awk -v name="$2" '$1 == name { print $2; exit }' "$1/manifest"
+}
+
 manifest() {
-    [ ! -f "$shipped/manifest" ] || awk -v name="$1" '$1 == name { print $2; exit }' "$shipped/manifest"
+    told_in "$shipped" "$1"
 }
 
 sum_of() {
@@ -16,6 +21,11 @@ sum_of() {
 # Whether a file has the bytes that the manifest tells of the shipped file of a name.
 has_shipped_bytes() {
     [ -r "$1" ] && [ "$(sum_of "$1")" = "$(manifest "$2")" ]
+}
+
+# Whether a file has the bytes of the shipped page.
+has_page_bytes() {
+    [ -r "$1" ] && [ "$(sum_of "$1")" = "$(told_in "$shipped_page" postcopy.html)" ]
 }
 
 # Whether a built file is there, and no source was changed since: of this checkout, or of the one that is named.
@@ -34,6 +44,11 @@ is_of_machine() {
 # Whether what is shipped was built from the sources that are here.
 is_of_sources() {
     [ -f "$shipped/manifest" ] && [ "$(sh "$top/tools/shipped-sources")" = "$(manifest sources)" ]
+}
+
+# Whether the shipped page was made of what is here.
+is_page_of_sources() {
+    [ -f "$shipped_page/manifest" ] && [ "$(sh "$top/tools/page-sources")" = "$(told_in "$shipped_page" sources)" ]
 }
 
 # The identity of the toolchain that is here: its logic, and the digests of its archive and compiler.

@@ -1,0 +1,138 @@
+"""A headless Chromium, driven by WebDriver, and what the tests of the page ask of it."""
+import base64
+import json
+import subprocess
+import time
+import urllib.error
+import urllib.request
+import zlib
+
+ELEMENT = "element-6066-11e4-a52e-4f735466cecf"
+FLAGS = ["--headless=new", "--no-sandbox", "--disable-gpu", "--disable-background-networking", "--no-first-run", "--disable-dev-shm-usage",
+         "--window-size=1100,1400"]
+
+
+class Browser:
+    """A browser with one page."""
+
+    def __init__(self, driver, binary, port):
+        self.base = f"http://127.0.0.1:{port}"
+        self.driver = subprocess.Popen([driver, f"--port={port}", "--log-level=SEVERE"], stdout=subprocess.DEVNULL, stderr=subprocess.DEVNULL)
+        self.at = ""
+        try:
+            self.wait_for(self.is_ready, "the driver does not begin")
+            options = {"binary": binary, "args": FLAGS}
+            logs = {"browser": "ALL", "performance": "ALL"}
+            wanted = {"alwaysMatch": {"goog:chromeOptions": options, "goog:loggingPrefs": logs}}
+            made = self.call("POST", "/session", {"capabilities": wanted})
+        except BaseException:
+            self.driver.kill()
+            self.driver.wait()
+            raise
+        self.at = f"/session/{made['sessionId']}"
+        self.version = made["capabilities"]["browserVersion"]
+
+    def __enter__(self):
+        return self
+
+    def __exit__(self, *_):
+        try:
+            self.call("DELETE", "")
+        finally:
+            self.driver.terminate()
+            self.driver.wait()
+
+    def is_ready(self):
+        try:
+            return self.call("GET", "/status")["ready"]
+        except OSError:
+            return False
+
+    @staticmethod
+    def wait_for(holds, why, seconds=60):
+        """Waits until something holds."""
+        until = time.monotonic() + seconds
+        while not holds():
+            if time.monotonic() > until:
+                raise TimeoutError(why)
+            time.sleep(0.03)
+
+    def call(self, method, path, data=None):
+        body = None if method != "POST" else json.dumps(data or {}).encode()
+        asked = urllib.request.Request(f"{self.base}{self.at}{path}", body, {"Content-Type": "application/json"}, method=method)
+        try:
+            with urllib.request.urlopen(asked, timeout=120) as got:
+                return json.load(got)["value"]
+        except urllib.error.HTTPError as error:
+            raise RuntimeError(error.read().decode(errors="replace")[:500]) from error
+
+    def open(self, url):
+        self.call("POST", "/url", {"url": url})
+
+    def run(self, script, *words):
+        """What a script in the page answers."""
+        return self.call("POST", "/execute/sync", {"script": script, "args": list(words)})
+
+    def run_later(self, script, *words):
+        """What a script answers to the function that it gets as its last word."""
+        return self.call("POST", "/execute/async", {"script": script, "args": list(words)})
+
+    def text(self, selector):
+        return self.run("return document.querySelector(arguments[0])?.textContent", selector)
+
+    def find(self, selector):
+        return self.call("POST", "/element", {"using": "css selector", "value": selector})[ELEMENT]
+
+    def click(self, selector):
+        self.call("POST", f"/element/{self.find(selector)}/click")
+
+    def press(self, *keys):
+        """Presses keys, where the focus is."""
+        acts = [{"type": it, "value": key} for key in keys for it in ("keyDown", "keyUp")]
+        self.call("POST", "/actions", {"actions": [{"type": "key", "id": "keys", "actions": acts}]})
+
+    def choose(self, *files):
+        """Chooses files, and waits for what the page shows of them."""
+        self.run("document.getElementById('files').value = ''; delete document.body.dataset.done")
+        self.call("POST", f"/element/{self.find('#files')}/value", {"text": "\n".join(files)})
+        self.settle()
+
+    def settle(self, seconds=100):
+        """Waits until the page is done with a session, or says that there is none."""
+        done = "return document.body.dataset.done !== undefined || document.querySelector('#verdict.odd') !== null && document.getElementById('busy').hidden"
+        self.wait_for(lambda: self.run(done), "the page is not done", seconds)
+
+    def cdp(self, command, **words):
+        return self.call("POST", "/goog/cdp/execute", {"cmd": command, "params": words})
+
+    def log(self, kind):
+        return self.call("POST", "/se/log", {"type": kind})
+
+    def requests(self):
+        """The places that were asked for, since the last call."""
+        found = [json.loads(it["message"])["message"] for it in self.log("performance")]
+        return [it["params"]["request"]["url"] for it in found if it["method"] == "Network.requestWillBeSent"]
+
+    def complaints(self):
+        """What the browser complained of, since the last call."""
+        return [it["message"] for it in self.log("browser") if it["level"] == "SEVERE"]
+
+    def screenshot(self):
+        return base64.b64decode(self.call("GET", "/screenshot"))
+
+    def printed(self):
+        return base64.b64decode(self.call("POST", "/print", {}))
+
+
+def rows_of(png):
+    """How many different rows a picture has. They are told apart as they are packed, where the rows of an empty page are alike."""
+    width, depth, kind = int.from_bytes(png[16:20], "big"), png[24], png[25]
+    packed, at = b"", 8
+    while at < len(png):
+        length = int.from_bytes(png[at:at + 4], "big")
+        if png[at + 4:at + 8] == b"IDAT":
+            packed += png[at + 8:at + 8 + length]
+        at += length + 12
+    data = zlib.decompress(packed)
+    size = 1 + width * depth // 8 * {0: 1, 2: 3, 6: 4}[kind]
+    return len({data[it:it + size] for it in range(0, len(data), size)})

@@ -1,0 +1,21 @@
+// Calls the module of the page, in node: web_calls.js MODULE. Each line of the input is a call and the files of its texts, as
+// JSON; each line of the output is the answer, with its text in base64.
+"use strict";
+const fs = require("fs");
+const { Postcopy } = require("../web/postcopy.js");
+
+const compiled = new WebAssembly.Module(fs.readFileSync(process.argv[2]));
+if (WebAssembly.Module.imports(compiled).length) throw new Error("the module takes something from elsewhere");
+
+// The answer of a call. Each text is asked for with no room at first, and then with its own.
+function answered([call, ...names]) {
+  const it = new Postcopy(compiled);
+  const [session, certificate] = names.map((name) => it.put(fs.readFileSync(name)));
+  const { bytes, ...answer } = certificate ? it.check(session, certificate) : it.text(call, session, 0);
+  return { ...answer, text: Buffer.from(bytes ?? []).toString("base64") };
+}
+
+console.log(JSON.stringify(WebAssembly.Module.exports(compiled).map(({ name }) => name).sort()));
+for (const line of fs.readFileSync(0, "utf8").split("\n")) {
+  if (line) console.log(JSON.stringify(answered(JSON.parse(line))));
+}

@@ -1,0 +1,414 @@
+// The page: it hands the files that are chosen or dropped to a worker, which holds the module, and shows what that answers.
+"use strict";
+
+// What each verdict says first, and whether it is good, bad or neither.
+const VERDICTS = {
+  CLEAN: ["good", "Safe.", "In every order in which the parties may have acted, the guest found each page in place and as it left it."],
+  FAULTY: ["bad", "Not safe."],
+  KNOT: ["bad", "These records cannot all have happened.", "Some of them wait for one another, so they have no order."],
+  SHAPE: ["bad", "This session has not the right shape."],
+  SESSION_TEXT: ["odd", "This is not a session."],
+};
+
+// What the verdict on a certificate says.
+const CERTIFICATES = {
+  YES: "The certificate is right: it shows that the session is safe.",
+  CERT_TEXT: "The other file is not a certificate: it is refused at this line: ",
+  PAGES: "The certificate is of a machine of another size than the session's.",
+  RUNS: "The certificate is not right: its run at this line cannot be taken: ",
+  PAGE: "The certificate is not right: its entry at this line is wrong: ",
+};
+
+const REASONS = {
+  1: "a record stands in the wrong phase",
+  2: "a record names what is not there, or of the wrong kind",
+  3: "a log does not begin as it has to",
+  4: "a page is sent a second time",
+  11: "the guest reads another value than on one machine that never moved",
+  12: "the guest uses a page that it was not seen to have by then",
+  13: "a page is sent that the guest had released",
+  14: "a page is sent with other contents than it has at the halt",
+  15: "a page is placed a second time",
+  16: "a page is placed with other contents than it has at the halt",
+  17: "zeros are placed for a page that was not released",
+  18: "a page is placed over the guest's release at the target",
+};
+
+const MOST_LINES = 400;
+const AT = /\bline (\d+)\b(?: \(\w+ \d+\))?/g;
+const at = (name) => document.getElementById(name);
+const made = (tag, given, ...children) => {
+  const it = Object.assign(document.createElement(tag), given);
+  it.append(...children);
+  return it;
+};
+
+// The worker and its questions.
+
+const bytes = Uint8Array.from(atob(at("module").textContent), (it) => it.charCodeAt(0));
+let worker, asked = 0;
+const waiting = new Map();
+
+function started() {
+  const place = URL.createObjectURL(new Blob([at("worker").textContent], { type: "text/javascript" }));
+  const it = new Worker(place);
+  it.onmessage = ({ data }) => {
+    const { say, done } = waiting.get(data.number) ?? {};
+    if (data.total !== undefined) return say?.(data.done, data.total);
+    waiting.delete(data.number);
+    done?.(data.answer ?? { failure: data.failure });
+  };
+  it.onerror = (event) => {
+    event.preventDefault();
+    const all = [...waiting.values()];
+    waiting.clear();
+    for (const { done } of all) done({ failure: { isMemory: false, words: event.message || "the worker ended" } });
+  };
+  return it;
+}
+
+// The answer of a call, or `failure` in its place. `say` is told how many bytes of how many were read.
+function ask(call, session, certificate, say) {
+  worker ??= started();
+  return new Promise((done) => {
+    waiting.set(++asked, { say, done });
+    worker.postMessage({ number: asked, call, session, certificate, bytes });
+  });
+}
+
+function stop() {
+  worker?.terminate();
+  worker = undefined;
+  waiting.clear();
+}
+
+// How far it is.
+
+function busy(what, done, total) {
+  at("busy").hidden = !what;
+  if (!what) return;
+  at("doing").textContent = what;
+  if (total) Object.assign(at("progress"), { max: total, value: done });
+  else at("progress").removeAttribute("value");
+}
+
+const mib = (length) => (length < 1 << 20 ? `${Math.ceil(length / 1024)} KiB` : `${(length / (1 << 20)).toFixed(1)} MiB`);
+
+function show(kind, head, ...sentences) {
+  at("verdict").className = kind;
+  at("verdict").replaceChildren(made("strong", {}, head), ...sentences.filter(Boolean).map((it) => made("p", {}, it)));
+}
+
+function showFailure(failure, session) {
+  if (failure.isMemory) {
+    show("odd", "The memory did not suffice.", `The page may not take as much memory as this session of ${mib(session.size)} needs: ${failure.words}.`,
+      "Nothing is said of the session. Close other pages and try again, or have the program judge it: postcopy audit FILE.");
+  } else {
+    show("odd", "The session could not be judged.", `${failure.words}. Nothing is said of the session.`);
+  }
+}
+
+function verdictWords({ kind, line, reason }) {
+  const [colour, head, sentence] = VERDICTS[kind];
+  const why = REASONS[reason];
+  if (kind === "SESSION_TEXT") return [colour, head, `No text of a session goes on as this file does at line ${line}, or it ends there too early.`];
+  return [colour, head, sentence, why ? `${why[0].toUpperCase()}${why.slice(1)}: line ${line}.` : line ? `The first of them: line ${line}.` : ""];
+}
+
+// The record that is marked, in the words, the picture and the text.
+
+let marked = 0, picture, text;
+const wordsOf = (line) => [...at("words").querySelectorAll(`[data-line="${line}"]`)];
+const rowOf = (line) => picture?.querySelector(`[data-line="${line}"]`);
+
+function go(it) {
+  it?.scrollIntoView({ block: "center", inline: "nearest" });
+  it?.focus({ preventScroll: true });
+}
+
+function goToText() {
+  go(at("lines").querySelector(".marked .link") ?? at("lines"));
+}
+
+// Marks a record by the line of the session that it is; 0 marks none.
+async function mark(line) {
+  for (const it of at("words").querySelectorAll(".marked")) it.classList.remove("marked");
+  for (const it of picture?.querySelectorAll(".marked") ?? []) it.classList.remove("marked");
+  marked = line;
+  for (const it of wordsOf(line)) it.classList.add("marked");
+  rowOf(line)?.classList.add("marked");
+  at("bar").hidden = !line;
+  at("name").textContent = wordsOf(line)[0]?.textContent ?? rowOf(line)?.querySelector("title")?.textContent.split(":")[0] ?? `line ${line}`;
+  at("to-words").disabled = !wordsOf(line).length;
+  at("to-picture").disabled = !rowOf(line);
+  if (line) await showText(texts[0], line);
+  else await showLines(first);
+}
+
+// The words.
+
+function withMarks(sentence) {
+  const parts = [];
+  let end = 0;
+  for (const found of sentence.matchAll(AT)) {
+    const line = +found[1];
+    const it = made("button", { type: "button", className: "link", textContent: found[0] });
+    it.dataset.line = line;
+    it.onclick = () => mark(line).then(() => (rowOf(line) ? go(rowOf(line)) : goToText()));
+    parts.push(sentence.slice(end, found.index), it);
+    end = found.index + found[0].length;
+  }
+  return [...parts, sentence.slice(end)];
+}
+
+function showWords(words) {
+  const to = at("words");
+  to.replaceChildren();
+  for (const line of words.split("\n")) {
+    const list = to.lastElementChild?.tagName === "UL" ? to.lastElementChild : undefined;
+    if (line.startsWith("  ")) (list ?? to.appendChild(made("ul"))).append(made("li", {}, ...withMarks(line.trim())));
+    else if (line) to.append(made("p", {}, ...withMarks(line)));
+  }
+  at("story").hidden = false;
+}
+
+// The picture, in a tree of its own, so that its styles are its own.
+
+const OF_ROWS = `.record { cursor: pointer } .record:focus { outline: none }
+.record.marked > rect, .record:focus > rect { stroke: Highlight; stroke-width: 4; stroke-dasharray: none } svg { display: block; margin: auto }`;
+
+function goAmongRows(event, rows, place) {
+  const to = { ArrowDown: place + 1, ArrowUp: place - 1, Home: 0, End: rows.length - 1 }[event.key];
+  if (event.key === "Enter" || event.key === " ") rows[place].onclick();
+  else if (rows[to]) go(rows[to]);
+  else return;
+  event.preventDefault();
+}
+
+function showPicture(svg) {
+  const host = at("picture");
+  picture = host.shadowRoot ?? host.attachShadow({ mode: "open" });
+  const drawn = document.importNode(new DOMParser().parseFromString(svg, "image/svg+xml").documentElement, true);
+  picture.replaceChildren(made("style", { textContent: OF_ROWS }), drawn);
+  drawn.setAttribute("role", "group");
+  drawn.setAttribute("aria-label", "The records in an order");
+  const rows = [...drawn.querySelectorAll(".record")];
+  const current = rows.find((it) => it.classList.contains("faulty")) ?? rows[0];
+  rows.forEach((row, place) => {
+    const title = row.querySelector("title")?.textContent ?? "";
+    const line = +(title.match(/^line (\d+)/)?.[1] ?? 0);
+    row.dataset.line = line;
+    row.setAttribute("role", "button");
+    row.setAttribute("aria-label", title);
+    row.setAttribute("tabindex", row === current ? 0 : -1);
+    row.onclick = () => mark(line).then(goToText);
+    row.onkeydown = (event) => goAmongRows(event, rows, place);
+  });
+  at("drawn").hidden = false;
+}
+
+// The texts: the session, and what was written of it. A part of the lines is shown at a time.
+
+let texts = [], first = 1, showing = 0;
+
+// Where a text's lines stand.
+async function indexed(it) {
+  it.index ??= await ask("lines", it.file);
+  return it.index;
+}
+
+// So many lines of a text from one on.
+async function linesFrom(it, from, count) {
+  const { marks, perMark, lines } = await indexed(it);
+  const before = Math.floor((from - 1) / perMark), last = Math.min(from - 1 + count, lines);
+  const end = marks[Math.ceil(last / perMark)] ?? it.file.size;
+  const found = (await it.file.slice(marks[before], end).text()).split("\n");
+  return found.slice(from - 1 - before * perMark, last - before * perMark);
+}
+
+async function showLines(from) {
+  const mine = ++showing, it = text;
+  const { lines } = await indexed(it);
+  from = Math.max(1, Math.min(from, lines - MOST_LINES + 1));
+  const found = await linesFrom(it, from, MOST_LINES);
+  if (mine !== showing) return;
+  first = from;
+  const isSession = it === texts[0];
+  at("lines").start = from;
+  at("lines").replaceChildren(...found.map((words, place) => {
+    const line = from + place, isMarked = isSession && line === marked;
+    if (!isSession || (!isMarked && !wordsOf(line).length && !rowOf(line))) return made("li", {}, words);
+    const it = made("button", { type: "button", className: "link", textContent: words || " " });
+    it.onclick = () => mark(line).then(() => go(wordsOf(line)[0] ?? rowOf(line)));
+    return made("li", { className: isMarked ? "marked" : "" }, it);
+  }));
+  at("earlier").disabled = from === 1;
+  at("later").disabled = from + MOST_LINES > lines;
+  at("extent").textContent = `of ${lines}, ${mib(it.file.size)}`;
+  at("line").max = lines;
+}
+
+// Shows a text with a line of it in the middle.
+async function showText(it, line = 1) {
+  text = it;
+  for (const button of at("which").children) button.setAttribute("aria-pressed", button.textContent === it.name);
+  at("line").value = line;
+  URL.revokeObjectURL(at("save").href);
+  Object.assign(at("save"), { href: URL.createObjectURL(it.file), download: it.file.name ?? it.name });
+  await showLines(line - MOST_LINES / 2);
+  const list = at("lines"), shown = list.children[line - first];
+  if (shown) list.scrollTop = shown.offsetTop - list.offsetTop - list.clientHeight / 2;
+}
+
+function addText(name, file, index) {
+  const it = { name, file, index };
+  texts.push(it);
+  at("which").append(made("button", { type: "button", textContent: name, onclick: () => showText(it) }));
+  return it;
+}
+
+// A session, with its certificate, is judged.
+
+let judging = 0;
+
+function cleared() {
+  stop();
+  marked = first = 0;
+  texts = [];
+  picture?.replaceChildren();
+  delete document.body.dataset.done;
+  for (const it of ["story", "drawn", "texts", "bar"]) at(it).hidden = true;
+  for (const it of ["words", "which", "lines"]) at(it).replaceChildren();
+  at("numbers").textContent = "";
+}
+
+// Which of the files is what, by how they begin.
+async function sorted(files) {
+  const found = {};
+  for (const file of files) {
+    const head = await file.slice(0, 24).text();
+    const kind = ["certificate", "runs"].find((it) => head.startsWith(`postcopy-${it} `)) ?? "session";
+    found[kind] ??= file;
+  }
+  return found;
+}
+
+async function certificateWords(session, certificate) {
+  const answer = await ask("check", session, certificate);
+  if (answer.failure) return `The certificate could not be judged: ${answer.failure.words}.`;
+  const words = CERTIFICATES[answer.kind];
+  return words && words + (answer.line ? `${answer.line} of ${certificate.name}.` : "");
+}
+
+async function judged(files) {
+  const mine = ++judging, current = () => mine === judging;
+  cleared();
+  const { session, certificate, runs } = await sorted(files);
+  if (!current()) return;
+  if (!session) {
+    show("odd", "There is no session.", `A ${certificate ? "certificate" : "file of runs"} goes with a session: choose both together.`);
+    return;
+  }
+  const saying = (what) => (done, total) => current() && busy(total ? `Reading ${session.name}: ${mib(done)} of ${mib(total)}` : what, done, total);
+  at("given").open = false;
+  busy(`Reading ${session.name}`);
+  show("", `Judging ${session.name} ..`);
+  const question = async (call, what) => {
+    const answer = await ask(call, session, undefined, saying(what));
+    if (answer.failure && current()) showFailure(answer.failure, session);
+    return current() && !answer.failure ? answer : undefined;
+  };
+  const answer = await question("audit", "Judging");
+  if (answer) await tell(answer, { session, certificate, runs }, question, current);
+  if (!current()) return;
+  busy();
+  document.body.dataset.done = mine;
+}
+
+// Shows the verdict, the words, the picture and the texts, one after another.
+async function tell(answer, { session, certificate, runs }, question, current) {
+  const words = verdictWords(answer);
+  show(...words);
+  const time = `${session.name}, ${mib(session.size)}: judged in ${answer.ms.toFixed(0)} ms, with ${mib(answer.memory)} of memory`;
+  at("numbers").textContent = time;
+  const of = certificate && (await certificateWords(session, certificate));
+  if (!current()) return;
+  const more = runs && "The runs are not read here: the program replays them, with postcopy replay.";
+  if (of || more) show(...words, of, more);
+  const told = await question("explain", "Finding out what happened");
+  if (!told) return;
+  showWords(new TextDecoder().decode(told.bytes));
+  addText("Session", session);
+  addText("Report", new File([answer.bytes], "report"));
+  await showText(texts[0], answer.line || 1);
+  if (!current()) return;
+  at("texts").hidden = false;
+  const drawn = answer.kind !== "SESSION_TEXT" && (await question("draw", "Drawing"));
+  if (drawn) {
+    showPicture(new TextDecoder().decode(drawn.bytes));
+    addText("Picture", new File([drawn.bytes], "picture.svg", { type: "image/svg+xml" }));
+  }
+  const certified = current() && answer.kind === "CLEAN" && (await question("certify", "Writing the certificate"));
+  if (certified) addText("Certificate", new File([certified.bytes], "certificate"));
+  if (current()) await showText(texts[0], answer.line || 1);
+}
+
+// The examples, and what the reader does.
+
+const examples = JSON.parse(at("data").textContent);
+
+function judgeExample() {
+  const it = examples.find(({ name }) => name === decodeURIComponent(location.hash.slice(1)));
+  if (!it) return;
+  const named = (name) => it[name] !== undefined && new File([it[name]], name);
+  judged([named("session"), named("certificate")].filter(Boolean));
+  at("verdict").scrollIntoView({ block: "nearest" });
+}
+
+function listen() {
+  addEventListener("dragover", (event) => {
+    event.preventDefault();
+    at("choose").classList.add("over");
+  });
+  addEventListener("dragleave", () => at("choose").classList.remove("over"));
+  addEventListener("drop", (event) => {
+    event.preventDefault();
+    at("choose").classList.remove("over");
+    if (event.dataTransfer.files.length) judged([...event.dataTransfer.files]);
+  });
+  at("files").onchange = () => at("files").files.length && judged([...at("files").files]);
+  at("stop").onclick = () => {
+    judging++;
+    stop();
+    busy();
+    show("odd", "Stopped.", "Nothing is said of the session.");
+  };
+  at("to-words").onclick = () => go(wordsOf(marked)[0]);
+  at("to-picture").onclick = () => go(rowOf(marked));
+  at("to-text").onclick = () => showText(texts[0], marked).then(goToText);
+  at("unmark").onclick = () => mark(0);
+  at("earlier").onclick = () => showLines(first - MOST_LINES);
+  at("later").onclick = () => showLines(first + MOST_LINES);
+  at("line").onchange = () => showText(text, Math.max(1, Math.min(+at("line").value || 1, +at("line").max)));
+  addEventListener("keydown", (event) => event.key === "Escape" && marked && mark(0));
+  addEventListener("hashchange", judgeExample);
+}
+
+// Whether the browser has what the module needs.
+function canJudge() {
+  try {
+    new WebAssembly.Memory({ address: "i64", initial: 1n, maximum: 2n });
+    return true;
+  } catch {
+    return false;
+  }
+}
+
+at("examples").append(...examples.map(({ name, what }) => made("li", {}, made("a", { href: "#" + name, textContent: name }), ": " + what)));
+if (canJudge()) {
+  listen();
+  judgeExample();
+} else {
+  show("odd", "This browser cannot judge.", "It has no WebAssembly with 64-bit addresses. Chromium has it from 133 on, and Firefox from 134 on.");
+  at("files").disabled = true;
+}
