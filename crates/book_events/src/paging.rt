@@ -1,12 +1,12 @@
 //! The pager's events, on the link's and the pager's books, or on the pager's and the target's.
 
-ghost use Rattle.std.specs.Prelude.{◌≡◌, [], None, Some, slice_get, IsTrue, IfOk, OnOk, OnErr, IsErrOf};
+ghost use Rattle.std.specs.Prelude.{◌≡◌, [], None, Some, slice_get, IsTrue};
 ghost use Rattle.link_book.specs.declared.Arrival.{Arrival};
 ghost use Rattle.target_book.specs.Kept.{geometry_of, part_of as target_of};
 ghost use Rattle.pager_book.specs.PagerPart.{delivers_by};
 ghost use Rattle.pager_book.specs.PagerLists.{part_of, IsPacketOf};
 ghost use Rattle.migration_events.specs.declared.events.Event.{Event};
-ghost use Rattle.book_events.specs.Parts.{receiving, placing, IsMade, IsFull, Tells};
+ghost use Rattle.book_events.specs.Parts.{receiving, placing, ComesTo};
 
 use crate::came::Came;
 use link_book::LinkBook;
@@ -17,11 +17,8 @@ use pager_book::{PagerBook, TargetBook};
 /// a machine sends. `EventFault::LogFull` only where its log has no room for the records. On an error nothing changes.
 pub fn pager_pop(link: &mut LinkBook, pager: &mut PagerBook) -> Result<Came, EventFault>
     requires { (x : Arrival) → slice_get link.old.part.down_arrivals 0 ≡ Some x → IsPacketOf pager.old.geometry x.packet }
-    ensures ok { OnOk result (IsMade Event.PagerPop (receiving link.old.part (part_of pager.old)) (receiving link.new.part (part_of pager.new))) }
-    ensures told { IfOk result (λ came. Tells came (receiving link.old.part (part_of pager.old)) (receiving link.new.part (part_of pager.new))) }
+    ensures comes { ComesTo Event.PagerPop result receiving link.old.part link.new.part (part_of pager.old) (part_of pager.new) }
     ensures machine { pager.new.geometry ≡ pager.old.geometry }
-    ensures full { IsErrOf result EventFault.LogFull → IsFull Event.PagerPop (receiving link.old.part (part_of pager.old)) }
-    ensures err { OnErr result ((link.new.part ≡ link.old.part) × (part_of pager.new ≡ part_of pager.old)) }
 {
     let Some((number, packet)) = link.peek_down() else {
         return Ok(Came::Nothing);
@@ -36,11 +33,8 @@ pub fn pager_pop(link: &mut LinkBook, pager: &mut PagerBook) -> Result<Came, Eve
 /// nothing changes.
 pub fn pager_pull(link: &mut LinkBook, pager: &mut PagerBook) -> Result<Came, EventFault>
     requires { (x : Arrival) → slice_get link.old.part.lane_arrivals 0 ≡ Some x → IsPacketOf pager.old.geometry x.packet }
-    ensures ok { OnOk result (IsMade Event.PagerPull (receiving link.old.part (part_of pager.old)) (receiving link.new.part (part_of pager.new))) }
-    ensures told { IfOk result (λ came. Tells came (receiving link.old.part (part_of pager.old)) (receiving link.new.part (part_of pager.new))) }
+    ensures comes { ComesTo Event.PagerPull result receiving link.old.part link.new.part (part_of pager.old) (part_of pager.new) }
     ensures machine { pager.new.geometry ≡ pager.old.geometry }
-    ensures full { IsErrOf result EventFault.LogFull → IsFull Event.PagerPull (receiving link.old.part (part_of pager.old)) }
-    ensures err { OnErr result ((link.new.part ≡ link.old.part) × (part_of pager.new ≡ part_of pager.old)) }
 {
     let Some((number, packet)) = link.peek_lane() else {
         return Ok(Came::Nothing);
@@ -53,11 +47,8 @@ pub fn pager_pull(link: &mut LinkBook, pager: &mut PagerBook) -> Result<Came, Ev
 /// PagerFlush: the pager offers the oldest packet that it has not offered, if there is one. The only error is want of
 /// memory, and then nothing changes.
 pub fn pager_flush(link: &mut LinkBook, pager: &mut PagerBook) -> Result<Came, EventFault>
-    ensures ok { OnOk result (IsMade Event.PagerFlush (receiving link.old.part (part_of pager.old)) (receiving link.new.part (part_of pager.new))) }
-    ensures told { IfOk result (λ came. Tells came (receiving link.old.part (part_of pager.old)) (receiving link.new.part (part_of pager.new))) }
+    ensures comes { ComesTo Event.PagerFlush result receiving link.old.part link.new.part (part_of pager.old) (part_of pager.new) }
     ensures machine { pager.new.geometry ≡ pager.old.geometry }
-    ensures full { IsErrOf result EventFault.LogFull → IsFull Event.PagerFlush (receiving link.old.part (part_of pager.old)) }
-    ensures err { OnErr result ((link.new.part ≡ link.old.part) × (part_of pager.new ≡ part_of pager.old)) }
 {
     link.room()?;
     let Some(packet) = pager.flush() else {
@@ -70,11 +61,8 @@ pub fn pager_flush(link: &mut LinkBook, pager: &mut PagerBook) -> Result<Came, E
 /// PagerTick: once the state has come, the pager asks once more for a page that is neither placed nor settled, or says
 /// that all are. `EventFault::LogFull` only where its log has no room for the record. On an error nothing changes.
 pub fn pager_tick(link: &mut LinkBook, pager: &mut PagerBook) -> Result<Came, EventFault>
-    ensures ok { OnOk result (IsMade Event.PagerTick (receiving link.old.part (part_of pager.old)) (receiving link.new.part (part_of pager.new))) }
-    ensures told { IfOk result (λ came. Tells came (receiving link.old.part (part_of pager.old)) (receiving link.new.part (part_of pager.new))) }
+    ensures comes { ComesTo Event.PagerTick result receiving link.old.part link.new.part (part_of pager.old) (part_of pager.new) }
     ensures machine { pager.new.geometry ≡ pager.old.geometry }
-    ensures full { IsErrOf result EventFault.LogFull → IsFull Event.PagerTick (receiving link.old.part (part_of pager.old)) }
-    ensures err { OnErr result ((link.new.part ≡ link.old.part) × (part_of pager.new ≡ part_of pager.old)) }
 {
     link.room()?;
     let Some(packet) = pager.tick()? else {
@@ -91,11 +79,8 @@ pub fn pager_tick(link: &mut LinkBook, pager: &mut PagerBook) -> Result<Came, Ev
 pub fn pager_fault(pager: &mut PagerBook, target: &mut TargetBook) -> Result<Came, EventFault>
     requires machine { geometry_of target.old ≡ pager.old.geometry }
     requires ready { pager.old.released ≡ None → (target_of target.old).misses ≡ [] }
-    ensures ok { OnOk result (IsMade Event.PagerFault (placing (part_of pager.old) (target_of target.old)) (placing (part_of pager.new) (target_of target.new))) }
-    ensures told { IfOk result (λ came. Tells came (placing (part_of pager.old) (target_of target.old)) (placing (part_of pager.new) (target_of target.new))) }
+    ensures comes { ComesTo Event.PagerFault result placing (part_of pager.old) (part_of pager.new) (target_of target.old) (target_of target.new) }
     ensures machine { (pager.new.geometry ≡ pager.old.geometry) × (geometry_of target.new ≡ geometry_of target.old) }
-    ensures full { IsErrOf result EventFault.LogFull → IsFull Event.PagerFault (placing (part_of pager.old) (target_of target.old)) }
-    ensures err { OnErr result ((part_of pager.new ≡ part_of pager.old) × (target_of target.new ≡ target_of target.old)) }
 {
     if target.unsettled().is_empty() && target.next_miss().is_none() {
         return Ok(Came::Nothing);
@@ -110,11 +95,8 @@ pub fn pager_fault(pager: &mut PagerBook, target: &mut TargetBook) -> Result<Cam
 /// of one machine. `EventFault::LogFull` only where a log has no room for the record. On an error nothing changes.
 pub fn pager_deliver(pager: &mut PagerBook, target: &mut TargetBook) -> Result<Came, EventFault>
     requires machine { geometry_of target.old ≡ pager.old.geometry }
-    ensures ok { OnOk result (IsMade Event.PagerDeliver (placing (part_of pager.old) (target_of target.old)) (placing (part_of pager.new) (target_of target.new))) }
-    ensures told { IfOk result (λ came. Tells came (placing (part_of pager.old) (target_of target.old)) (placing (part_of pager.new) (target_of target.new))) }
+    ensures comes { ComesTo Event.PagerDeliver result placing (part_of pager.old) (part_of pager.new) (target_of target.old) (target_of target.new) }
     ensures machine { (pager.new.geometry ≡ pager.old.geometry) × (geometry_of target.new ≡ geometry_of target.old) }
-    ensures full { IsErrOf result EventFault.LogFull → IsFull Event.PagerDeliver (placing (part_of pager.old) (target_of target.old)) }
-    ensures err { OnErr result ((part_of pager.new ≡ part_of pager.old) × (target_of target.new ≡ target_of target.old)) }
 {
     if target.unsettled().is_empty() && brings_nothing(pager, target) {
         return Ok(Came::Nothing);

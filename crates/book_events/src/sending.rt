@@ -1,10 +1,10 @@
 //! The events on the source's and the link's books.
 
-ghost use Rattle.std.specs.Prelude.{◌≡◌, IsTrue, IfOk, OnOk, OnErr, IsErrOf, if◌then◌else◌};
+ghost use Rattle.std.specs.Prelude.{◌≡◌, IsTrue, if◌then◌else◌};
 ghost use Rattle.source_book.specs.Books.{part_of};
 ghost use Rattle.link_book.specs.LinkPart.{with_back, with_front};
 ghost use Rattle.migration_events.specs.declared.events.Event.{Event};
-ghost use Rattle.book_events.specs.Parts.{pushing, sending, IsMade, IsFull, Tells};
+ghost use Rattle.book_events.specs.Parts.{pushing, sending, ComesTo};
 ghost use Rattle.book_events.specs.inner.Offers.{Carries};
 
 use crate::came::Came;
@@ -22,11 +22,8 @@ pub fn push(
     window: u32,
     has_lane: bool,
 ) -> Result<Came, EventFault>
-    ensures ok { OnOk result (IsMade Event.Push (pushing window has_lane (part_of source.old) link.old.part) (pushing window has_lane (part_of source.new) link.new.part)) }
-    ensures told { IfOk result (λ came. Tells came (pushing window has_lane (part_of source.old) link.old.part) (pushing window has_lane (part_of source.new) link.new.part)) }
+    ensures comes { ComesTo Event.Push result (pushing window has_lane) (part_of source.old) (part_of source.new) link.old.part link.new.part }
     ensures machine { source.new.frames.geometry ≡ source.old.frames.geometry }
-    ensures full { IsErrOf result EventFault.LogFull → IsFull Event.Push (pushing window has_lane (part_of source.old) link.old.part) }
-    ensures err { OnErr result ((part_of source.new ≡ part_of source.old) × (link.new.part ≡ link.old.part)) }
 {
     let under_way = if has_lane {
         link.lane_len()
@@ -53,11 +50,8 @@ pub fn push(
 /// of the others. `EventFault::LogFull` only where the source's log has no room for the records. On an error nothing
 /// changes.
 pub fn serve(source: &mut SourceBook, link: &mut LinkBook) -> Result<Came, EventFault>
-    ensures ok { OnOk result (IsMade Event.Serve (sending (part_of source.old) link.old.part) (sending (part_of source.new) link.new.part)) }
-    ensures told { IfOk result (λ came. Tells came (sending (part_of source.old) link.old.part) (sending (part_of source.new) link.new.part)) }
+    ensures comes { ComesTo Event.Serve result sending (part_of source.old) (part_of source.new) link.old.part link.new.part }
     ensures machine { source.new.frames.geometry ≡ source.old.frames.geometry }
-    ensures full { IsErrOf result EventFault.LogFull → IsFull Event.Serve (sending (part_of source.old) link.old.part) }
-    ensures err { OnErr result ((part_of source.new ≡ part_of source.old) × (link.new.part ≡ link.old.part)) }
 {
     link.room()?;
     let Some((number, packet)) = link.peek_up() else {
@@ -74,11 +68,8 @@ pub fn serve(source: &mut SourceBook, link: &mut LinkBook) -> Result<Came, Event
 /// SourceTick: the source sends the state once more, as long as nobody asked it for anything. `EventFault::LogFull`
 /// only where its log has no room for the record. On an error nothing changes.
 pub fn source_tick(source: &mut SourceBook, link: &mut LinkBook) -> Result<Came, EventFault>
-    ensures ok { OnOk result (IsMade Event.SourceTick (sending (part_of source.old) link.old.part) (sending (part_of source.new) link.new.part)) }
-    ensures told { IfOk result (λ came. Tells came (sending (part_of source.old) link.old.part) (sending (part_of source.new) link.new.part)) }
+    ensures comes { ComesTo Event.SourceTick result sending (part_of source.old) (part_of source.new) link.old.part link.new.part }
     ensures machine { source.new.frames.geometry ≡ source.old.frames.geometry }
-    ensures full { IsErrOf result EventFault.LogFull → IsFull Event.SourceTick (sending (part_of source.old) link.old.part) }
-    ensures err { OnErr result ((part_of source.new ≡ part_of source.old) × (link.new.part ≡ link.old.part)) }
 {
     link.room()?;
     let Some(packet) = source.tick()? else {

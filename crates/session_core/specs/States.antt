@@ -11,7 +11,7 @@ use Rattle.link_book.specs.Links.{Linked}
 use Rattle.guest_book.specs.Books.{GuestKept, part_of as guest_of}
 use Rattle.target_book.specs.Kept.{Kept, part_of as target_of, geometry_of}
 use Rattle.pager_book.specs.PagerLists.{PagerLists, part_of as pager_of}
-use Rattle.migration_model.specs.Books.{Vcpu, Scripted, BooksBefore, BooksAfter}
+use Rattle.migration_model.specs.Books.{Vcpu, Scripted, BooksBefore, BooksAfter, books_before}
 
 -- what a script says to the events
 abbrev pub vcpu_of : Scheduled → Vcpu
@@ -37,15 +37,7 @@ pub record AfterLists : Type 0 where
 
 -- what they stand for
 abbrev pub home_of : BeforeLists → BooksBefore
-home_of h = record {
-  version = h.script.version;
-  init = h.script.init;
-  pivots = h.script.pivots;
-  window = h.script.window;
-  has_lane = is_some h.script.lane;
-  vcpus = h.vcpus;
-  guest = guest_of h.guest;
-}
+home_of h = books_before (scripted_of h.script) h.vcpus (guest_of h.guest)
 
 abbrev pub away_of : AfterLists → BooksAfter
 away_of a = record {

@@ -10,7 +10,7 @@ ghost use Rattle.session_core.specs.States.{away_of, IsAfter};
 use crate::CoreFault;
 use crate::left::Left;
 use book_events::logs::{LentLogs, logs_of};
-use book_events::{paging, sending};
+use book_events::{Came, paging, sending};
 use link_book::LinkBook;
 use migration_events::Event;
 use migration_types::{InitPage, Seq, Session};
@@ -58,40 +58,27 @@ impl<'a> AfterHalt<'a> {
         ensures full { IsErrOf result CoreFault.LogFull → has_room (session_after (away_event event (away_of self.old))) ≡ false }
         ensures err { OnErr result (away_of self.new ≡ away_of self.old) }
     {
-        match event {
+        let _came = match event {
             Event::GuestStep { vcpu } => return self.guest_step(vcpu),
-            Event::Halt => {}
+            Event::Halt => Came::Nothing,
             Event::Push => {
                 let has_lane = self.script.lane().is_some();
                 let window = self.script.window();
-                sending::push(&mut self.source, &mut self.link, window, has_lane)?;
+                sending::push(&mut self.source, &mut self.link, window, has_lane)?
             }
-            Event::Serve => {
-                sending::serve(&mut self.source, &mut self.link)?;
+            Event::Serve => sending::serve(&mut self.source, &mut self.link)?,
+            Event::SourceTick => sending::source_tick(&mut self.source, &mut self.link)?,
+            Event::LinkTurn { direction, fate } => {
+                self.link.turn(direction, fate)?;
+                Came::Made
             }
-            Event::SourceTick => {
-                sending::source_tick(&mut self.source, &mut self.link)?;
-            }
-            Event::LinkTurn { direction, fate } => self.link.turn(direction, fate)?,
-            Event::PagerPop => {
-                paging::pager_pop(&mut self.link, &mut self.pager)?;
-            }
-            Event::PagerPull => {
-                paging::pager_pull(&mut self.link, &mut self.pager)?;
-            }
-            Event::PagerFault => {
-                paging::pager_fault(&mut self.pager, &mut self.target)?;
-            }
-            Event::PagerFlush => {
-                paging::pager_flush(&mut self.link, &mut self.pager)?;
-            }
-            Event::PagerDeliver => {
-                paging::pager_deliver(&mut self.pager, &mut self.target)?;
-            }
-            Event::PagerTick => {
-                paging::pager_tick(&mut self.link, &mut self.pager)?;
-            }
-        }
+            Event::PagerPop => paging::pager_pop(&mut self.link, &mut self.pager)?,
+            Event::PagerPull => paging::pager_pull(&mut self.link, &mut self.pager)?,
+            Event::PagerFault => paging::pager_fault(&mut self.pager, &mut self.target)?,
+            Event::PagerFlush => paging::pager_flush(&mut self.link, &mut self.pager)?,
+            Event::PagerDeliver => paging::pager_deliver(&mut self.pager, &mut self.target)?,
+            Event::PagerTick => paging::pager_tick(&mut self.link, &mut self.pager)?,
+        };
         Ok(())
     }
 
