@@ -9,10 +9,18 @@ use Rattle.migration_types.specs.Sessions.{Recorded}
 use Rattle.migration_events.specs.declared.ops.Op.{Op}
 use Rattle.migration_events.specs.declared.ops.Op.TheVariants.{Read as ReadCell, Write as WriteCell, Release as ReleasePage}
 use Rattle.page_store.specs.Frames.{Frames, memory_of}
+use Rattle.migration_types.specs.Certs.{Certified}
 use Rattle.audit_model.specs.Flat.{flat}
+use Rattle.audit_model.specs.Mergings.{spelled}
+use Rattle.audit_model.specs.World.{IsSafe}
+use Rattle.cert_check.specs.Verdicts.{IsVerdict}
+use Rattle.cert_check.specs.declared.verdict.Verdict.TheVariants.{Yes}
+use Rattle.migration_model.specs.Promise.{HasEachOwed}
+use Rattle.script.specs.Scenarios.{Scenario}
 use Rattle.script.specs.declared.vcpus.Vcpu.{Vcpu}
 use Rattle.audit_report.specs.Reports.{IsReport, IsClean}
 use Rattle.host_checks.specs.declared.transcript.Answered.{Answered}
+use Rattle.host_checks.specs.declared.outcome.Migrated.{Migrated}
 use Rattle.host_checks.specs.declared.outcome.RunFault.{RunFault}
 use Rattle.host_checks.specs.declared.outcome.RunFault.TheVariants.{LogFull, Memory, AuditRefused, TranscriptDiffers, Link}
 
@@ -59,6 +67,23 @@ IsDone s = (n : ℕ) × (slice_get s.source n ≡ Some Done)
 pub record IsFlatStore (s : Recorded) (store : Frames) : Type 0 where
   pub geometry : store.geometry ≡ s.geometry
   pub pages : (page : ℕ) → page < s.geometry.pages → page_of s.geometry.cells (memory_of store) page ≡ page_of s.geometry.cells (flat s (length s.guest)) page
+
+-- all that is checked of what a run of a script with these virtual processors left, beside its audit
+pub record Agrees (vcpus : List Vcpu) (s : Recorded) (cert : Certified) (transcripts : List (List Answered)) (frames : Frames) : Type 0 where
+  pub operations : AreOfScript vcpus transcripts
+  pub answers : AreOfLog s.guest transcripts
+  pub done : IsDone s
+  pub owed : HasEachOwed s (spelled cert.runs)
+  pub store : IsFlatStore s frames
+
+-- what a run of a script leaves is of the script, and all that is promised of it holds
+pub record HasMigrated (script : Scenario) (m : Migrated) : Type 0 where
+  pub version : m.session.version ≡ script.version
+  pub geometry : m.session.geometry ≡ script.geometry
+  pub init : m.session.init ≡ script.init
+  pub checked : IsVerdict m.session m.cert Yes
+  pub safe : IsSafe m.session
+  pub agrees : Agrees script.vcpus m.session m.cert m.transcripts m.store
 
 -- a report with which an audit is refused is that on a session, and is not that it is clean
 abbrev pub IsRunFault : RunFault → Type 0

@@ -1,16 +1,7 @@
 //! A run: its threads, and what is made of the books when they have ended.
 
-ghost use Rattle.std.specs.Prelude.{◌≡◌, IfOk, IfErr, IfSome};
-ghost use Rattle.std.specs.List.{AllByRecursion};
-ghost use Rattle.page_store.specs.Frames.{IsPageOf};
-ghost use Rattle.script.specs.Scenarios.{IsScenario};
-ghost use Rattle.audit_model.specs.Mergings.{spelled};
-ghost use Rattle.audit_model.specs.World.{IsSafe};
-ghost use Rattle.cert_check.specs.Verdicts.{IsVerdict};
-ghost use Rattle.cert_check.specs.declared.verdict.Verdict.TheVariants.{Yes};
-ghost use Rattle.migration_model.specs.Promise.{HasEachOwed};
-ghost use Rattle.host_checks.specs.Outcomes.{AreOfScript, AreOfLog, IsDone, IsFlatStore, IsRunFault};
-ghost use Rattle.host_threads.specs.Runs.{HasMigrated};
+ghost use Rattle.std.specs.Prelude.{IfOk, IfErr, IfSome};
+ghost use Rattle.host_checks.specs.Outcomes.{HasMigrated, IsRunFault};
 
 use crate::bell::{Bell, Fault};
 use crate::carry::Echo;
@@ -186,7 +177,7 @@ fn checked<R: Threads + Sync>(
     shared: Shared,
     transcripts: Vec<Transcript>,
 ) -> Result<Migrated, RunFault>
-    ensures whole { IfOk result (HasMigrated script.now) }
+    ensures migrated { IfOk result (HasMigrated script.now) }
     ensures refused { IfErr result IsRunFault }
 {
     let (fault, left) = left_by(shared);
@@ -207,7 +198,7 @@ fn run<R: Threads + Wait + Sync, G: Gate, L: Relay + Drop>(
     gate: &G,
     passage: Passage<L>,
 ) -> Result<Migrated, RunFault>
-    ensures whole { IfOk result (HasMigrated script.now) }
+    ensures migrated { IfOk result (HasMigrated script.now) }
     ensures refused { IfErr result IsRunFault }
 {
     let Ok(shared) = books_of(alloc, script) else {
@@ -242,16 +233,7 @@ pub fn migrate<R: Threads + Wait + Sync, G: Gate>(
     script: &Script,
     gate: &G,
 ) -> Result<Migrated, RunFault>
-    ensures version { IfOk result (λ m. m.session.version ≡ script.now.version) }
-    ensures geometry { IfOk result (λ m. m.session.geometry ≡ script.now.geometry) }
-    ensures init { IfOk result (λ m. m.session.init ≡ script.now.init) }
-    ensures checked { IfOk result (λ m. IsVerdict m.session m.cert Yes) }
-    ensures safe { IfOk result (λ m. IsSafe m.session) }
-    ensures operations { IfOk result (λ m. AreOfScript script.now.vcpus m.transcripts) }
-    ensures answers { IfOk result (λ m. AreOfLog m.session.guest m.transcripts) }
-    ensures done { IfOk result (λ m. IsDone m.session) }
-    ensures owed { IfOk result (λ m. HasEachOwed m.session (spelled m.cert.runs)) }
-    ensures store { IfOk result (λ m. IsFlatStore m.session m.store) }
+    ensures migrated { IfOk result (HasMigrated script.now) }
     ensures refused { IfErr result IsRunFault }
 {
     run(rt, alloc, script, gate, Passage::<NoRelay>::InMemory)
@@ -274,16 +256,7 @@ pub fn migrate_over<R: Threads + Wait + Sync, G: Gate, L: Relay + Drop>(
     gate: &G,
     relay: L,
 ) -> Result<Migrated, RunFault>
-    ensures version { IfOk result (λ m. m.session.version ≡ script.now.version) }
-    ensures geometry { IfOk result (λ m. m.session.geometry ≡ script.now.geometry) }
-    ensures init { IfOk result (λ m. m.session.init ≡ script.now.init) }
-    ensures checked { IfOk result (λ m. IsVerdict m.session m.cert Yes) }
-    ensures safe { IfOk result (λ m. IsSafe m.session) }
-    ensures operations { IfOk result (λ m. AreOfScript script.now.vcpus m.transcripts) }
-    ensures answers { IfOk result (λ m. AreOfLog m.session.guest m.transcripts) }
-    ensures done { IfOk result (λ m. IsDone m.session) }
-    ensures owed { IfOk result (λ m. HasEachOwed m.session (spelled m.cert.runs)) }
-    ensures store { IfOk result (λ m. IsFlatStore m.session m.store) }
+    ensures migrated { IfOk result (HasMigrated script.now) }
     ensures refused { IfErr result IsRunFault }
 {
     let echo = Echo::new(alloc, script.geometry());
@@ -296,16 +269,7 @@ pub fn migrate_tcp<
     R: Threads + Wait + Sync + Net<Listener = TcpListener, Stream = TcpStream>,
     G: Gate,
 >(rt: &R, alloc: Global, script: &Script, gate: &G) -> Result<Migrated, RunFault>
-    ensures version { IfOk result (λ m. m.session.version ≡ script.now.version) }
-    ensures geometry { IfOk result (λ m. m.session.geometry ≡ script.now.geometry) }
-    ensures init { IfOk result (λ m. m.session.init ≡ script.now.init) }
-    ensures checked { IfOk result (λ m. IsVerdict m.session m.cert Yes) }
-    ensures safe { IfOk result (λ m. IsSafe m.session) }
-    ensures operations { IfOk result (λ m. AreOfScript script.now.vcpus m.transcripts) }
-    ensures answers { IfOk result (λ m. AreOfLog m.session.guest m.transcripts) }
-    ensures done { IfOk result (λ m. IsDone m.session) }
-    ensures owed { IfOk result (λ m. HasEachOwed m.session (spelled m.cert.runs)) }
-    ensures store { IfOk result (λ m. IsFlatStore m.session m.store) }
+    ensures migrated { IfOk result (HasMigrated script.now) }
     ensures refused { IfErr result IsRunFault }
 {
     match loopback(rt) {
