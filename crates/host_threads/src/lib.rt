@@ -14,6 +14,7 @@ mod run;
 mod shared;
 mod side;
 mod source;
+mod turns;
 mod vcpu;
 
 pub use gate::{Gate, Open};

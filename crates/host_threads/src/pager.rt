@@ -13,6 +13,7 @@ use crate::bell::{Bell, Fault, Party};
 use crate::gate::{Gate, most_at_once};
 use crate::shared::{Shared, Turn, told, told_to_all};
 use crate::side::TargetSide;
+use crate::turns::{Books, make_often};
 use book_events::paging::{
     pager_deliver, pager_fault, pager_flush, pager_pop, pager_pull, pager_tick,
 };
@@ -113,43 +114,35 @@ fn attend_told(bell: &Bell, pager: &mut PagerBook, target: &mut TargetBook, even
     turn
 }
 
-/// PagerFault or PagerDeliver, where there is a target's book.
-fn attend_once<R: Wait>(rt: &R, shared: &Shared, event: Event) -> Turn {
-    let mut pager = shared.pager.lock(rt);
-    let mut side = shared.target.lock(rt);
-    match &mut *side {
-        TargetSide::Guest(_) => Turn::Idle,
-        TargetSide::Moving => Turn::Stops(Fault::Astray),
-        TargetSide::Target(target) => attend_told(&shared.bell, &mut pager, target, event),
+/// The pager's and the target's books, and the bell.
+#[derive(Drop)]
+struct Attending<'a> {
+    bell: &'a Bell,
+    pager: &'a mut PagerBook,
+    target: &'a mut TargetBook,
+}
+
+impl<'a> Books for Attending<'a> {
+    fn make(&mut self, event: Event) -> Turn {
+        attend_told(self.bell, self.pager, self.target, event)
     }
 }
 
-/// PagerFault, or else PagerDeliver, at most so often. The last that was not idle is told.
-fn attend_often(bell: &Bell, pager: &mut PagerBook, target: &mut TargetBook, most: usize) -> Turn {
-    let mut last = Turn::Idle;
-    for _ in 0..most {
-        let turn = match attend_told(bell, pager, target, Event::PagerFault) {
-            Turn::Idle => attend_told(bell, pager, target, Event::PagerDeliver),
-            other => other,
-        };
-        match turn {
-            Turn::Idle => break,
-            Turn::Stops(fault) => return Turn::Stops(fault),
-            other => last = other,
-        }
-    }
-    last
-}
-
-/// The same, where there is a target's book.
-fn attend_some<R: Wait>(rt: &R, shared: &Shared, most: usize) -> Turn {
+/// The first of these events for which there is something to do, at most so often, where there is a target's book.
+fn attend_often<R: Wait>(rt: &R, shared: &Shared, events: &[Event], most: usize) -> Turn {
     let mut pager = shared.pager.lock(rt);
     let mut side = shared.target.lock(rt);
-    match &mut *side {
-        TargetSide::Guest(_) => Turn::Idle,
-        TargetSide::Moving => Turn::Stops(Fault::Astray),
-        TargetSide::Target(target) => attend_often(&shared.bell, &mut pager, target, most),
-    }
+    let target = match &mut *side {
+        TargetSide::Guest(_) => return Turn::Idle,
+        TargetSide::Moving => return Turn::Stops(Fault::Astray),
+        TargetSide::Target(target) => target,
+    };
+    let mut books = Attending {
+        bell: &shared.bell,
+        pager: &mut pager,
+        target,
+    };
+    make_often(&mut books, events, most)
 }
 
 /// Whether there is no source's book yet, or it is done.
@@ -165,11 +158,7 @@ fn tick<R: Wait>(rt: &R, shared: &Shared) -> Turn {
     if asks_nothing(rt, shared) {
         return Turn::Idle;
     }
-    let mut link = shared.link.lock(rt);
-    let mut pager = shared.pager.lock(rt);
-    let turn = exchange(&mut link, &mut pager, Event::PagerTick);
-    shared.ring_over(&turn, &link);
-    turn
+    exchange_often(rt, shared, &[Event::PagerTick], 1)
 }
 
 /// The oldest page that has come, if there is one.
@@ -180,7 +169,7 @@ fn next_page<R: Wait>(rt: &R, shared: &Shared) -> Option<PageNo> {
 /// PagerDeliver. The first time the guest resumes, and from then on the gate is told before of the page.
 fn place<R: Wait, G: Gate>(rt: &R, shared: &Shared, gate: &G, is_resumed: &mut bool) -> Turn {
     if !*is_resumed {
-        let turn = attend_once(rt, shared, Event::PagerDeliver);
+        let turn = attend_often(rt, shared, &[Event::PagerDeliver], 1);
         *is_resumed = matches!(turn, Turn::Served);
         return turn;
     }
@@ -188,53 +177,53 @@ fn place<R: Wait, G: Gate>(rt: &R, shared: &Shared, gate: &G, is_resumed: &mut b
         return Turn::Idle;
     };
     gate.placing(page);
-    attend_once(rt, shared, Event::PagerDeliver)
+    attend_often(rt, shared, &[Event::PagerDeliver], 1)
 }
 
 /// What there is to do on the pager's and the target's books: pages to settle that the guest released and a miss to learn
 /// of, or else a page to place.
 fn serve<R: Wait, G: Gate>(rt: &R, shared: &Shared, gate: &G, is_resumed: &mut bool) -> Turn {
     if gate.is_open() {
-        return attend_some(rt, shared, most_at_once(gate));
+        let events = [Event::PagerFault, Event::PagerDeliver];
+        return attend_often(rt, shared, &events, most_at_once(gate));
     }
-    match attend_once(rt, shared, Event::PagerFault) {
+    match attend_often(rt, shared, &[Event::PagerFault], 1) {
         Turn::Idle => place(rt, shared, gate, is_resumed),
         other => other,
     }
 }
 
-/// What there is to do on the link's and the pager's books: a packet to take from the link, or else one to offer, or else
-/// a packet to take from the lane, whose pages nobody asked for.
-fn exchange_next(link: &mut LinkBook, pager: &mut PagerBook) -> Turn {
-    for event in [Event::PagerPop, Event::PagerFlush, Event::PagerPull] {
-        match exchange(link, pager, event) {
-            Turn::Idle => {}
-            other => return other,
-        }
-    }
-    Turn::Idle
+/// The link's and the pager's books.
+#[derive(Drop)]
+struct Exchanging<'a> {
+    link: &'a mut LinkBook,
+    pager: &'a mut PagerBook,
 }
 
-/// The same, at most so often. The last that was not idle is told.
-fn exchange_often(link: &mut LinkBook, pager: &mut PagerBook, most: usize) -> Turn {
-    let mut last = Turn::Idle;
-    for _ in 0..most {
-        match exchange_next(link, pager) {
-            Turn::Idle => break,
-            Turn::Stops(fault) => return Turn::Stops(fault),
-            other => last = other,
-        }
+impl<'a> Books for Exchanging<'a> {
+    fn make(&mut self, event: Event) -> Turn {
+        exchange(self.link, self.pager, event)
     }
-    last
 }
 
-/// The same, under one lock of each book.
-fn take_or_offer<R: Wait>(rt: &R, shared: &Shared, most: usize) -> Turn {
+/// The first of these events for which there is something to do, at most so often.
+fn exchange_often<R: Wait>(rt: &R, shared: &Shared, events: &[Event], most: usize) -> Turn {
     let mut link = shared.link.lock(rt);
     let mut pager = shared.pager.lock(rt);
-    let turn = exchange_often(&mut link, &mut pager, most);
+    let mut books = Exchanging {
+        link: &mut link,
+        pager: &mut pager,
+    };
+    let turn = make_often(&mut books, events, most);
     shared.ring_over(&turn, &link);
     turn
+}
+
+/// What there is to do on the link's and the pager's books: a packet to take from the link, or else one to offer, or else
+/// a packet to take from the lane, whose pages nobody asked for. At most so often.
+fn take_or_offer<R: Wait>(rt: &R, shared: &Shared, most: usize) -> Turn {
+    let events = [Event::PagerPop, Event::PagerFlush, Event::PagerPull];
+    exchange_often(rt, shared, &events, most)
 }
 
 /// The pager: what comes from the link and the lane and what the guest misses or releases, until the run is over.

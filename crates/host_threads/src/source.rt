@@ -10,6 +10,7 @@ use crate::bell::{Fault, Party};
 use crate::gate::{Gate, most_at_once};
 use crate::shared::{Shared, Turn, of_event, told};
 use crate::side::TargetSide;
+use crate::turns::{Books, make_often};
 use book_events::sending::{push, serve, source_tick};
 use link_book::LinkBook;
 use migration_events::Event;
@@ -72,45 +73,36 @@ fn halt<R: Wait>(rt: &R, shared: &Shared, script: &Script) -> Turn {
     turn
 }
 
-/// What there is to do after the halt: to serve, or else to push, or else to tick.
-fn act_next(book: &mut SourceBook, link: &mut LinkBook, window: u32, has_lane: bool) -> Turn {
-    for event in [Event::Serve, Event::Push, Event::SourceTick] {
-        match act(book, link, event, window, has_lane) {
-            Turn::Idle => {}
-            other => return other,
-        }
-    }
-    Turn::Idle
-}
-
-/// The same, at most so often. The last that was not idle is told.
-fn act_often(
-    book: &mut SourceBook,
-    link: &mut LinkBook,
+/// The source's and the link's books, and how pages are pushed.
+#[derive(Drop)]
+struct Acting<'a> {
+    book: &'a mut SourceBook,
+    link: &'a mut LinkBook,
     window: u32,
     has_lane: bool,
-    most: usize,
-) -> Turn {
-    let mut last = Turn::Idle;
-    for _ in 0..most {
-        match act_next(book, link, window, has_lane) {
-            Turn::Idle => break,
-            Turn::Stops(fault) => return Turn::Stops(fault),
-            other => last = other,
-        }
-    }
-    last
 }
 
-/// The same, where there is a source's book.
+impl<'a> Books for Acting<'a> {
+    fn make(&mut self, event: Event) -> Turn {
+        act(self.book, self.link, event, self.window, self.has_lane)
+    }
+}
+
+/// What there is to do after the halt, at most so often: to serve, or else to push, or else to tick.
 fn turn<R: Wait>(rt: &R, shared: &Shared, script: &Script, most: usize) -> Turn {
     let mut source = shared.source.lock(rt);
     let mut link = shared.link.lock(rt);
     let Some(book) = &mut *source else {
         return Turn::Idle;
     };
-    let has_lane = script.lane().is_some();
-    let turn = act_often(book, &mut link, script.window(), has_lane, most);
+    let mut books = Acting {
+        book: &mut *book,
+        link: &mut link,
+        window: script.window(),
+        has_lane: script.lane().is_some(),
+    };
+    let events = [Event::Serve, Event::Push, Event::SourceTick];
+    let turn = make_often(&mut books, &events, most);
     if book.is_done() {
         shared.bell.finish();
     }
