@@ -6,7 +6,7 @@ ghost use Rattle.guest_book.specs.Books.{part_of as guest_of};
 ghost use Rattle.target_book.specs.Kept.{geometry_of, part_of as target_of};
 ghost use Rattle.host_threads.specs.Operations.{IsGuestStep, IsTargetStep};
 
-use crate::bell::{Bell, Fault, Party};
+use crate::bell::{Fault, Party};
 use crate::gate::{Gate, most_at_once};
 use crate::shared::{Shared, of_target};
 use crate::side::TargetSide;
@@ -64,51 +64,6 @@ fn step_target(book: &mut TargetBook, vcpu: u8, op: &Op) -> Step
 /// At most so many operations of a virtual processor at the source are done before others have their turn.
 const MOST_AT_SOURCE: usize = 256;
 
-/// Operations at the source, under one lock.
-fn turn_at_source<R: Wait>(
-    rt: &R,
-    shared: &Shared,
-    vcpu: u8,
-    ops: &[Op],
-    answers: &mut Vec<Answered>,
-) -> Result<(), Fault> {
-    let mut side = shared.target.lock(rt);
-    let TargetSide::Guest(book) = &mut *side else {
-        return Err(Fault::Astray);
-    };
-    for op in ops {
-        if answers.reserve(1).is_err() {
-            return Err(Fault::Memory);
-        }
-        match step_guest(book, vcpu, op) {
-            Step::Answered(answer) => answers.push_reserved(Answered { op: *op, answer }),
-            Step::Stops(fault) => return Err(fault),
-            Step::Missed | Step::Waits => return Err(Fault::Astray),
-        }
-    }
-    Ok(())
-}
-
-/// Does operations at the source. False: the run stops.
-fn run_at_source<R: Wait>(
-    rt: &R,
-    shared: &Shared,
-    vcpu: u8,
-    ops: &[Op],
-    answers: &mut Vec<Answered>,
-) -> bool {
-    for some in ops.chunks(MOST_AT_SOURCE) {
-        if shared.bell.is_stopped() {
-            return false;
-        }
-        if let Err(fault) = turn_at_source(rt, shared, vcpu, some, answers) {
-            shared.bell.stop(rt, fault);
-            return false;
-        }
-    }
-    true
-}
-
 /// How far operations came that were begun one after another.
 #[derive(Clone, Copy)]
 struct Reached<'a> {
@@ -128,111 +83,135 @@ impl<'a> Reached<'a> {
     }
 }
 
-/// Does operations at the target, at most so many, until one has to wait. The gate is lent the book of each that is
-/// answered. The bell is told of the page of each release, since another virtual processor may wait for it, and of the
-/// page that one waits for; the pager is rung for a miss.
-fn reach<'a, G: Gate>(
-    book: &mut TargetBook,
-    bell: &Bell,
-    gate: &G,
+/// A virtual processor at work: its number, and what it was answered so far.
+#[derive(Drop)]
+struct Worker<'s, G> {
+    shared: &'s Shared,
+    gate: &'s G,
     vcpu: u8,
-    ops: &'a [Op],
-    answers: &mut Vec<Answered>,
-) -> Result<Reached<'a>, Fault> {
-    let count = ops.len().min(most_at_once(gate));
-    for at in 0..count {
-        let op = &ops[at];
-        if answers.reserve(1).is_err() {
-            return Err(Fault::Memory);
-        }
-        match step_target(book, vcpu, op) {
-            Step::Answered(answer) => {
-                answers.push_reserved(Answered { op: *op, answer });
-                if let Op::Release { page } = op {
-                    bell.came(*page);
-                }
-                gate.held(vcpu, op.page(), book);
-            }
-            Step::Missed => {
-                bell.want(vcpu, op.page());
-                bell.ring(Party::Pager);
-                return Ok(Reached::new(ops, at, true));
-            }
-            Step::Waits => {
-                bell.want(vcpu, op.page());
-                return Ok(Reached::new(ops, at, true));
-            }
-            Step::Stops(fault) => return Err(fault),
-        }
-    }
-    Ok(Reached::new(ops, count, false))
+    answers: Vec<Answered>,
 }
 
-/// The same, under one lock. Before the halt the first one waits.
-fn turn_at_target<'a, R: Wait, G: Gate>(
-    rt: &R,
-    shared: &Shared,
-    gate: &G,
-    vcpu: u8,
-    ops: &'a [Op],
-    answers: &mut Vec<Answered>,
-) -> Result<Reached<'a>, Fault> {
-    let mut side = shared.target.lock(rt);
-    match &mut *side {
-        TargetSide::Guest(_) => {
-            if let Some(op) = ops.first() {
-                shared.bell.want(vcpu, op.page());
+impl<'s, G: Gate> Worker<'s, G> {
+    /// Operations at the source, under one lock.
+    fn turn_at_source<R: Wait>(&mut self, rt: &R, ops: &[Op]) -> Result<(), Fault> {
+        let mut side = self.shared.target.lock(rt);
+        let TargetSide::Guest(book) = &mut *side else {
+            return Err(Fault::Astray);
+        };
+        for op in ops {
+            if self.answers.reserve(1).is_err() {
+                return Err(Fault::Memory);
             }
-            Ok(Reached::new(ops, 0, true))
+            match step_guest(book, self.vcpu, op) {
+                Step::Answered(answer) => self.answers.push_reserved(Answered { op: *op, answer }),
+                Step::Stops(fault) => return Err(fault),
+                Step::Missed | Step::Waits => return Err(Fault::Astray),
+            }
         }
-        TargetSide::Moving => Err(Fault::Astray),
-        TargetSide::Target(book) => reach(book, &shared.bell, gate, vcpu, ops, answers),
+        Ok(())
     }
-}
 
-/// Tells of an operation that was answered at the target. Of a release the others are told first: another virtual
-/// processor may wait for the page, and the pager has it to settle.
-fn tell_answered<G: Gate>(shared: &Shared, gate: &G, vcpu: u8, op: &Op) {
-    if let Op::Release { .. } = op {
-        shared.bell.ring_vcpus();
-        shared.bell.ring(Party::Pager);
-    }
-    gate.answered(vcpu, op.page());
-}
-
-/// Does operations at the target, however often it has to look. False: the run stops.
-fn run_at_target<R: Wait, G: Gate>(
-    rt: &R,
-    shared: &Shared,
-    gate: &G,
-    vcpu: u8,
-    ops: &[Op],
-    answers: &mut Vec<Answered>,
-) -> bool {
-    let mut rest = ops;
-    for _ in rt.forever() {
-        if shared.bell.is_stopped() {
-            return false;
-        }
-        let reached = match turn_at_target(rt, shared, gate, vcpu, rest, answers) {
-            Ok(reached) => reached,
-            Err(fault) => {
-                shared.bell.stop(rt, fault);
+    /// Does operations at the source. False: the run stops.
+    fn run_at_source<R: Wait>(&mut self, rt: &R, ops: &[Op]) -> bool {
+        for some in ops.chunks(MOST_AT_SOURCE) {
+            if self.shared.bell.is_stopped() {
                 return false;
             }
-        };
-        for op in reached.done {
-            tell_answered(shared, gate, vcpu, op);
+            if let Err(fault) = self.turn_at_source(rt, some) {
+                self.shared.bell.stop(rt, fault);
+                return false;
+            }
         }
-        rest = reached.rest;
-        if rest.is_empty() {
-            return true;
+        true
+    }
+
+    /// Does operations at the target, at most so many as the gate lets be done at once, until one has to wait. The gate
+    /// is lent the book of each that is answered. The bell is told of the page of each release, since another virtual
+    /// processor may wait for it, and of the page that one waits for; the pager is rung for a miss.
+    fn reach<'a>(&mut self, book: &mut TargetBook, ops: &'a [Op]) -> Result<Reached<'a>, Fault> {
+        let bell = &self.shared.bell;
+        let count = ops.len().min(most_at_once(self.gate));
+        for at in 0..count {
+            let op = &ops[at];
+            if self.answers.reserve(1).is_err() {
+                return Err(Fault::Memory);
+            }
+            match step_target(book, self.vcpu, op) {
+                Step::Answered(answer) => {
+                    self.answers.push_reserved(Answered { op: *op, answer });
+                    if let Op::Release { page } = op {
+                        bell.came(*page);
+                    }
+                    self.gate.held(self.vcpu, op.page(), book);
+                }
+                Step::Missed => {
+                    bell.want(self.vcpu, op.page());
+                    bell.ring(Party::Pager);
+                    return Ok(Reached::new(ops, at, true));
+                }
+                Step::Waits => {
+                    bell.want(self.vcpu, op.page());
+                    return Ok(Reached::new(ops, at, true));
+                }
+                Step::Stops(fault) => return Err(fault),
+            }
         }
-        if reached.waits {
-            shared.bell.wait_vcpu(rt, vcpu);
+        Ok(Reached::new(ops, count, false))
+    }
+
+    /// The same, under one lock. Before the halt the first one waits.
+    fn turn_at_target<'a, R: Wait>(&mut self, rt: &R, ops: &'a [Op]) -> Result<Reached<'a>, Fault> {
+        let mut side = self.shared.target.lock(rt);
+        match &mut *side {
+            TargetSide::Guest(_) => {
+                if let Some(op) = ops.first() {
+                    self.shared.bell.want(self.vcpu, op.page());
+                }
+                Ok(Reached::new(ops, 0, true))
+            }
+            TargetSide::Moving => Err(Fault::Astray),
+            TargetSide::Target(book) => self.reach(book, ops),
         }
     }
-    false
+
+    /// Tells of an operation that was answered at the target. Of a release the others are told first: another virtual
+    /// processor may wait for the page, and the pager has it to settle.
+    fn tell_answered(&self, op: &Op) {
+        if let Op::Release { .. } = op {
+            self.shared.bell.ring_vcpus();
+            self.shared.bell.ring(Party::Pager);
+        }
+        self.gate.answered(self.vcpu, op.page());
+    }
+
+    /// Does operations at the target, however often it has to look. False: the run stops.
+    fn run_at_target<R: Wait>(&mut self, rt: &R, ops: &[Op]) -> bool {
+        let mut rest = ops;
+        for _ in rt.forever() {
+            if self.shared.bell.is_stopped() {
+                return false;
+            }
+            let reached = match self.turn_at_target(rt, rest) {
+                Ok(reached) => reached,
+                Err(fault) => {
+                    self.shared.bell.stop(rt, fault);
+                    return false;
+                }
+            };
+            for op in reached.done {
+                self.tell_answered(op);
+            }
+            rest = reached.rest;
+            if rest.is_empty() {
+                return true;
+            }
+            if reached.waits {
+                self.shared.bell.wait_vcpu(rt, self.vcpu);
+            }
+        }
+        false
+    }
 }
 
 /// A virtual processor: its operations before the move, and then those after it. Answers what it did.
@@ -244,13 +223,18 @@ pub(crate) fn run_vcpu<R: Wait, G: Gate>(
     vcpu: u8,
     script: &Vcpu,
 ) -> Transcript {
-    let mut answers = Vec::new(alloc);
-    let (before, after) = (script.before_move.as_slice(), script.after_move.as_slice());
-    if run_at_source(rt, shared, vcpu, before, &mut answers) {
+    let mut worker = Worker {
+        shared,
+        gate,
+        vcpu,
+        answers: Vec::new(alloc),
+    };
+    if worker.run_at_source(rt, script.before_move.as_slice()) {
         shared.bell.arrive();
-        if run_at_target(rt, shared, gate, vcpu, after, &mut answers) {
+        if worker.run_at_target(rt, script.after_move.as_slice()) {
             shared.bell.end();
         }
     }
+    let Worker { answers, .. } = worker;
     Seq::from_vec(answers)
 }
