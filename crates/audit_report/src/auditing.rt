@@ -15,7 +15,7 @@ use crate::orders::order_for;
 use crate::report::Report;
 use audit_model::{clean_is_certified, faults_are_unsafe};
 use cert_check::shape;
-use cert_maker::{MakeFault, Order, find_order, make_by};
+use cert_maker::{MakeFault, Order, find_order, make_over};
 use migration_types::{Run, Seq, Session, line_of};
 use page_facts::{Findings, InThreads, Judges, PageFault, first_fault_in};
 use std::alloc::{AllocError, Global};
@@ -37,7 +37,7 @@ fn clean(
     ensures { IfOk result (IsReport session.now) }
 {
     clean_is_certified();
-    match make_by(alloc, session, pages, found) {
+    match make_over(alloc, session, pages, found) {
         Ok(cert) => Ok(Report::Clean(cert)),
         Err(MakeFault::Memory) => Err(AllocError),
         Err(MakeFault::NoCertificate) => unreachable!(),

@@ -3,5 +3,4 @@ pub mod FirstOfLog
 pub mod FirstOfAll
 pub mod RightEntries
 pub mod Promised
-pub mod FirstTrue
 pub mod OneVerdict

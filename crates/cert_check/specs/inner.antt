@@ -1,5 +1,4 @@
 -- What serves proofs alone.
 pub mod FirstOfLog
 pub mod Phases
-pub mod WrongEntries
 pub mod Passes

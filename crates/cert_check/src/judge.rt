@@ -4,25 +4,46 @@ ghost use Rattle.std.specs.Prelude.{◌≡◌, IfOk};
 ghost use Rattle.audit_model.specs.Mergings.{HasMerging, spelled};
 ghost use Rattle.audit_model.specs.World.{IsSafe, IsSafeOrder};
 ghost use Rattle.audit_model.specs.Laws.{FindsResident, ReadsFlat, PlacedOnce, PlacedUntouched, ReleasedAsZeros};
-ghost use Rattle.cert_check.specs.Verdicts.{IsVerdict, IsTheOneVerdict};
+ghost use Rattle.cert_check.specs.Verdicts.{IsVerdict, IsTheOneVerdict, SamePages};
 ghost use Rattle.cert_check.specs.Promises.{Promises, IsReplayedBy};
 
-use crate::bad_page::EntryJudges;
+use crate::entry_judges::EntryJudges;
 use crate::shape_fault::shape;
 use crate::verdict::Verdict;
 use audit_model::certified_is_safe;
-use merge_runs::first_bad_run;
 use migration_types::{Cert, Session};
 use page_facts::{Alone, InThreads};
 use std::alloc::{AllocError, Global};
 use std::marker::Sync;
 use std::thread::Threads;
 
-/// An entry's line is so many after its page's number.
-const BEFORE_ENTRIES: u32 = 3;
+/// The verdict on a session and a certificate with another number of pages.
+fn of_other_pages(alloc: Global, session: &Session, _cert: &Cert) -> Result<Verdict, AllocError>
+    requires { ¬ SamePages session.now _cert.now }
+    ensures { IfOk result (IsVerdict session.now _cert.now) }
+{
+    let fault = shape(alloc, session)?;
+    match fault {
+        Some(fault) => Ok(Verdict::Shape(fault)),
+        None => Ok(Verdict::Pages),
+    }
+}
 
-/// A run's line is so many after the number of pages and its place.
-const BEFORE_RUNS: u32 = 4;
+/// The verdict on a session and a certificate, whatever it promises.
+fn verdict_by<J: EntryJudges>(
+    judges: &J,
+    alloc: Global,
+    session: &Session,
+    cert: &Cert,
+) -> Result<Verdict, AllocError>
+    requires ready { J.ready }
+    ensures { IfOk result (IsVerdict session.now cert.now) }
+{
+    if cert.entries().len() != session.geometry().pages() as usize {
+        return of_other_pages(alloc, session, cert);
+    }
+    judges.judge(alloc, session, cert)
+}
 
 /// The verdict on a session and its certificate that [`check`] answers, whoever judges the pages. It promises what
 /// `check` promises, and takes the memory that these judges take.
@@ -37,23 +58,8 @@ pub fn check_by<J: EntryJudges>(
     ensures yes { Promises (result ≡ Ok Verdict.Yes) (λ Has. Has session.now) (IsReplayedBy cert.now) }
 {
     session.keeps_limits();
-    cert.keeps_limits();
     certified_is_safe();
-    let fault = shape(alloc, session)?;
-    if let Some(fault) = fault {
-        return Ok(Verdict::Shape(fault));
-    }
-    let pages = session.geometry().pages();
-    if cert.entries().len() != pages as usize {
-        return Ok(Verdict::Pages);
-    }
-    if let Some(place) = first_bad_run(session, cert.runs()) {
-        return Ok(Verdict::Runs(pages + BEFORE_RUNS + place as u32));
-    }
-    match judges.first_bad_page(alloc, session, cert.entries())? {
-        Some(page) => Ok(Verdict::Page(page as u32 + BEFORE_ENTRIES)),
-        None => Ok(Verdict::Yes),
-    }
+    verdict_by(judges, alloc, session, cert)
 }
 
 /// The verdict on a session and its certificate: `Shape`, `Pages`, `Runs`, `Page` or `Yes`, the first that applies.

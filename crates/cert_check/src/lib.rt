@@ -1,14 +1,14 @@
 //! The checker: the shape of a session, and the verdict on a session and its certificate, as values.
 #![tactic(auto)]
 
-mod bad_page;
+mod entry_judges;
 mod judge;
 mod log_passes;
 mod passes;
 mod shape_fault;
 mod verdict;
 
-pub use bad_page::EntryJudges;
+pub use entry_judges::EntryJudges;
 pub use judge::{check, check_by, check_par};
 pub use shape_fault::shape;
 pub use verdict::{ShapeFault, Verdict};

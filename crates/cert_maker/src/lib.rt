@@ -6,5 +6,5 @@ mod maker;
 mod order;
 mod ready;
 
-pub use maker::{MakeFault, make, make_by};
+pub use maker::{MakeFault, make, make_over};
 pub use order::{FoundRuns, Left, Order, find_order, found_runs};

@@ -3,6 +3,7 @@
 ghost use Rattle.std.specs.Prelude.{MatchResult};
 ghost use Rattle.migration_types.specs.declared.version.Version.TheVariants.{Two};
 ghost use Rattle.migration_types.specs.Certs.{AreRuns};
+ghost use Rattle.audit_model.specs.Mergings.{IsMerging, spelled};
 ghost use Rattle.page_facts.specs.Findings.{AreFindings};
 ghost use Rattle.cert_maker.specs.Made.{IsMade, IsRefused};
 
@@ -34,29 +35,30 @@ pub fn make(alloc: Global, session: &Session, runs: Seq<Run>) -> Result<Cert, Ma
     requires { AreRuns Two runs }
     ensures { MatchResult result (IsMade session.now runs) (IsRefused session.now runs) }
 {
+    if !is_merging(session, runs.as_slice()) {
+        return Err(MakeFault::NoCertificate);
+    }
     let Ok(found) = findings_of(alloc, session) else {
         return Err(MakeFault::Memory);
     };
-    make_by(alloc, session, &found, runs)
+    make_over(alloc, session, &found, runs)
 }
 
-/// The same by what is found of each page, page 0 first. Takes one pass over the runs and two over the pages, and
-/// memory for the entries alone.
-pub fn make_by(
+/// The same over the runs of a merging, which are not walked again, by what is found of each page, page 0 first. Takes two
+/// passes over the pages, and memory for the entries alone.
+pub fn make_over(
     alloc: Global,
     session: &Session,
     found: &[Findings],
     runs: Seq<Run>,
 ) -> Result<Cert, MakeFault>
     requires runs { AreRuns Two runs }
+    requires merging { IsMerging session.now (spelled runs) }
     requires found { AreFindings session.now found.now }
     ensures { MatchResult result (IsMade session.now runs) (IsRefused session.now runs) }
 {
     first_version_is_plain();
     session.keeps_limits();
-    if !is_merging(session, runs.as_slice()) {
-        return Err(MakeFault::NoCertificate);
-    }
     let Ok(made) = entries_in(alloc, session, found) else {
         return Err(MakeFault::Memory);
     };

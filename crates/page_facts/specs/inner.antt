@@ -3,3 +3,4 @@ pub mod EntryTests
 pub mod FirstOfLog
 pub mod Frontier
 pub mod Parts
+pub mod EntryAt

@@ -7,13 +7,16 @@
 //! tells a page's first fault, and [`first_fault_in`] the first fault of all.
 #![tactic(auto)]
 
+mod entries;
 mod facts;
 mod findings;
 mod judges;
+mod listed;
 mod looks;
 mod machine;
 mod moved;
 mod page_fault;
+mod question;
 mod range;
 mod range_judge;
 mod range_moved;
@@ -22,7 +25,7 @@ mod right_entry;
 
 pub use facts::{PageFacts, facts_of};
 pub use findings::Findings;
-pub use judges::{Alone, InThreads, Judges};
+pub use judges::{Alone, InThreads, Judges, is_small};
 pub use machine::halt_place;
 pub use page_fault::{PageFault, fault_of, first_fault_in, first_page_fault};
 pub use range_judge::{findings_for, findings_of};

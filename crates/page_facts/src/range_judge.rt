@@ -3,20 +3,19 @@
 ghost use Rattle.std.specs.Prelude.{◌≡◌, ◌≤◌, ◌<◌, ◌+◌, length, slice_get, Some, IfOk};
 ghost use Rattle.migration_types.specs.Sessions.{IsSession};
 ghost use Rattle.audit_model.specs.Flat.{at_halt};
-ghost use Rattle.page_facts.specs.Tables.{IsTable};
-ghost use Rattle.page_facts.specs.Looks.{first_look};
 ghost use Rattle.page_facts.specs.Ranges.{AreSeen, IsRange};
 ghost use Rattle.page_facts.specs.RangeFindings.{AreReleased, IsJudged};
-ghost use Rattle.page_facts.specs.Findings.{IsFindings, AreFindings, AreFindingsFrom};
+ghost use Rattle.page_facts.specs.Findings.{IsFindings, AreFindings};
 
 use crate::findings::{Findings, Placed, Sent, findings_at};
+use crate::listed::Listed;
 use crate::looks::first_looks;
 use crate::machine::halt_place;
+use crate::question::answer_alone;
 use crate::range::{Range, run_range};
 use crate::range_moved::{run_pager, run_source};
 use crate::range_start::range_for;
 use migration_types::{PageNo, Session};
-use page_tables::Table;
 use std::alloc::{AllocError, Global};
 
 /// What is known of the pages of a range once all logs are read.
@@ -54,37 +53,13 @@ pub(crate) fn item_at<T: Copy>(column: &Vec<T>, index: usize) -> T
     column[index]
 }
 
-/// What is found of each page of the range.
-fn tell(
-    alloc: Global,
-    session: &Session,
-    looks: &Table<Option<u32>>,
-    judged: &Judged,
-) -> Result<Vec<Findings>, AllocError>
+/// All logs, read for the pages of a range that is as it was at the start.
+fn judge_from_start(alloc: Global, session: &Session, start: Range) -> Result<Judged, AllocError>
     requires limits { IsSession session.now }
-    requires looks { IsTable session.now.geometry.pages looks.now (first_look session.now (length session.now.guest)) }
-    requires judged { IsJudged session.now judged.now }
-    ensures { IfOk result (λ found. AreFindingsFrom session.now judged.now.range.first (length judged.now.range.seen.items) found.items) }
-{
-    let count = judged.range.seen.len();
-    let mut found = Vec::with_capacity(alloc, count)?;
-    for index in 0..count {
-        found.push(findings_at(session, looks, judged, index))?;
-    }
-    Ok(found)
-}
-
-/// What the logs say of each page of a range that is as it was at the start.
-fn judge_from_start(
-    alloc: Global,
-    session: &Session,
-    looks: &Table<Option<u32>>,
-    start: Range,
-) -> Result<Vec<Findings>, AllocError>
-    requires limits { IsSession session.now }
-    requires looks { IsTable session.now.geometry.pages looks.now (first_look session.now (length session.now.guest)) }
     requires start { IsRange session.now 0 start }
-    ensures { IfOk result (λ found. AreFindingsFrom session.now start.first (length start.seen.items) found.items) }
+    ensures judged { IfOk result (IsJudged session.now) }
+    ensures first { IfOk result (λ judged. judged.range.first ≡ start.first) }
+    ensures many { IfOk result (λ judged. length judged.range.seen.items ≡ length start.seen.items) }
 {
     let mut range = start;
     let halt = halt_place(session.guest());
@@ -95,32 +70,31 @@ fn judge_from_start(
     let mut placed = Placed::none(alloc, session, &range)?;
     run_pager(session, &range, &mut placed);
     run_range(session, &mut range, halt, session.guest().len());
-    let judged = Judged {
+    Ok(Judged {
         range,
         released,
         sent,
         placed,
-    };
-    tell(alloc, session, looks, &judged)
+    })
 }
 
-/// What the logs say of each of so many pages from the first on, by one pass over each log. Takes memory for the cells of
-/// these pages and some numbers for each. An error: there is no memory for them.
-pub fn judge_range(
+/// All logs, read for so many pages from the first on, by one pass over each. Takes memory for the cells of these pages
+/// and some numbers for each. An error: there is no memory for them.
+pub(crate) fn judge_range(
     alloc: Global,
     session: &Session,
-    looks: &Table<Option<u32>>,
     first: usize,
     count: usize,
-) -> Result<Vec<Findings>, AllocError>
+) -> Result<Judged, AllocError>
     requires limits { IsSession session.now }
-    requires looks { IsTable session.now.geometry.pages looks.now (first_look session.now (length session.now.guest)) }
     requires some { 0 < count }
     requires within { first + count ≤ session.now.geometry.pages }
-    ensures { IfOk result (λ found. AreFindingsFrom session.now first count found.items) }
+    ensures judged { IfOk result (IsJudged session.now) }
+    ensures first { IfOk result (λ judged. judged.range.first ≡ first) }
+    ensures many { IfOk result (λ judged. length judged.range.seen.items ≡ count) }
 {
     let start = range_for(alloc, session, first, count)?;
-    judge_from_start(alloc, session, looks, start)
+    judge_from_start(alloc, session, start)
 }
 
 /// What the logs say of each page of a session, page 0 first, by one pass over each log and one more for the looks. Takes
@@ -128,10 +102,7 @@ pub fn judge_range(
 pub fn findings_of(alloc: Global, session: &Session) -> Result<Vec<Findings>, AllocError>
     ensures { IfOk result (λ found. AreFindings session.now found.items) }
 {
-    session.keeps_limits();
-    let looks = first_looks(alloc, session)?;
-    let pages = session.geometry().pages() as usize;
-    judge_range(alloc, session, &looks, 0, pages)
+    answer_alone(&Listed, alloc, session)
 }
 
 /// What the logs say of one page, by the same passes. Takes memory for the cells of this page and a number for each. An
@@ -142,6 +113,6 @@ pub fn findings_for(alloc: Global, session: &Session, page: PageNo) -> Result<Fi
 {
     session.keeps_limits();
     let looks = first_looks(alloc, session)?;
-    let found = judge_range(alloc, session, &looks, page.index(), 1)?;
-    Ok(item_at(&found, 0))
+    let judged = judge_range(alloc, session, page.index(), 1)?;
+    Ok(findings_at(session, &looks, &judged, 0))
 }

@@ -4,7 +4,7 @@ use Rattle.page_facts.proofs.range_judge.findings_for.Goals as goal
 
 pub returns : goal.returns
 returns c =
+    let first = c.in_ok-judged.ensures.first in
     let value = c.index.ensures.value in
-    let found = c.item_at.result in
-    let here : c.index.result + 0 ≡ c.args.page = omega (arith, value) in
-    subst (λ (p : ℕ). IsFindings c.args.session.now p found) here (c.in_ok-found.ensures.each 0 found c.item_at.ensures)
+    let here : c.in_ok-judged.judged.range.first + 0 ≡ c.args.page = omega (arith, first, value) in
+    subst (λ (p : ℕ). IsFindings c.args.session.now p c.findings_at.result) here c.findings_at.ensures

@@ -1,0 +1,139 @@
+//! Who judges a session and a certificate that has an entry for each page: the calling thread alone, one thing after the
+//! other, or threads, the shape and the runs beside the pages.
+
+ghost use Rattle.std.specs.Prelude.{⊤, ◌≡◌, IfOk, MatchOption};
+ghost use Rattle.std.specs.Thread.{IsSync};
+ghost use Rattle.audit_model.specs.Mergings.{IsMerging, spelled};
+ghost use Rattle.audit_model.specs.Shape.{IsRightShape};
+ghost use Rattle.cert_check.specs.Verdicts.{IsVerdict, SamePages, AreRightEntries, IsFirstBadPage};
+
+use crate::shape_fault::shape;
+use crate::verdict::Verdict;
+use merge_runs::first_bad_run;
+use migration_types::{Cert, Session};
+use page_facts::{Alone, InThreads, Judges, is_small};
+use std::alloc::{AllocError, Global};
+use std::marker::Sync;
+use std::thread::{Threads, join};
+
+/// An entry's line is so many after its page's number.
+const BEFORE_ENTRIES: u32 = 3;
+
+/// A run's line is so many after the number of pages and its place.
+const BEFORE_RUNS: u32 = 4;
+
+/// Who judges a session and a certificate. What is answered is the same whoever does.
+pub trait EntryJudges {
+    // What lets them work.
+    ghost ready: { Type 0 } = { ⊤ };
+
+    /// The verdict on a session and a certificate that has an entry for each page. An error: there is no memory to judge
+    /// them.
+    fn judge(&self, alloc: Global, session: &Session, cert: &Cert) -> Result<Verdict, AllocError>
+        requires ready { ready }
+        requires pages { SamePages session.now cert.now }
+        ensures { IfOk result (IsVerdict session.now cert.now) };
+}
+
+/// The verdict by the shape and the runs, where one of these is wrong.
+fn by_shape_and_runs(
+    alloc: Global,
+    session: &Session,
+    cert: &Cert,
+) -> Result<Option<Verdict>, AllocError>
+    requires { SamePages session.now cert.now }
+    ensures { IfOk result (λ found. MatchOption found (IsRightShape session.now × IsMerging session.now (spelled cert.now.runs)) (IsVerdict session.now cert.now)) }
+{
+    session.keeps_limits();
+    cert.keeps_limits();
+    let fault = shape(alloc, session)?;
+    if let Some(fault) = fault {
+        return Ok(Some(Verdict::Shape(fault)));
+    }
+    let Some(place) = first_bad_run(session, cert.runs()) else {
+        return Ok(None);
+    };
+    let pages = session.geometry().pages();
+    Ok(Some(Verdict::Runs(pages + BEFORE_RUNS + place as u32)))
+}
+
+/// The first page whose entry is not right. An error: there is no memory to judge the pages.
+fn first_bad_page<J: Judges>(
+    judges: &J,
+    alloc: Global,
+    session: &Session,
+    cert: &Cert,
+) -> Result<Option<usize>, AllocError>
+    requires ready { J.ready }
+    requires pages { SamePages session.now cert.now }
+    ensures { IfOk result (λ page. MatchOption page (AreRightEntries session.now cert.now.entries) (IsFirstBadPage session.now cert.now.entries)) }
+{
+    judges.first_wrong_entry(alloc, session, cert.entries())
+}
+
+/// The verdict by the entries, where the shape and the runs are right.
+fn by_entries(session: &Session, cert: &Cert, bad: Option<usize>) -> Verdict
+    requires pages { SamePages session.now cert.now }
+    requires right { IsRightShape session.now × IsMerging session.now (spelled cert.now.runs) }
+    requires bad { MatchOption bad (AreRightEntries session.now cert.now.entries) (IsFirstBadPage session.now cert.now.entries) }
+    ensures { IsVerdict session.now cert.now result }
+{
+    session.keeps_limits();
+    cert.keeps_limits();
+    match bad {
+        Some(page) => Verdict::Page(page as u32 + BEFORE_ENTRIES),
+        None => Verdict::Yes,
+    }
+}
+
+/// The verdict by all: what is wrong with the shape or the runs comes before the entries.
+fn settled(session: &Session, cert: &Cert, first: Option<Verdict>, bad: Option<usize>) -> Verdict
+    requires pages { SamePages session.now cert.now }
+    requires first { MatchOption first (IsRightShape session.now × IsMerging session.now (spelled cert.now.runs)) (IsVerdict session.now cert.now) }
+    requires bad { MatchOption bad (AreRightEntries session.now cert.now.entries) (IsFirstBadPage session.now cert.now.entries) }
+    ensures { IsVerdict session.now cert.now result }
+{
+    match first {
+        Some(verdict) => verdict,
+        None => by_entries(session, cert, bad),
+    }
+}
+
+/// The pages are judged as one range, where the shape and the runs are right. Takes one pass over each log and one more
+/// for the looks, and memory for the cells of all pages and some numbers for each.
+impl EntryJudges for Alone {
+    fn judge(&self, alloc: Global, session: &Session, cert: &Cert) -> Result<Verdict, AllocError> {
+        let first = by_shape_and_runs(alloc, session, cert)?;
+        if let Some(verdict) = first {
+            return Ok(verdict);
+        }
+        let bad = first_bad_page(self, alloc, session, cert)?;
+        Ok(settled(session, cert, first, bad))
+    }
+}
+
+/// The shape and the runs are judged by one thread, and beside it the pages, each range of them by a thread.
+impl<R: Threads + Sync> EntryJudges for InThreads<'_, R> {
+    ghost ready = { IsSync R.row };
+
+    fn judge(&self, alloc: Global, session: &Session, cert: &Cert) -> Result<Verdict, AllocError> {
+        if is_small(session) {
+            return Alone.judge(alloc, session, cert);
+        }
+        let rt = self.rt;
+        let (first, bad) = join(
+            rt,
+            || -> Result<Option<Verdict>, AllocError>
+                requires { SamePages session.now cert.now }
+                ensures { IfOk result (λ found. MatchOption found (IsRightShape session.entry.now × IsMerging session.entry.now (spelled cert.entry.now.runs)) (IsVerdict session.entry.now cert.entry.now)) }
+            { by_shape_and_runs(alloc, session, cert) },
+            || -> Result<Option<usize>, AllocError>
+                requires { IsSync R.row × SamePages session.now cert.now }
+                ensures { IfOk result (λ page. MatchOption page (AreRightEntries session.entry.now cert.entry.now.entries) (IsFirstBadPage session.entry.now cert.entry.now.entries)) }
+            { first_bad_page(&InThreads { rt }, alloc, session, cert) },
+        );
+        let first = first?;
+        let bad = bad?;
+        Ok(settled(session, cert, first, bad))
+    }
+}

@@ -1,0 +1,246 @@
+//! What is asked of all pages of a session, and is answered of each range of them where it is judged: by the calling
+//! thread alone, or by threads side by side.
+
+ghost use Rattle.std.specs.Prelude.{◌≡◌, ◌<◌, ◌≤◌, ◌+◌, ℕ, length, IfOk, OnOk};
+ghost use Rattle.std.specs.List.{AllByRecursion};
+ghost use Rattle.migration_types.specs.Sessions.{IsSession, Recorded};
+ghost use Rattle.page_facts.specs.Tables.{IsTable};
+ghost use Rattle.page_facts.specs.Looks.{first_look};
+ghost use Rattle.page_facts.specs.RangeFindings.{IsJudged};
+ghost use Rattle.page_facts.specs.inner.Parts.{IsPart};
+
+use crate::judges::is_small;
+use crate::looks::first_looks;
+use crate::range_judge::{Judged, judge_range};
+use migration_types::Session;
+use page_tables::Table;
+use rayon::current_num_threads;
+use std::alloc::{AllocError, Global};
+use std::marker::Sync;
+use std::thread::{Threads, map_indices};
+
+/// What is asked of pages.
+pub(crate) trait Question {
+    /// What is answered of some pages that follow one another.
+    type Answer: Drop;
+
+    /// It can be asked of the pages of this session.
+    ghost IsFor: { Self → Recorded → Type 0 };
+
+    /// The answer is of so many pages from the first on.
+    ghost IsAnswer: { Self → Recorded → ℕ → ℕ → Self.Answer → Type 0 };
+
+    /// What is answered of no page, before the first of some.
+    fn blank(&self, alloc: Global, _session: &Session, _first: usize) -> Self::Answer
+        ensures { IsAnswer self.now _session.now _first 0 result };
+
+    /// What is answered of the pages of a judged range. An error: there is no memory for it.
+    fn answer(
+        &self,
+        alloc: Global,
+        session: &Session,
+        looks: &Table<Option<u32>>,
+        judged: &Judged,
+    ) -> Result<Self::Answer, AllocError>
+        requires limits { IsSession session.now }
+        requires asked { IsFor self.now session.now }
+        requires looks { IsTable session.now.geometry.pages looks.now (first_look session.now (length session.now.guest)) }
+        requires judged { IsJudged session.now judged.now }
+        ensures { IfOk result (IsAnswer self.now session.now judged.now.range.first (length judged.now.range.seen.items)) };
+
+    /// Adds what is answered of the pages behind those so far. An error: there is no memory for it.
+    fn add(
+        &self,
+        answer: &mut Self::Answer,
+        next: Self::Answer,
+        _session: &Session,
+        _first: usize,
+        _count: usize,
+        _more: usize,
+    ) -> Result<(), AllocError>
+        requires answer { IsAnswer self.now _session.now _first _count answer.old }
+        requires next { IsAnswer self.now _session.now (_first + _count) _more next }
+        ensures { OnOk result (IsAnswer self.now _session.now _first (_count + _more) answer.new) };
+}
+
+/// What is answered of some pages that follow one another.
+#[derive(Drop)]
+pub(crate) struct Part<A> {
+    pub(crate) first: usize,
+    pub(crate) count: usize,
+    pub(crate) answer: A,
+}
+
+/// Judges so many pages from the first on, and answers of them.
+fn answer_range<Q: Question>(
+    question: &Q,
+    alloc: Global,
+    session: &Session,
+    looks: &Table<Option<u32>>,
+    first: usize,
+    count: usize,
+) -> Result<Q::Answer, AllocError>
+    requires limits { IsSession session.now }
+    requires asked { Q.IsFor question.now session.now }
+    requires looks { IsTable session.now.geometry.pages looks.now (first_look session.now (length session.now.guest)) }
+    requires some { 0 < count }
+    requires within { first + count ≤ session.now.geometry.pages }
+    ensures { IfOk result (Q.IsAnswer question.now session.now first count) }
+{
+    let judged = judge_range(alloc, session, first, count)?;
+    question.answer(alloc, session, looks, &judged)
+}
+
+/// What is answered of all pages, which are judged as one range. An error: there is no memory for it.
+pub(crate) fn answer_alone<Q: Question>(
+    question: &Q,
+    alloc: Global,
+    session: &Session,
+) -> Result<Q::Answer, AllocError>
+    requires { Q.IsFor question.now session.now }
+    ensures { IfOk result (Q.IsAnswer question.now session.now 0 session.now.geometry.pages) }
+{
+    session.keeps_limits();
+    let looks = first_looks(alloc, session)?;
+    let pages = session.geometry().pages() as usize;
+    answer_range(question, alloc, session, &looks, 0, pages)
+}
+
+/// What is answered of one of the parts that have so many pages each.
+fn answer_part<Q: Question>(
+    question: &Q,
+    alloc: Global,
+    session: &Session,
+    looks: &Table<Option<u32>>,
+    size: usize,
+    number: usize,
+) -> Result<Part<Q::Answer>, AllocError>
+    requires limits { IsSession session.now }
+    requires asked { Q.IsFor question.now session.now }
+    requires looks { IsTable session.now.geometry.pages looks.now (first_look session.now (length session.now.guest)) }
+    ensures { IfOk result (λ part. IsPart (Q.IsAnswer question.now session.now) session.now.geometry.pages part.first part.count part.answer) }
+{
+    let pages = session.geometry().pages() as usize;
+    let first = number.saturating_mul(size).min(pages);
+    let count = size.min(pages - first);
+    if count == 0 {
+        let answer = question.blank(alloc, session, first);
+        return Ok(Part {
+            first,
+            count,
+            answer,
+        });
+    }
+    let answer = answer_range(question, alloc, session, looks, first, count)?;
+    Ok(Part {
+        first,
+        count,
+        answer,
+    })
+}
+
+/// Adds a part to the pages before it, where it begins where they end.
+fn add_part<Q: Question>(
+    question: &Q,
+    session: &Session,
+    all: &mut Part<Q::Answer>,
+    part: Part<Q::Answer>,
+) -> Result<(), AllocError>
+    requires limits { IsSession session.now }
+    requires all { IsPart (Q.IsAnswer question.now session.now) session.now.geometry.pages all.old.first all.old.count all.old.answer }
+    requires part { IsPart (Q.IsAnswer question.now session.now) session.now.geometry.pages part.first part.count part.answer }
+    ensures first { all.new.first ≡ all.old.first }
+    ensures all { OnOk result (IsPart (Q.IsAnswer question.now session.now) session.now.geometry.pages all.new.first all.new.count all.new.answer) }
+{
+    if part.first == all.first + all.count {
+        question.add(
+            &mut all.answer,
+            part.answer,
+            session,
+            all.first,
+            all.count,
+            part.count,
+        )?;
+        all.count += part.count;
+    }
+    Ok(())
+}
+
+/// Adds parts to the pages before them, in turn.
+fn add_parts<Q: Question>(
+    question: &Q,
+    session: &Session,
+    all: &mut Part<Q::Answer>,
+    parts: Vec<Result<Part<Q::Answer>, AllocError>>,
+) -> Result<(), AllocError>
+    requires limits { IsSession session.now }
+    requires all { IsPart (Q.IsAnswer question.now session.now) session.now.geometry.pages all.old.first all.old.count all.old.answer }
+    requires parts { AllByRecursion (λ part. IfOk part (λ p. IsPart (Q.IsAnswer question.now session.now) session.now.geometry.pages p.first p.count p.answer)) parts.items }
+    ensures first { all.new.first ≡ all.old.first }
+    ensures all { OnOk result (IsPart (Q.IsAnswer question.now session.now) session.now.geometry.pages all.new.first all.new.count all.new.answer) }
+{
+    for part in parts {
+        add_part(question, session, all, part?)?;
+    }
+    Ok(())
+}
+
+/// What is answered of all pages, where it is answered of the first of them: the others are judged as one range.
+fn complete<Q: Question>(
+    question: &Q,
+    alloc: Global,
+    session: &Session,
+    looks: &Table<Option<u32>>,
+    part: Part<Q::Answer>,
+) -> Result<Q::Answer, AllocError>
+    requires limits { IsSession session.now }
+    requires asked { Q.IsFor question.now session.now }
+    requires looks { IsTable session.now.geometry.pages looks.now (first_look session.now (length session.now.guest)) }
+    requires part { IsPart (Q.IsAnswer question.now session.now) session.now.geometry.pages part.first part.count part.answer }
+    requires first { part.first ≡ 0 }
+    ensures { IfOk result (Q.IsAnswer question.now session.now 0 session.now.geometry.pages) }
+{
+    let pages = session.geometry().pages() as usize;
+    let count = part.count;
+    let mut answer = part.answer;
+    if count >= pages {
+        return Ok(answer);
+    }
+    let left = pages - count;
+    let rest = answer_range(question, alloc, session, looks, count, left)?;
+    question.add(&mut answer, rest, session, 0, count, left)?;
+    Ok(answer)
+}
+
+/// What is answered of all pages by threads side by side, a range of pages for each processor; where it is little work, by
+/// the calling thread. An error: there is no memory for it.
+pub(crate) fn answer_apart<R: Threads + Sync, X: Send + Drop, Q: Question<Answer = X> + Sync>(
+    rt: &R,
+    question: &Q,
+    alloc: Global,
+    session: &Session,
+) -> Result<X, AllocError>
+    requires { Q.IsFor question.now session.now }
+    ensures { IfOk result (Q.IsAnswer question.now session.now 0 session.now.geometry.pages) }
+{
+    if is_small(session) {
+        return answer_alone(question, alloc, session);
+    }
+    session.keeps_limits();
+    let looks = first_looks(alloc, session)?;
+    let pages = session.geometry().pages() as usize;
+    let parts = current_num_threads(rt);
+    let size = pages.div_ceil(parts);
+    let judge = |number: usize| -> Result<Part<X>, AllocError>
+        requires { IsSession session.now × Q.IsFor question.now session.now × IsTable session.now.geometry.pages looks (first_look session.now (length session.now.guest)) }
+        ensures { IfOk result (λ part. IsPart (Q.IsAnswer question.entry.now session.entry.now) session.entry.now.geometry.pages part.first part.count part.answer) }
+    { answer_part(question, alloc, session, &looks, size, number) };
+    let judged = map_indices(rt, alloc, parts, &judge)?;
+    let mut all = Part {
+        first: 0,
+        count: 0,
+        answer: question.blank(alloc, session, 0),
+    };
+    add_parts(question, session, &mut all, judged)?;
+    complete(question, alloc, session, &looks, all)
+}
