@@ -11,24 +11,57 @@ use Rattle.audit_report.specs.declared.report.Report.TheVariants as report
 use Rattle.judged_texts.specs.declared.auditing.Audited.{Audited}
 use Rattle.judged_texts.specs.declared.auditing.Audited.TheVariants.{Refused, Reported}
 use Rattle.postcopy_c.specs.declared.answer.PostcopyAnswer.{PostcopyAnswer}
-use Rattle.postcopy_c.specs.declared.kinds.TheConstants.{YES, CLEAN, SESSION_TEXT, CERT_TEXT, SHAPE, PAGES, RUNS, PAGE, KNOT, FAULTY, NO_MEMORY}
-use Rattle.postcopy_c.specs.declared.reasons.TheConstants.{PHASES, NAMED, START, SECOND_SEND, READ, EARLY, GIVEN, STALE, TWICE, ALTERED, UNFIT, OVER}
 
+-- the kinds of answers; 0 is none
+abbrev pub YES : ℕ
+YES = 1
+
+abbrev pub CLEAN : ℕ
+CLEAN = 2
+
+abbrev pub SESSION_TEXT : ℕ
+SESSION_TEXT = 3
+
+abbrev pub CERT_TEXT : ℕ
+CERT_TEXT = 4
+
+abbrev pub SHAPE : ℕ
+SHAPE = 5
+
+abbrev pub PAGES : ℕ
+PAGES = 6
+
+abbrev pub RUNS : ℕ
+RUNS = 7
+
+abbrev pub PAGE : ℕ
+PAGE = 8
+
+abbrev pub KNOT : ℕ
+KNOT = 9
+
+abbrev pub FAULTY : ℕ
+FAULTY = 10
+
+abbrev pub NO_MEMORY : ℕ
+NO_MEMORY = 11
+
+-- the reasons of a wrong shape, and of a faulty page; 0 is no reason
 abbrev pub shape_number : ShapeReason → ℕ
-shape_number shape.Phases = PHASES
-shape_number shape.Named = NAMED
-shape_number shape.Start = START
-shape_number shape.SecondSend = SECOND_SEND
+shape_number shape.Phases = 1
+shape_number shape.Named = 2
+shape_number shape.Start = 3
+shape_number shape.SecondSend = 4
 
 abbrev pub page_number : PageReason → ℕ
-page_number page.Read = READ
-page_number page.Early = EARLY
-page_number page.Given = GIVEN
-page_number page.Stale = STALE
-page_number page.Twice = TWICE
-page_number page.Altered = ALTERED
-page_number page.Unfit = UNFIT
-page_number page.Over = OVER
+page_number page.Read = 11
+page_number page.Early = 12
+page_number page.Given = 13
+page_number page.Stale = 14
+page_number page.Twice = 15
+page_number page.Altered = 16
+page_number page.Unfit = 17
+page_number page.Over = 18
 
 -- the kind of an answer, the line that it names or 0, its reason or 0, and the length of its text
 abbrev pub numbers : ℕ → ℕ → ℕ → ℕ → PostcopyAnswer
