@@ -1,5 +1,5 @@
 -- What holds of the audit of a session that was read holds of what is shown of the session that a text spells.
-use Rattle.std.proofs.Common.{◌≡◌, ℕ, List, Result, Ok, Err, IfOk, sym, subst}
+use Rattle.std.proofs.Common.{ℕ, List, Result, Ok, Err, IfOk, sym, subst}
 use Rattle.std.specs.declared.alloc.AllocError.{AllocError}
 use Rattle.text_lines.specs.Text.{IsSpelling}
 use Rattle.migration_types.specs.Sessions.{Recorded}
@@ -11,7 +11,7 @@ use Rattle.postcopy_c.specs.declared.showing.Showing.{Showing}
 use Rattle.postcopy_c.specs.Showings.{IsShowing, IsShowingOf}
 
 -- the audit alone
-pub audits : Result Showing AllocError → Result Audited AllocError
+abbrev pub audits : Result Showing AllocError → Result Audited AllocError
 audits (Ok showing) = Ok showing.audited
 audits (Err e) = Err e
 

@@ -1,10 +1,12 @@
 //! A session shown in words or as a picture, told by numbers and by a text in the caller's room.
 
-ghost use Rattle.std.specs.Prelude.{◌≡◌, ◌≢◌, IfOk};
+ghost use Rattle.std.specs.Prelude.{◌≡◌, ◌≢◌, length, IfOk};
 ghost use Rattle.audit_model.specs.World.{IsSafe};
 ghost use Rattle.audit_report.specs.Reports.{IsReport};
 ghost use Rattle.judged_texts.specs.Checked.{SpellsOneSession, OfSpelled};
 ghost use Rattle.judged_texts.specs.Audited.{HasReport, FindsClean, FindsFault, IsSafeExactlyIf, IsUnsafe};
+ghost use Rattle.postcopy_c.specs.Numbers.{audited_numbers};
+ghost use Rattle.postcopy_c.specs.Answers.{IsPut};
 ghost use Rattle.postcopy_c.specs.Showings.{IsShownText, IsShowingOf, IsShowing, IsShownAnswer};
 
 use crate::answer::{PostcopyAnswer, audited_answer, out_of_memory};
@@ -108,6 +110,15 @@ fn show_text(alloc: Global, session: &[u8], shown_as: ShownAs) -> Result<Showing
     }
 }
 
+/// Puts the text that is shown into the room, where it fits, and tells the audit with the length of this text.
+fn put_shown(showing: &Showing, room: &mut [u8]) -> PostcopyAnswer
+    ensures numbers { result ≡ audited_numbers showing.now.audited (length showing.now.text.items) }
+    ensures put { IsPut showing.now.text.items room.old room.new }
+{
+    put(&showing.text, room);
+    audited_answer(&showing.audited, showing.text.len())
+}
+
 /// Tells what is shown of the session that a text spells.
 pub(crate) fn tell_shown(
     alloc: Global,
@@ -122,10 +133,7 @@ pub(crate) fn tell_shown(
     ensures faulty { result.kind ≡ FAULTY → OfSpelled session.now IsUnsafe }
 {
     match show_text(alloc, session, shown_as) {
-        Ok(found) => {
-            put(&found.text, room);
-            audited_answer(&found.audited, found.text.len())
-        }
+        Ok(showing) => put_shown(&showing, room),
         Err(_) => out_of_memory(),
     }
 }

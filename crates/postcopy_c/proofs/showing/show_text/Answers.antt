@@ -38,3 +38,7 @@ returns-in-Ok-clause-faulty c =
     of_audits (λ (a : Audited). FindsFault a → OfSpelled text IsUnsafe) c.show_session.result
     (faulty_of_text text s (audits c.show_session.result) c.session_texts_are_unambiguous.ensures c.in-Ok.ensures
     (to_audits (λ (a : Audited). FindsFault a → IsUnsafe s) c.show_session.result c.show_session.ensures.faulty))
+
+pub returns-in_ok-text-in-Err-clause-exactly : goal.returns-in_ok-text-in-Err-clause-exactly
+returns-in_ok-text-in-Err-clause-exactly c =
+    of_refused c.args.session.now c.in-Err.fault.line c.in-Err.fault.kind (IsSafeExactlyIf ⊥) c.in-Err.ensures c.in_ok-line-in-Err.ensures.1
