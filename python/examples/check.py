@@ -1,4 +1,4 @@
-"""Audits a session, makes its certificate where it is clean, and has that checked: check.py SESSION."""
+"""Audits a session, and has its certificate checked where it is clean: check.py SESSION."""
 import sys
 
 import postcopy
@@ -7,10 +7,9 @@ import postcopy
 def main(session: str) -> int:
     report = postcopy.audit(session)
     print(report)
-    if not report.is_safe:
+    if report.certificate is None:
         return 1
-    certificate = postcopy.certify(session).text
-    print(postcopy.check(session, certificate))
+    print(postcopy.check(session, report.certificate))
     return 0
 
 

@@ -3,6 +3,9 @@
     >>> import postcopy
     >>> print(postcopy.check("session", "certificate"))
     yes
+    >>> report = postcopy.audit("session")
+    >>> print(report)
+    clean
 
 Each function takes a text as bytes, or as the path of a file, which is mapped and not copied. Bytes and files must not change
 while a call runs; other threads go on meanwhile. `help(postcopy.Kind)` and `help(postcopy.Reason)` tell
@@ -17,14 +20,19 @@ import ctypes
 import ctypes.util
 import enum
 import functools
+import io
+import itertools
 import mmap
 import os
 import subprocess
-from dataclasses import dataclass
+from dataclasses import dataclass, field
 from pathlib import Path
 from typing import Optional, Union
 
-__all__ = ["Answer", "Kind", "OutOfMemory", "Reason", "Text", "audit", "certify", "check", "draw", "explain", "version"]
+from .records import page_in
+
+__all__ = ["Answer", "Kind", "OutOfMemory", "Reason", "Refused", "Report", "Text", "audit", "certify", "check", "draw", "explain",
+           "version"]
 
 __version__ = "1.0.0"
 
@@ -34,6 +42,17 @@ Text = Union[bytes, bytearray, memoryview, str, "os.PathLike[str]"]
 
 class OutOfMemory(MemoryError):
     """Memory was refused, and nothing is said of the texts."""
+
+
+class Refused(ValueError):
+    """A text is refused: `kind` tells which, SESSION_TEXT or CERT_TEXT, and `line` at which of its lines."""
+
+    def __init__(self, kind: "Kind", line: int) -> None:
+        super().__init__(kind, line)
+        self.kind, self.line = kind, line
+
+    def __str__(self) -> str:
+        return f"{self.kind.word} line {self.line}"
 
 
 class Kind(enum.IntEnum):
@@ -110,15 +129,67 @@ class Answer:
         """Whether every merging of the session is safe: by a right certificate, or by the audit."""
         return self.kind in (Kind.YES, Kind.CLEAN)
 
+    @property
+    def verdict(self) -> str:
+        """The word of the kind, as "faulty"."""
+        return self.kind.word
+
+    def raise_if_refused(self) -> None:
+        """Raises Refused where the answer is that a text is refused."""
+        if self.kind in (Kind.SESSION_TEXT, Kind.CERT_TEXT):
+            raise Refused(self.kind, self.line or 0)
+
     def __str__(self) -> str:
         """The first line of what the program writes."""
         line = "" if self.line is None else f" line {self.line}"
         reason = "" if self.reason is None else f" {self.reason.word}"
-        return f"{self.kind.word}{line}{reason}"
+        return f"{self.verdict}{line}{reason}"
 
     def _repr_svg_(self) -> Optional[str]:
         """The picture, of the answer of `draw`, for a notebook."""
         return self.text.decode("ascii") if self.text.startswith(b"<svg ") else None
+
+
+@dataclass(frozen=True)
+class Report(Answer):
+    """What `audit` answers: the report on a session, which is kept as it was given.
+
+    `page`, `explain` and `draw` read the session again when they are asked for, so its file has to be there, as it was. A
+    notebook shows a report as the picture of its session.
+    """
+
+    session: Text = field(default=b"", repr=False, compare=False)
+
+    @property
+    def certificate(self) -> Optional[bytes]:
+        """The certificate of the session, where it is clean."""
+        return self._behind_first_line() if self.kind is Kind.CLEAN else None
+
+    @property
+    def runs(self) -> Optional[bytes]:
+        """The runs of an order in which it goes wrong, where the session is faulty."""
+        return self._behind_first_line() if self.kind is Kind.FAULTY else None
+
+    @functools.cached_property
+    def page(self) -> Optional[int]:
+        """The page that went wrong, where the session is faulty: the record at the line names it."""
+        return page_in(_line(self.session, self.line or 0)) if self.kind is Kind.FAULTY else None
+
+    def explain(self) -> str:
+        """What happened in the session, in words behind the first line of the report."""
+        return explain(self.session).text.decode("ascii")
+
+    def draw(self) -> str:
+        """The picture of the session in the order of the report, as SVG. Raises Refused where its text is refused."""
+        self.raise_if_refused()
+        return draw(self.session).text.decode("ascii")
+
+    def _behind_first_line(self) -> bytes:
+        return self.text.partition(b"\n")[2]
+
+    def _repr_svg_(self) -> Optional[str]:
+        """The picture of the session, for a notebook."""
+        return draw(self.session)._repr_svg_()
 
 
 class _Answer(ctypes.Structure):
@@ -135,20 +206,24 @@ class _Bytes:
 
     def __init__(self, text: Text) -> None:
         self._file: Optional[mmap.mmap] = None
-        if isinstance(text, (str, os.PathLike)):
-            text = self._mapped(text)
-        elif isinstance(text, memoryview):
-            text = text.cast("B") if text.contiguous and not text.readonly else text.tobytes()
-        elif not isinstance(text, (bytes, bytearray)):
-            raise TypeError(f"a text is bytes or a path, and not {type(text).__name__}")
-        self.length = len(text)
-        if not isinstance(text, bytes) and self.length:
-            self._held: object = (ctypes.c_char * self.length).from_buffer(text)
+        taken = self._taken(text)
+        self.length = len(taken)
+        if not isinstance(taken, bytes) and self.length:
+            self._held: object = (ctypes.c_char * self.length).from_buffer(taken)
             self.at = ctypes.addressof(self._held)
         else:
             # (bytes, also no bytes at all, have a place of their own)
-            self._held = bytes(text)
-            self.at = ctypes.cast(ctypes.c_char_p(self._held), ctypes.c_void_p).value
+            self._held = bytes(taken)
+            self.at = ctypes.cast(ctypes.c_char_p(self._held), ctypes.c_void_p).value or 0
+
+    def _taken(self, text: Text) -> Union[bytes, bytearray, memoryview, mmap.mmap]:
+        if isinstance(text, (str, os.PathLike)):
+            return self._mapped(text)
+        if isinstance(text, memoryview):
+            return text.cast("B") if text.contiguous and not text.readonly else text.tobytes()
+        if isinstance(text, (bytes, bytearray)):
+            return text
+        raise TypeError(f"a text is bytes or a path, and not {type(text).__name__}")
 
     def _mapped(self, name: Union[str, "os.PathLike[str]"]) -> Union[bytes, mmap.mmap]:
         with open(name, "rb") as file:
@@ -165,6 +240,12 @@ class _Bytes:
         del self._held
         if self._file is not None:
             self._file.close()
+
+
+def _line(text: Text, number: int) -> str:
+    """A line of a text, counted from 1."""
+    with open(text, "rb") if isinstance(text, (str, os.PathLike)) else io.BytesIO(bytes(text)) as lines:
+        return next(itertools.islice(lines, number - 1, None), b"").decode("ascii").rstrip("\n")
 
 
 def _beside() -> Optional[str]:
@@ -229,9 +310,10 @@ def certify(session: Text) -> Answer:
     return _with_text(_library().postcopy_certify, session)
 
 
-def audit(session: Text) -> Answer:
+def audit(session: Text) -> Report:
     """The report on a session, as the command `audit` writes it. Raises OutOfMemory where memory is refused."""
-    return _with_text(_library().postcopy_audit, session)
+    answer = _with_text(_library().postcopy_audit, session)
+    return Report(answer.kind, answer.line, answer.reason, answer.text, session)
 
 
 def explain(session: Text) -> Answer:

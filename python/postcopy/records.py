@@ -14,7 +14,8 @@ from __future__ import annotations
 import re
 from typing import Dict, Iterator, NamedTuple, Optional, Tuple, Union
 
-__all__ = ["Field", "Kind", "LOGS", "LOST", "MOST_RECORDS", "RECEIVED", "RECORDS", "Record", "named", "read_record", "spelled"]
+__all__ = ["Field", "Kind", "LOGS", "LOST", "MOST_RECORDS", "RECEIVED", "RECORDS", "Record", "named", "page_in", "page_of", "read_record",
+           "spelled"]
 
 Record = Tuple[Union[str, int], ...]
 
@@ -129,6 +130,19 @@ def read_record(log: str, text: str) -> Record:
 def spelled(record: Record) -> str:
     """The text of a record."""
     return " ".join(map(str, record))
+
+
+def page_of(log: str, record: Record) -> Optional[int]:
+    """The page that a record of a log names itself, if it names one."""
+    place = RECORDS[log][str(record[0])].place("page")
+    return None if place is None else int(record[place])
+
+
+def page_in(line: str) -> Optional[int]:
+    """The page that a line of a session names, where it is a record that names one. (Only a `down` is a word of two logs.)"""
+    word = line.partition(" ")[0]
+    log = next((log for log in LOGS if word in RECORDS[log]), None)
+    return None if log is None else page_of(log, read_record(log, line))
 
 
 def named(log: str, record: Record) -> Iterator[Tuple[str, int]]:

@@ -10,7 +10,7 @@ from dataclasses import dataclass, field
 from itertools import accumulate
 from typing import Dict, Iterator, List
 
-from .records import LOGS, LOST, MOST_RECORDS, RECEIVED, RECORDS, Record, named, spelled
+from .records import LOGS, LOST, MOST_RECORDS, RECEIVED, RECORDS, Record, named, page_of, spelled
 
 __all__ = ["Session"]
 
@@ -143,8 +143,8 @@ class Session:
 
 
 def _is_within(log: str, record: Record, first: int, last: int) -> bool:
-    place = RECORDS[log][str(record[0])].place("page")
-    return place is None or first <= int(record[place]) <= last
+    page = page_of(log, record)
+    return page is None or first <= page <= last
 
 
 class _Reach:
