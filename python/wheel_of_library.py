@@ -1,9 +1,9 @@
 """Builds the wheel of the package, with the shared library in it. Python's own library is all that it needs.
 
-    pip wheel ./python                               or, with no pip:
+    pip install ./python, pip wheel ./python         or, with no pip:
     python3 python/wheel_of_library.py FOLDER
 
-Where a source was changed, tools/library builds the library first.
+The library is that of the checkout: where a source was changed, tools/library builds it first.
 """
 import base64
 import hashlib
@@ -24,6 +24,8 @@ def project(field):
 
 def library():
     """The shared library of the checkout: the one that was built there, or the one that is shipped with it."""
+    if not os.path.exists(f"{HERE}/../tools/library"):
+        sys.exit("wheel_of_library: this folder is not in its checkout; pip builds it there from version 21.3 on")
     ran = subprocess.run([f"{HERE}/../tools/library", "--where"], stdout=subprocess.PIPE)
     if ran.returncode:
         sys.exit("wheel_of_library: there is no shared library of these sources: run tools/library first")
@@ -42,12 +44,11 @@ def contents():
 def build_wheel(wheel_directory, config_settings=None, metadata_directory=None):
     """Writes the wheel into a folder, and answers its name."""
     name, version = project("name"), project("version")
-    with open(f"{HERE}/../LICENSE", "rb") as file:
-        licence = file.read()
     tag = "py3-none-" + re.sub(r"[-.]", "_", sysconfig.get_platform())
     info = f"{name}-{version}.dist-info"
     files = dict(contents())
-    files[f"{info}/LICENSE"] = licence
+    with open(f"{HERE}/../LICENSE", "rb") as file:
+        files[f"{info}/LICENSE"] = file.read()
     files[f"{info}/METADATA"] = (
         f"Metadata-Version: 2.1\nName: {name}\nVersion: {version}\nSummary: {project('description')}\n"
         f"Requires-Python: {project('requires-python')}\nLicense: {project('license')}\nLicense-File: LICENSE\nAuthor: the Tingaro authors\n"
