@@ -122,7 +122,7 @@ class Answer:
     kind: Kind
     line: Optional[int] = None
     reason: Optional[Reason] = None
-    text: bytes = b""
+    text: bytes = field(default=b"", repr=False)
 
     @property
     def is_safe(self) -> bool:
