@@ -10,13 +10,13 @@ const VERDICTS = {
   SESSION_TEXT: ["odd", "This is not a session."],
 };
 
-// What the verdict on a certificate says.
+// What the verdict on a certificate says, where @ is the line that it names.
 const CERTIFICATES = {
   YES: "The certificate is right: it shows that the session is safe.",
-  CERT_TEXT: "The other file is not a certificate: it is refused at this line: ",
+  CERT_TEXT: "The other file is not a certificate: it is refused at @.",
   PAGES: "The certificate is of a machine of another size than the session's.",
-  RUNS: "The certificate is not right: its run at this line cannot be taken: ",
-  PAGE: "The certificate is not right: its entry at this line is wrong: ",
+  RUNS: "The certificate is not right: its run at @ cannot be taken.",
+  PAGE: "The certificate is not right: its entry at @ is wrong.",
 };
 
 const REASONS = {
@@ -175,7 +175,8 @@ function showWords(words) {
 // The picture, in a tree of its own, so that its styles are its own.
 
 const OF_ROWS = `.record { cursor: pointer } .record:focus { outline: none }
-.record.marked > rect, .record:focus > rect { stroke: Highlight; stroke-width: 4; stroke-dasharray: none } svg { display: block; margin: auto }`;
+.record.marked > rect, .record:focus > rect { stroke: Highlight; stroke-width: 4; stroke-dasharray: none } svg { display: block; margin: auto }
+@media print { svg { max-width: 100%; height: auto } }`;
 
 function goAmongRows(event, rows, place) {
   const to = { ArrowDown: place + 1, ArrowUp: place - 1, Home: 0, End: rows.length - 1 }[event.key];
@@ -296,8 +297,7 @@ async function sorted(files) {
 async function certificateWords(session, certificate) {
   const answer = await ask("check", session, certificate);
   if (answer.failure) return `The certificate could not be judged: ${answer.failure.words}.`;
-  const words = CERTIFICATES[answer.kind];
-  return words && words + (answer.line ? `${answer.line} of ${certificate.name}.` : "");
+  return CERTIFICATES[answer.kind]?.replace("@", () => `line ${answer.line} of ${certificate.name}`);
 }
 
 async function judged(files) {
