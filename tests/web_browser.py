@@ -1,6 +1,8 @@
-"""A headless Chromium, driven by WebDriver, and what the tests of the page ask of it."""
+"""Browsers without a screen, and what the tests of the page ask of them."""
 import base64
 import json
+import os
+import socket
 import subprocess
 import time
 import urllib.error
@@ -13,7 +15,41 @@ FLAGS = ["--headless=new", "--no-sandbox", "--disable-gpu", "--disable-backgroun
 
 
 class Browser:
-    """A browser with one page."""
+    """A browser with one page: what is asked of it, whichever way its commands go."""
+
+    @staticmethod
+    def wait_for(holds, why, seconds=60):
+        """Waits until something holds."""
+        until = time.monotonic() + seconds
+        while not holds():
+            if time.monotonic() > until:
+                raise TimeoutError(why)
+            time.sleep(0.03)
+
+    def text(self, selector):
+        return self.run("return document.querySelector(arguments[0])?.textContent", selector)
+
+    def press(self, *keys):
+        """Presses keys, where the focus is."""
+        acts = [{"type": it, "value": key} for key in keys for it in ("keyDown", "keyUp")]
+        self.act([{"type": "key", "id": "keys", "actions": acts}])
+
+    def choose(self, *files):
+        """Chooses files, and waits for what the page shows of them."""
+        self.run("document.getElementById('files').value = ''; delete document.body.dataset.done")
+        self.type("#files", "\n".join(files))
+        self.settle()
+
+    def settle(self, seconds=100):
+        """Waits until the page is done with the files."""
+        self.wait_for(lambda: self.run("return document.body.dataset.done !== undefined"), "the page is not done", seconds)
+
+    def screenshot(self):
+        return base64.b64decode(self.shot())
+
+
+class Chromium(Browser):
+    """A headless Chromium, driven by WebDriver."""
 
     def __init__(self, driver, binary, port):
         self.base = f"http://127.0.0.1:{port}"
@@ -48,15 +84,6 @@ class Browser:
         except OSError:
             return False
 
-    @staticmethod
-    def wait_for(holds, why, seconds=60):
-        """Waits until something holds."""
-        until = time.monotonic() + seconds
-        while not holds():
-            if time.monotonic() > until:
-                raise TimeoutError(why)
-            time.sleep(0.03)
-
     def call(self, method, path, data=None):
         body = None if method != "POST" else json.dumps(data or {}).encode()
         asked = urllib.request.Request(f"{self.base}{self.at}{path}", body, {"Content-Type": "application/json"}, method=method)
@@ -77,30 +104,15 @@ class Browser:
         """What a script answers to the function that it gets as its last word."""
         return self.call("POST", "/execute/async", {"script": script, "args": list(words)})
 
-    def text(self, selector):
-        return self.run("return document.querySelector(arguments[0])?.textContent", selector)
+    def type(self, selector, text):
+        found = self.call("POST", "/element", {"using": "css selector", "value": selector})[ELEMENT]
+        self.call("POST", f"/element/{found}/value", {"text": text})
 
-    def find(self, selector):
-        return self.call("POST", "/element", {"using": "css selector", "value": selector})[ELEMENT]
+    def act(self, actions):
+        self.call("POST", "/actions", {"actions": actions})
 
-    def click(self, selector):
-        self.call("POST", f"/element/{self.find(selector)}/click")
-
-    def press(self, *keys):
-        """Presses keys, where the focus is."""
-        acts = [{"type": it, "value": key} for key in keys for it in ("keyDown", "keyUp")]
-        self.call("POST", "/actions", {"actions": [{"type": "key", "id": "keys", "actions": acts}]})
-
-    def choose(self, *files):
-        """Chooses files, and waits for what the page shows of them."""
-        self.run("document.getElementById('files').value = ''; delete document.body.dataset.done")
-        self.call("POST", f"/element/{self.find('#files')}/value", {"text": "\n".join(files)})
-        self.settle()
-
-    def settle(self, seconds=100):
-        """Waits until the page is done with a session, or says that there is none."""
-        done = "return document.body.dataset.done !== undefined || document.querySelector('#verdict.odd') !== null && document.getElementById('busy').hidden"
-        self.wait_for(lambda: self.run(done), "the page is not done", seconds)
+    def shot(self):
+        return self.call("GET", "/screenshot")
 
     def cdp(self, command, **words):
         return self.call("POST", "/goog/cdp/execute", {"cmd": command, "params": words})
@@ -117,11 +129,88 @@ class Browser:
         """What the browser complained of, since the last call."""
         return [it["message"] for it in self.log("browser") if it["level"] == "SEVERE"]
 
-    def screenshot(self):
-        return base64.b64decode(self.call("GET", "/screenshot"))
-
     def printed(self):
         return base64.b64decode(self.call("POST", "/print", {}))
+
+
+class Firefox(Browser):
+    """A headless Firefox with a new profile, driven by Marionette: the same commands, on a connection to Firefox itself."""
+
+    def __init__(self, binary, profile):
+        os.mkdir(profile)
+        with open(f"{profile}/user.js", "w") as file:
+            file.write('user_pref("marionette.port", 0);\n')
+        words = [binary, "--headless", "--marionette", "--no-remote", "--profile", profile]
+        self.browser = subprocess.Popen(words, stdout=subprocess.DEVNULL, stderr=subprocess.DEVNULL)
+        self.calls = 0
+        try:
+            self.wait_for(lambda: self.port_in(profile), "Firefox does not begin")
+            self.link = socket.create_connection(("127.0.0.1", self.port_in(profile)), timeout=120)
+            self.said = self.link.makefile("rb")
+            self.heard()
+            self.version = self.call("WebDriver:NewSession")["capabilities"]["browserVersion"]
+        except BaseException:
+            self.browser.kill()
+            self.browser.wait()
+            raise
+
+    def __enter__(self):
+        return self
+
+    def __exit__(self, *_):
+        try:
+            self.call("Marionette:Quit", flags=["eForceQuit"])
+            self.browser.wait(30)
+        finally:
+            self.browser.kill()
+            self.browser.wait()
+            self.said.close()
+            self.link.close()
+
+    @staticmethod
+    def port_in(profile):
+        """The port that Firefox has written down, or 0."""
+        name = f"{profile}/MarionetteActivePort"
+        if not os.path.exists(name):
+            return 0
+        with open(name) as file:
+            return int(file.read() or 0)
+
+    def heard(self):
+        """A message: its length, a colon, and so many bytes of JSON."""
+        length = b""
+        while not length.endswith(b":"):
+            byte = self.said.read(1)
+            if not byte:
+                raise ConnectionError("Firefox has ended")
+            length += byte
+        return json.loads(self.said.read(int(length[:-1])))
+
+    def call(self, command, **words):
+        self.calls += 1
+        asked = json.dumps([0, self.calls, command, words]).encode()
+        self.link.sendall(b"%d:%s" % (len(asked), asked))
+        _, _, error, answer = self.heard()
+        if error:
+            raise RuntimeError(str(error)[:500])
+        return answer
+
+    def open(self, url):
+        self.call("WebDriver:Navigate", url=url)
+
+    def run(self, script, *words):
+        """What a script in the page answers."""
+        return self.call("WebDriver:ExecuteScript", script=script, args=list(words))["value"]
+
+    def type(self, selector, text):
+        found = self.call("WebDriver:FindElement", using="css selector", value=selector)["value"][ELEMENT]
+        self.call("WebDriver:ElementSendKeys", id=found, text=text)
+
+    def act(self, actions):
+        self.call("WebDriver:PerformActions", actions=actions)
+
+    def shot(self):
+        return self.call("WebDriver:TakeScreenshot", full=False)["value"]
 
 
 def rows_of(png):

@@ -307,6 +307,7 @@ async function judged(files) {
   if (!current()) return;
   if (!session) {
     show("odd", "There is no session.", `A ${certificate ? "certificate" : "file of runs"} goes with a session: choose both together.`);
+    document.body.dataset.done = mine;
     return;
   }
   const saying = (what) => (done, total) => current() && busy(total ? `Reading ${session.name}: ${mib(done)} of ${mib(total)}` : what, done, total);
