@@ -1,4 +1,3 @@
-pub mod Outcomes
 pub mod Statuses
 pub mod Closed
 pub mod Judged

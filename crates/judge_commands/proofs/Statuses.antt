@@ -7,8 +7,8 @@ use Rattle.audit_report.specs.declared.report.Report.TheVariants as report
 use Rattle.judged_texts.specs.declared.auditing.Audited.{Audited}
 use Rattle.judged_texts.specs.declared.auditing.Audited.TheVariants.{Refused, Reported}
 use Rattle.judged_texts.specs.declared.wanted.Wanted.{Wanted}
-use Rattle.judge_commands.specs.declared.replaying.Outcome.{Outcome}
-use Rattle.judge_commands.specs.declared.replaying.Outcome.TheVariants as outcome
+use Rattle.judged_texts.specs.declared.replaying.Outcome.{Outcome}
+use Rattle.judged_texts.specs.declared.replaying.Outcome.TheVariants as outcome
 use Rattle.judge_commands.specs.Answers.{IsAuditAnswer, IsVerdictAnswer, audited_status, report_status, verdict_status}
 use Rattle.judge_commands.specs.Replayed.{IsReplayAnswer, outcome_status}
 

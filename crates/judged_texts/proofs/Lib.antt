@@ -1,2 +1,3 @@
 pub mod Spelled
 pub mod Read
+pub mod Outcomes

@@ -1,4 +1,5 @@
 pub mod Checked
 pub mod Audited
 pub mod AuditedText
+pub mod Replayed
 pub mod inner
