@@ -14,8 +14,8 @@ extern "C" {
 /* The version that this header is of: 10,000 times its first number, 100 times its second, and its third. */
 #define POSTCOPY_VERSION 10000
 
-/* Which answer it is. No answer has the number 0. Those of check are of postcopy_check alone, and those of a report of the
-   others. */
+/* Which answer it is. No answer has the number 0. Those of check are of postcopy_check alone, those of replay of
+   postcopy_replay alone, and those of a report of the others. */
 enum postcopy_kind {
     POSTCOPY_YES = 1,          /* check: the certificate is right, and every merging of the session is safe */
     POSTCOPY_CLEAN = 2,        /* a report: every merging of the session is safe */
@@ -27,7 +27,11 @@ enum postcopy_kind {
     POSTCOPY_PAGE = 8,         /* check: the entry at `line` of the certificate is the first that is not right */
     POSTCOPY_KNOT = 9,         /* a report: the session's logs have no merging, because of the record at `line` */
     POSTCOPY_FAULTY = 10,      /* a report: the session is not safe: the fault at `line`, and its `reason` */
-    POSTCOPY_NO_MEMORY = 11    /* there was no memory, and nothing is said of the texts */
+    POSTCOPY_NO_MEMORY = 11,   /* there was no memory, and nothing is said of the texts */
+    POSTCOPY_SAFE = 12,        /* replay: in this one order each record finds what it demands; other orders may go wrong */
+    POSTCOPY_RUNS_TEXT = 13,   /* replay: the text of the runs is refused at `line` */
+    POSTCOPY_NO_MERGING = 14,  /* replay: the runs spell no merging of the session */
+    POSTCOPY_BROKEN = 15       /* replay: in this order the record at `line` is the first that does not find what it demands */
 };
 
 /* Why, of POSTCOPY_SHAPE the first four, and of POSTCOPY_FAULTY the others. 0 is no reason. */
@@ -50,7 +54,7 @@ typedef struct {
     uint32_t kind;   /* of enum postcopy_kind */
     uint32_t line;   /* the line of the text that the answer names, from 1 on, or 0 */
     uint32_t reason; /* of enum postcopy_reason, or 0 */
-    size_t text_len; /* how many bytes the answer's text has, whether or not there was room for it; of check 0 */
+    size_t text_len; /* how many bytes the answer's text has, whether or not there was room for it; of check and replay 0 */
 } postcopy_answer;
 
 /* What the caller promises of each call, and nothing checks:
@@ -64,6 +68,9 @@ typedef struct {
 
 /* Judges the certificate of a session. */
 postcopy_answer postcopy_check(const uint8_t *session, size_t session_len, const uint8_t *cert, size_t cert_len);
+
+/* Replays a session in the one order that runs spell. Of the other orders it says nothing. */
+postcopy_answer postcopy_replay(const uint8_t *session, size_t session_len, const uint8_t *runs, size_t runs_len);
 
 /* Writes the certificate of a session that is clean, and of another the first line of its report.
    The text stands at the front of the room where text_len <= room_len. Where it does not fit, and where memory was refused,

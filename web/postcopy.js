@@ -1,7 +1,8 @@
 // The module, called: in a worker of the page, and in node. Every number that crosses is a BigInt, since addresses have 64 bits.
 "use strict";
 
-const KINDS = ["", "YES", "CLEAN", "SESSION_TEXT", "CERT_TEXT", "SHAPE", "PAGES", "RUNS", "PAGE", "KNOT", "FAULTY", "NO_MEMORY"];
+const KINDS = ["", "YES", "CLEAN", "SESSION_TEXT", "CERT_TEXT", "SHAPE", "PAGES", "RUNS", "PAGE", "KNOT", "FAULTY", "NO_MEMORY", "SAFE", "RUNS_TEXT",
+  "NO_MERGING", "BROKEN"];
 
 // There was no memory for a question.
 class OutOfMemory extends Error {}

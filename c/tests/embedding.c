@@ -1,6 +1,6 @@
-/* Calls the library as hostile surroundings do. Each line of the input is 'check SESSION CERT', or 'certify', 'audit',
-   'explain' or 'draw' with a SESSION, where a file named - is empty. The texts and the room end where memory ends that may
-   be touched.
+/* Calls the library as hostile surroundings do. Each line of the input is 'check SESSION CERT', 'replay SESSION RUNS', or
+   'certify', 'audit', 'explain' or 'draw' with a SESSION, where a file named - is empty. The texts and the room end where
+   memory ends that may be touched.
 
    Each call is made with each allocation failing in turn, with rooms of each length up to the text's own, and by four threads at
    once on small stacks. For each line it writes the answer's numbers on a line, and then the answer's text. The first call that
@@ -93,8 +93,8 @@ static uint8_t *text_of(const char *name, size_t *len) {
 
 typedef struct {
     const char *line, *command;
-    uint8_t *session, *cert;
-    size_t session_len, cert_len;
+    uint8_t *session, *other;
+    size_t session_len, other_len;
     postcopy_answer wanted;
     uint8_t *text;
 } job;
@@ -106,7 +106,8 @@ static const struct {
 } writers[] = {{"certify", postcopy_certify}, {"audit", postcopy_audit}, {"explain", postcopy_explain}, {"draw", postcopy_draw}};
 
 static postcopy_answer call(const job *it, uint8_t *room, size_t room_len) {
-    if (!strcmp(it->command, "check")) return postcopy_check(it->session, it->session_len, it->cert, it->cert_len);
+    if (!strcmp(it->command, "check")) return postcopy_check(it->session, it->session_len, it->other, it->other_len);
+    if (!strcmp(it->command, "replay")) return postcopy_replay(it->session, it->session_len, it->other, it->other_len);
     for (size_t i = 0; i < sizeof writers / sizeof *writers; i++) {
         if (!strcmp(it->command, writers[i].command)) return writers[i].call(it->session, it->session_len, room, room_len);
     }
@@ -191,7 +192,7 @@ static void do_job(const char *line) {
     char words[3][1024] = {"", "-", "-"};
     if (sscanf(line, "%1023s %1023s %1023s", words[0], words[1], words[2]) < 2) fail("too few words", line);
     job it = {.line = line, .command = words[0]};
-    it.session = text_of(words[1], &it.session_len), it.cert = text_of(words[2], &it.cert_len);
+    it.session = text_of(words[1], &it.session_len), it.other = text_of(words[2], &it.other_len);
     it.text = guarded(0);
     it.wanted = call(&it, it.text, 0);
     if (it.wanted.text_len) {
@@ -207,7 +208,7 @@ static void do_job(const char *line) {
     fwrite(it.text, 1, it.wanted.text_len, stdout);
     fflush(stdout);
     release(it.text, it.wanted.text_len);
-    release(it.cert, it.cert_len);
+    release(it.other, it.other_len);
     release(it.session, it.session_len);
 }
 

@@ -32,7 +32,7 @@ from typing import Optional, Union
 from .records import page_in
 
 __all__ = ["Answer", "Kind", "OutOfMemory", "Reason", "Refused", "Report", "Text", "audit", "certify", "check", "draw", "explain",
-           "version"]
+           "replay", "version"]
 
 __version__ = "1.0.0"
 
@@ -45,7 +45,7 @@ class OutOfMemory(MemoryError):
 
 
 class Refused(ValueError):
-    """A text is refused: `kind` tells which, SESSION_TEXT or CERT_TEXT, and `line` at which of its lines."""
+    """A text is refused: `kind` tells which, SESSION_TEXT, CERT_TEXT or RUNS_TEXT, and `line` at which of its lines."""
 
     def __init__(self, kind: "Kind", line: int) -> None:
         super().__init__(kind, line)
@@ -58,10 +58,13 @@ class Refused(ValueError):
 class Kind(enum.IntEnum):
     """Which answer it is.
 
-    YES: the certificate is right, and every merging of the session is safe. CLEAN: every merging is safe. SESSION_TEXT, CERT_TEXT:
-    the text is refused at the line. SHAPE: the session has not the right shape. PAGES: session and certificate are of machines of
-    different sizes. RUNS, PAGE: the run, or the entry, at the line of the certificate is not right. KNOT: the session's records
-    wait for one another in a cycle. FAULTY: the session is not safe, because of the record at the line.
+    YES: the certificate is right, and every merging of the session is safe. CLEAN: every merging is safe. SESSION_TEXT, CERT_TEXT,
+    RUNS_TEXT: the text is refused at the line. SHAPE: the session has not the right shape. PAGES: session and certificate are of
+    machines of different sizes. RUNS, PAGE: the run, or the entry, at the line of the certificate is not right. KNOT: the session's
+    records wait for one another in a cycle. FAULTY: the session is not safe, because of the record at the line.
+
+    Of a replay, and so of one order alone: SAFE: each record finds what it demands; other orders may go wrong. NO_MERGING: the runs
+    spell no merging of the session. BROKEN: the record at the line is the first that does not find what it demands.
     """
 
     YES = 1
@@ -75,6 +78,10 @@ class Kind(enum.IntEnum):
     KNOT = 9
     FAULTY = 10
     NO_MEMORY = 11
+    SAFE = 12
+    RUNS_TEXT = 13
+    NO_MERGING = 14
+    BROKEN = 15
 
     @property
     def word(self) -> str:
@@ -115,8 +122,8 @@ class Answer:
     """An answer: its kind, the line of a text that it names, its reason, and its text.
 
     The text is that which the program's command writes: of `certify` the certificate, or the first line of the report, of
-    `audit` the report, of `explain` what happened in words, and of `draw` a picture as SVG. `check` has none. A notebook shows
-    a picture.
+    `audit` the report, of `explain` what happened in words, and of `draw` a picture as SVG. `check` and `replay` have none. A
+    notebook shows a picture.
     """
 
     kind: Kind
@@ -126,7 +133,7 @@ class Answer:
 
     @property
     def is_safe(self) -> bool:
-        """Whether every merging of the session is safe: by a right certificate, or by the audit."""
+        """Whether every merging of the session is safe: by a right certificate, or by the audit. A replay never says so."""
         return self.kind in (Kind.YES, Kind.CLEAN)
 
     @property
@@ -136,7 +143,7 @@ class Answer:
 
     def raise_if_refused(self) -> None:
         """Raises Refused where the answer is that a text is refused."""
-        if self.kind in (Kind.SESSION_TEXT, Kind.CERT_TEXT):
+        if self.kind in (Kind.SESSION_TEXT, Kind.CERT_TEXT, Kind.RUNS_TEXT):
             raise Refused(self.kind, self.line or 0)
 
     def __str__(self) -> str:
@@ -270,7 +277,7 @@ def _library() -> ctypes.CDLL:
         raise ImportError("there is no libpostcopy: in a checkout tools/library builds it, and tools/install installs it")
     library = ctypes.CDLL(name)
     text = [ctypes.c_void_p, ctypes.c_size_t]
-    for name in ("check", "certify", "audit", "explain", "draw"):
+    for name in ("check", "replay", "certify", "audit", "explain", "draw"):
         call = getattr(library, f"postcopy_{name}")
         call.argtypes, call.restype = text + text, _Answer
     library.postcopy_version.argtypes, library.postcopy_version.restype = [], ctypes.c_uint32
@@ -298,10 +305,20 @@ def _with_text(call: "ctypes._FuncPointer", session: Text) -> Answer:
             length = numbers.text_len
 
 
+def _on_two(call: "ctypes._FuncPointer", session: Text, other: Text) -> Answer:
+    with _Bytes(session) as first, _Bytes(other) as second:
+        return _told(call(first.at, first.length, second.at, second.length))
+
+
 def check(session: Text, certificate: Text) -> Answer:
     """Judges the certificate of a session, as the command `check` does. Raises OutOfMemory where memory is refused."""
-    with _Bytes(session) as first, _Bytes(certificate) as second:
-        return _told(_library().postcopy_check(first.at, first.length, second.at, second.length))
+    return _on_two(_library().postcopy_check, session, certificate)
+
+
+def replay(session: Text, runs: Text) -> Answer:
+    """Replays a session in the one order that runs spell, as the command `replay` does. SAFE is said of this order alone. Raises
+    OutOfMemory where memory is refused."""
+    return _on_two(_library().postcopy_replay, session, runs)
 
 
 def certify(session: Text) -> Answer:

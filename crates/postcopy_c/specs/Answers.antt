@@ -7,14 +7,22 @@ use Rattle.judged_texts.specs.declared.auditing.Audited.{Audited}
 use Rattle.judged_texts.specs.declared.wanted.Wanted.{Wanted}
 use Rattle.judged_texts.specs.Audited.{IsAudited}
 use Rattle.judged_texts.specs.AuditedText.{audited_text}
+use Rattle.judged_texts.specs.declared.replaying.Outcome.{Outcome}
+use Rattle.judged_texts.specs.Replayed.{IsOutcome}
 use Rattle.postcopy_c.specs.declared.answer.PostcopyAnswer.{PostcopyAnswer}
-use Rattle.postcopy_c.specs.Numbers.{verdict_numbers, audited_numbers, no_memory}
+use Rattle.postcopy_c.specs.Numbers.{verdict_numbers, audited_numbers, replay_numbers, no_memory}
 
 -- the numbers of the verdict on the two texts, or of want of memory
 pub record IsVerdictAnswer (session cert : List ℕ) (answer : PostcopyAnswer) : Type 0 where
   pub verdict : Result Verdict AllocError
   pub is_verdict : IfOk verdict (IsTextVerdict session cert)
   pub are_numbers : answer ≡ verdict_numbers verdict
+
+-- the numbers of what becomes of the session along the runs, or of want of memory
+pub record IsReplayAnswer (session runs : List ℕ) (answer : PostcopyAnswer) : Type 0 where
+  pub outcome : Result Outcome AllocError
+  pub is_outcome : IfOk outcome (IsOutcome session runs)
+  pub are_numbers : answer ≡ replay_numbers outcome
 
 -- the text stands at the front of the room where it fits, and what stood behind it stays; where it does not fit all stays
 pub record IsPut (text before after : List ℕ) : Type 0 where

@@ -10,6 +10,8 @@ use Rattle.cert_check.specs.declared.verdict.Verdict.TheVariants as verdict
 use Rattle.audit_report.specs.declared.report.Report.TheVariants as report
 use Rattle.judged_texts.specs.declared.auditing.Audited.{Audited}
 use Rattle.judged_texts.specs.declared.auditing.Audited.TheVariants.{Refused, Reported}
+use Rattle.judged_texts.specs.declared.replaying.Outcome.{Outcome}
+use Rattle.judged_texts.specs.declared.replaying.Outcome.TheVariants as outcome
 use Rattle.postcopy_c.specs.declared.answer.PostcopyAnswer.{PostcopyAnswer}
 
 -- the reasons of a wrong shape, and of a faulty page; 0 is no reason
@@ -55,3 +57,13 @@ audited_numbers (Reported (report.Clean cert)) text_len = numbers 2 0 0 text_len
 audited_numbers (Reported (report.Shape fault)) text_len = numbers 5 fault.line (shape_number fault.reason) text_len
 audited_numbers (Reported (report.Knot left found)) text_len = numbers 9 left.line 0 text_len
 audited_numbers (Reported (report.Faulty line fault order)) text_len = numbers 10 line (page_number fault.reason) text_len
+
+-- what becomes of a replay, or want of memory
+abbrev pub replay_numbers : Result Outcome AllocError → PostcopyAnswer
+replay_numbers (Ok outcome.Safe) = numbers 12 0 0 0
+replay_numbers (Ok (outcome.SessionText line)) = numbers 3 line 0 0
+replay_numbers (Ok (outcome.RunsText line)) = numbers 13 line 0 0
+replay_numbers (Ok (outcome.Shape fault)) = numbers 5 fault.line (shape_number fault.reason) 0
+replay_numbers (Ok outcome.NoMerging) = numbers 14 0 0 0
+replay_numbers (Ok (outcome.Broken line)) = numbers 15 line 0 0
+replay_numbers (Err e) = no_memory

@@ -1,15 +1,16 @@
 //! Answers as numbers.
 
 ghost use Rattle.std.specs.Prelude.{◌≡◌};
-ghost use Rattle.postcopy_c.specs.Numbers.{audited_numbers, no_memory, numbers, shape_number, verdict_numbers};
+ghost use Rattle.postcopy_c.specs.Numbers.{audited_numbers, no_memory, numbers, replay_numbers, shape_number, verdict_numbers};
 
 use crate::kinds::{
-    CERT_TEXT, CLEAN, FAULTY, KNOT, NO_MEMORY, PAGE, PAGES, RUNS, SESSION_TEXT, SHAPE, YES,
+    BROKEN, CERT_TEXT, CLEAN, FAULTY, KNOT, NO_MEMORY, NO_MERGING, PAGE, PAGES, RUNS, RUNS_TEXT,
+    SAFE, SESSION_TEXT, SHAPE, YES,
 };
 use crate::reasons::{number_of_page, number_of_shape};
 use audit_report::Report;
 use cert_check::{ShapeFault, Verdict};
-use judged_texts::Audited;
+use judged_texts::{Audited, Outcome};
 use std::alloc::AllocError;
 
 /// An answer as C has it.
@@ -70,6 +71,21 @@ pub(crate) fn verdict_answer(verdict: Result<Verdict, AllocError>) -> PostcopyAn
         Ok(Verdict::Pages) => at_line(PAGES, 0, 0),
         Ok(Verdict::Runs(line)) => at_line(RUNS, line, 0),
         Ok(Verdict::Page(line)) => at_line(PAGE, line, 0),
+        Err(_) => out_of_memory(),
+    }
+}
+
+/// The numbers of what becomes of a replay.
+pub(crate) fn replay_answer(outcome: Result<Outcome, AllocError>) -> PostcopyAnswer
+    ensures { result ≡ replay_numbers outcome }
+{
+    match outcome {
+        Ok(Outcome::Safe) => at_line(SAFE, 0, 0),
+        Ok(Outcome::SessionText(line)) => at_line(SESSION_TEXT, line, 0),
+        Ok(Outcome::RunsText(line)) => at_line(RUNS_TEXT, line, 0),
+        Ok(Outcome::Shape(fault)) => misshapen(&fault, 0),
+        Ok(Outcome::NoMerging) => at_line(NO_MERGING, 0, 0),
+        Ok(Outcome::Broken(line)) => at_line(BROKEN, line, 0),
         Err(_) => out_of_memory(),
     }
 }

@@ -32,3 +32,15 @@ pub const FAULTY: u32 = 10;
 
 /// There was no memory, and nothing is said of the texts.
 pub const NO_MEMORY: u32 = 11;
+
+/// The demand of each record holds in the order of the runs. Of the session's other mergings nothing is said.
+pub const SAFE: u32 = 12;
+
+/// The text of the runs is refused at the line.
+pub const RUNS_TEXT: u32 = 13;
+
+/// The runs spell no merging of the session's logs.
+pub const NO_MERGING: u32 = 14;
+
+/// The record at this line of the session's text is the first in the order of the runs whose demand fails.
+pub const BROKEN: u32 = 15;

@@ -1,4 +1,4 @@
-//! The checker and the auditor for callers in C and in whatever calls C. Their header is `postcopy.h`.
+//! The checker, the auditor and the replay for callers in C and in whatever calls C. Their header is `postcopy.h`.
 #![tactic(auto)]
 
 ghost use Rattle.std.specs.Prelude.{◌≡◌, ◌≢◌};
@@ -7,7 +7,7 @@ ghost use Rattle.audit_model.specs.World.{IsSafe};
 ghost use Rattle.audit_model.specs.Laws.{FindsResident, ReadsFlat, PlacedOnce, PlacedUntouched, ReleasedAsZeros};
 ghost use Rattle.judged_texts.specs.Checked.{SpellsOneSession, OfSpelled, ReplaysClean};
 ghost use Rattle.judged_texts.specs.Audited.{IsSafeExactlyIf, IsUnsafe};
-ghost use Rattle.postcopy_c.specs.Answers.{IsVerdictAnswer, IsAuditAnswer};
+ghost use Rattle.postcopy_c.specs.Answers.{IsVerdictAnswer, IsReplayAnswer, IsAuditAnswer};
 ghost use Rattle.postcopy_c.specs.Showings.{IsShownAnswer};
 
 mod answer;
@@ -16,11 +16,11 @@ mod reasons;
 mod showing;
 mod telling;
 
-use crate::answer::{PostcopyAnswer, verdict_answer};
+use crate::answer::{PostcopyAnswer, replay_answer, verdict_answer};
 use crate::kinds::{CLEAN, FAULTY, NO_MEMORY, SESSION_TEXT, YES};
 use crate::showing::{ShownAs, tell_shown};
 use crate::telling::tell_audit;
-use judged_texts::{Wanted, check_texts_alone};
+use judged_texts::{Wanted, check_texts_alone, replay_texts};
 use std::alloc::Global;
 
 /// The version: 10,000 for each of its first number, 100 for each of its second, and its third.
@@ -41,6 +41,14 @@ pub extern "C" fn postcopy_check(alloc: Global, session: &[u8], cert: &[u8]) -> 
     ensures released_as_zeros { result.kind ≡ YES → OfSpelled session.now ReleasedAsZeros }
 {
     verdict_answer(check_texts_alone(alloc, session, cert))
+}
+
+/// What becomes of the bytes of a session along those of runs, as `judged_texts::replay_texts` has it.
+#[unsafe(no_mangle)]
+pub extern "C" fn postcopy_replay(alloc: Global, session: &[u8], runs: &[u8]) -> PostcopyAnswer
+    ensures answer { IsReplayAnswer session.now runs.now result }
+{
+    replay_answer(replay_texts(alloc, session, runs))
 }
 
 /// The certificate of a session that is clean, and of another the first line of its report. The text stands at the front of
