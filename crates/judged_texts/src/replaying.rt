@@ -4,8 +4,8 @@ ghost use Rattle.std.specs.Prelude.{ℕ, List, IfOk};
 ghost use Rattle.text_lines.specs.Answer.{IsRead};
 ghost use Rattle.session_text.specs.Grammar.{SpellsSession};
 ghost use Rattle.cert_text.specs.Runs.{SpellsRuns};
-ghost use Rattle.audit_model.specs.Shape.{IsRightShape};
 ghost use Rattle.judged_texts.specs.Replayed.{IsAlong, IsOutcome, IsReplayed};
+ghost use Rattle.audit_model.specs.Shape.{IsRightShape};
 
 use cert_check::{ShapeFault, shape};
 use cert_text::read_runs;

@@ -60,10 +60,10 @@ audited_numbers (Reported (report.Faulty line fault order)) text_len = numbers 1
 
 -- what becomes of a replay, or want of memory
 abbrev pub replay_numbers : Result Outcome AllocError → PostcopyAnswer
-replay_numbers (Ok outcome.Safe) = numbers 12 0 0 0
 replay_numbers (Ok (outcome.SessionText line)) = numbers 3 line 0 0
 replay_numbers (Ok (outcome.RunsText line)) = numbers 13 line 0 0
 replay_numbers (Ok (outcome.Shape fault)) = numbers 5 fault.line (shape_number fault.reason) 0
 replay_numbers (Ok outcome.NoMerging) = numbers 14 0 0 0
 replay_numbers (Ok (outcome.Broken line)) = numbers 15 line 0 0
+replay_numbers (Ok outcome.Safe) = numbers 12 0 0 0
 replay_numbers (Err e) = no_memory

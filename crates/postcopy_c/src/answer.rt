@@ -80,12 +80,12 @@ pub(crate) fn replay_answer(outcome: Result<Outcome, AllocError>) -> PostcopyAns
     ensures { result ≡ replay_numbers outcome }
 {
     match outcome {
-        Ok(Outcome::Safe) => at_line(SAFE, 0, 0),
         Ok(Outcome::SessionText(line)) => at_line(SESSION_TEXT, line, 0),
         Ok(Outcome::RunsText(line)) => at_line(RUNS_TEXT, line, 0),
         Ok(Outcome::Shape(fault)) => misshapen(&fault, 0),
         Ok(Outcome::NoMerging) => at_line(NO_MERGING, 0, 0),
         Ok(Outcome::Broken(line)) => at_line(BROKEN, line, 0),
+        Ok(Outcome::Safe) => at_line(SAFE, 0, 0),
         Err(_) => out_of_memory(),
     }
 }
