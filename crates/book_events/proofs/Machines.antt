@@ -8,7 +8,7 @@ use Rattle.fault_queue.specs.Waiting.{is_asked, is_waiting, without}
 use Rattle.target_book.specs.TargetPart.{TargetPart, settled as with_settled}
 use Rattle.target_book.specs.declared.Missing.{Missing}
 use Rattle.pager_book.specs.declared.Incoming.{Incoming}
-use Rattle.pager_book.specs.PagerPart.{PagerPart, Paged, settles, is_released, fault_join, faults, next_fault, delivers_next, delivers_by, deliver}
+use Rattle.pager_book.specs.PagerPart.{PagerPart, Paged, settles, is_released, fault_join, faults, faults_by, next_fault, delivers_next, delivers_by, deliver}
 
 abbrev IsOn : Extent → Paged → Type 0
 IsOn e r = r.pager.geometry ≡ e
@@ -32,8 +32,12 @@ faults_on (x ∷ rest) b t =
     let absent = either (is_waiting x.vcpu b.waiting) _ _ b.geometry refl (either (is_released b.released x.page) _ _ b.geometry refl asked) in
     either (is_resident (t.placed x.page) (t.freed x.page)) _ _ b.geometry refl absent
 
+faults_by_on : (released : Option (List ℕ)) (xs : List Missing) (b : PagerPart) (t : TargetPart) → IsOn b.geometry (faults_by released xs b t)
+faults_by_on None xs b t = refl
+faults_by_on (Some released) xs b t = faults_on xs b t
+
 pub next_fault_on : (b : PagerPart) (t : TargetPart) → IsOn b.geometry (next_fault b t)
-next_fault_on b t = faults_on t.misses (settles t.unsettled b) (with_settled t) ∙ settles_on t.unsettled b
+next_fault_on b t = faults_by_on b.released t.misses (settles t.unsettled b) (with_settled t) ∙ settles_on t.unsettled b
 
 delivers_next_on : (xs : List Incoming) (b : PagerPart) (t : TargetPart) → IsOn b.geometry (delivers_next xs b t)
 delivers_next_on [] b t = refl

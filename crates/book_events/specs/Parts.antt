@@ -1,5 +1,5 @@
 -- An event as a change of the one or two books that it names.
-use Rattle.std.specs.Prelude.{◌≡◌, ℕ, ◌⊎◌, Bool, false, List, [], ◌∷◌, ◌++◌, length, Result, IfOk, OnOk, OnErr, IsErrOf}
+use Rattle.std.specs.Prelude.{◌≡◌, ℕ, ◌⊎◌, Bool, true, false, List, [], ◌∷◌, ◌++◌, length, Result, IfOk, OnOk, OnErr, IsErrOf}
 use Rattle.source_book.specs.SourcePart.{SourcePart, halted_source, state_packet}
 use Rattle.guest_book.specs.GuestPart.{GuestPart}
 use Rattle.link_book.specs.LinkPart.{LinkPart, with_back}
@@ -9,7 +9,7 @@ use Rattle.target_book.specs.TargetPart.{TargetPart, halted_target}
 use Rattle.pager_book.specs.PagerPart.{PagerPart}
 use Rattle.migration_events.specs.declared.events.Event.{Event}
 use Rattle.migration_events.specs.declared.faults.EventFault.{EventFault}
-use Rattle.migration_events.specs.declared.faults.EventFault.TheVariants.{LogFull}
+use Rattle.migration_events.specs.declared.faults.EventFault.TheVariants.{LogFull, Memory}
 use Rattle.migration_model.specs.Books.{BooksAfter, session_after}
 use Rattle.migration_model.specs.Events.{away_event, has_room}
 use Rattle.book_events.specs.declared.came.Came.{Came}
@@ -36,6 +36,10 @@ pub record IsMade (e : Event) (old new : BooksAfter → BooksAfter) : Type 0 whe
 pub record IsFull (e : Event) (old : BooksAfter → BooksAfter) : Type 0 where
   pub full : (a : BooksAfter) → has_room (session_after (away_event e (old a))) ≡ false
 
+-- the event has room in each log, where the logs were within their limit
+pub record Fits (e : Event) (old : BooksAfter → BooksAfter) : Type 0 where
+  pub fits : (a : BooksAfter) → has_room (session_after (old a)) ≡ true → has_room (session_after (away_event e (old a))) ≡ true
+
 -- nothing has changed
 pub record IsSame (old new : BooksAfter → BooksAfter) : Type 0 where
   pub same : (a : BooksAfter) → new a ≡ old a
@@ -57,11 +61,13 @@ Tells Made old new = Unit {0}
 Tells (Offered page) old new = IsOffered page old new
 
 -- what a call for an event comes to, of two books that stand in a migration so: the event is made, and what is told of it is
--- so; there is no room only where the event has none in a log; and on an error nothing changes
+-- so; it is refused for want of room exactly where it has none in a log, and for want of memory only where it has; and on
+-- an error nothing changes
 pub record ComesTo {A B : Type 0} (e : Event) (result : Result Came EventFault) (standing : A → B → BooksAfter → BooksAfter) (one one' : A) (other other' : B) : Type 0 where
   pub ok : OnOk result (IsMade e (standing one other) (standing one' other'))
   pub told : IfOk result (λ came. Tells came (standing one other) (standing one' other'))
   pub full : IsErrOf result LogFull → IsFull e (standing one other)
+  pub memory : IsErrOf result Memory → Fits e (standing one other)
   pub err : OnErr result ((one' ≡ one) × (other' ≡ other))
 
 -- Halt: the books of the source and the target that it makes of the guest's, and the state's packet is offered behind

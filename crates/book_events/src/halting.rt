@@ -16,8 +16,9 @@ use pager_book::TargetBook;
 use source_book::SourceBook;
 
 /// Halt, where each virtual processor is at its move: the guest's book parts into the source's, which keeps at most so
-/// many pivots, 1 to 16, and the target's, and the packet of the state is offered. `EventFault::LogFull` only where the
-/// guest's log has no room for the record. On an error the guest's book comes back as it was, and nothing is offered.
+/// many pivots, 1 to 16, and the target's, and the packet of the state is offered. `EventFault::LogFull` exactly where the
+/// guest's log has no room for the record, which is looked at before memory is asked for. On an error the guest's book
+/// comes back as it was, and nothing is offered.
 pub fn halt(
     guest: GuestBook,
     link: &mut LinkBook,
@@ -28,8 +29,12 @@ pub fn halt(
     ensures ok { IfOk result (λ books. IsHalt pivots (guest_of guest) link.old.part link.new.part (source_of books.0) (target_of books.1)) }
     ensures geometry { IfOk result (λ books. geometry_of books.1 ≡ guest.frames.geometry) }
     ensures full { IfErr result (λ e. e.1 ≡ EventFault.LogFull → most_records < length (halted_target guest.log).log) }
+    ensures memory { IfErr result (λ e. e.1 ≡ EventFault.Memory → length (halted_target guest.log).log ≤ most_records) }
     ensures err { IfErr result (λ e. (e.0 ≡ guest) × (link.new.part ≡ link.old.part)) }
 {
+    if let Err(fault) = guest.look_to_halt() {
+        return Err((guest, fault));
+    }
     if link.room().is_err() {
         return Err((guest, EventFault::Memory));
     }

@@ -1,9 +1,9 @@
 //! The pager's events, on the link's and the pager's books, or on the pager's and the target's.
 
-ghost use Rattle.std.specs.Prelude.{◌≡◌, [], None, Some, slice_get, IsTrue};
+ghost use Rattle.std.specs.Prelude.{◌≡◌, [], Some, slice_get, IsTrue};
 ghost use Rattle.link_book.specs.declared.Arrival.{Arrival};
 ghost use Rattle.target_book.specs.Kept.{geometry_of, part_of as target_of};
-ghost use Rattle.pager_book.specs.PagerPart.{delivers_by};
+ghost use Rattle.pager_book.specs.PagerPart.{faults_by, delivers_by};
 ghost use Rattle.pager_book.specs.PagerLists.{part_of, IsPacketOf};
 ghost use Rattle.migration_events.specs.declared.events.Event.{Event};
 ghost use Rattle.book_events.specs.Parts.{receiving, placing, ComesTo};
@@ -14,7 +14,8 @@ use migration_events::EventFault;
 use pager_book::{PagerBook, TargetBook};
 
 /// PagerPop: the pager takes the oldest packet that has arrived, if there is one, which is one that the source of such
-/// a machine sends. `EventFault::LogFull` only where its log has no room for the records. On an error nothing changes.
+/// a machine sends. `EventFault::LogFull` exactly where its log has no room for the records. On an error nothing changes.
+#[tactic(auto, using(crate::proofs::Rooms::pop_fits))]
 pub fn pager_pop(link: &mut LinkBook, pager: &mut PagerBook) -> Result<Came, EventFault>
     requires { (x : Arrival) → slice_get link.old.part.down_arrivals 0 ≡ Some x → IsPacketOf pager.old.geometry x.packet }
     ensures comes { ComesTo Event.PagerPop result receiving link.old.part link.new.part (part_of pager.old) (part_of pager.new) }
@@ -29,8 +30,9 @@ pub fn pager_pop(link: &mut LinkBook, pager: &mut PagerBook) -> Result<Came, Eve
 }
 
 /// PagerPull: the pager takes the oldest packet that has arrived over the lane, if there is one, which is one that the
-/// source of such a machine sends. `EventFault::LogFull` only where its log has no room for the records. On an error
+/// source of such a machine sends. `EventFault::LogFull` exactly where its log has no room for the records. On an error
 /// nothing changes.
+#[tactic(auto, using(crate::proofs::Rooms::pull_fits))]
 pub fn pager_pull(link: &mut LinkBook, pager: &mut PagerBook) -> Result<Came, EventFault>
     requires { (x : Arrival) → slice_get link.old.part.lane_arrivals 0 ≡ Some x → IsPacketOf pager.old.geometry x.packet }
     ensures comes { ComesTo Event.PagerPull result receiving link.old.part link.new.part (part_of pager.old) (part_of pager.new) }
@@ -46,6 +48,7 @@ pub fn pager_pull(link: &mut LinkBook, pager: &mut PagerBook) -> Result<Came, Ev
 
 /// PagerFlush: the pager offers the oldest packet that it has not offered, if there is one. The only error is want of
 /// memory, and then nothing changes.
+#[tactic(auto, using(crate::proofs::Rooms::flush_fits))]
 pub fn pager_flush(link: &mut LinkBook, pager: &mut PagerBook) -> Result<Came, EventFault>
     ensures comes { ComesTo Event.PagerFlush result receiving link.old.part link.new.part (part_of pager.old) (part_of pager.new) }
     ensures machine { pager.new.geometry ≡ pager.old.geometry }
@@ -59,11 +62,14 @@ pub fn pager_flush(link: &mut LinkBook, pager: &mut PagerBook) -> Result<Came, E
 }
 
 /// PagerTick: once the state has come, the pager asks once more for a page that is neither placed nor settled, or says
-/// that all are. `EventFault::LogFull` only where its log has no room for the record. On an error nothing changes.
+/// that all are. `EventFault::LogFull` exactly where its log has no room for the record, which is looked at before memory
+/// is asked for. On an error nothing changes.
+#[tactic(auto, using(crate::proofs::Rooms::pager_tick_fits))]
 pub fn pager_tick(link: &mut LinkBook, pager: &mut PagerBook) -> Result<Came, EventFault>
     ensures comes { ComesTo Event.PagerTick result receiving link.old.part link.new.part (part_of pager.old) (part_of pager.new) }
     ensures machine { pager.new.geometry ≡ pager.old.geometry }
 {
+    pager.look_to_tick()?;
     link.room()?;
     let Some(packet) = pager.tick()? else {
         return Ok(Came::Nothing);
@@ -73,16 +79,16 @@ pub fn pager_tick(link: &mut LinkBook, pager: &mut PagerBook) -> Result<Came, Ev
 }
 
 /// PagerFault: the pager settles the pages that the guest released at the target before they came, and learns of the
-/// oldest miss that it has not taken, if there is one; where there is neither, there is nothing to do. The books are of
-/// one machine, and a miss comes only once the state has. `EventFault::LogFull` only where the pager's log has no room
-/// for the records. On an error nothing changes.
+/// oldest miss that it has not taken, if there is one and the state has come; where there is neither, there is nothing to
+/// do. The books are of one machine. `EventFault::LogFull` exactly where the pager's log has no room for the records. On
+/// an error nothing changes.
+#[tactic(auto, using(crate::proofs::Rooms::fault_fits, crate::proofs::Rooms::fault_full))]
 pub fn pager_fault(pager: &mut PagerBook, target: &mut TargetBook) -> Result<Came, EventFault>
     requires machine { geometry_of target.old ≡ pager.old.geometry }
-    requires ready { pager.old.released ≡ None → (target_of target.old).misses ≡ [] }
     ensures comes { ComesTo Event.PagerFault result placing (part_of pager.old) (part_of pager.new) (target_of target.old) (target_of target.new) }
     ensures machine { (pager.new.geometry ≡ pager.old.geometry) × (geometry_of target.new ≡ geometry_of target.old) }
 {
-    if target.unsettled().is_empty() && target.next_miss().is_none() {
+    if target.unsettled().is_empty() && learns_nothing(pager, target) {
         return Ok(Came::Nothing);
     }
     pager.next_fault(target)?;
@@ -92,7 +98,8 @@ pub fn pager_fault(pager: &mut PagerBook, target: &mut TargetBook) -> Result<Cam
 /// PagerDeliver: the pager settles the pages that the guest released at the target before they came. Once the state has
 /// come it lets the guest resume, and from then on takes the oldest page that has come, if there is one, which it
 /// places, or drops where it is resident already. Where there is nothing of this, there is nothing to do. The books are
-/// of one machine. `EventFault::LogFull` only where a log has no room for the record. On an error nothing changes.
+/// of one machine. `EventFault::LogFull` exactly where a log has no room for the record. On an error nothing changes.
+#[tactic(auto, using(crate::proofs::Rooms::deliver_fits))]
 pub fn pager_deliver(pager: &mut PagerBook, target: &mut TargetBook) -> Result<Came, EventFault>
     requires machine { geometry_of target.old ≡ pager.old.geometry }
     ensures comes { ComesTo Event.PagerDeliver result placing (part_of pager.old) (part_of pager.new) (target_of target.old) (target_of target.new) }
@@ -103,6 +110,13 @@ pub fn pager_deliver(pager: &mut PagerBook, target: &mut TargetBook) -> Result<C
     }
     pager.deliver(target)?;
     Ok(Came::Made)
+}
+
+/// Whether there is no miss that the pager may take.
+fn learns_nothing(pager: &PagerBook, target: &TargetBook) -> bool
+    ensures { IsTrue result → faults_by pager.now.released (target_of target.now).misses (part_of pager.now) (target_of target.now) ≡ record { pager = part_of pager.now; target = target_of target.now; woken = [] } }
+{
+    !pager.is_ready() || target.next_miss().is_none()
 }
 
 /// Whether the pager has nothing to bring to the target: neither the state nor a page.

@@ -1,10 +1,13 @@
 //! The events on the source's and the link's books.
 
-ghost use Rattle.std.specs.Prelude.{◌≡◌, IsTrue, if◌then◌else◌};
+ghost use Rattle.std.specs.Prelude.{◌≡◌, ◌≤◌, Some, length, slice_get, IsTrue, if◌then◌else◌, OnOk, OnErr, IsErrOf};
+ghost use Rattle.migration_types.specs.Limits.{most_records};
 ghost use Rattle.source_book.specs.Books.{part_of};
 ghost use Rattle.link_book.specs.LinkPart.{with_back, with_front};
 ghost use Rattle.migration_events.specs.declared.events.Event.{Event};
-ghost use Rattle.book_events.specs.Parts.{pushing, sending, ComesTo};
+ghost use Rattle.link_book.specs.declared.Arrival.{Arrival};
+ghost use Rattle.source_book.specs.SourcePart.{source_serve};
+ghost use Rattle.book_events.specs.Parts.{pushing, sending, ComesTo, IsFull};
 ghost use Rattle.book_events.specs.inner.Offers.{Carries};
 
 use crate::came::Came;
@@ -14,8 +17,9 @@ use page_stream::Packet;
 use source_book::SourceBook;
 
 /// Push: the source sends the page that bubbling chooses, over the lane, if there is one, or else down the link, where
-/// fewer packets than the window are under way. `EventFault::LogFull` only where the source's log has no room for the
-/// record. On an error nothing changes.
+/// fewer packets than the window are under way. `EventFault::LogFull` exactly where the source's log has no room for the
+/// record, which is looked at before memory is asked for. On an error nothing changes.
+#[tactic(auto, using(crate::proofs::Rooms::push_fits))]
 pub fn push(
     source: &mut SourceBook,
     link: &mut LinkBook,
@@ -33,6 +37,7 @@ pub fn push(
     if under_way >= window as usize {
         return Ok(Came::Nothing);
     }
+    source.look_to_push()?;
     link.room()?;
     let Some(packet) = source.push()? else {
         return Ok(Came::Nothing);
@@ -47,12 +52,14 @@ pub fn push(
 }
 
 /// Serve: the source takes the oldest packet that has arrived, if there is one, and sends the page that it wants ahead
-/// of the others. `EventFault::LogFull` only where the source's log has no room for the records. On an error nothing
-/// changes.
+/// of the others. `EventFault::LogFull` exactly where the source's log has no room for the records, which is looked at
+/// before memory is asked for. On an error nothing changes.
+#[tactic(auto, using(crate::proofs::Rooms::serve_fits))]
 pub fn serve(source: &mut SourceBook, link: &mut LinkBook) -> Result<Came, EventFault>
     ensures comes { ComesTo Event.Serve result sending (part_of source.old) (part_of source.new) link.old.part link.new.part }
     ensures machine { source.new.frames.geometry ≡ source.old.frames.geometry }
 {
+    look_to_serve(source, link)?;
     link.room()?;
     let Some((number, packet)) = link.peek_up() else {
         return Ok(Came::Nothing);
@@ -65,12 +72,27 @@ pub fn serve(source: &mut SourceBook, link: &mut LinkBook) -> Result<Came, Event
     }
 }
 
+/// Whether the source's log has room for what it records of the oldest packet that has arrived, if there is one.
+fn look_to_serve(source: &SourceBook, link: &LinkBook) -> Result<(), EventFault>
+    ensures room { OnOk result ((x : Arrival) → slice_get link.now.part.up_arrivals 0 ≡ Some x → length (source_serve x.number x.packet (part_of source.now)).book.log ≤ most_records) }
+    ensures full { OnErr result (IsFull Event.Serve (sending (part_of source.now) link.now.part)) }
+    ensures memory { IsErrOf result EventFault.Memory → ⊥ }
+{
+    match link.peek_up() {
+        Some((number, packet)) => source.look_to_serve(number, packet),
+        None => Ok(()),
+    }
+}
+
 /// SourceTick: the source sends the state once more, as long as nobody asked it for anything. `EventFault::LogFull`
-/// only where its log has no room for the record. On an error nothing changes.
+/// exactly where its log has no room for the record, which is looked at before memory is asked for. On an error nothing
+/// changes.
+#[tactic(auto, using(crate::proofs::Rooms::source_tick_fits))]
 pub fn source_tick(source: &mut SourceBook, link: &mut LinkBook) -> Result<Came, EventFault>
     ensures comes { ComesTo Event.SourceTick result sending (part_of source.old) (part_of source.new) link.old.part link.new.part }
     ensures machine { source.new.frames.geometry ≡ source.old.frames.geometry }
 {
+    source.look_to_tick()?;
     link.room()?;
     let Some(packet) = source.tick()? else {
         return Ok(Came::Nothing);

@@ -128,9 +128,10 @@ impl Bubbles {
     }
 
     /// The low and the high edge of a pivot, from -1 to the page count: all pages strictly between them are sent or not
-    /// owed. `None`: the page is no pivot.
+    /// owed. `None` exactly where the page is no pivot.
     pub fn edges(&self, page: PageNo) -> Option<(i32, i32)>
-        ensures { result ≡ option_map (λ e. (low_edge e, high_edge e)) (edges_of page self.now) }
+        ensures edges { result ≡ option_map (λ e. (low_edge e, high_edge e)) (edges_of page self.now) }
+        ensures kept { MatchOption result (¬ (Contains self.now.ring.pivots page)) (λ e. Contains self.now.ring.pivots page) }
     {
         self.unsent.keeps_limits();
         self.pivots.keeps_limits();

@@ -1,3 +1,4 @@
 pub mod Maps
+pub mod Others
 pub mod Queues
 pub mod Waiters

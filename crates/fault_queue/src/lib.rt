@@ -1,7 +1,7 @@
 //! The pages that virtual processors wait for, in order of arrival.
 #![tactic(auto)]
 
-ghost use Rattle.std.specs.Prelude.{◌≡◌, ℕ, ◌==◌, ◌↔◌, [], ◌∷◌, ◌++◌, false, length, slice_get, if◌then◌else◌, IsTrue, IsNone, IfNone, IfOk, OnOk, OnErr, IsErrOf};
+ghost use Rattle.std.specs.Prelude.{◌≡◌, ℕ, ◌==◌, ◌&&◌, not, ◌↔◌, [], ◌∷◌, ◌++◌, false, length, slice_get, if◌then◌else◌, IsTrue, IsNone, IfNone, IfOk, OnOk, OnErr, IsErrOf};
 ghost use Rattle.std.specs.List.{list_any};
 ghost use Rattle.std.specs.Option.{option_map};
 ghost use Rattle.indexmap.specs.IndexMap.{values};
@@ -137,6 +137,14 @@ impl FaultQueue {
     {
         waits(&self.waiting, vcpu)
     }
+
+    /// Whether a virtual processor waits for a page that is none of these: whether it would wait still in the queue
+    /// without their entries. Takes no memory.
+    pub fn waits_beside(&self, vcpu: u8, pages: &[PageNo]) -> bool
+        ensures { result ≡ is_waiting vcpu (without_all pages.now self.now) }
+    {
+        waits_among_others(&self.waiting, vcpu, pages)
+    }
 }
 
 /// Whether a virtual processor is among the waiters of a page.
@@ -144,6 +152,13 @@ fn waits(waiting: &IndexMap<PageNo, Vec<u8>>, vcpu: u8) -> bool
     ensures { result ≡ list_any (λ v. list_any (λ x. x == vcpu) v.items) (values waiting.now) }
 {
     waiting.values().any(|waiters| waiters.contains(&vcpu))
+}
+
+/// Whether a virtual processor is among the waiters of a page that is none of these.
+fn waits_among_others(waiting: &IndexMap<PageNo, Vec<u8>>, vcpu: u8, pages: &[PageNo]) -> bool
+    ensures { result ≡ list_any (λ e. list_any (λ x. x == vcpu) e.1.items && not (list_any (λ p. p == e.0) pages.now)) waiting.now.entries }
+{
+    waiting.iter().any(|(page, waiters)| waiters.contains(&vcpu) && !pages.contains(page))
 }
 
 /// Puts a virtual processor behind those that wait for a page, or into a new entry.

@@ -17,7 +17,7 @@ ghost use Rattle.guest_book.specs.inner.Records.{record_of};
 
 use balloon_ledger::Ledger;
 use flat_machine::Machine;
-use migration_events::{Op, make_room};
+use migration_events::{Op, look_for_room, make_room};
 use migration_types::{Geometry, GuestRec, InitPage};
 use page_store::Store;
 use page_stream::Packet;
@@ -69,12 +69,14 @@ impl GuestBook {
     }
 
     /// Does an operation of a virtual processor, records it and answers it: by the value read, the value written, or 0
-    /// for a release. `TargetFault::LogFull` where the log has no room for the record. On an error nothing changes.
+    /// for a release. `TargetFault::LogFull` exactly where the log has no room for the record, `TargetFault::Memory` where
+    /// it has. On an error nothing changes.
     pub fn access(&mut self, v: u8, op: Op) -> Result<u64, TargetFault>
         requires { OpFits self.old.frames.geometry op }
         ensures part { OnOk result (part_of self.new ≡ guest_access v op (part_of self.old)) }
         ensures answer { IfOk result (λ x. x ≡ answer_of op (part_of self.old).memory) }
         ensures full { IsErrOf result TargetFault.LogFull → most_records < length (guest_access v op (part_of self.old)).log }
+        ensures memory { IsErrOf result TargetFault.Memory → length (guest_access v op (part_of self.old)).log ≤ most_records }
         ensures err { OnErr result (self.new ≡ self.old) }
     {
         make_room(&mut self.log, 1)?;
@@ -83,11 +85,20 @@ impl GuestBook {
         Ok(done.answer)
     }
 
+    /// Whether the log has room for the record of the halt. Takes no memory.
+    pub fn look_to_halt(&self) -> Result<(), TargetFault>
+        ensures room { OnOk result (length (halted_target self.now.log).log ≤ most_records) }
+        ensures full { OnErr result (most_records < length (halted_target self.now.log).log) }
+        ensures memory { IsErrOf result TargetFault.Memory → ⊥ }
+    {
+        look_for_room(&self.log, 1)
+    }
+
     /// Halts the guest, which is recorded: the frames and the ledger go to the source's book, which keeps at most so
     /// many pivots, 1 to 16, and the log to the target's; with them comes the packet of the processor state, which is
     /// to be offered. The target's book has room for each page of the machine that the pager may have to settle, so a
-    /// release there takes memory for its record alone. `TargetFault::LogFull` where the log has no room for the
-    /// record. On an error the book comes back as it was.
+    /// release there takes memory for its record alone. `TargetFault::LogFull` exactly where the log has no room for the
+    /// record, `TargetFault::Memory` where it has. On an error the book comes back as it was.
     pub fn halt(
         self,
         pivots: u32,
@@ -99,6 +110,7 @@ impl GuestBook {
         ensures geometry { IfOk result (λ r. geometry_of r.1 ≡ self.frames.geometry) }
         ensures packet { IfOk result (λ r. r.2 ≡ state_packet 1 (halted_source self.frames.geometry (memory_of self.frames) (released self.ledger) pivots (length self.log))) }
         ensures full { IfErr result (λ e. e.1 ≡ TargetFault.LogFull → most_records < length (halted_target self.log).log) }
+        ensures memory { IfErr result (λ e. e.1 ≡ TargetFault.Memory → length (halted_target self.log).log ≤ most_records) }
         ensures err { IfErr result (λ e. e.0 ≡ self) }
     {
         let GuestBook {

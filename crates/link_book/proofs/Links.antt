@@ -136,3 +136,23 @@ oldest_within names log [] x h is = absurd (cc)
 oldest_within names log (y ∷ xs) x h is =
     let same : y ≡ x = cc in
     subst (λ (z : Arrival). z.number < length log) same (slice_get_within log y.number (names (number_of y.packet)) h.0)
+
+-- a log with a place has one for the record of a packet that comes
+fits : {R : Type 0} (names : ℕ → R) (came : Option ℕ) (log : List R) → length log < most_records → length (with_arrival names came log) ≤ most_records
+fits names None log room = omega (arith, room)
+fits names (Some n) log room = simp length-append (omega (arith, room))
+
+pub down_fits : (d : Direction) (fate : Fate) (b : LinkPart) → d ≡ Downward → length b.log < most_records → log_length d (turned d fate b) ≤ most_records
+down_fits Downward fate b is room = fits Down (channel_turned (goes Downward) fate (length b.log) b.down b.down_arrivals).came b.log room
+down_fits Upward fate b is room = absurd (cc)
+down_fits OverLane fate b is room = absurd (cc)
+
+pub up_fits : (d : Direction) (fate : Fate) (b : LinkPart) → d ≡ Upward → length b.log < most_records → log_length d (turned d fate b) ≤ most_records
+up_fits Upward fate b is room = fits Up (channel_turned (goes Upward) fate (length b.log) b.up b.up_arrivals).came b.log room
+up_fits Downward fate b is room = absurd (cc)
+up_fits OverLane fate b is room = absurd (cc)
+
+pub lane_fits : (d : Direction) (fate : Fate) (b : LinkPart) → d ≡ OverLane → length b.lane_log < most_records → log_length d (turned d fate b) ≤ most_records
+lane_fits OverLane fate b is room = fits LaneDown (channel_turned (goes OverLane) fate (length b.lane_log) b.lane b.lane_arrivals).came b.lane_log room
+lane_fits Downward fate b is room = absurd (cc)
+lane_fits Upward fate b is room = absurd (cc)

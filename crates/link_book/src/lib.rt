@@ -1,7 +1,7 @@
 //! The lines of packets under way, those that have arrived, and the logs of the link and of the lane.
 #![tactic(auto)]
 
-ghost use Rattle.std.specs.Prelude.{◌≡◌, ◌==◌, ◌&&◌, ◌<◌, [], true, false, None, length, slice_get, drop, if◌then◌else◌, IfSome, IsTrue, OnOk, OnErr, IsErrOf};
+ghost use Rattle.std.specs.Prelude.{◌≡◌, ◌==◌, ◌&&◌, ◌<◌, ◌≤◌, [], true, false, None, length, slice_get, drop, if◌then◌else◌, IfSome, IsTrue, OnOk, OnErr, IsErrOf};
 ghost use Rattle.std.specs.Option.{option_map};
 
 mod arrivals;
@@ -147,10 +147,12 @@ impl LinkBook {
 
     /// The packet at the head of a line meets its fate; one that does not go this way is dropped, and where the line is
     /// empty nothing changes. Room that was made stays. `LogFull` where it arrives and the log of its link has
-    /// 1,048,576 records, which is looked at before memory is asked for. On an error nothing changes.
+    /// 1,048,576 records, which is looked at before memory is asked for, so that `Memory` comes only where the log has
+    /// room. On an error nothing changes.
     pub fn turn(&mut self, direction: Direction, fate: Fate) -> Result<(), LinkFault>
         ensures ok { OnOk result (self.new ≡ record self.old { part = turned direction fate self.old.part }) }
         ensures full { IsErrOf result LinkFault.LogFull → 1048576 < log_length direction (turned direction fate self.old.part) }
+        ensures memory { IsErrOf result LinkFault.Memory → log_length direction (turned direction fate self.old.part) ≤ 1048576 }
         ensures err { OnErr result (self.new ≡ self.old) }
     {
         let alloc = self.alloc;

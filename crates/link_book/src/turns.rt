@@ -61,6 +61,7 @@ pub fn turn_line<R: Receipt>(
     ensures few { OnOk result (length log.new.items ≤ 1048576) }
     ensures full { IsErrOf result LinkFault.LogFull → (1048576 ≤ length log.old.items)
         × (is_some (channel_turned (goes direction) fate (length log.old.items) channel.old.line.items channel.old.arrivals.items).came ≡ true) }
+    ensures memory { IsErrOf result LinkFault.Memory → length log.old.items < 1048576 }
     ensures err { OnErr result ((log.new.items ≡ log.old.items) × (channel.new.line.items ≡ channel.old.line.items) × (channel.new.arrivals.items ≡ channel.old.arrivals.items)) }
     ensures room { deque_len channel.old.line < deque_capacity channel.old.line → deque_len channel.new.line < deque_capacity channel.new.line }
 {
@@ -87,6 +88,7 @@ fn meet_fate<R>(
     ensures place { IfOk result (λ came. is_some came ≡ true → (length log.old.items < 1048576) × (vec_len log.new < vec_capacity log.new)) }
     ensures full { IsErrOf result LinkFault.LogFull → (1048576 ≤ length log.old.items)
         × (is_some (channel_turned (goes direction) fate (length log.old.items) line.old.items arrivals.old.items).came ≡ true) }
+    ensures memory { IsErrOf result LinkFault.Memory → length log.old.items < 1048576 }
     ensures log { log.new.items ≡ log.old.items }
     ensures err { OnErr result ((line.new.items ≡ line.old.items) × (arrivals.new.items ≡ arrivals.old.items)) }
     ensures room { deque_len line.old < deque_capacity line.old → deque_len line.new < deque_capacity line.new }
@@ -135,6 +137,7 @@ fn make_places<R>(log: &mut Vec<R>, arrivals: &mut VecDeque<Arrival>) -> Result<
     ensures same { (log.new.items ≡ log.old.items) × (arrivals.new.items ≡ arrivals.old.items) }
     ensures ok { OnOk result ((length log.old.items < 1048576) × (vec_len log.new < vec_capacity log.new) × (deque_len arrivals.new < deque_capacity arrivals.new)) }
     ensures full { IsErrOf result LinkFault.LogFull → 1048576 ≤ length log.old.items }
+    ensures memory { IsErrOf result LinkFault.Memory → length log.old.items < 1048576 }
 {
     make_room(log, 1)?;
     arrivals.reserve(1).map_err(|_| LinkFault::Memory)

@@ -11,6 +11,7 @@ pub fn look_for_room<R>(log: &Vec<R>, more: usize) -> Result<(), EventFault>
     requires { more ≤ 2 }
     ensures room { OnOk result (length log.now.items + more ≤ most_records) }
     ensures full { IsErrOf result EventFault.LogFull → most_records < length log.now.items + more }
+    ensures memory { IsErrOf result EventFault.Memory → ⊥ }
 {
     if log.len() > MOST_RECORDS as usize - more {
         return Err(EventFault::LogFull);
@@ -26,6 +27,7 @@ pub fn make_room<R>(log: &mut Vec<R>, more: usize) -> Result<(), EventFault>
     ensures room { OnOk result (vec_len log.new + more ≤ vec_capacity log.new) }
     ensures fits { OnOk result (length log.old.items + more ≤ most_records) }
     ensures full { IsErrOf result EventFault.LogFull → most_records < length log.old.items + more }
+    ensures memory { IsErrOf result EventFault.Memory → length log.old.items + more ≤ most_records }
 {
     look_for_room(log, more)?;
     log.reserve(more).map_err(|_| EventFault::Memory)

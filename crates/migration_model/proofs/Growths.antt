@@ -13,7 +13,7 @@ use Rattle.migration_events.specs.declared.events.Event.TheVariants.{GuestStep, 
 use Rattle.migration_events.specs.declared.events.Fate.{Fate}
 use Rattle.migration_events.specs.declared.ops.Op.{Op}
 use Rattle.migration_events.specs.declared.ops.Op.TheVariants.{Read as ReadCell, Release as ReleasePage, Write as WriteCell}
-use Rattle.migration_model.proofs.Facts.{settles_log}
+use Rattle.migration_model.proofs.Unrecorded.{settles_log}
 use Rattle.migration_model.proofs.Lists.{length_suc}
 use Rattle.migration_model.specs.Events.{all_at_move, away_event, away_ops, away_step, books_event, halted, home_event, home_ops, home_step, offered, paged, popped, pulled, pushed, sent_up, served}
 use Rattle.migration_model.specs.Books.{After, BooksAfter, Before, Books, BooksBefore, Vcpu, session_after, session_before, session_of}
@@ -34,7 +34,7 @@ use Rattle.std.specs.Prelude.{nat_lt, slice_get}
 use Rattle.target_book.specs.TargetPart.{Accessed, TargetPart, accesses, does, done_over, frees, lacks, looks, misses_page, resumes, settled as with_settled, target_access, with_misses}
 use Rattle.target_book.specs.declared.Access.TheVariants.{Missed, Waiting}
 use Rattle.target_book.specs.declared.Missing.{Missing}
-use Rattle.pager_book.specs.PagerPart.{Paged, PagerPart, Sent, deliver, delivers_by, delivers_next, fault_absent, fault_join, fault_new, faults, first_absent, flushes, is_released, next_fault, pager_flush, pager_pop, pager_pull, pager_tick, places, pops_by, pulls_by, settles, takes, ticks, ticks_at, zeroes}
+use Rattle.pager_book.specs.PagerPart.{Paged, PagerPart, Sent, deliver, delivers_by, delivers_next, fault_absent, fault_join, fault_new, faults, faults_by, first_absent, flushes, is_released, next_fault, pager_flush, pager_pop, pager_pull, pager_tick, places, pops_by, pulls_by, settles, takes, ticks, ticks_at, zeroes}
 use Rattle.pager_book.specs.declared.Incoming.{Incoming}
 
 -- at most two longer
@@ -220,8 +220,12 @@ faults_more (x ∷ rest) b t =
 settled_more : (b : PagerPart) (t : TargetPart) (r : Paged) → PagedMore (settles t.unsettled b) (with_settled t) r → PagedMore b t r
 settled_more b t r k = record { pager = subst (λ log. IsLittleMore log r.pager.log) (settles_log t.unsettled b) k.pager; target = k.target }
 
+faults_by_more : (released : Option (List ℕ)) (misses : List Missing) (b : PagerPart) (t : TargetPart) → PagedMore b t (faults_by released misses b t)
+faults_by_more None misses b t = paged_none b t []
+faults_by_more (Some released) misses b t = faults_more misses b t
+
 next_fault_more : (b : PagerPart) (t : TargetPart) → PagedMore b t (next_fault b t)
-next_fault_more b t = settled_more b t (next_fault b t) (faults_more t.misses (settles t.unsettled b) (with_settled t))
+next_fault_more b t = settled_more b t (next_fault b t) (faults_by_more b.released t.misses (settles t.unsettled b) (with_settled t))
 
 module _ (b : PagerPart) (t : TargetPart) where
   arrives_more : (inbox : List Incoming) → PagedMore b t (delivers_next inbox b t)

@@ -16,7 +16,8 @@ use Rattle.migration_types.specs.declared.records.SourceRec.TheVariants.{Again, 
 use Rattle.page_stream.specs.Packets.{number_of}
 use Rattle.page_stream.specs.declared.Packet.{Packet}
 use Rattle.page_stream.specs.declared.Packet.TheVariants.{All as AllPacket, Page as PagePacket, State as StatePacket, Want as WantPacket}
-use Rattle.migration_model.proofs.Facts.{Arrives, AwayKept, DownFact, HasArrived, IsStateNumber, LaneFact, UpFact, ChannelKept, close_lane, close_link, close_none, down_fact_stays, lane_fact_stays, lane_pushed, link_pushed, link_stays, released_of, up_fact_stays, up_keeps, channel_more, channel_stays, with_link, with_pager}
+use Rattle.migration_model.proofs.Facts.{Arrives, AwayKept, DownFact, HasArrived, IsStateNumber, LaneFact, UpFact, ChannelKept, close_lane, close_link, close_none, down_fact_stays, lane_fact_stays, lane_pushed, link_pushed, link_stays, released_of, up_fact_stays, channel_stays}
+use Rattle.migration_model.proofs.Unrecorded.{up_keeps, channel_more, with_link, with_pager}
 use Rattle.migration_model.proofs.Grows.{lane_extends, lane_more, link_extends, link_more, names}
 use Rattle.migration_model.proofs.Lists.{each_push, get_new, get_old, passes_at}
 use Rattle.migration_model.specs.Events.{sent_up}

@@ -1,6 +1,6 @@
 -- What the calls on the books ask for, in a core that is reached.
 use Rattle.migration_types.specs.Receipts.{Name}
-use Rattle.migration_model.proofs.Facts.{AwayKept, DownArrived, DownFact, HasMissed, LaneArrived, released_of, unready_goes}
+use Rattle.migration_model.proofs.Facts.{AwayKept, DownArrived, DownFact, LaneArrived, released_of}
 use Rattle.migration_model.proofs.Guests.{each_get}
 use Rattle.migration_model.proofs.Lists.{each_kept}
 use Rattle.migration_model.proofs.Whole.{BooksKept}
@@ -15,10 +15,9 @@ use Rattle.migration_types.specs.declared.records.SourceRec.TheVariants.{Send}
 use Rattle.balloon_ledger.specs.Released.{pages_below}
 use Rattle.page_stream.specs.declared.Packet.{Packet}
 use Rattle.page_stream.specs.declared.Packet.TheVariants.{All as AllPacket, Page as PagePacket, State as StatePacket, Want as WantPacket}
-use Rattle.std.proofs.Common.{List, None, [], ap, arith, length, refl, subst, suc, sym, zero, ℕ, ◌+◌, ◌<◌, ◌∙◌, ◌∷◌, ◌≡◌}
+use Rattle.std.proofs.Common.{List, ap, arith, length, subst, suc, sym, zero, ℕ, ◌+◌, ◌<◌, ◌∙◌, ◌≡◌}
 use Rattle.std.proofs.lemmas.List.FromFn.{length-map-range_with_len}
 use Rattle.std.specs.List.{AllByRecursion, range_with_len}
-use Rattle.target_book.specs.declared.Missing.{Missing}
 use Rattle.pager_book.specs.PagerLists.{IsPacketOf}
 
 -- numbers from one on are below its sum with their count
@@ -39,19 +38,12 @@ packet_is_of o a k (PagePacket n p content) fact =
 packet_is_of o a k (WantPacket n p) fact = tt
 packet_is_of o a k (AllPacket n) fact = tt
 
-no_miss : (o : List Name) (a : BooksAfter) → AwayKept o a → (misses : List Missing) → a.target.misses ≡ misses → a.pager.released ≡ None → misses ≡ []
-no_miss o a k [] e unready = refl
-no_miss o a k (x ∷ rest) e unready =
-    let all : AllByRecursion (HasMissed (session_after a)) (x ∷ rest) = subst (λ ys. AllByRecursion (HasMissed (session_after a)) ys) e k.target.misses in
-    unready_goes (session_after a) (released_of a) a.pager k.pager all.0.1 unready
-
 away_orderly : (o : List Name) (a : BooksAfter) → AwayKept o a → IsOrderly a
 away_orderly o a k = record {
   arrival = λ x is. subst (λ (e : Extent). IsPacketOf e x.packet) (sym k.pager.geometry)
       (packet_is_of o a k x.packet (each_get (DownArrived (session_after a) (released_of a)) a.link.down_arrivals 0 x k.link.down.come is).1);
   over_lane = λ x is. subst (λ (e : Extent). IsPacketOf e x.packet) (sym k.pager.geometry)
       (packet_is_of o a k x.packet (each_get (LaneArrived (session_after a) (released_of a)) a.link.lane_arrivals 0 x k.link.lane.come is).1.1);
-  misses = no_miss o a k a.target.misses refl;
 }
 
 books_orderly : (o : List Name) (b : Books) → BooksKept o b → AreOrderly b

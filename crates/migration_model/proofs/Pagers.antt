@@ -24,7 +24,8 @@ use Rattle.page_stream.specs.Packets.{number_of}
 use Rattle.page_stream.specs.declared.Packet.{Packet}
 use Rattle.page_stream.specs.declared.Packet.TheVariants.{All as AllPacket, Page as PagePacket, State as StatePacket, Want as WantPacket}
 use Rattle.migration_model.proofs.Cleans.{PagerClean, over_pager, pager_cleans}
-use Rattle.migration_model.proofs.Facts.{Arrives, AwayKept, DownArrived, DownFact, HasCome, HasMissed, IsReady, IsStateNumber, IsWaitedFor, LaneArrived, UpFact, close_guest, close_none, close_pager, close_pager_two, down_fact_stays, has_come_stays, is_there, link_stays, misses_stay, not_new, pager_pushed, released_of, settled_arrives, settled_books, settled_keeps, settles_released, up_fact_stays, up_keeps, with_link, with_pager}
+use Rattle.migration_model.proofs.Facts.{Arrives, AwayKept, DownArrived, DownFact, HasCome, HasMissed, IsReady, IsStateNumber, IsWaitedFor, LaneArrived, UpFact, close_guest, close_none, close_pager, close_pager_two, down_fact_stays, has_come_stays, is_there, link_stays, misses_stay, not_new, pager_pushed, released_of, up_fact_stays}
+use Rattle.migration_model.proofs.Unrecorded.{settled_arrives, settled_books, settled_keeps, settles_released, up_keeps, with_link, with_pager}
 use Rattle.migration_model.proofs.Grows.{Extends, IsThere, names, names_none, pager_extends, pager_merges, pager_more, taken_stays}
 use Rattle.migration_model.proofs.Limits.{PagerWithin, content_fits, pager_limits, wide_content, wide_zeros}
 use Rattle.migration_model.proofs.Lists.{all_push, and_both, each_kept, each_mapped, each_push, each_weaker, get_new, get_old, index_other, length_suc, passes_at}
@@ -39,7 +40,7 @@ use Rattle.std.proofs.lemmas.Option.{slice_get_within}
 use Rattle.std.specs.List.{AllByRecursion, filter, range_with_len}
 use Rattle.std.specs.Option.{option_map}
 use Rattle.std.specs.Prelude.{is_some, slice_get, slice_index, ◌+◌, ◌==◌}
-use Rattle.pager_book.specs.PagerPart.{PagerPart, deliver, delivers_at, delivers_by, delivers_next, fault_absent, fault_at, fault_join, fault_new, faults, first_absent, is_listed, is_released, next_fault, oldest, places, pops_by, pops_first, pulls_by, takes, ticks, ticks_at, wants_page, zeroes}
+use Rattle.pager_book.specs.PagerPart.{PagerPart, deliver, delivers_at, delivers_by, delivers_next, fault_absent, fault_at, fault_join, fault_new, faults, faults_by, first_absent, is_listed, is_released, next_fault, oldest, places, pops_by, pops_first, pulls_by, takes, ticks, ticks_at, wants_page, zeroes}
 use Rattle.target_book.specs.TargetPart.{resumes}
 use Rattle.pager_book.specs.declared.Incoming.{Incoming}
 use Rattle.target_book.specs.declared.Missing.{Missing}
@@ -547,5 +548,9 @@ taken_keeps o (x ∷ rest) a k e =
     let new = pager_pushed (Fault x.number) b (with_misses rest a k facts.1) ready (passes_at is_miss s.guest x.number r miss refl) (names s (Guest, x.number) (slice_get_within s.guest x.number r miss)) refl (λ q. refl) tt tt (λ e. absurd (cc)) in
     fault_at_keeps o x.number b new (get_old s.pager (Fault x.number ∷ []) 1 Ready ready) x.page x.vcpu (k.limits.guest x.number r miss).1
 
+taken_by_keeps : (o : List Name) (released : Option (List ℕ)) (a : BooksAfter) → AwayKept o a → Arrives o a (paged (faults_by released a.target.misses a.pager a.target) a)
+taken_by_keeps o None a k = close_none o (session_after a) a k
+taken_by_keeps o (Some released) a k = taken_keeps o a.target.misses a k refl
+
 pub faulted_keeps : (o : List Name) (a : BooksAfter) → AwayKept o a → Arrives o a (paged (next_fault a.pager a.target) a)
-faulted_keeps o a k = settled_arrives o a _ (taken_keeps o a.target.misses (settled_books a) (settled_keeps a k) refl)
+faulted_keeps o a k = settled_arrives o a _ (taken_by_keeps o a.pager.released (settled_books a) (settled_keeps a k))

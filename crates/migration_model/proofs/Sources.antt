@@ -17,7 +17,8 @@ use Rattle.migration_types.specs.declared.records.SourceRec.TheVariants.{Again, 
 use Rattle.page_stream.specs.declared.Packet.{Packet}
 use Rattle.page_stream.specs.declared.Packet.TheVariants.{All as AllPacket, Page as PagePacket, State as StatePacket, Want as WantPacket}
 use Rattle.migration_model.proofs.Cleans.{SourceClean}
-use Rattle.migration_model.proofs.Facts.{Arrives, AwayKept, IsPageNumber, UpArrived, back_keeps, close_none, close_source, close_source_two, front_keeps, lane_keeps, source_pushed, with_link}
+use Rattle.migration_model.proofs.Facts.{Arrives, AwayKept, IsPageNumber, UpArrived, close_none, close_source, close_source_two, source_pushed}
+use Rattle.migration_model.proofs.Unrecorded.{back_keeps, front_keeps, lane_keeps, with_link}
 use Rattle.migration_model.proofs.Grows.{names, names_none}
 use Rattle.migration_model.proofs.Lists.{and_both, and_left, and_right, get_new, get_old, index_key, index_other, not_some, not_true, passes_at}
 use Rattle.migration_model.specs.Events.{offered, pushed, served}

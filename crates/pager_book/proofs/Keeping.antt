@@ -1,6 +1,7 @@
 -- What the pager's book keeps, through each part of an event.
-use Rattle.std.proofs.Common.{◌≡◌, ℕ, ◌<◌, ◌≤◌, Bool, true, false, cond, ◌||◌, List, [], ◌∷◌, ◌++◌, length, Option, Some, None, refl, sym, ap, ◌∙◌, subst, arith}
-use Rattle.std.proofs.lemmas.Bool.{eqb-true}
+use Rattle.std.proofs.Common.{◌≡◌, ℕ, ◌<◌, ◌≤◌, ◌⊎◌, inl, inr, Bool, true, false, cond, ◌||◌, List, [], ◌∷◌, ◌++◌, length, Option, Some, None, refl, sym, ap, ◌∙◌, subst, arith}
+use Rattle.std.proofs.lemmas.Bool.{eqb-true, eq-eqb, both_ways}
+use Rattle.std.proofs.lemmas.Option.{slice_get_within}
 use Rattle.std.proofs.lemmas.List.Folds.{list_any-append}
 use Rattle.std.specs.Prelude.{is_some, slice_get, ◌==◌}
 use Rattle.std.specs.List.{AllByRecursion, list_any}
@@ -16,8 +17,8 @@ use Rattle.page_stream.specs.declared.Packet.{Packet}
 use Rattle.page_stream.specs.declared.Packet.TheVariants.{State as StatePacket, Page as PagePacket, Want as WantPacket, All as AllPacket}
 use Rattle.pager_book.specs.declared.Incoming.{Incoming}
 use Rattle.pager_book.specs.PagerPart.{PagerPart, wants_page, oldest}
-use Rattle.pager_book.specs.PagerLists.{HasBegun, HasCome, IsSaid, IsWanted, IsTied, IsKept}
-use Rattle.pager_book.proofs.Lists.{get_old, get_new, passes_old, each_push, each_weaker, each_filtered, each_mapped}
+use Rattle.pager_book.specs.PagerLists.{HasBegun, HasCome, IsSaid, IsWanted, IsTied, AreLast, IsKept}
+use Rattle.pager_book.proofs.Lists.{get_old, get_new, get_push, passes_old, each_push, each_weaker, each_filtered, each_mapped}
 
 -- a record more in the log
 abbrev pub with_record : PagerRec → PagerPart → PagerPart
@@ -66,12 +67,51 @@ begun_more : (released : Option (List ℕ)) (log : List PagerRec) (r : PagerRec)
 begun_more None log r is h = absurd (cc)
 begun_more (Some xs) log r is h = ((h.0.0, get_old log r 0 (Got h.0.0) h.0.1), get_old log r 1 Ready h.1)
 
--- a record more, once the state has come
-pub kept_more : (r : PagerRec) (b : PagerPart) → is_some b.released ≡ true → ((p : ℕ) → is_placement_of p r ≡ false) → length (b.log ++ r ∷ []) ≤ most_records → IsKept b → IsKept (with_record r b)
-kept_more r b is other few k = record { few = few; begun = begun_more b.released b.log r is k.begun; tied = tied_more r b other k.tied }
+-- a record that is of a page: that places it, or wants it
+abbrev pub is_want_of : ℕ → PagerRec → Bool
+is_want_of page (Want p) = p == page
+is_want_of page _ = false
 
-pub kept_placed : (page : ℕ) (r : PagerRec) (b : PagerPart) → is_some b.released ≡ true → ((p : ℕ) → is_placement_of p r ≡ (page == p)) → length (b.log ++ r ∷ []) ≤ most_records → IsKept b → IsKept (record b { log = b.log ++ r ∷ []; placed = with_page page b.placed })
-kept_placed page r b is places few k = record { few = few; begun = begun_more b.released b.log r is k.begun; tied = tied_placed page r b places k.tied }
+abbrev pub is_of : ℕ → PagerRec → Bool
+is_of page r = is_placement_of page r || is_want_of page r
+
+neither : (a c : Bool) → (a || c) ≡ false → (a ≡ false) × (c ≡ false)
+neither true c e = absurd (cc)
+neither false c e = (refl, e)
+
+-- a record that wants nothing
+last_more : (r : PagerRec) (log : List PagerRec) (wants : ℕ → Option ℕ) → ((p : ℕ) → is_want_of p r ≡ false) → AreLast log wants → AreLast (log ++ r ∷ []) wants
+last_more r log wants other last p m e = go (get_push log r m (Want p) e)
+  where
+    go : (slice_get log m ≡ Some (Want p)) ⊎ ((m ≡ length log) × (r ≡ Want p)) → (n : ℕ) × ((wants p ≡ Some n) × (m ≤ n))
+    go (inl old) = last p m old
+    go (inr new) = absurd (both_ways (is_want_of p r) (other p) (ap (is_want_of p) new.1 ∙ eq-eqb p p refl))
+
+-- a record that wants a page
+last_wanting : (page : ℕ) (log : List PagerRec) (wants : ℕ → Option ℕ) → AreLast log wants → AreLast (log ++ Want page ∷ []) (with_value page (Some (length log)) wants)
+last_wanting page log wants last p m e = go (get_push log (Want page) m (Want p) e)
+  where
+    Told : Bool → Type 0
+    Told c = (n : ℕ) × ((cond c (Some (length log)) (wants p) ≡ Some n) × (m ≤ n))
+
+    old : (c : Bool) → slice_get log m ≡ Some (Want p) → Told c
+    old true there = let within = slice_get_within log m (Want p) there in (length log, (refl, omega (arith, within)))
+    old false there = last p m there
+
+    new : (c : Bool) → (page == p) ≡ c → m ≡ length log → page ≡ p → Told c
+    new true is at same = (length log, (refl, omega (arith, at)))
+    new false is at same = absurd (both_ways (page == p) is (eq-eqb page p same))
+
+    go : (slice_get log m ≡ Some (Want p)) ⊎ ((m ≡ length log) × (Want page ≡ Want p)) → Told (page == p)
+    go (inl there) = old (page == p) there
+    go (inr here) = new (page == p) refl here.0 (let e = here.1 in cc)
+
+-- a record more, once the state has come
+pub kept_more : (r : PagerRec) (b : PagerPart) → is_some b.released ≡ true → ((p : ℕ) → is_of p r ≡ false) → length (b.log ++ r ∷ []) ≤ most_records → IsKept b → IsKept (with_record r b)
+kept_more r b is other few k = record { few = few; begun = begun_more b.released b.log r is k.begun; tied = tied_more r b (λ p. (neither (is_placement_of p r) (is_want_of p r) (other p)).0) k.tied; last = last_more r b.log b.wants (λ p. (neither (is_placement_of p r) (is_want_of p r) (other p)).1) k.last }
+
+pub kept_placed : (page : ℕ) (r : PagerRec) (b : PagerPart) → is_some b.released ≡ true → ((p : ℕ) → is_placement_of p r ≡ (page == p)) → ((p : ℕ) → is_want_of p r ≡ false) → length (b.log ++ r ∷ []) ≤ most_records → IsKept b → IsKept (record b { log = b.log ++ r ∷ []; placed = with_page page b.placed })
+kept_placed page r b is places other few k = record { few = few; begun = begun_more b.released b.log r is k.begun; tied = tied_placed page r b places k.tied; last = last_more r b.log b.wants other k.last }
 
 -- the state comes first
 unbegun : (released : Option (List ℕ)) (log : List PagerRec) → is_some released ≡ false → HasBegun released log → log ≡ []
@@ -86,6 +126,7 @@ kept_first down list b is k =
       few = subst (λ (xs : List PagerRec). length ((xs ++ Got down ∷ []) ++ Ready ∷ []) ≤ most_records) (sym none) (omega arith);
       begun = subst (λ (xs : List PagerRec). HasBegun (Some list) ((xs ++ Got down ∷ []) ++ Ready ∷ [])) (sym none) ((down, refl), refl);
       tied = record { inbox = t.inbox; outbox = t.outbox; wants = t.wants; waiting = t.waiting; placed = t.placed };
+      last = last_more Ready (b.log ++ Got down ∷ []) b.wants (λ p. refl) (last_more (Got down) b.log b.wants (λ p. refl) k.last);
     }
 
 -- a page comes
@@ -93,6 +134,7 @@ pub kept_incoming : (x : Incoming) (b : PagerPart) → HasCome b.geometry b.log 
 kept_incoming x b here k = record {
   few = k.few;
   begun = k.begun;
+  last = k.last;
   tied = record { inbox = each_push (HasCome b.geometry b.log) b.inbox x k.tied.inbox here; outbox = k.tied.outbox; wants = k.tied.wants; waiting = k.tied.waiting; placed = k.tied.placed };
 }
 
@@ -104,6 +146,7 @@ kept_taken x rest b is k =
       record {
         few = k.few;
         begun = k.begun;
+        last = k.last;
         tied = record { inbox = all.1; outbox = k.tied.outbox; wants = k.tied.wants; waiting = k.tied.waiting; placed = k.tied.placed };
       },
     )
@@ -115,6 +158,7 @@ kept_flushed packet rest b is k =
     record {
       few = k.few;
       begun = k.begun;
+      last = k.last;
       tied = record { inbox = k.tied.inbox; outbox = all.1; wants = k.tied.wants; waiting = k.tied.waiting; placed = k.tied.placed };
     }
 
@@ -132,6 +176,7 @@ kept_wanting page b is fits few k =
     record {
       few = few;
       begun = begun_more b.released b.log (Want page) is k.begun;
+      last = last_wanting page b.log b.wants k.last;
       tied = record {
         inbox = t.inbox;
         outbox = t.outbox;
@@ -154,6 +199,7 @@ pub kept_sending : (n page : ℕ) (b : PagerPart) → page < b.geometry.pages �
 kept_sending n page b fits is k = record {
   few = k.few;
   begun = k.begun;
+  last = k.last;
   tied = record { inbox = k.tied.inbox; outbox = each_push (IsSaid b.geometry b.log) b.outbox (WantPacket n page) k.tied.outbox (fits, is); wants = k.tied.wants; waiting = k.tied.waiting; placed = k.tied.placed };
 }
 
@@ -162,6 +208,7 @@ pub kept_waiting : (waiting : List Waiting) (b : PagerPart) → AllByRecursion (
 kept_waiting waiting b all k = record {
   few = k.few;
   begun = k.begun;
+  last = k.last;
   tied = record { inbox = k.tied.inbox; outbox = k.tied.outbox; wants = k.tied.wants; waiting = all; placed = k.tied.placed };
 }
 

@@ -6,3 +6,4 @@ mod Ticking
 mod Paging
 mod Branches
 pub mod Settling
+mod Counting

@@ -1,5 +1,5 @@
 -- Logs that grow at their end, and queues.
-use Rattle.std.proofs.Common.{◌≡◌, ℕ, zero, suc, Bool, true, false, cond, List, [], ◌∷◌, ◌++◌, length, Some, refl, ap}
+use Rattle.std.proofs.Common.{◌≡◌, ℕ, zero, suc, ◌⊎◌, inl, inr, Bool, true, false, cond, List, [], ◌∷◌, ◌++◌, length, Some, refl, ap}
 use Rattle.std.specs.Prelude.{slice_get, map}
 use Rattle.std.specs.List.{AllByRecursion, filter}
 use Rattle.audit_model.specs.Shape.{passes}
@@ -12,6 +12,16 @@ pub get_old : {A : Type 0} (xs : List A) (x : A) (n : ℕ) (y : A) → slice_get
 get_old [] x n y e = absurd (cc)
 get_old (z ∷ xs) x zero y e = e
 get_old (z ∷ xs) x (suc n) y e = get_old xs x n y e
+
+pub get_push : {A : Type 0} (xs : List A) (x : A) (n : ℕ) (y : A) → slice_get (xs ++ x ∷ []) n ≡ Some y → (slice_get xs n ≡ Some y) ⊎ ((n ≡ length xs) × (x ≡ y))
+get_push [] x zero y e = inr (refl, (let e = e in cc))
+get_push [] x (suc n) y e = absurd (cc)
+get_push (z ∷ xs) x zero y e = inl e
+get_push {A} (z ∷ xs) x (suc n) y e = up (get_push xs x n y e)
+  where
+    up : (slice_get xs n ≡ Some y) ⊎ ((n ≡ length xs) × (x ≡ y)) → (slice_get xs n ≡ Some y) ⊎ ((suc n ≡ suc (length xs)) × (x ≡ y))
+    up (inl h) = inl h
+    up (inr h) = inr (ap suc h.0, h.1)
 
 pub passes_old : {A : Type 0} (test : A → Bool) (xs : List A) (x : A) (n : ℕ) → passes test (slice_get xs n) ≡ true → passes test (slice_get (xs ++ x ∷ []) n) ≡ true
 passes_old test [] x n e = absurd (cc)

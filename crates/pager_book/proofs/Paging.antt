@@ -23,7 +23,7 @@ use Rattle.pager_book.specs.inner.Steps.{learned, asks, places_next}
 use Rattle.pager_book.proofs.Lists.{length_more, get_new}
 use Rattle.pager_book.proofs.Keeping.{with_record, kept_more, kept_placed, kept_taken, kept_served, kept_joined, kept_wanting, kept_sending, kept_asked}
 
-two_more : (log : List PagerRec) (r s : PagerRec) → length ((log ++ r ∷ []) ++ s ∷ []) ≡ length log + 2
+pub two_more : (log : List PagerRec) (r s : PagerRec) → length ((log ++ r ∷ []) ++ s ∷ []) ≡ length log + 2
 two_more log r s = omega (arith, length_more log r, length_more (log ++ r ∷ []) s)
 
 -- the oldest page that has come is dropped
@@ -53,7 +53,7 @@ pub kept_zeroed : (b : PagerPart) (page miss : ℕ) (log : List PagerRec) (place
 kept_zeroed b page miss log placed is grown are few k =
     let e : record b { log = log; placed = placed } ≡ record b { log = (b.log ++ Fault miss ∷ []) ++ Zero page ∷ []; placed = with_page page b.placed } = λ i. record b { log = grown i; placed = are i } in
     let k1 : IsKept (with_record (Fault miss) b) = kept_more (Fault miss) b is (λ p. refl) (omega (arith, length_more b.log (Fault miss))) k in
-    subst IsKept (sym e) (kept_placed page (Zero page) (with_record (Fault miss) b) is (λ p. refl) (omega (arith, two_more b.log (Fault miss) (Zero page))) k1)
+    subst IsKept (sym e) (kept_placed page (Zero page) (with_record (Fault miss) b) is (λ p. refl) (λ p. refl) (omega (arith, two_more b.log (Fault miss) (Zero page))) k1)
 
 pub zeroed_part : (b : PagerPart) (t after : TargetPart) (page miss number : ℕ) (log : List PagerRec) (placed : Pages) → log ≡ (b.log ++ Fault miss ∷ []) ++ Zero page ∷ [] → placed ≡ with_page page b.placed → after ≡ with_zeroed page number t → number ≡ length b.log + 1 → record { pager = record b { log = log; placed = placed }; target = after; woken = [] } ≡ zeroes page (learned miss b) t
 zeroed_part b t after page miss number log placed grown are is at =
@@ -65,7 +65,7 @@ pub kept_delivered : (b : PagerPart) (x : Incoming) (inbox : List Incoming) (log
 kept_delivered b x inbox log placed waiting is taken grown are left few k =
     let r : PagerRec = Place x.page x.got x.contents in
     let k1 : IsKept (record b { log = b.log ++ r ∷ []; placed = with_page x.page b.placed; inbox = inbox }) =
-    kept_placed x.page r (record b { inbox = inbox }) is (λ p. refl) (omega (arith, length_more b.log r)) (kept_taken x inbox b taken k).1
+    kept_placed x.page r (record b { inbox = inbox }) is (λ p. refl) (λ p. refl) (omega (arith, length_more b.log r)) (kept_taken x inbox b taken k).1
     in
     let e : record b { log = log; placed = placed; inbox = inbox; waiting = waiting } ≡ record b { log = b.log ++ r ∷ []; placed = with_page x.page b.placed; inbox = inbox; waiting = without x.page b.waiting } =
     λ i. record b { log = grown i; placed = are i; inbox = inbox; waiting = left i }

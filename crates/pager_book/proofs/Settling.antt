@@ -1,5 +1,5 @@
 -- Pages that were released at the target before they came are settled.
-use Rattle.std.proofs.Common.{◌≡◌, ℕ, Bool, true, false, cond, ◌||◌, List, [], ◌∷◌, ◌++◌, Option, Some, None, refl, sym, ap, ◌∙◌, subst}
+use Rattle.std.proofs.Common.{◌≡◌, ℕ, Bool, true, false, cond, ◌||◌, List, [], ◌∷◌, ◌++◌, length, Option, Some, None, refl, sym, ap, ◌∙◌, subst}
 use Rattle.std.specs.Prelude.{◌==◌}
 use Rattle.std.specs.List.{AllByRecursion}
 use Rattle.migration_types.specs.declared.records.PagerRec.TheVariants.{Fault, Skip}
@@ -10,7 +10,7 @@ use Rattle.fault_queue.specs.Waiting.{Waiting, is_asked, is_waiting, without, wi
 use Rattle.target_book.specs.TargetPart.{TargetPart, settled as with_settled, resumes, with_misses}
 use Rattle.target_book.specs.declared.Missing.{Missing}
 use Rattle.pager_book.specs.declared.Incoming.{Incoming}
-use Rattle.pager_book.specs.PagerPart.{PagerPart, Paged, settles, is_listed, is_released, fault_new, fault_join, faults, zeroes, next_fault, places, delivers_by, deliver}
+use Rattle.pager_book.specs.PagerPart.{PagerPart, Paged, settles, is_listed, is_released, fault_new, fault_join, faults, faults_by, zeroes, next_fault, places, delivers_by, deliver}
 use Rattle.pager_book.specs.PagerLists.{PagerLists, part_of, IsWanted, IsKept}
 use Rattle.pager_book.specs.inner.Sound.{IsSound}
 use Rattle.pager_book.proofs.Branches.{unchanged}
@@ -41,7 +41,11 @@ over s g = record { pager = record g.pager { settled = s }; target = with_settle
 abbrev Unsettled : PagerPart → TargetPart → Paged → Type 0
 Unsettled b t g = (g.pager.settled ≡ b.settled) × (g.target.unsettled ≡ t.unsettled)
 
-abbrev branches : Bool → Bool → Bool → Bool → Option ℕ → ℕ → ℕ → PagerPart → TargetPart → Paged
+-- both calls leave logs as long as each other's
+abbrev pub AreAsLong : Paged → Paged → Type 0
+AreAsLong f g = (length f.pager.log ≡ length g.pager.log) × (length f.target.log ≡ length g.target.log)
+
+abbrev pub branches : Bool → Bool → Bool → Bool → Option ℕ → ℕ → ℕ → PagerPart → TargetPart → Paged
 branches r w z a o p v b t = cond r (unchanged b t) (cond w (unchanged b t) (cond z (zeroes p b t) (cond a (unchanged (fault_join p v o b) t) (unchanged (fault_new p v b) t))))
 
 branches_over : (r w z a : Bool) (o : Option ℕ) (p v : ℕ) (b : PagerPart) (t : TargetPart) (s : Pages) → branches r w z a o p v (record b { settled = s }) (with_settled t) ≡ over s (branches r w z a o p v b t)
@@ -71,6 +75,14 @@ faults_still [] b t = (refl, refl)
 faults_still (x ∷ rest) b t =
     branches_still (is_resident (t.placed x.page) (t.freed x.page)) (is_waiting x.vcpu b.waiting) (is_released b.released x.page) (is_asked x.page b.waiting) (b.wants x.page) x.page x.vcpu
     (record b { log = b.log ++ Fault x.number ∷ [] }) (with_misses rest t)
+
+faults_by_over : (o : Option (List ℕ)) (xs : List Missing) (b : PagerPart) (t : TargetPart) (s : Pages) → faults_by o xs (record b { settled = s }) (with_settled t) ≡ over s (faults_by o xs b t)
+faults_by_over None xs b t s = refl
+faults_by_over (Some released) xs b t s = faults_over xs b t s
+
+faults_by_still : (o : Option (List ℕ)) (xs : List Missing) (b : PagerPart) (t : TargetPart) → Unsettled b t (faults_by o xs b t)
+faults_by_still None xs b t = (refl, refl)
+faults_by_still (Some released) xs b t = faults_still xs b t
 
 abbrev arrives : Bool → Incoming → PagerPart → TargetPart → Paged
 arrives r x b t = cond r (record { pager = record b { log = b.log ++ Skip x.got ∷ [] }; target = t; woken = [] }) (places x b t)
@@ -130,21 +142,43 @@ settled_after b t g after there woken still pager target woke =
 abbrev pub dropped : PagerPart → TargetPart → PagerPart
 dropped b t = record b { waiting = without_all t.unsettled b.waiting }
 
-pub next_fault_over : (b : PagerPart) (t : TargetPart) → next_fault b t ≡ over (with_all t.unsettled b.settled) (faults t.misses (dropped b t) t)
+pub next_fault_over : (b : PagerPart) (t : TargetPart) → next_fault b t ≡ over (with_all t.unsettled b.settled) (faults_by b.released t.misses (dropped b t) t)
 next_fault_over b t =
-    ap (λ (a : PagerPart). faults t.misses a (with_settled t)) (settles_is t.unsettled b)
-    ∙ faults_over t.misses (dropped b t) t (with_all t.unsettled b.settled)
+    ap (λ (a : PagerPart). faults_by b.released t.misses a (with_settled t)) (settles_is t.unsettled b)
+    ∙ faults_by_over b.released t.misses (dropped b t) t (with_all t.unsettled b.settled)
 
 pub deliver_over : (b : PagerPart) (t : TargetPart) → deliver b t ≡ over (with_all t.unsettled b.settled) (delivers_by b.released (dropped b t) t)
 deliver_over b t =
     ap (λ (a : PagerPart). delivers_by b.released a (with_settled t)) (settles_is t.unsettled b)
     ∙ delivers_over b.released (dropped b t) t (with_all t.unsettled b.settled)
 
+-- which logs a delivery lengthens, the waiters make no difference to
+brought_logs : (runs r : Bool) (xs : List Incoming) (b : PagerPart) (t : TargetPart) (left : List Waiting) → AreAsLong (brought runs r xs (record b { waiting = left }) t) (brought runs r xs b t)
+brought_logs true r [] b t left = (refl, refl)
+brought_logs true true (x ∷ rest) b t left = (refl, refl)
+brought_logs true false (x ∷ rest) b t left = (refl, refl)
+brought_logs false r [] b t left = (refl, refl)
+brought_logs false r (x ∷ rest) b t left = (refl, refl)
+
+delivers_logs : (o : Option (List ℕ)) (b : PagerPart) (t : TargetPart) (left : List Waiting) → AreAsLong (delivers_by o (record b { waiting = left }) t) (delivers_by o b t)
+delivers_logs None b t left = (refl, refl)
+delivers_logs (Some released) b t left =
+    let one = delivers_brought released (record b { waiting = left }) t b.inbox refl in
+    let other = delivers_brought released b t b.inbox refl in
+    let same = brought_logs t.is_resumed (first_is b.inbox t) b.inbox b t left in
+    (ap (λ (g : Paged). length g.pager.log) one ∙ same.0 ∙ sym (ap (λ (g : Paged). length g.pager.log) other), ap (λ (g : Paged). length g.target.log) one ∙ same.1 ∙ sym (ap (λ (g : Paged). length g.target.log) other))
+
+-- the logs are as long as if no page were settled
+pub deliver_logs : (b : PagerPart) (t : TargetPart) → AreAsLong (deliver b t) (delivers_by b.released b t)
+deliver_logs b t =
+    let same = delivers_logs b.released b t (without_all t.unsettled b.waiting) in
+    (ap (λ (g : Paged). length g.pager.log) (deliver_over b t) ∙ same.0, ap (λ (g : Paged). length g.target.log) (deliver_over b t) ∙ same.1)
+
 -- where no page is to be settled
-pub next_fault_plain : (b : PagerPart) (t : TargetPart) → t.unsettled ≡ [] → next_fault b t ≡ faults t.misses b t
+pub next_fault_plain : (b : PagerPart) (t : TargetPart) → t.unsettled ≡ [] → next_fault b t ≡ faults_by b.released t.misses b t
 next_fault_plain b t e =
-    ap (λ ps. faults t.misses (settles ps b) (with_settled t)) e
-    ∙ ap (λ ps. faults t.misses b (record t { unsettled = ps })) (sym e)
+    ap (λ ps. faults_by b.released t.misses (settles ps b) (with_settled t)) e
+    ∙ ap (λ ps. faults_by b.released t.misses b (record t { unsettled = ps })) (sym e)
 
 pub deliver_plain : (b : PagerPart) (t : TargetPart) → t.unsettled ≡ [] → deliver b t ≡ delivers_by b.released b t
 deliver_plain b t e =
@@ -152,10 +186,10 @@ deliver_plain b t e =
     ∙ ap (λ ps. delivers_by b.released b (record t { unsettled = ps })) (sym e)
 
 -- both calls, from what their parts give
-pub next_fault_parts : (b : PagerPart) (t : TargetPart) (mid after : PagerPart) (there last : TargetPart) → record { pager = mid; target = there; woken = [] } ≡ faults t.misses (dropped b t) t → after ≡ record mid { settled = with_all there.unsettled mid.settled } → last ≡ with_settled there → record { pager = after; target = last; woken = [] } ≡ next_fault b t
+pub next_fault_parts : (b : PagerPart) (t : TargetPart) (mid after : PagerPart) (there last : TargetPart) → record { pager = mid; target = there; woken = [] } ≡ faults_by b.released t.misses (dropped b t) t → after ≡ record mid { settled = with_all there.unsettled mid.settled } → last ≡ with_settled there → record { pager = after; target = last; woken = [] } ≡ next_fault b t
 next_fault_parts b t mid after there last is pager target =
     let g : Paged = record { pager = mid; target = there; woken = [] } in
-    settled_after b t g after last [] (subst (Unsettled b t) (sym is) (faults_still t.misses (dropped b t) t)) pager target refl
+    settled_after b t g after last [] (subst (Unsettled b t) (sym is) (faults_by_still b.released t.misses (dropped b t) t)) pager target refl
     ∙ ap (over (with_all t.unsettled b.settled)) is
     ∙ sym (next_fault_over b t)
 
@@ -183,7 +217,7 @@ kept_dropped ps b k = kept_waiting (without_all ps b.waiting) b (each_without (I
 
 pub sound_settled : {b : PagerLists} {marks : Values Bool} {bound : ℕ} (ps : List ℕ) (settled : Values Bool) → IsSound b marks bound → pages_of settled ≡ pages_of b.settled → values settled ≡ with_all ps (values b.settled) → IsSound (record b { settled = settled }) marks bound
 sound_settled {b} {marks} {bound} ps settled s pages are = record {
-  kept = record { few = s.kept.few; begun = s.kept.begun; tied = record { inbox = s.kept.tied.inbox; outbox = s.kept.tied.outbox; wants = s.kept.tied.wants; waiting = s.kept.tied.waiting; placed = s.kept.tied.placed } };
+  kept = record { few = s.kept.few; begun = s.kept.begun; last = s.kept.last; tied = record { inbox = s.kept.tied.inbox; outbox = s.kept.tied.outbox; wants = s.kept.tied.wants; waiting = s.kept.tied.waiting; placed = s.kept.tied.placed } };
   placed_pages = s.placed_pages;
   settled_pages = pages ∙ s.settled_pages;
   wants_pages = s.wants_pages;

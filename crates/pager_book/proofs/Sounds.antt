@@ -5,7 +5,7 @@ use Rattle.migration_types.specs.declared.records.PagerRec.{PagerRec}
 use Rattle.migration_types.specs.declared.records.PagerRec.TheVariants.{Got, Pull, Ready, Fault, Join, Want, Place, Zero, Skip, All}
 use Rattle.migration_types.specs.Extents.{Extent}
 use Rattle.migration_types.specs.Limits.{most_records}
-use Rattle.audit_model.specs.Shape.{is_placement_of, is_taking, passes}
+use Rattle.audit_model.specs.Shape.{is_taking, passes}
 use Rattle.page_tables.specs.Tables.{Values, all_at, values}
 use Rattle.fault_queue.specs.Waiting.{Waiting}
 use Rattle.page_stream.specs.declared.Packet.{Packet}
@@ -14,7 +14,7 @@ use Rattle.pager_book.specs.PagerPart.{PagerPart, new_pager, is_released, is_lis
 use Rattle.pager_book.specs.PagerLists.{PagerLists, part_of, HasCome, IsKept}
 use Rattle.pager_book.specs.inner.Sound.{IsSound}
 use Rattle.pager_book.proofs.Lists.{length_more, get_new}
-use Rattle.pager_book.proofs.Keeping.{with_record, kept_more, kept_first, kept_incoming}
+use Rattle.pager_book.proofs.Keeping.{with_record, is_of, kept_more, kept_first, kept_incoming}
 
 -- the book before anything has come
 pub new_part : (e : Extent) (log : List PagerRec) (placed settled : Values Bool) (inbox : List Incoming) (outbox : List Packet) (waiting : List Waiting) (wants : Values (Option ℕ)) → log ≡ [] → values placed ≡ all_at false → values settled ≡ all_at false → inbox ≡ [] → outbox ≡ [] → waiting ≡ [] → values wants ≡ all_at None → part_of (record { geometry = e; log = log; released = None; placed = placed; settled = settled; inbox = inbox; outbox = outbox; waiting = waiting; wants = wants }) ≡ new_pager e
@@ -25,6 +25,7 @@ pub new_kept : (e : Extent) → IsKept (new_pager e)
 new_kept e = record {
   few = omega arith;
   begun = refl;
+  last = λ p m h. absurd (cc);
   tied = record { inbox = tt; outbox = tt; wants = λ p n h. absurd (cc); waiting = tt; placed = λ p. refl };
 }
 
@@ -45,11 +46,11 @@ sound_with log inbox outbox waiting s k = record {
 few_more : (log : List PagerRec) (r : PagerRec) → length log + 1 ≤ most_records → length (log ++ r ∷ []) ≤ most_records
 few_more log r few = omega (arith, length_more log r)
 
-pub kept_one : (b : PagerPart) (r : PagerRec) (log : List PagerRec) → is_some b.released ≡ true → log ≡ b.log ++ r ∷ [] → ((p : ℕ) → is_placement_of p r ≡ false) → length b.log + 1 ≤ most_records → IsKept b → IsKept (record b { log = log })
+pub kept_one : (b : PagerPart) (r : PagerRec) (log : List PagerRec) → is_some b.released ≡ true → log ≡ b.log ++ r ∷ [] → ((p : ℕ) → is_of p r ≡ false) → length b.log + 1 ≤ most_records → IsKept b → IsKept (record b { log = log })
 kept_one b r log is more other few k = rw more (kept_more r b is other (few_more b.log r few) k)
 
--- what says that something was taken places nothing
-takes_alone : (r : PagerRec) → is_taking r ≡ true → (p : ℕ) → is_placement_of p r ≡ false
+-- what says that something was taken is of no page
+takes_alone : (r : PagerRec) → is_taking r ≡ true → (p : ℕ) → is_of p r ≡ false
 takes_alone (Got down) is p = refl
 takes_alone (Pull down) is p = refl
 takes_alone (Place page got content) is p = absurd (cc)
@@ -57,7 +58,7 @@ takes_alone (Zero page) is p = absurd (cc)
 takes_alone Ready is p = refl
 takes_alone (Fault miss) is p = refl
 takes_alone (Join want) is p = refl
-takes_alone (Want page) is p = refl
+takes_alone (Want page) is p = absurd (cc)
 takes_alone (Skip got) is p = refl
 takes_alone All is p = refl
 

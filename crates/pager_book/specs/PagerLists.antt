@@ -77,7 +77,14 @@ pub record IsTied (b : PagerPart) : Type 0 where
   pub waiting : AllByRecursion (IsWanted b.geometry b.wants) b.waiting
   pub placed : (p : ℕ) → b.placed p ≡ list_any (is_placement_of p) b.log
 
+-- each `want` of a page is the one that is told of the page, or an earlier one
+abbrev pub AreLast : List PagerRec → (ℕ → Option ℕ) → Type 0
+AreLast log wants = (p m : ℕ) → slice_get log m ≡ Some (Want p) → (n : ℕ) × ((wants p ≡ Some n) × (m ≤ n))
+
+-- The log is within its limit and begins with the state, the book says what the log says, and of each page that was ever
+-- wanted it tells the last `want`.
 pub record IsKept (b : PagerPart) : Type 0 where
   pub few : length b.log ≤ most_records
   pub begun : HasBegun b.released b.log
   pub tied : IsTied b
+  pub last : AreLast b.log b.wants

@@ -132,8 +132,13 @@ abbrev pub faults : List Missing → PagerPart → TargetPart → Paged
 faults [] b t = record { pager = b; target = t; woken = [] }
 faults (x ∷ rest) b t = fault_at x.page x.vcpu (record b { log = b.log ++ Fault x.number ∷ [] }) (with_misses rest t)
 
+-- before the state has come no miss is taken
+abbrev pub faults_by : Option (List ℕ) → List Missing → PagerPart → TargetPart → Paged
+faults_by None misses b t = record { pager = b; target = t; woken = [] }
+faults_by (Some released) misses b t = faults misses b t
+
 abbrev pub next_fault : PagerPart → TargetPart → Paged
-next_fault b t = faults t.misses (settles t.unsettled b) (with_settled t)
+next_fault b t = faults_by b.released t.misses (settles t.unsettled b) (with_settled t)
 
 -- PagerFlush
 abbrev pub flushes : List Packet → PagerPart → Sent

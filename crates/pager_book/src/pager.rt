@@ -109,8 +109,8 @@ impl PagerBook {
         self.log
     }
 
-    /// Tells callers what every book keeps: its log has at most 1,048,576 records and begins with the state, and what
-    /// has come, what is asked for, who waits and what is placed follow from it.
+    /// Tells callers what every book keeps: its log has at most 1,048,576 records and begins with the state, what has
+    /// come, what is asked for, who waits and what is placed follow from it, and of each page its last `want` is told.
     pub fn keeps_limits(&self)
         ensures { IsKept (part_of self.now) }
     {

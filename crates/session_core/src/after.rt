@@ -48,9 +48,9 @@ impl<'a> AfterHalt<'a> {
     ghost use Rattle.book_events.specs.Logs.{logs_in};
 
     /// An event on these books, which are then what the definition of the event makes of them; what arrived is of the
-    /// script's machine, and no page is missed before the state has come. One that finds nothing to do, as a halt once
-    /// more, changes nothing. `CoreFault::LogFull` only where a log has no room for the event's records, and
-    /// `CoreFault::Memory` where memory is refused; on an error nothing changes.
+    /// script's machine. One that finds nothing to do, as a halt once more, changes nothing. `CoreFault::LogFull` only
+    /// where a log has no room for the event's records, and `CoreFault::Memory` where memory is refused; on an error
+    /// nothing changes.
     pub fn event(&mut self, event: Event) -> Result<(), CoreFault>
         requires { IsOrderly (away_of self.old) }
         ensures ok { OnOk result (away_of self.new ≡ away_event event (away_of self.old)) }

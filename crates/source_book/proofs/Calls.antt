@@ -1,5 +1,5 @@
 -- What the calls of the source's book leave, and what they offer.
-use Rattle.std.proofs.Common.{◌≡◌, ◌≢◌, ℕ, ◌+◌, ◌<◌, ◌⊎◌, inl, inr, Bool, true, false, cond, not, List, [], ◌∷◌, ◌++◌, length, take, Option, Some, None, refl, sym, ap, ◌∙◌, subst, arith}
+use Rattle.std.proofs.Common.{◌≡◌, ◌≢◌, ℕ, ◌+◌, ◌<◌, ◌≤◌, ◌⊎◌, inl, inr, Bool, true, false, cond, not, List, [], ◌∷◌, ◌++◌, length, take, Option, Some, None, refl, sym, ap, ◌∙◌, subst, arith}
 use Rattle.std.specs.Prelude.{count_by, is_some, option_and_then, slice_get, ◌==◌, Contains}
 use Rattle.std.specs.List.{range_with_len, list_any}
 use Rattle.std.proofs.lemmas.Bool.{and_parts, ltb-true, eqb-true}
@@ -99,6 +99,12 @@ push_full b h long =
     let e : length (source_push b).book.log ≡ length (b.log ++ Send h.page (page_of b.geometry.cells b.memory h.page) ∷ []) = ap (λ (o : Offer). length o.book.log) (push_by b (Some h.page) h.is_not_done h.is_next) in
     omega (arith, e, length_suc b.log (Send h.page (page_of b.geometry.cells b.memory h.page)), long)
 
+-- the log has room
+pub push_fits : (b : SourcePart) → HasNext b → length b.log + 1 ≤ most_records → length (source_push b).book.log ≤ most_records
+push_fits b h room =
+    let e : length (source_push b).book.log ≡ length (b.log ++ Send h.page (page_of b.geometry.cells b.memory h.page) ∷ []) = ap (λ (o : Offer). length o.book.log) (push_by b (Some h.page) h.is_not_done h.is_next) in
+    omega (arith, e, length_suc b.log (Send h.page (page_of b.geometry.cells b.memory h.page)), room)
+
 -- the page that bubbling hands out is the one that is pushed
 pub push_is : (b : SourcePart) (set : Pages) (page : ℕ) → set ≡ unsent b → HasNext b → IsNextPushed set (in_turn b.ring) page → source_push b ≡ sends page (record b { ring = turned b.ring })
 push_is b set page e h next = push_by b (Some page) h.is_not_done ((choice_is b.geometry.pages (in_turn b.ring) (unsent b) (unsent_there b)).is_the page (subst (λ (s : Pages). IsNextPushed s (in_turn b.ring) page) e next))
@@ -140,9 +146,9 @@ unsent_parts b set page e is =
     go (Some n) e = absurd (cc)
 
 -- what stands for a part with a `send` is kept
-pub sent_book : (k : SourceKept) (b : SourcePart) (page : ℕ) (ring : Ring) (was_asked : Bool) → part_of k ≡ sent_at page ring was_asked b → k.ledger.geometry ≡ k.frames.geometry → k.bubbles.geometry ≡ k.frames.geometry → pages_of k.sent ≡ k.frames.geometry.pages → k.released ≡ pages_below k.frames.geometry.pages (released k.ledger) → unsent_in k.bubbles ≡ without_page page (unsent b) → owes b page ≡ true → b.sent page ≡ None → length b.log < most_records → IsSourceLog b → IsSourceBook k
-sent_book k b page ring was_asked e ledger bubbles table kept set owed fresh room log =
-    book_is k (sent_at page ring was_asked b) e ledger bubbles table kept (set ∙ sym (sends_unsent page ring was_asked b owed fresh room log)) (sends_keeps page ring was_asked b owed fresh room log)
+pub sent_book : (k : SourceKept) (b : SourcePart) (page : ℕ) (ring : Ring) (was_asked : Bool) → part_of k ≡ sent_at page ring was_asked b → k.ledger.geometry ≡ k.frames.geometry → k.bubbles.geometry ≡ k.frames.geometry → pages_of k.sent ≡ k.frames.geometry.pages → k.released ≡ pages_below k.frames.geometry.pages (released k.ledger) → unsent_in k.bubbles ≡ without_page page (unsent b) → owes b page ≡ true → b.sent page ≡ None → was_asked ≡ b.was_asked → length b.log < most_records → IsSourceLog b → IsSourceBook k
+sent_book k b page ring was_asked e ledger bubbles table kept set owed fresh asked room log =
+    book_is k (sent_at page ring was_asked b) e ledger bubbles table kept (set ∙ sym (sends_unsent page ring was_asked b owed fresh asked room log)) (sends_keeps page ring was_asked b owed fresh asked room log)
 
 -- the part with a `send`
 pub sent_part : (k : SourceKept) (b : SourcePart) (page : ℕ) (ring : Ring) (was_asked : Bool) (contents : List ℕ) → part_of k ≡ record b { log = k.log; sent = values k.sent; ring = k.bubbles.ring; was_asked = k.was_asked } → k.log ≡ b.log ++ Send page contents ∷ [] → contents ≡ contents_of b page → values k.sent ≡ with_value page (Some (length b.log)) b.sent → k.bubbles.ring ≡ ring → k.was_asked ≡ was_asked → part_of k ≡ sent_at page ring was_asked b

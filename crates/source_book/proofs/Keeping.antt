@@ -1,6 +1,7 @@
 -- What each record leaves of what the source's book keeps.
-use Rattle.std.proofs.Common.{◌≡◌, ℕ, zero, suc, ◌<◌, ◌⊎◌, inl, inr, Bool, true, false, cond, not, ◌&&◌, List, [], ◌∷◌, ◌++◌, length, Some, None, refl, sym, ap, ◌∙◌, subst, arith}
+use Rattle.std.proofs.Common.{◌≡◌, ℕ, zero, suc, ◌<◌, ◌⊎◌, inl, inr, Bool, true, false, cond, not, ◌&&◌, ◌||◌, List, [], ◌∷◌, ◌++◌, length, Some, None, refl, sym, ap, ◌∙◌, subst, arith}
 use Rattle.std.specs.Prelude.{slice_get, is_some, ◌==◌}
+use Rattle.std.specs.List.{list_any}
 use Rattle.std.proofs.lemmas.Bool.{eqb-true, eq-eqb, and_right}
 use Rattle.migration_types.specs.declared.records.SourceRec.{SourceRec}
 use Rattle.migration_types.specs.declared.records.SourceRec.TheVariants.{Halted, State, Send}
@@ -10,8 +11,8 @@ use Rattle.migration_types.specs.Memory.{Memory, page_of}
 use Rattle.migration_types.specs.PageSets.{Pages, without_page}
 use Rattle.bubbling.specs.Bubbling.{Ring, rest_of}
 use Rattle.source_book.specs.SourcePart.{SourcePart, halted_source, owes, unsent, sends}
-use Rattle.source_book.specs.Books.{IsOnlySend, IsSourceLog}
-use Rattle.source_book.proofs.Logs.{length_suc, get_old, get_new, get_push}
+use Rattle.source_book.specs.Books.{IsOnlySend, is_ask, is_end, IsSourceLog}
+use Rattle.source_book.proofs.Logs.{length_suc, any_push, with_none, get_old, get_new, get_push}
 
 -- a page's contents, as the frames have it
 abbrev pub contents_of : SourcePart → ℕ → List ℕ
@@ -25,14 +26,16 @@ logged r ring was_asked is_done b = record b { log = b.log ++ r ∷ []; ring = r
 abbrev pub sent_at : ℕ → Ring → Bool → SourcePart → SourcePart
 sent_at page ring was_asked b = (sends page (record b { ring = ring; was_asked = was_asked })).book
 
-pub logged_keeps : (r : SourceRec) (ring : Ring) (was_asked is_done : Bool) (b : SourcePart) → ((page : ℕ) (contents : List ℕ) → r ≡ Send page contents → ⊥) → length b.log < most_records → IsSourceLog b → IsSourceLog (logged r ring was_asked is_done b)
-logged_keeps r ring was_asked is_done b other room k = record {
+pub logged_keeps : (r : SourceRec) (ring : Ring) (was_asked is_done : Bool) (b : SourcePart) → ((page : ℕ) (contents : List ℕ) → r ≡ Send page contents → ⊥) → was_asked ≡ (b.was_asked || is_ask r) → is_done ≡ (b.is_done || is_end r) → length b.log < most_records → IsSourceLog b → IsSourceLog (logged r ring was_asked is_done b)
+logged_keeps r ring was_asked is_done b other asked done room k = record {
   some = omega (arith, length_suc b.log r, k.some);
   few = omega (arith, length_suc b.log r, room);
   halted = (k.halted.0, get_old b.log (r ∷ []) 0 _ k.halted.1);
   state = get_old b.log (r ∷ []) 1 _ k.state;
   sent = λ page number e. get_old b.log (r ∷ []) number _ (k.sent page number e);
   sends = λ page number contents e. go page number contents (get_push b.log r number (Send page contents) e);
+  asked = asked ∙ ap (λ t. t || is_ask r) k.asked ∙ sym (any_push is_ask b.log r);
+  done = done ∙ ap (λ t. t || is_end r) k.done ∙ sym (any_push is_end b.log r);
 }
   where
     go : (page number : ℕ) (contents : List ℕ) → (slice_get b.log number ≡ Some (Send page contents)) ⊎ ((number ≡ length b.log) × (r ≡ Send page contents)) → IsOnlySend (logged r ring was_asked is_done b) page number contents
@@ -42,7 +45,7 @@ logged_keeps r ring was_asked is_done b other room k = record {
 same_send : (p q : ℕ) (x y : List ℕ) → Send p x ≡ Send q y → (p ≡ q) × (x ≡ y)
 same_send p q x y e = ((let e = e in cc), (let e = e in cc))
 
-module _ (page : ℕ) (ring : Ring) (was_asked : Bool) (b : SourcePart) (owed : owes b page ≡ true) (fresh : b.sent page ≡ None) (room : length b.log < most_records) (k : IsSourceLog b) where
+module _ (page : ℕ) (ring : Ring) (was_asked : Bool) (b : SourcePart) (owed : owes b page ≡ true) (fresh : b.sent page ≡ None) (asked : was_asked ≡ b.was_asked) (room : length b.log < most_records) (k : IsSourceLog b) where
   new : SourceRec
   new = Send page (contents_of b page)
 
@@ -79,6 +82,8 @@ module _ (page : ℕ) (ring : Ring) (was_asked : Bool) (b : SourcePart) (owed : 
     state = get_old b.log _ 1 _ k.state;
     sent = λ p number e. entry p number (page == p) refl e;
     sends = λ p number contents e. go p number contents (get_push b.log _ number (Send p contents) e);
+    asked = asked ∙ k.asked ∙ with_none (list_any is_ask b.log) ∙ sym (any_push is_ask b.log (Send page (contents_of b page)));
+    done = k.done ∙ with_none (list_any is_end b.log) ∙ sym (any_push is_end b.log (Send page (contents_of b page)));
   }
 
   -- the page is no longer to be pushed
@@ -98,6 +103,8 @@ halted_keeps geometry memory ledger most halt = record {
   state = refl;
   sent = λ page number e. absurd (cc);
   sends = λ page number contents e. none page number contents e;
+  asked = refl;
+  done = refl;
 }
   where
     none : (page number : ℕ) (contents : List ℕ) → slice_get (Halted halt ∷ State ∷ []) number ≡ Some (Send page contents) → IsOnlySend (halted_source geometry memory ledger most halt) page number contents

@@ -1,7 +1,8 @@
 -- What the source's book keeps.
-use Rattle.std.specs.Prelude.{◌≡◌, ℕ, ◌≤◌, Bool, true, List, length, Option, Some, slice_get}
+use Rattle.std.specs.Prelude.{◌≡◌, ℕ, ◌≤◌, Bool, true, false, List, length, Option, Some, slice_get}
+use Rattle.std.specs.List.{list_any}
 use Rattle.migration_types.specs.declared.records.SourceRec.{SourceRec}
-use Rattle.migration_types.specs.declared.records.SourceRec.TheVariants.{Halted, State, Send}
+use Rattle.migration_types.specs.declared.records.SourceRec.TheVariants.{Halted, State, Send, Ask, Done}
 use Rattle.migration_types.specs.Limits.{most_records}
 use Rattle.migration_types.specs.Memory.{page_of}
 use Rattle.page_store.specs.Frames.{Frames, memory_of}
@@ -41,8 +42,18 @@ pub record IsOnlySend (b : SourcePart) (page number : ℕ) (contents : List ℕ)
   pub contents_are : contents ≡ page_of b.geometry.cells b.memory page
   pub is_only : b.sent page ≡ Some number
 
+-- a record says that the source was asked for something, or that it was told that all is placed
+abbrev pub is_ask : SourceRec → Bool
+is_ask (Ask up) = true
+is_ask _ = false
+
+abbrev pub is_end : SourceRec → Bool
+is_end Done = true
+is_end _ = false
+
 -- The log begins with the halt and the state and has room for each of its records. The pages that are sent are those
--- that have a `send`, each has one, and it carries what the frames have.
+-- that have a `send`, each has one, and it carries what the frames have. The source was asked, and was told that all is
+-- placed, just where the log says so.
 pub record IsSourceLog (b : SourcePart) : Type 0 where
   pub some : 2 ≤ length b.log
   pub few : length b.log ≤ most_records
@@ -50,6 +61,8 @@ pub record IsSourceLog (b : SourcePart) : Type 0 where
   pub state : slice_get b.log 1 ≡ Some State
   pub sent : (page number : ℕ) → b.sent page ≡ Some number → slice_get b.log number ≡ Some (Send page (page_of b.geometry.cells b.memory page))
   pub sends : (page number : ℕ) (contents : List ℕ) → slice_get b.log number ≡ Some (Send page contents) → IsOnlySend b page number contents
+  pub asked : b.was_asked ≡ list_any is_ask b.log
+  pub done : b.is_done ≡ list_any is_end b.log
 
 -- all is of one machine, the pages that are to be pushed are those that are not sent, and the list of the released pages is
 -- the ledger's

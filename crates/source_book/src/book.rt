@@ -1,6 +1,7 @@
 //! The source's book, and its part of each event.
 
 ghost use Rattle.std.specs.Prelude.{◌≡◌, ℕ, ◌<◌, ◌≤◌, ◌+◌, ◌++◌, ◌∷◌, [], List, length, Option, IfOk, OnOk, OnErr, IfErr, IsErrOf, MatchBool, true, None};
+ghost use Rattle.std.specs.List.{list_any};
 ghost use Rattle.migration_types.specs.Limits.{most_records};
 ghost use Rattle.page_store.specs.Frames.{memory_of};
 ghost use Rattle.balloon_ledger.specs.Released.{released};
@@ -54,7 +55,7 @@ impl Model for SourceBook {
 }
 
 impl SourceBook {
-    ghost use Rattle.source_book.specs.Books.{part_of, IsSourceBook};
+    ghost use Rattle.source_book.specs.Books.{part_of, is_end, IsSourceBook};
 
     /// The book after the guest's halt, which is the guest's record of this number, and the packet with the processor
     /// state and the released pages, which is to be offered. At most so many pivots, 1 to 16, are kept. Where memory is
@@ -97,10 +98,12 @@ impl SourceBook {
 
     /// Sends the next page of bubbling: appends its `send`, and answers its packet, which is to be offered behind the
     /// others. `None` where all owed pages are sent or the pager has them all, and then nothing changes. On an error
-    /// nothing changes; `LogFull` comes only where the log lacks room for the record.
+    /// nothing changes; `LogFull` comes exactly where the log lacks room for the record, which is looked at before memory
+    /// is asked for.
     pub fn push(&mut self) -> Result<Option<Packet>, SourceFault>
         ensures ok { IfOk result (λ packet. record { book = part_of self.new; packet = packet } ≡ source_push (part_of self.old)) }
         ensures full { IsErrOf result SourceFault.LogFull → most_records < length (source_push (part_of self.old)).book.log }
+        ensures memory { IsErrOf result SourceFault.Memory → length (source_push (part_of self.old)).book.log ≤ most_records }
         ensures err { OnErr result (part_of self.new ≡ part_of self.old) }
     {
         if self.has_nothing_to_push() {
@@ -126,11 +129,23 @@ impl SourceBook {
         Ok(Some(records::send(&mut self.log, &mut self.sent, page, contents)))
     }
 
+    /// Whether the log has room for what a push appends. Takes no memory.
+    pub fn look_to_push(&self) -> Result<(), SourceFault>
+        ensures room { OnOk result (length (source_push (part_of self.now)).book.log ≤ most_records) }
+        ensures full { OnErr result (most_records < length (source_push (part_of self.now)).book.log) }
+        ensures memory { IsErrOf result SourceFault.Memory → ⊥ }
+    {
+        self.keeps_limits();
+        let more = if self.has_nothing_to_push() { 0 } else { 1 };
+        look_for_room(&self.log, more)
+    }
+
     /// Takes a packet that the link's record of this number delivered up, and appends `ask`. A want of an owed page makes
     /// the page a pivot and sends it: by a `send` for the first time, or by `again` of its `send`; its packet is to be
     /// offered ahead of the others. A want of another page asks for nothing more. The first packet that says that all
     /// is placed appends `done`, a later one nothing more. A packet of the source changes nothing. On an error nothing
-    /// changes; `LogFull` comes only where the log lacks room for the records.
+    /// changes; `LogFull` comes exactly where the log lacks room for the records, which is looked at before memory is
+    /// asked for.
     pub fn serve(
         &mut self,
         link_number: u32,
@@ -138,6 +153,7 @@ impl SourceBook {
     ) -> Result<Option<Packet>, SourceFault>
         ensures ok { IfOk result (λ offered. record { book = part_of self.new; packet = offered } ≡ source_serve link_number packet.now (part_of self.old)) }
         ensures full { IsErrOf result SourceFault.LogFull → most_records < length (source_serve link_number packet.now (part_of self.old)).book.log }
+        ensures memory { IsErrOf result SourceFault.Memory → length (source_serve link_number packet.now (part_of self.old)).book.log ≤ most_records }
         ensures err { OnErr result (part_of self.new ≡ part_of self.old) }
     {
         match packet {
@@ -147,12 +163,36 @@ impl SourceBook {
         }
     }
 
+    /// Whether the log has room for what serving a packet appends, of which the link's record has this number. Takes no
+    /// memory.
+    pub fn look_to_serve(&self, link_number: u32, packet: &Packet) -> Result<(), SourceFault>
+        ensures room { OnOk result (length (source_serve link_number packet.now (part_of self.now)).book.log ≤ most_records) }
+        ensures full { OnErr result (most_records < length (source_serve link_number packet.now (part_of self.now)).book.log) }
+        ensures memory { IsErrOf result SourceFault.Memory → ⊥ }
+    {
+        self.keeps_limits();
+        let _link_number = link_number;
+        match packet {
+            Packet::Want { page, .. } => {
+                let more = if self.owes(*page) { 2 } else { 1 };
+                look_for_room(&self.log, more)
+            }
+            Packet::All { .. } => {
+                let more = if self.is_done { 1 } else { 2 };
+                look_for_room(&self.log, more)
+            }
+            Packet::State { .. } | Packet::Page { .. } => Ok(()),
+        }
+    }
+
     /// While the source was asked for nothing, sends the processor state again: appends `again` of the state, and
     /// answers its packet, which is to be offered behind the others. `None` afterwards, and then nothing changes. On an
-    /// error nothing changes; `LogFull` comes only where the log lacks room for the record.
+    /// error nothing changes; `LogFull` comes exactly where the log lacks room for the record, which is looked at before
+    /// memory is asked for.
     pub fn tick(&mut self) -> Result<Option<Packet>, SourceFault>
         ensures ok { IfOk result (λ packet. record { book = part_of self.new; packet = packet } ≡ source_tick (part_of self.old)) }
         ensures full { IsErrOf result SourceFault.LogFull → most_records < length (source_tick (part_of self.old)).book.log }
+        ensures memory { IsErrOf result SourceFault.Memory → length (source_tick (part_of self.old)).book.log ≤ most_records }
         ensures err { OnErr result (part_of self.new ≡ part_of self.old) }
     {
         if self.was_asked {
@@ -168,10 +208,24 @@ impl SourceBook {
         Ok(Some(Packet::State { number, released }))
     }
 
+    /// Whether the log has room for what a tick appends. Takes no memory.
+    pub fn look_to_tick(&self) -> Result<(), SourceFault>
+        ensures room { OnOk result (length (source_tick (part_of self.now)).book.log ≤ most_records) }
+        ensures full { OnErr result (most_records < length (source_tick (part_of self.now)).book.log) }
+        ensures memory { IsErrOf result SourceFault.Memory → ⊥ }
+    {
+        self.keeps_limits();
+        if !self.was_asked {
+            return look_for_room(&self.log, 1);
+        }
+        Ok(())
+    }
+
     /// Takes a want of a page.
     fn serve_want(&mut self, up: u32, page: PageNo) -> Result<Option<Packet>, SourceFault>
         ensures ok { IfOk result (λ offered. record { book = part_of self.new; packet = offered } ≡ serves_want page (asks up (part_of self.old))) }
         ensures full { IsErrOf result SourceFault.LogFull → most_records < length (serves_want page (asks up (part_of self.old))).book.log }
+        ensures memory { IsErrOf result SourceFault.Memory → length (serves_want page (asks up (part_of self.old))).book.log ≤ most_records }
         ensures err { OnErr result (part_of self.new ≡ part_of self.old) }
     {
         if !self.owes(page) {
@@ -190,6 +244,7 @@ impl SourceBook {
         requires unsent { (part_of self.old).sent page ≡ None }
         ensures ok { IfOk result (λ offered. record { book = part_of self.new; packet = offered } ≡ wanted_first up page (part_of self.old)) }
         ensures full { IsErrOf result SourceFault.LogFull → most_records < length self.old.log + 2 }
+        ensures memory { IsErrOf result SourceFault.Memory → length self.old.log + 2 ≤ most_records }
         ensures err { OnErr result (part_of self.new ≡ part_of self.old) }
     {
         look_for_room(&self.log, 2)?;
@@ -215,6 +270,7 @@ impl SourceBook {
         requires sent { (part_of self.old).sent page ≡ Some sending }
         ensures ok { IfOk result (λ offered. record { book = part_of self.new; packet = offered } ≡ wanted_again up sending page (part_of self.old)) }
         ensures full { IsErrOf result SourceFault.LogFull → most_records < length self.old.log + 2 }
+        ensures memory { IsErrOf result SourceFault.Memory → length self.old.log + 2 ≤ most_records }
         ensures err { OnErr result (part_of self.new ≡ part_of self.old) }
     {
         look_for_room(&self.log, 2)?;
@@ -240,6 +296,7 @@ impl SourceBook {
     fn serve_all(&mut self, up: u32) -> Result<Option<Packet>, SourceFault>
         ensures ok { IfOk result (λ offered. record { book = part_of self.new; packet = offered } ≡ serves_all (asks up (part_of self.old))) }
         ensures full { IsErrOf result SourceFault.LogFull → most_records < length (serves_all (asks up (part_of self.old))).book.log }
+        ensures memory { IsErrOf result SourceFault.Memory → length (serves_all (asks up (part_of self.old))).book.log ≤ most_records }
         ensures err { OnErr result (part_of self.new ≡ part_of self.old) }
     {
         if self.is_done {
@@ -259,6 +316,7 @@ impl SourceBook {
     fn note_ask(&mut self, up: u32) -> Result<(), SourceFault>
         ensures ok { OnOk result (part_of self.new ≡ asks up (part_of self.old)) }
         ensures full { IsErrOf result SourceFault.LogFull → most_records < length self.old.log + 1 }
+        ensures memory { IsErrOf result SourceFault.Memory → length self.old.log + 1 ≤ most_records }
         ensures err { OnErr result (part_of self.new ≡ part_of self.old) }
     {
         look_for_room(&self.log, 1)?;
@@ -304,10 +362,12 @@ impl SourceBook {
         self.sent.at(page)
     }
 
-    /// Whether the source was told that every owed page is placed.
+    /// Whether the source was told that every owed page is placed, which is whether its log has a `done`.
     pub fn is_done(&self) -> bool
-        ensures { result ≡ self.now.is_done }
+        ensures told { result ≡ self.now.is_done }
+        ensures log { result ≡ list_any is_end self.now.log }
     {
+        self.keeps_limits();
         self.is_done
     }
 

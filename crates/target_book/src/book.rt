@@ -13,7 +13,7 @@ ghost use Rattle.target_book.specs.Kept.{part_of, geometry_of, HaveGrown};
 
 use crate::state::State;
 use crate::{Access, Missing, TargetFault};
-use migration_events::Op;
+use migration_events::{Op, look_for_room};
 use migration_types::{Contents, Geometry, GuestRec, PageNo};
 use page_store::Store;
 use std::alloc::{AllocError, Global};
@@ -55,9 +55,9 @@ impl Model for TargetBook {
 
 impl TargetBook {
     /// The book at the halt, whose record the guest's log gains: no page was placed, and the guest does not run yet.
-    /// The log holds what the guest did at the source, reads, writes and releases alone. `TargetFault::LogFull` where
-    /// the log has no room for the record, `TargetFault::Memory` where there is no memory for the frames and tables. On
-    /// an error the log comes back as it was.
+    /// The log holds what the guest did at the source, reads, writes and releases alone. `TargetFault::LogFull` exactly
+    /// where the log has no room for the record, `TargetFault::Memory` where it has, and there is no memory for the
+    /// record, the frames and the tables. On an error the log comes back as it was.
     pub fn halted(
         alloc: Global,
         geometry: Geometry,
@@ -69,6 +69,7 @@ impl TargetBook {
         ensures geometry { IfOk result (λ b. geometry_of b ≡ geometry) }
         ensures history { IfOk result (λ b. b.history ≡ map Did (halted_target log.items).log) }
         ensures full { IfErr result (λ e. e.1 ≡ TargetFault.LogFull → most_records < length (halted_target log.items).log) }
+        ensures memory { IfErr result (λ e. e.1 ≡ TargetFault.Memory → length (halted_target log.items).log ≤ most_records) }
         ensures err { IfErr result (λ e. e.0.items ≡ log.items) }
     {
         let state = State::halted(alloc, geometry, log)?;
@@ -83,30 +84,41 @@ impl TargetBook {
     /// once, and then waits until the page is resident; a release makes the page resident as zeros, and the pager has to
     /// settle it. On a page that was placed it is done and recorded, after a look at the placement where the guest saw
     /// none so late; on a page that was absent when it was released, it is done and recorded at once.
-    /// `TargetFault::LogFull` where the log has no room for the records, `TargetFault::Memory` where there is no memory
-    /// for them. On an error nothing changes.
+    /// `TargetFault::LogFull` exactly where the log has no room for the records, `TargetFault::Memory` where it has, and
+    /// there is no memory for them. On an error nothing changes.
     pub fn access(&mut self, vcpu: u8, op: Op) -> Result<Access, TargetFault>
         requires { OpFits (geometry_of self.old) op }
         ensures part { IfOk result (λ a. record { book = part_of self.new; access = a } ≡ target_access vcpu op (part_of self.old)) }
         ensures history { OnOk result (HaveGrown self.old self.new) }
         ensures geometry { geometry_of self.new ≡ geometry_of self.old }
         ensures full { IsErrOf result TargetFault.LogFull → most_records < length (target_access vcpu op (part_of self.old)).book.log }
+        ensures memory { IsErrOf result TargetFault.Memory → length (target_access vcpu op (part_of self.old)).book.log ≤ most_records }
         ensures err { OnErr result (self.new ≡ self.old) }
     {
         self.state.access(vcpu, &op)
     }
 
-    /// The guest resumes at the target, which is recorded. `TargetFault::LogFull` where the log has no room for the
-    /// record, `TargetFault::Memory` where there is no memory for it. On an error nothing changes.
+    /// The guest resumes at the target, which is recorded. `TargetFault::LogFull` exactly where the log has no room for
+    /// the record, `TargetFault::Memory` where it has, and there is no memory for it. On an error nothing changes.
     pub fn resume(&mut self) -> Result<(), TargetFault>
         requires { (part_of self.old).is_resumed ≡ false }
         ensures part { OnOk result (part_of self.new ≡ resumes (part_of self.old)) }
         ensures history { OnOk result (HaveGrown self.old self.new) }
         ensures geometry { geometry_of self.new ≡ geometry_of self.old }
         ensures full { IsErrOf result TargetFault.LogFull → most_records < length (resumes (part_of self.old)).log }
+        ensures memory { IsErrOf result TargetFault.Memory → length (resumes (part_of self.old)).log ≤ most_records }
         ensures err { OnErr result (self.new ≡ self.old) }
     {
         self.state.resume()
+    }
+
+    /// Whether the log has room for the record that the guest resumes. Takes no memory.
+    pub fn look_to_resume(&self) -> Result<(), TargetFault>
+        ensures room { OnOk result (length (resumes (part_of self.now)).log ≤ most_records) }
+        ensures full { OnErr result (most_records < length (resumes (part_of self.now)).log) }
+        ensures memory { IsErrOf result TargetFault.Memory → ⊥ }
+    {
+        look_for_room(&self.state.log, 1)
     }
 
     /// Places an absent page, with these values in its cells, by the pager's record of this number. The

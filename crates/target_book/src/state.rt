@@ -52,6 +52,7 @@ impl State {
         ensures part { IfOk result (λ s. part_held (held s) ≡ halted_target log.items) }
         ensures sized { IfOk result (λ s. IsSized geometry (held s)) }
         ensures full { IfErr result (λ e. e.1 ≡ TargetFault.LogFull → most_records < length (halted_target log.items).log) }
+        ensures memory { IfErr result (λ e. e.1 ≡ TargetFault.Memory → length (halted_target log.items).log ≤ most_records) }
         ensures err { IfErr result (λ e. e.0.items ≡ log.items) }
     {
         let mut log = log;
@@ -82,6 +83,7 @@ impl State {
         requires fits { OpFits (held self.old).frames.geometry op.now }
         ensures ok { IfOk result (λ a. record { book = part_held (held self.new); access = a } ≡ target_access vcpu op.now (part_held (held self.old))) }
         ensures full { IsErrOf result TargetFault.LogFull → most_records < length (target_access vcpu op.now (part_held (held self.old))).book.log }
+        ensures memory { IsErrOf result TargetFault.Memory → length (target_access vcpu op.now (part_held (held self.old))).book.log ≤ most_records }
         ensures sized { (e : Extent) → IsSized e (held self.old) → IsSized e (held self.new) }
         ensures err { OnErr result (held self.new ≡ held self.old) }
     {
@@ -107,6 +109,7 @@ impl State {
         requires fits { OpFits (held self.old).frames.geometry op.now }
         ensures ok { IfOk result (λ a. record { book = part_held (held self.new); access = a } ≡ done_over (λ c. c) vcpu op.now (part_held (held self.old))) }
         ensures full { IsErrOf result TargetFault.LogFull → most_records < length (done_over (λ c. c) vcpu op.now (part_held (held self.old))).book.log }
+        ensures memory { IsErrOf result TargetFault.Memory → length (done_over (λ c. c) vcpu op.now (part_held (held self.old))).book.log ≤ most_records }
         ensures sized { (e : Extent) → IsSized e (held self.old) → IsSized e (held self.new) }
         ensures err { OnErr result (held self.new ≡ held self.old) }
     {
@@ -121,6 +124,7 @@ impl State {
         requires absent { is_resident (placements self.old.places (page_in op.now)) (freed self.old.places (page_in op.now)) ≡ false }
         ensures ok { IfOk result (λ a. record { book = part_held (held self.new); access = a } ≡ done_over (frees (page_in op.now)) vcpu op.now (part_held (held self.old))) }
         ensures full { IsErrOf result TargetFault.LogFull → most_records < length (done_over (frees (page_in op.now)) vcpu op.now (part_held (held self.old))).book.log }
+        ensures memory { IsErrOf result TargetFault.Memory → length (done_over (frees (page_in op.now)) vcpu op.now (part_held (held self.old))).book.log ≤ most_records }
         ensures sized { (e : Extent) → IsSized e (held self.old) → IsSized e (held self.new) }
         ensures err { OnErr result (held self.new ≡ held self.old) }
     {
@@ -140,6 +144,7 @@ impl State {
         requires page { page < (held self.old).frames.geometry.pages }
         ensures ok { IfOk result (λ a. record { book = part_held (held self.new); access = a } ≡ misses_page vcpu page (part_held (held self.old))) }
         ensures full { IsErrOf result TargetFault.LogFull → most_records < length (misses_page vcpu page (part_held (held self.old))).book.log }
+        ensures memory { IsErrOf result TargetFault.Memory → length (misses_page vcpu page (part_held (held self.old))).book.log ≤ most_records }
         ensures sized { (e : Extent) → IsSized e (held self.old) → IsSized e (held self.new) }
         ensures err { OnErr result (held self.new ≡ held self.old) }
     {
@@ -165,6 +170,7 @@ impl State {
         requires placed { placements self.old.places (page_in op.now) ≡ Some number }
         ensures ok { IfOk result (λ a. record { book = part_held (held self.new); access = a } ≡ done_over (looks number) vcpu op.now (part_held (held self.old))) }
         ensures full { IsErrOf result TargetFault.LogFull → most_records < length (done_over (looks number) vcpu op.now (part_held (held self.old))).book.log }
+        ensures memory { IsErrOf result TargetFault.Memory → length (done_over (looks number) vcpu op.now (part_held (held self.old))).book.log ≤ most_records }
         ensures sized { (e : Extent) → IsSized e (held self.old) → IsSized e (held self.new) }
         ensures err { OnErr result (held self.new ≡ held self.old) }
     {
@@ -234,6 +240,7 @@ impl State {
         requires { length self.old.log.items ≤ most_records }
         ensures part { OnOk result (part_held (held self.new) ≡ resumes (part_held (held self.old))) }
         ensures full { IsErrOf result TargetFault.LogFull → most_records < length (resumes (part_held (held self.old))).log }
+        ensures memory { IsErrOf result TargetFault.Memory → length (resumes (part_held (held self.old))).log ≤ most_records }
         ensures sized { (e : Extent) → IsSized e (held self.old) → IsSized e (held self.new) }
         ensures err { OnErr result (held self.new ≡ held self.old) }
     {

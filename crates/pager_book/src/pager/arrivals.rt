@@ -1,6 +1,6 @@
 //! The pager takes what has arrived.
 
-ghost use Rattle.std.specs.Prelude.{◌≡◌, ◌<◌, [], length, is_some, true, false, OnOk, OnErr, IsErrOf};
+ghost use Rattle.std.specs.Prelude.{◌≡◌, ◌<◌, ◌≤◌, [], length, is_some, true, false, OnOk, OnErr, IsErrOf};
 ghost use Rattle.std.specs.List.{AllByRecursion};
 ghost use Rattle.migration_types.specs.Limits.{most_records};
 ghost use Rattle.audit_model.specs.Shape.{is_taking};
@@ -24,6 +24,7 @@ impl PagerBook {
         requires { IsPacketOf self.old.geometry packet.now }
         ensures ok { OnOk result (part_of self.new ≡ pager_pop link_number packet.now (part_of self.old)) }
         ensures full { IsErrOf result TargetFault.LogFull → most_records < length (pager_pop link_number packet.now (part_of self.old)).log }
+        ensures memory { IsErrOf result TargetFault.Memory → length (pager_pop link_number packet.now (part_of self.old)).log ≤ most_records }
         ensures err { OnErr result (self.new ≡ self.old) }
     {
         if self.released.is_some() {
@@ -42,6 +43,7 @@ impl PagerBook {
         requires { IsPacketOf self.old.geometry packet.now }
         ensures ok { OnOk result (part_of self.new ≡ pager_pull lane_number packet.now (part_of self.old)) }
         ensures full { IsErrOf result TargetFault.LogFull → most_records < length (pager_pull lane_number packet.now (part_of self.old)).log }
+        ensures memory { IsErrOf result TargetFault.Memory → length (pager_pull lane_number packet.now (part_of self.old)).log ≤ most_records }
         ensures err { OnErr result (self.new ≡ self.old) }
     {
         if self.released.is_none() {
@@ -56,6 +58,7 @@ impl PagerBook {
         requires pages { AllByRecursion (λ p. p < self.old.geometry.pages) released.now }
         ensures ok { OnOk result (part_of self.new ≡ pops_first link_number (Packet.State 0 released.now) (part_of self.old)) }
         ensures full { IsErrOf result TargetFault.LogFull → most_records < length (pops_first link_number (Packet.State 0 released.now) (part_of self.old)).log }
+        ensures memory { IsErrOf result TargetFault.Memory → length (pops_first link_number (Packet.State 0 released.now) (part_of self.old)).log ≤ most_records }
         ensures err { OnErr result (self.new ≡ self.old) }
     {
         make_room(&mut self.log, 2)?;
@@ -76,6 +79,7 @@ impl PagerBook {
         requires packet { IsPacketOf self.old.geometry packet.now }
         ensures ok { OnOk result (part_of self.new ≡ takes receipt packet.now (part_of self.old)) }
         ensures full { IsErrOf result TargetFault.LogFull → most_records < length (takes receipt packet.now (part_of self.old)).log }
+        ensures memory { IsErrOf result TargetFault.Memory → length (takes receipt packet.now (part_of self.old)).log ≤ most_records }
         ensures err { OnErr result (self.new ≡ self.old) }
     {
         match packet {
@@ -91,6 +95,7 @@ impl PagerBook {
         requires taking { is_taking receipt ≡ true }
         ensures ok { OnOk result (part_of self.new ≡ takes receipt (Packet.State 0 []) (part_of self.old)) }
         ensures full { IsErrOf result TargetFault.LogFull → most_records < length (takes receipt (Packet.State 0 []) (part_of self.old)).log }
+        ensures memory { IsErrOf result TargetFault.Memory → length (takes receipt (Packet.State 0 []) (part_of self.old)).log ≤ most_records }
         ensures err { OnErr result (self.new ≡ self.old) }
     {
         make_room(&mut self.log, 2)?;
@@ -112,6 +117,7 @@ impl PagerBook {
         requires cells { length contents.now ≡ self.old.geometry.cells }
         ensures ok { OnOk result (part_of self.new ≡ takes receipt (Packet.Page 0 page contents.now) (part_of self.old)) }
         ensures full { IsErrOf result TargetFault.LogFull → most_records < length (takes receipt (Packet.Page 0 page contents.now) (part_of self.old)).log }
+        ensures memory { IsErrOf result TargetFault.Memory → length (takes receipt (Packet.Page 0 page contents.now) (part_of self.old)).log ≤ most_records }
         ensures err { OnErr result (self.new ≡ self.old) }
     {
         make_room(&mut self.log, 1)?;

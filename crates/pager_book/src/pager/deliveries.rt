@@ -1,6 +1,6 @@
 //! The pager lets the guest resume, and places the pages that have come.
 
-ghost use Rattle.std.specs.Prelude.{◌≡◌, ◌<◌, ◌⊎◌, [], true, false, length, slice_get, is_some, Some, None, IfOk, OnOk, OnErr, IsErrOf};
+ghost use Rattle.std.specs.Prelude.{◌≡◌, ◌<◌, ◌≤◌, ◌⊎◌, [], true, false, length, slice_get, is_some, Some, None, IfOk, OnOk, OnErr, IsErrOf};
 ghost use Rattle.std.specs.Option.{option_map, unwrap_or};
 ghost use Rattle.migration_types.specs.Limits.{most_records};
 ghost use Rattle.residency.specs.Placements.{is_resident};
@@ -12,7 +12,7 @@ ghost use Rattle.pager_book.specs.inner.Steps.{skips, places_next};
 
 use super::PagerBook;
 use crate::log::append;
-use migration_events::make_room;
+use migration_events::{look_for_room, make_room};
 use migration_types::{PagerRec, Seq};
 use std::alloc::Global;
 use target_book::{TargetBook, TargetFault};
@@ -21,18 +21,21 @@ impl PagerBook {
     /// Settles the pages that the guest released at the target before they came: nobody waits for them any more, and
     /// nobody is answered for them. Once the state has come, lets the guest resume at the target. After that it takes
     /// the oldest page that has come: it places it, and answers the virtual processors that wait for it, in their
-    /// order, or drops it where it is resident already. Otherwise nobody is answered. The books are of one machine. On
-    /// an error nothing changes.
+    /// order, or drops it where it is resident already. Otherwise nobody is answered. The books are of one machine. The
+    /// length of the log that gains a record is looked at before memory is asked for, so `TargetFault::LogFull` comes
+    /// exactly where it has no room. On an error nothing changes.
     pub fn deliver(&mut self, target: &mut TargetBook) -> Result<Seq<u8>, TargetFault>
         requires { geometry_of target.old ≡ self.old.geometry }
         ensures ok { IfOk result (λ woken. record { pager = part_of self.new; target = target_of target.new; woken = woken } ≡ deliver (part_of self.old) (target_of target.old)) }
         ensures machine { geometry_of target.new ≡ geometry_of target.old }
         ensures full { IsErrOf result TargetFault.LogFull → let after = deliver (part_of self.old) (target_of target.old) in (most_records < length after.pager.log) ⊎ (most_records < length after.target.log) }
+        ensures memory { IsErrOf result TargetFault.Memory → let after = deliver (part_of self.old) (target_of target.old) in (length after.pager.log ≤ most_records) × (length after.target.log ≤ most_records) }
         ensures err { OnErr result ((self.new ≡ self.old) × (target.new ≡ target.old)) }
     {
         if target.unsettled().is_empty() {
             return self.bring(target);
         }
+        self.look_to_bring(target)?;
         let before = self.drop_waiters(target)?;
         match self.bring(target) {
             Ok(woken) => {
@@ -46,14 +49,37 @@ impl PagerBook {
         }
     }
 
+    /// Whether the log that gains a record has room for it, where the guest resumes or a page has come. Takes no memory.
+    fn look_to_bring(&self, target: &TargetBook) -> Result<(), TargetFault>
+        ensures room { OnOk result (let after = delivers_by self.now.released (part_of self.now) (target_of target.now) in (length after.pager.log ≤ most_records) × (length after.target.log ≤ most_records)) }
+        ensures full { OnErr result (let after = delivers_by self.now.released (part_of self.now) (target_of target.now) in (most_records < length after.pager.log) ⊎ (most_records < length after.target.log)) }
+        ensures memory { IsErrOf result TargetFault.Memory → ⊥ }
+    {
+        self.keeps_limits();
+        target.keeps_history();
+        if self.released.is_none() {
+            return Ok(());
+        }
+        if !target.is_resumed() {
+            return target.look_to_resume();
+        }
+        if self.inbox.is_empty() {
+            return Ok(());
+        }
+        look_for_room(&self.log, 1)
+    }
+
     /// Lets the guest resume, or takes the oldest page that has come, once the pages are settled.
     fn bring(&mut self, target: &mut TargetBook) -> Result<Seq<u8>, TargetFault>
         requires { geometry_of target.old ≡ self.old.geometry }
         ensures ok { IfOk result (λ woken. record { pager = part_of self.new; target = target_of target.new; woken = woken } ≡ delivers_by self.old.released (part_of self.old) (target_of target.old)) }
         ensures machine { geometry_of target.new ≡ geometry_of target.old }
         ensures full { IsErrOf result TargetFault.LogFull → let after = delivers_by self.old.released (part_of self.old) (target_of target.old) in (most_records < length after.pager.log) ⊎ (most_records < length after.target.log) }
+        ensures memory { IsErrOf result TargetFault.Memory → let after = delivers_by self.old.released (part_of self.old) (target_of target.old) in (length after.pager.log ≤ most_records) × (length after.target.log ≤ most_records) }
         ensures err { OnErr result ((self.new ≡ self.old) × (target.new ≡ target.old)) }
     {
+        self.keeps_limits();
+        target.keeps_history();
         if self.released.is_none() {
             return Ok(nobody(self.alloc));
         }
@@ -77,6 +103,7 @@ impl PagerBook {
         requires come { 0 < length self.old.inbox }
         ensures ok { OnOk result (part_of self.new ≡ skips self.old.inbox (part_of self.old)) }
         ensures full { IsErrOf result TargetFault.LogFull → most_records < length (skips self.old.inbox (part_of self.old)).log }
+        ensures memory { IsErrOf result TargetFault.Memory → length (skips self.old.inbox (part_of self.old)).log ≤ most_records }
         ensures err { OnErr result (self.new ≡ self.old) }
     {
         make_room(&mut self.log, 1)?;
@@ -96,6 +123,7 @@ impl PagerBook {
         ensures ok { IfOk result (λ woken. record { pager = part_of self.new; target = target_of target.new; woken = woken } ≡ places_next self.old.inbox (part_of self.old) (target_of target.old)) }
         ensures machine { geometry_of target.new ≡ geometry_of target.old }
         ensures full { IsErrOf result TargetFault.LogFull → most_records < length (places_next self.old.inbox (part_of self.old) (target_of target.old)).pager.log }
+        ensures memory { IsErrOf result TargetFault.Memory → length (places_next self.old.inbox (part_of self.old) (target_of target.old)).pager.log ≤ most_records }
         ensures err { OnErr result ((self.new ≡ self.old) × (target.new ≡ target.old)) }
     {
         make_room(&mut self.log, 1)?;

@@ -1,18 +1,18 @@
 //! The pager learns of a miss.
 
-ghost use Rattle.std.specs.Prelude.{◌≡◌, ◌<◌, [], true, false, length, is_some, None, OnOk, OnErr, IsErrOf};
+ghost use Rattle.std.specs.Prelude.{◌≡◌, ◌+◌, ◌<◌, ◌≤◌, ◌||◌, [], true, false, length, is_some, OnOk, OnErr, IsErrOf};
 ghost use Rattle.migration_types.specs.Limits.{most_records};
 ghost use Rattle.residency.specs.Placements.{is_resident};
-ghost use Rattle.fault_queue.specs.Waiting.{is_waiting};
+ghost use Rattle.fault_queue.specs.Waiting.{is_waiting, without_all};
 ghost use Rattle.target_book.specs.Kept.{geometry_of, part_of as target_of};
-ghost use Rattle.pager_book.specs.PagerPart.{next_fault, faults, fault_at, zeroes};
+ghost use Rattle.pager_book.specs.PagerPart.{next_fault, faults_by, fault_at, zeroes};
 ghost use Rattle.pager_book.specs.PagerLists.{part_of};
 ghost use Rattle.pager_book.specs.inner.Steps.{learned, asks};
 
 use super::{PagerBook, want_page};
 use crate::log::append;
 use fault_queue::Asked;
-use migration_events::make_room;
+use migration_events::{look_for_room, make_room};
 use migration_types::PagerRec;
 use page_stream::Packet;
 use target_book::{Missing, TargetBook, TargetFault};
@@ -21,19 +21,21 @@ impl PagerBook {
     /// Settles the pages that the guest released at the target before they came: nobody waits for them any more. Then
     /// learns of the oldest miss that was not taken. Where its page is neither resident nor released, the page is asked
     /// for, or its virtual processor waits with those that wait for it; a released page is placed as zeros at once.
-    /// Where there is no miss nothing more happens. The books are of one machine, and a miss comes only once the state
-    /// has. On an error nothing changes.
+    /// Where there is no miss, or the state has not come, nothing more happens. The books are of one machine. The log's
+    /// length is looked at before memory is asked for, so `TargetFault::LogFull` comes exactly where the log has no room
+    /// for the records. On an error nothing changes.
     pub fn next_fault(&mut self, target: &mut TargetBook) -> Result<(), TargetFault>
-        requires machine { geometry_of target.old ≡ self.old.geometry }
-        requires ready { self.old.released ≡ None → (target_of target.old).misses ≡ [] }
+        requires { geometry_of target.old ≡ self.old.geometry }
         ensures ok { OnOk result (record { pager = part_of self.new; target = target_of target.new; woken = [] } ≡ next_fault (part_of self.old) (target_of target.old)) }
         ensures machine { geometry_of target.new ≡ geometry_of target.old }
         ensures full { IsErrOf result TargetFault.LogFull → most_records < length (next_fault (part_of self.old) (target_of target.old)).pager.log }
+        ensures memory { IsErrOf result TargetFault.Memory → length (next_fault (part_of self.old) (target_of target.old)).pager.log ≤ most_records }
         ensures err { OnErr result ((self.new ≡ self.old) × (target.new ≡ target.old)) }
     {
         if target.unsettled().is_empty() {
             return self.fault(target);
         }
+        self.look_to_fault(target)?;
         let before = self.drop_waiters(target)?;
         if let Err(fault) = self.fault(target) {
             self.waiting = before;
@@ -43,15 +45,58 @@ impl PagerBook {
         Ok(())
     }
 
+    /// Whether the log has room for what a miss appends once the pages are settled. Takes no memory.
+    fn look_to_fault(&self, target: &TargetBook) -> Result<(), TargetFault>
+        requires { geometry_of target.now ≡ self.now.geometry }
+        ensures room { OnOk result (length (next_fault (part_of self.now) (target_of target.now)).pager.log ≤ most_records) }
+        ensures full { OnErr result (most_records < length (next_fault (part_of self.now) (target_of target.now)).pager.log) }
+        ensures memory { IsErrOf result TargetFault.Memory → ⊥ }
+    {
+        let more = self.records_of_fault(target);
+        look_for_room(&self.log, more)
+    }
+
+    /// How many records a miss appends once the pages are settled.
+    fn records_of_fault(&self, target: &TargetBook) -> usize
+        requires { geometry_of target.now ≡ self.now.geometry }
+        ensures few { result ≤ 2 }
+        ensures count { length (next_fault (part_of self.now) (target_of target.now)).pager.log ≡ length self.now.log + result }
+    {
+        if self.released.is_none() {
+            return 0;
+        }
+        let Some(missing) = target.next_miss() else {
+            return 0;
+        };
+        if self.is_only_learned(missing, target) {
+            1
+        } else {
+            2
+        }
+    }
+
+    /// Whether nothing follows from a miss once the pages are settled: its page is resident, or its virtual processor
+    /// waits.
+    fn is_only_learned(&self, missing: Missing, target: &TargetBook) -> bool
+        requires machine { geometry_of target.now ≡ self.now.geometry }
+        requires page { missing.page < self.now.geometry.pages }
+        ensures { result ≡ is_resident ((target_of target.now).placed missing.page) ((target_of target.now).freed missing.page) || is_waiting missing.vcpu (without_all (target_of target.now).unsettled self.now.waiting) }
+    {
+        target.resident(missing.page) || self.waiting.waits_beside(missing.vcpu, target.unsettled())
+    }
+
     /// Learns of the oldest miss, once the pages are settled.
     fn fault(&mut self, target: &mut TargetBook) -> Result<(), TargetFault>
-        requires machine { geometry_of target.old ≡ self.old.geometry }
-        requires ready { self.old.released ≡ None → (target_of target.old).misses ≡ [] }
-        ensures ok { OnOk result (record { pager = part_of self.new; target = target_of target.new; woken = [] } ≡ faults (target_of target.old).misses (part_of self.old) (target_of target.old)) }
+        requires { geometry_of target.old ≡ self.old.geometry }
+        ensures ok { OnOk result (record { pager = part_of self.new; target = target_of target.new; woken = [] } ≡ faults_by self.old.released (target_of target.old).misses (part_of self.old) (target_of target.old)) }
         ensures machine { geometry_of target.new ≡ geometry_of target.old }
-        ensures full { IsErrOf result TargetFault.LogFull → most_records < length (faults (target_of target.old).misses (part_of self.old) (target_of target.old)).pager.log }
+        ensures full { IsErrOf result TargetFault.LogFull → most_records < length (faults_by self.old.released (target_of target.old).misses (part_of self.old) (target_of target.old)).pager.log }
+        ensures memory { IsErrOf result TargetFault.Memory → length (faults_by self.old.released (target_of target.old).misses (part_of self.old) (target_of target.old)).pager.log ≤ most_records }
         ensures err { OnErr result ((self.new ≡ self.old) × (target.new ≡ target.old)) }
     {
+        if self.released.is_none() {
+            return Ok(());
+        }
         let Some(missing) = target.next_miss() else {
             return Ok(());
         };
@@ -68,6 +113,7 @@ impl PagerBook {
         ensures ok { OnOk result (record { pager = part_of self.new; target = target_of target.new; woken = [] } ≡ fault_at missing.page missing.vcpu (learned missing.number (part_of self.old)) (target_of target.old)) }
         ensures machine { geometry_of target.new ≡ geometry_of target.old }
         ensures full { IsErrOf result TargetFault.LogFull → most_records < length (fault_at missing.page missing.vcpu (learned missing.number (part_of self.old)) (target_of target.old)).pager.log }
+        ensures memory { IsErrOf result TargetFault.Memory → length (fault_at missing.page missing.vcpu (learned missing.number (part_of self.old)) (target_of target.old)).pager.log ≤ most_records }
         ensures err { OnErr result ((self.new ≡ self.old) × (target.new ≡ target.old)) }
     {
         if target.resident(missing.page) || self.waiting.is_waiting(missing.vcpu) {
@@ -84,6 +130,7 @@ impl PagerBook {
         requires { is_some self.old.released ≡ true }
         ensures ok { OnOk result (part_of self.new ≡ learned miss (part_of self.old)) }
         ensures full { IsErrOf result TargetFault.LogFull → most_records < length (learned miss (part_of self.old)).log }
+        ensures memory { IsErrOf result TargetFault.Memory → length (learned miss (part_of self.old)).log ≤ most_records }
         ensures err { OnErr result (self.new ≡ self.old) }
     {
         make_room(&mut self.log, 1)?;
@@ -100,6 +147,7 @@ impl PagerBook {
         ensures ok { OnOk result (record { pager = part_of self.new; target = target_of target.new; woken = [] } ≡ zeroes missing.page (learned missing.number (part_of self.old)) (target_of target.old)) }
         ensures machine { geometry_of target.new ≡ geometry_of target.old }
         ensures full { IsErrOf result TargetFault.LogFull → most_records < length (zeroes missing.page (learned missing.number (part_of self.old)) (target_of target.old)).pager.log }
+        ensures memory { IsErrOf result TargetFault.Memory → length (zeroes missing.page (learned missing.number (part_of self.old)) (target_of target.old)).pager.log ≤ most_records }
         ensures err { OnErr result ((self.new ≡ self.old) × (target.new ≡ target.old)) }
     {
         make_room(&mut self.log, 2)?;
@@ -126,6 +174,7 @@ impl PagerBook {
         requires away { is_waiting missing.vcpu self.old.waiting ≡ false }
         ensures ok { OnOk result (part_of self.new ≡ asks missing.page missing.vcpu (learned missing.number (part_of self.old))) }
         ensures full { IsErrOf result TargetFault.LogFull → most_records < length (asks missing.page missing.vcpu (learned missing.number (part_of self.old))).log }
+        ensures memory { IsErrOf result TargetFault.Memory → length (asks missing.page missing.vcpu (learned missing.number (part_of self.old))).log ≤ most_records }
         ensures err { OnErr result (self.new ≡ self.old) }
     {
         make_room(&mut self.log, 2)?;

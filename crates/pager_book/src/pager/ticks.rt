@@ -1,6 +1,6 @@
 //! The pager asks once more.
 
-ghost use Rattle.std.specs.Prelude.{◌≡◌, ◌<◌, length, IfOk, OnErr, IsErrOf};
+ghost use Rattle.std.specs.Prelude.{◌≡◌, ◌<◌, ◌≤◌, length, IfOk, OnOk, OnErr, IsErrOf};
 ghost use Rattle.migration_types.specs.Limits.{most_records};
 ghost use Rattle.pager_book.specs.PagerPart.{oldest, pager_tick};
 ghost use Rattle.pager_book.specs.PagerLists.{part_of};
@@ -9,18 +9,31 @@ use super::{PagerBook, want_page};
 use crate::log::append;
 use crate::marks::first_unmarked;
 use fault_queue::FaultQueue;
-use migration_events::make_room;
+use migration_events::{look_for_room, make_room};
 use migration_types::{PageNo, PagerRec};
 use page_stream::Packet;
 use target_book::TargetFault;
 
 impl PagerBook {
+    /// Whether the log has room for what a tick appends. Takes no memory.
+    pub fn look_to_tick(&self) -> Result<(), TargetFault>
+        ensures room { OnOk result (length (pager_tick (part_of self.now)).book.log ≤ most_records) }
+        ensures full { OnErr result (most_records < length (pager_tick (part_of self.now)).book.log) }
+        ensures memory { IsErrOf result TargetFault.Memory → ⊥ }
+    {
+        if self.released.is_none() {
+            return Ok(());
+        }
+        look_for_room(&self.log, 1)
+    }
+
     /// Wants a page once more: the page that is waited for longest, or where nobody waits the least page that is not
     /// released, placed or settled. Where each page is one of these, it says so. None: the state has not come, and
     /// nothing changes. On an error nothing changes.
     pub fn tick(&mut self) -> Result<Option<Packet>, TargetFault>
         ensures ok { IfOk result (λ packet. record { book = part_of self.new; packet = packet } ≡ pager_tick (part_of self.old)) }
         ensures full { IsErrOf result TargetFault.LogFull → most_records < length (pager_tick (part_of self.old)).book.log }
+        ensures memory { IsErrOf result TargetFault.Memory → length (pager_tick (part_of self.old)).book.log ≤ most_records }
         ensures err { OnErr result (self.new ≡ self.old) }
     {
         if self.released.is_none() {

@@ -5,8 +5,8 @@ use Rattle.bubbling.specs.Edges.{low_edge, high_edge, edges_in, IsReach}
 use Rattle.bubbling.proofs.Reaches.{reaches_length, reach_at, edges_at, edges_none}
 use Rattle.bubbling.proofs.Bubbles.edges.Goals as goal
 
-pub returns-in_err-place : goal.returns-in_err-place
-returns-in_err-place c =
+pub returns-in_err-place-clause-edges : goal.returns-in_err-place-clause-edges
+returns-in_err-place-clause-edges c =
     let i = c.self.inside in
     let none : edges_in c.args.page i.pivots.pivots i.edges.items ≡ None = edges_none c.args.page i.pivots.pivots i.edges.items (λ h. grind (arith, c.place.ensures, c.branch-place.ensures, c.in_err-place.ensures)) in
     subst (λ (b : Bubbling). c.from_residual.result ≡ option_map (λ e. (low_edge e, high_edge e)) (edges_of c.args.page b)) c.self.view_is (c.from_residual.ensures ∙ ap (option_map (λ e. (low_edge e, high_edge e))) (sym none))
@@ -30,8 +30,8 @@ told-requires-clause-end c =
     let here = subst (λ e. IsReach i.geometry.pages (marked i.unsent) (get_or i.pivots.pivots c.in_ok-place.place 0) e) (sym c.at.ensures) reach in
     omega (arith, here.end, c.keeps_limits.ensures, c.self.invariant.0)
 
-pub returns : goal.returns
-returns c =
+pub returns-clause-edges : goal.returns-clause-edges
+returns-clause-edges c =
     let i = c.self.inside in
     let within = c.in_ok-place.ensures.0 in
     let found : edges_in c.args.page i.pivots.pivots i.edges.items ≡ Some c.at.result =

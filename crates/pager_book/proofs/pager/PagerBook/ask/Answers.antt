@@ -1,4 +1,4 @@
-use Rattle.std.proofs.Common.{◌≡◌, ℕ, ◌+◌, ◌<◌, ◌++◌, ◌∷◌, [], true, false, Some, List, length, sym, ap, subst, ◌∙◌, arith}
+use Rattle.std.proofs.Common.{◌≡◌, ℕ, ◌+◌, ◌<◌, ◌≤◌, ◌++◌, ◌∷◌, [], true, false, Some, List, length, sym, ap, subst, ◌∙◌, arith}
 use Rattle.std.specs.Prelude.{is_some, IsErrOf}
 use Rattle.std.proofs.lemmas.Grind.{common_steps}
 use Rattle.migration_types.specs.Extents.{Extent}
@@ -8,7 +8,7 @@ use Rattle.migration_types.specs.declared.records.PagerRec.TheVariants.{Fault, J
 use Rattle.page_tables.specs.Tables.{values, with_value}
 use Rattle.fault_queue.specs.Waiting.{is_asked}
 use Rattle.page_stream.specs.declared.Packet.TheVariants.{Want as WantPacket}
-use Rattle.migration_events.specs.declared.faults.EventFault.TheVariants.{LogFull}
+use Rattle.migration_events.specs.declared.faults.EventFault.TheVariants.{LogFull, Memory}
 use Rattle.pager_book.specs.PagerLists.{PagerLists, part_of, IsKept}
 use Rattle.pager_book.specs.inner.Steps.{learned, asks}
 use Rattle.pager_book.proofs.Sounds.{sound_with}
@@ -24,6 +24,15 @@ returns-in_err-make_room-clause-full c =
     ∙ asks_length _ c.args.missing.number c.args.missing.page c.args.missing.vcpu c.self.invariant.kept
     in
     λ h. subst (λ (n : ℕ). most_records < n) (sym e) (full h)
+
+pub returns-in_err-make_room-clause-memory : goal.returns-in_err-make_room-clause-memory
+returns-in_err-make_room-clause-memory c =
+    let room : IsErrOf c.from_residual.result Memory → length c.self.inside.log.items + 2 ≤ most_records = grind (arith, common_steps) in
+    let e : length (asks c.args.missing.page c.args.missing.vcpu (learned c.args.missing.number (part_of c.args.self.now))).log ≡ length c.self.inside.log.items + 2 =
+    ap (λ (v : PagerLists). length (asks c.args.missing.page c.args.missing.vcpu (learned c.args.missing.number (part_of v))).log) (sym c.self.view_is)
+    ∙ asks_length _ c.args.missing.number c.args.missing.page c.args.missing.vcpu c.self.invariant.kept
+    in
+    λ h. subst (λ (n : ℕ). n ≤ most_records) (sym e) (room h)
 
 pub invariant_of-self-in-Some : goal.invariant_of-self-in-Some
 invariant_of-self-in-Some c =

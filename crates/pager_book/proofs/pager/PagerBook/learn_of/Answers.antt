@@ -1,4 +1,4 @@
-use Rattle.std.proofs.Common.{◌≡◌, ℕ, ◌<◌, true, false, Bool, length, sym, ap, subst, ◌∙◌}
+use Rattle.std.proofs.Common.{◌≡◌, ℕ, ◌<◌, ◌≤◌, true, false, Bool, length, sym, ap, subst, ◌∙◌}
 use Rattle.std.proofs.lemmas.Result.{on_ok_weaker}
 use Rattle.migration_types.specs.Limits.{most_records}
 use Rattle.residency.specs.Placements.{is_resident}
@@ -47,3 +47,9 @@ returns-clause-ok c = on_ok_weaker c.ask.result (λ e. ap (λ b. unchanged b (ta
 
 pub returns-clause-full : goal.returns-clause-full
 returns-clause-full c h = subst (λ (g : Paged). most_records < length g.pager.log) (sym (ask_is c)) (c.ask.ensures.full h)
+
+pub returns-then-at-clause-memory : goal.returns-then-at-clause-memory
+returns-then-at-clause-memory c h = subst (λ (g : Paged). length g.pager.log ≤ most_records) (sym (zero_is c)) (c.zero.ensures.memory h)
+
+pub returns-clause-memory : goal.returns-clause-memory
+returns-clause-memory c h = subst (λ (g : Paged). length g.pager.log ≤ most_records) (sym (ask_is c)) (c.ask.ensures.memory h)

@@ -4,6 +4,7 @@ use Rattle.migration_types.specs.declared.records.SourceRec.TheVariants.{Ask}
 use Rattle.source_book.specs.SourcePart.{SourcePart}
 use Rattle.source_book.specs.Books.{part_of}
 use Rattle.source_book.specs.contracts.book.SourceBook.{the_view}
+use Rattle.source_book.proofs.Logs.{with_none, with_one}
 use Rattle.source_book.proofs.Keeping.{logged, logged_keeps}
 use Rattle.source_book.proofs.Calls.{book_is}
 use Rattle.source_book.proofs.book.SourceBook.note_ask.Goals as goal
@@ -14,4 +15,4 @@ invariant_of-self-2 c =
     let log = c.push_reserved.ensures.items ∙ ap (λ (xs : List SourceRec). xs ++ Ask c.args.up ∷ []) c.make_room.ensures.items in
     book_is _ (logged (Ask c.args.up) b.ring true b.is_done b) (λ i. record b { log = log i; was_asked = true })
     c.self.invariant.ledger c.self.invariant.bubbles c.self.invariant.table c.self.invariant.released_are c.self.invariant.unsent_is
-    (logged_keeps (Ask c.args.up) b.ring true b.is_done b (λ page contents e. absurd (cc)) (omega (arith, c.in_ok-look_for_room.ensures.room)) c.self.invariant.log)
+    (logged_keeps (Ask c.args.up) b.ring true b.is_done b (λ page contents e. absurd (cc)) (with_one b.was_asked) (with_none b.is_done) (omega (arith, c.in_ok-look_for_room.ensures.room)) c.self.invariant.log)

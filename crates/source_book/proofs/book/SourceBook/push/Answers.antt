@@ -42,7 +42,7 @@ invariant_of-self-2 c =
     (c.send.ensures.sent.pages ∙ c.self.invariant.table)
     c.self.invariant.released_are
     (state.unsent_is ∙ ap (without_page page) c.self.invariant.unsent_is)
-    parts.0 parts.1 (omega (arith, room)) c.self.invariant.log
+    parts.0 parts.1 refl (omega (arith, room)) c.self.invariant.log
 
 pub returns-clause-ok : goal.returns-clause-ok
 returns-clause-ok c =

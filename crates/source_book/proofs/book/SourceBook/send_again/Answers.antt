@@ -1,4 +1,4 @@
-use Rattle.std.proofs.Common.{◌≡◌, ◌∙◌, sym, ap, List, ◌++◌, ◌∷◌, [], length, true, Some, subst, arith}
+use Rattle.std.proofs.Common.{refl, ◌≡◌, ◌∙◌, sym, ap, List, ◌++◌, ◌∷◌, [], length, true, Some, subst, arith}
 use Rattle.migration_types.specs.declared.records.SourceRec.{SourceRec}
 use Rattle.migration_types.specs.declared.records.SourceRec.TheVariants.{Ask, Again}
 use Rattle.page_stream.specs.declared.Packet.TheVariants.{Page as PagePacket}
@@ -7,7 +7,7 @@ use Rattle.source_book.specs.SourcePart.{SourcePart, Offer, with_pivot}
 use Rattle.source_book.specs.Books.{SourceKept, part_of}
 use Rattle.source_book.specs.inner.Wanted.{wanted_again}
 use Rattle.source_book.specs.contracts.book.SourceBook.{the_view}
-use Rattle.source_book.proofs.Logs.{length_suc}
+use Rattle.source_book.proofs.Logs.{length_suc, with_none, with_one}
 use Rattle.source_book.proofs.Keeping.{contents_of, logged, logged_keeps}
 use Rattle.source_book.proofs.Calls.{book_is, pivot_is, sent_there}
 use Rattle.source_book.proofs.book.SourceBook.send_again.Goals as goal
@@ -24,8 +24,8 @@ invariant_of-self-2 c =
     let room = c.in_ok-look_for_room.ensures.room in
     book_is _ (logged (Again c.args.sending) ring true b.is_done asked) (λ j. record b { log = log j; ring = (pivot j).ring; was_asked = true })
     c.self.invariant.ledger (ap (λ (x : Bubbling). x.geometry) pivot ∙ c.self.invariant.bubbles) c.self.invariant.table c.self.invariant.released_are (ap unsent_in pivot ∙ c.self.invariant.unsent_is)
-    (logged_keeps (Again c.args.sending) ring true b.is_done asked (λ page contents e. absurd (cc)) (omega (arith, room, length_suc b.log (Ask up)))
-    (logged_keeps (Ask up) b.ring true b.is_done b (λ page contents e. absurd (cc)) (omega (arith, room)) c.self.invariant.log))
+    (logged_keeps (Again c.args.sending) ring true b.is_done asked (λ page contents e. absurd (cc)) refl (with_none b.is_done) (omega (arith, room, length_suc b.log (Ask up)))
+    (logged_keeps (Ask up) b.ring true b.is_done b (λ page contents e. absurd (cc)) (with_one b.was_asked) (with_none b.is_done) (omega (arith, room)) c.self.invariant.log))
 
 pub returns-clause-ok : goal.returns-clause-ok
 returns-clause-ok c =

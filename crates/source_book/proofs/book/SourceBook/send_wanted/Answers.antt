@@ -8,7 +8,7 @@ use Rattle.source_book.specs.SourcePart.{SourcePart, Offer, with_pivot, asks, ow
 use Rattle.source_book.specs.Books.{SourceKept, part_of}
 use Rattle.source_book.specs.inner.Wanted.{wanted_first}
 use Rattle.source_book.specs.contracts.book.SourceBook.{the_view}
-use Rattle.source_book.proofs.Logs.{length_suc}
+use Rattle.source_book.proofs.Logs.{length_suc, with_none, with_one}
 use Rattle.source_book.proofs.Keeping.{logged_keeps}
 use Rattle.source_book.proofs.Calls.{pivot_is, sent_book, sent_part, sent_offer}
 use Rattle.source_book.proofs.book.SourceBook.send_wanted.Goals as goal
@@ -36,8 +36,8 @@ invariant_of-self-2 c =
     (c.send.ensures.sent.pages ∙ c.self.invariant.table)
     c.self.invariant.released_are
     (marked.unsent_is ∙ ap (λ (x : Bubbling). without_page page (unsent_in x)) pivot ∙ ap (without_page page) c.self.invariant.unsent_is)
-    owed fresh (omega (arith, room, length_suc b.log (Ask up)))
-    (logged_keeps (Ask up) b.ring true b.is_done b (λ page contents e. absurd (cc)) (omega (arith, room)) c.self.invariant.log)
+    owed fresh refl (omega (arith, room, length_suc b.log (Ask up)))
+    (logged_keeps (Ask up) b.ring true b.is_done b (λ page contents e. absurd (cc)) (with_one b.was_asked) (with_none b.is_done) (omega (arith, room)) c.self.invariant.log)
 
 pub returns-clause-ok : goal.returns-clause-ok
 returns-clause-ok c =

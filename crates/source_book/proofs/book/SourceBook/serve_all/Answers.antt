@@ -1,10 +1,10 @@
-use Rattle.std.proofs.Common.{◌∙◌, ap, List, ◌++◌, ◌∷◌, [], true, arith}
+use Rattle.std.proofs.Common.{refl, ◌∙◌, ap, List, ◌++◌, ◌∷◌, [], true, arith}
 use Rattle.migration_types.specs.declared.records.SourceRec.{SourceRec}
 use Rattle.migration_types.specs.declared.records.SourceRec.TheVariants.{Ask, Done}
 use Rattle.source_book.specs.SourcePart.{SourcePart}
 use Rattle.source_book.specs.Books.{part_of}
 use Rattle.source_book.specs.contracts.book.SourceBook.{the_view}
-use Rattle.source_book.proofs.Logs.{length_suc}
+use Rattle.source_book.proofs.Logs.{length_suc, with_none, with_one}
 use Rattle.source_book.proofs.Keeping.{logged, logged_keeps}
 use Rattle.source_book.proofs.Calls.{book_is}
 use Rattle.source_book.proofs.book.SourceBook.serve_all.Goals as goal
@@ -18,5 +18,5 @@ invariant_of-self-2 c =
     let room = c.in_ok-look_for_room.ensures.room in
     book_is _ (logged Done b.ring true true asked) (λ i. record b { log = log i; was_asked = true; is_done = true })
     c.self.invariant.ledger c.self.invariant.bubbles c.self.invariant.table c.self.invariant.released_are c.self.invariant.unsent_is
-    (logged_keeps Done b.ring true true asked (λ page contents e. absurd (cc)) (omega (arith, room, length_suc b.log (Ask up)))
-    (logged_keeps (Ask up) b.ring true b.is_done b (λ page contents e. absurd (cc)) (omega (arith, room)) c.self.invariant.log))
+    (logged_keeps Done b.ring true true asked (λ page contents e. absurd (cc)) refl (with_one b.is_done) (omega (arith, room, length_suc b.log (Ask up)))
+    (logged_keeps (Ask up) b.ring true b.is_done b (λ page contents e. absurd (cc)) (with_one b.was_asked) (with_none b.is_done) (omega (arith, room)) c.self.invariant.log))

@@ -16,8 +16,28 @@ returns-in_err-make_room-clause-full c =
     let seen = placed_cover (presence s.places c.page.result) c.args.number s.places.frontier true (ap (λ p. number_of (presence s.places p)) page ∙ placed) (sym test ∙ covers) in
     rw (seen_length c.args.vcpu c.args.op.now c.args.number (part_held (held s)) seen) (search rules)
 
+pub returns-in_err-make_room-clause-memory : goal.returns-in_err-make_room-clause-memory
+returns-in_err-make_room-clause-memory c =
+    let s = c.args.self.now in
+    let covers = c.covers.ensures in
+    let test = c.if-covers.true in
+    let page = c.page.ensures in
+    let placed = c.requires.placed in
+    let seen = placed_cover (presence s.places c.page.result) c.args.number s.places.frontier true (ap (λ p. number_of (presence s.places p)) page ∙ placed) (sym test ∙ covers) in
+    rw (seen_length c.args.vcpu c.args.op.now c.args.number (part_held (held s)) seen) (search rules)
+
 pub returns-in_err-make_room-2-clause-full : goal.returns-in_err-make_room-2-clause-full
 returns-in_err-make_room-2-clause-full c =
+    let s = c.args.self.now in
+    let covers = c.covers.ensures in
+    let test = c.if-covers.false in
+    let page = c.page.ensures in
+    let placed = c.requires.placed in
+    let unseen = placed_cover (presence s.places c.page.result) c.args.number s.places.frontier false (ap (λ p. number_of (presence s.places p)) page ∙ placed) (sym test ∙ covers) in
+    rw (unseen_length c.args.vcpu c.args.op.now c.args.number (part_held (held s)) unseen) (search rules)
+
+pub returns-in_err-make_room-2-clause-memory : goal.returns-in_err-make_room-2-clause-memory
+returns-in_err-make_room-2-clause-memory c =
     let s = c.args.self.now in
     let covers = c.covers.ensures in
     let test = c.if-covers.false in
