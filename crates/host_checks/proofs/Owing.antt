@@ -19,10 +19,10 @@ use Rattle.audit_model.specs.Walks.{cursors_from}
 use Rattle.audit_model.specs.Flat.{changed, flat, freed, freed_after, home, in_ledger, at_halt, marked_late}
 use Rattle.audit_model.specs.declared.home.Home.{Home}
 use Rattle.audit_model.specs.declared.home.Home.TheVariants.{AtSource, Nowhere, AtTarget}
-use Rattle.audit_model.specs.Shape.{is_placement_of}
+use Rattle.audit_model.specs.Shape.{is_placement_of, earlier}
 use Rattle.audit_model.specs.World.{world_after}
 use Rattle.audit_model.specs.Worlds.{placed_before, resident_before, FollowsCursors}
-use Rattle.audit_model.specs.Certificates.{IsOf, IsFresh, IsRightCertificate}
+use Rattle.audit_model.specs.Certificates.{is_touch_of, IsLateTouch, IsOf, IsNothing, IsFresh, IsRightCertificate}
 use Rattle.audit_model.proofs.History.{earlier_true}
 use Rattle.audit_model.proofs.Walked.{merging_is_walk}
 use Rattle.migration_types.specs.Extents.{Extent}
@@ -92,14 +92,17 @@ entry_comes s page (Fresh first) other of = fresh_comes s page first of
 entry_comes s page (Source send place first) other of = placed_comes s page place _ of.is_placed (same_page page)
 entry_comes s page (Balloon place first) other of = placed_comes s page place _ of.is_zeroed (same_page page)
 
-resident_at_end : (s : Recorded) → FollowsCursors s → (order : List Name) → IsMerging s order → (page : ℕ) → Comes s page → (world_after s order).resident page ≡ true
-resident_at_end s follows order merging page comes =
+-- what is resident at the end of a merging
+at_end : (s : Recorded) → FollowsCursors s → (order : List Name) → IsMerging s order → (page : ℕ) → (world_after s order).resident page ≡ resident_before s (length s.guest) (length s.pager) page
+at_end s follows order merging page =
     let at = follows order merging order [] (sym (append-nil order)) in
     let all = (merging_is_walk s order merging).1 in
     at.world.resident_is page
     ∙ ap (λ (n : ℕ). resident_before s n (cursors_from at_start order Pager) page) (all Guest)
     ∙ ap (λ (n : ℕ). resident_before s (length s.guest) n page) (all Pager)
-    ∙ comes
+
+resident_at_end : (s : Recorded) → FollowsCursors s → (order : List Name) → IsMerging s order → (page : ℕ) → Comes s page → (world_after s order).resident page ≡ true
+resident_at_end s follows order merging page comes = at_end s follows order merging page ∙ comes
 
 -- where each owed page has another entry than that it was not placed
 pub each_owed : (s : Recorded) (c : Certified) → FollowsCursors s → IsRightCertificate s c →
@@ -109,6 +112,56 @@ each_owed s c follows right owed page within out =
     let entry = get_or c.entries page Nothing in
     let is : slice_get c.entries page ≡ Some entry = slice_get-get_or c.entries page Nothing (subst (λ (n : ℕ). page < n) (sym right.pages) within) in
     resident_at_end s follows (spelled c.runs) right.merging page (entry_comes s page entry (owed page entry is out) (right.entries page entry is).1)
+
+-- ---- a page that is neither placed nor released at the target
+
+none_earlier : {A : Type 0} (test : A → Bool) (log : List A) (n : ℕ) → ((m : ℕ) (r : A) → slice_get log m ≡ Some r → test r ≡ false) → earlier test log n ≡ false
+none_earlier test log zero none = refl
+none_earlier {A} test log (suc n) none = go (slice_get log n) refl (none_earlier test log n none)
+  where
+    go : (o : Option A) → slice_get log n ≡ o → earlier test log n ≡ false → changed (λ x found. test x || found) o (earlier test log n) ≡ false
+    go None is before = before
+    go (Some r) is before = ap (λ b. b || earlier test log n) (none n r is) ∙ before
+
+-- a record that is no touch of the page after handover frees it not
+frees_none : (h : Home) (page : ℕ) (r : GuestRec) → (is_touch_of page r ≡ true → h ≡ AtTarget → ⊥) → freed_after h page r false ≡ false
+frees_none AtSource page (Release v p) none = refl
+frees_none Nowhere page (Release v p) none = refl
+frees_none AtTarget page (Release v p) none = go (p == page) refl
+  where
+    go : (b : Bool) → (p == page) ≡ b → cond b true false ≡ false
+    go true e = absurd (none e refl)
+    go false e = refl
+frees_none h page (Read v p c x) none = refl
+frees_none h page (Write v p c x) none = refl
+frees_none h page (Miss v p) none = refl
+frees_none h page Halt none = refl
+frees_none h page (Resume k) none = refl
+frees_none h page (See k) none = refl
+
+none_freed : (s : Recorded) (page n : ℕ) → ((m : ℕ) → IsLateTouch s page m → ⊥) → freed s n page ≡ false
+none_freed s page zero none = refl
+none_freed s page (suc n) none = go (slice_get s.guest n) refl (none_freed s page n none)
+  where
+    go : (o : Option GuestRec) → slice_get s.guest n ≡ o → freed s n page ≡ false → changed (freed_after (home s n) page) o (freed s n page) ≡ false
+    go None is before = before
+    go (Some r) is before =
+        ap (λ b. freed_after (home s n) page r b) before
+        ∙ frees_none (home s n) page r (λ touch late. none n (record { by = r; stands = is; is_touch = touch; is_late = late }))
+
+nothing_comes : (s : Recorded) (page : ℕ) → IsNothing s page → resident_before s (length s.guest) (length s.pager) page ≡ false
+nothing_comes s page of =
+    ap (λ b. b || freed s (length s.guest) page) (none_earlier (is_placement_of page) s.pager (length s.pager) of.unplaced)
+    ∙ none_freed s page (length s.guest) of.untouched
+
+-- where an owed page has the entry that it was not placed
+pub some_owed : (s : Recorded) (c : Certified) → FollowsCursors s → IsRightCertificate s c →
+    (page : ℕ) → slice_get c.entries page ≡ Some Nothing → in_ledger s (at_halt s) page ≡ false → HasEachOwed s (spelled c.runs) → ⊥
+some_owed s c follows right page is out owed =
+    let within : page < s.geometry.pages = omega (arith, slice_get_within c.entries page Nothing is, right.pages) in
+    let gone = nothing_comes s page (right.entries page Nothing is).1 in
+    let wrong : true ≡ false = sym (owed page within out) ∙ at_end s follows (spelled c.runs) right.merging page ∙ gone in
+    absurd (cc)
 
 -- frames with the same in each page as those of the machine behind the guest's log
 pub flat_store : (s : Recorded) (store frames : Frames) (n : ℕ) → store.geometry ≡ s.geometry → frames.geometry ≡ s.geometry → memory_of frames ≡ flat s n → n ≡ length s.guest →
@@ -120,3 +173,11 @@ flat_store s store frames n sized flat_sized memory all same = record {
       subst (λ (e : Extent). page_of e.cells (memory_of store) page ≡ page_of e.cells (memory_of frames) page) flat_sized (same page under)
       ∙ ap (λ (m : Memory). page_of s.geometry.cells m page) (memory ∙ ap (λ (k : ℕ). flat s k) all);
 }
+
+-- frames with another page than that machine's are not its
+pub other_store : (s : Recorded) (store frames : Frames) (n : ℕ) → frames.geometry ≡ s.geometry → memory_of frames ≡ flat s n → n ≡ length s.guest →
+    (page : ℕ) → page < frames.geometry.pages → page_of frames.geometry.cells (memory_of store) page ≢ page_of frames.geometry.cells (memory_of frames) page → IsFlatStore s store → ⊥
+other_store s store frames n sized memory all page within other is =
+    other (subst (λ (e : Extent). page_of e.cells (memory_of store) page ≡ page_of e.cells (memory_of frames) page) (sym sized)
+    (is.pages page (subst (λ (e : Extent). page < e.pages) sized within)
+    ∙ ap (λ (m : Memory). page_of s.geometry.cells m page) (sym (memory ∙ ap (λ (k : ℕ). flat s k) all))))

@@ -1,11 +1,12 @@
 -- What a run of a migration leaves, and what is promised of it.
-use Rattle.std.specs.Prelude.{◌≡◌, ℕ, ◌<◌, ◌==◌, ◌++◌, List, map, length, Option, Some, None, slice_get, if◌then◌else◌}
+use Rattle.std.specs.Prelude.{◌≡◌, ℕ, ◌<◌, ◌==◌, ◌⊎◌, ◌++◌, List, [], map, length, Option, Some, None, slice_get, slice_index_or, if◌then◌else◌}
 use Rattle.std.specs.List.{filter_map}
 use Rattle.migration_types.specs.declared.records.GuestRec.{GuestRec}
 use Rattle.migration_types.specs.declared.records.GuestRec.TheVariants.{Read, Write, Release}
 use Rattle.migration_types.specs.declared.records.SourceRec.TheVariants.{Done}
 use Rattle.migration_types.specs.Memory.{page_of}
-use Rattle.migration_types.specs.Sessions.{Recorded}
+use Rattle.migration_types.specs.declared.session.Logs.{Logs}
+use Rattle.migration_types.specs.Sessions.{Recorded, recorded}
 use Rattle.migration_events.specs.declared.ops.Op.{Op}
 use Rattle.migration_events.specs.declared.ops.Op.TheVariants.{Read as ReadCell, Write as WriteCell, Release as ReleasePage}
 use Rattle.page_store.specs.Frames.{Frames, memory_of}
@@ -18,6 +19,7 @@ use Rattle.cert_check.specs.declared.verdict.Verdict.TheVariants.{Yes}
 use Rattle.migration_model.specs.Promise.{HasEachOwed}
 use Rattle.script.specs.Scenarios.{Scenario}
 use Rattle.script.specs.declared.vcpus.Vcpu.{Vcpu}
+use Rattle.audit_report.specs.declared.report.Report.TheVariants.{Clean}
 use Rattle.audit_report.specs.Reports.{IsReport, IsClean}
 use Rattle.host_checks.specs.declared.transcript.Answered.{Answered}
 use Rattle.host_checks.specs.declared.outcome.Migrated.{Migrated}
@@ -55,9 +57,9 @@ asked_of vcpu = vcpu.before_move ++ vcpu.after_move
 abbrev pub AreOfScript : List Vcpu → List (List Answered) → Type 0
 AreOfScript vcpus transcripts = map ops_of transcripts ≡ map asked_of vcpus
 
--- each transcript is its virtual processor's part of the guest's log
+-- each transcript is its virtual processor's part of the guest's log, which tells of no other virtual processor
 abbrev pub AreOfLog : List GuestRec → List (List Answered) → Type 0
-AreOfLog log transcripts = (vcpu : ℕ) (transcript : List Answered) → slice_get transcripts vcpu ≡ Some transcript → transcript ≡ part_of vcpu log
+AreOfLog log transcripts = (vcpu : ℕ) → slice_index_or transcripts vcpu [] ≡ part_of vcpu log
 
 -- the source was told that every owed page is placed
 abbrev pub IsDone : Recorded → Type 0
@@ -76,6 +78,17 @@ pub record Agrees (vcpus : List Vcpu) (s : Recorded) (cert : Certified) (transcr
   pub owed : HasEachOwed s (spelled cert.runs)
   pub store : IsFlatStore s frames
 
+-- one of these does not hold
+abbrev pub Differs : List Vcpu → Recorded → Certified → List (List Answered) → Frames → Type 0
+Differs vcpus s cert transcripts frames =
+    (¬ AreOfScript vcpus transcripts) ⊎ ((¬ IsDone s) ⊎ ((¬ AreOfLog s.guest transcripts) ⊎ ((¬ HasEachOwed s (spelled cert.runs)) ⊎ (¬ IsFlatStore s frames))))
+
+-- a session is of the script's version, machine and initial pages
+pub record IsOfScript (script : Scenario) (s : Recorded) : Type 0 where
+  pub version : s.version ≡ script.version
+  pub geometry : s.geometry ≡ script.geometry
+  pub init : s.init ≡ script.init
+
 -- what a run of a script leaves is of the script, and all that is promised of it holds
 pub record HasMigrated (script : Scenario) (m : Migrated) : Type 0 where
   pub version : m.session.version ≡ script.version
@@ -85,18 +98,35 @@ pub record HasMigrated (script : Scenario) (m : Migrated) : Type 0 where
   pub safe : IsSafe m.session
   pub agrees : Agrees script.vcpus m.session m.cert m.transcripts m.store
 
--- a report with which an audit is refused is that on a session, and is not that it is clean
-abbrev pub IsRunFault : RunFault → Type 0
-IsRunFault LogFull = Unit {0}
-IsRunFault Memory = Unit {0}
-IsRunFault (AuditRefused report) = (s : Recorded) × IsReport s report × ¬ IsClean report
-IsRunFault TranscriptDiffers = Unit {0}
-IsRunFault Link = Unit {0}
+-- a report with which an audit is refused is that on a session of the script, and is not that it is clean
+abbrev pub IsRunFault : Scenario → RunFault → Type 0
+IsRunFault script LogFull = Unit {0}
+IsRunFault script Memory = Unit {0}
+IsRunFault script (AuditRefused report) = (logs : Logs) × IsReport (recorded script.version script.geometry script.init logs) report × ¬ IsClean report
+IsRunFault script TranscriptDiffers = Unit {0}
+IsRunFault script Link = Unit {0}
 
--- why what a run recorded is refused: its audit's report, something that differs, or want of memory
-abbrev pub IsRefused : Recorded → RunFault → Type 0
-IsRefused s LogFull = ⊥
-IsRefused s Memory = Unit {0}
-IsRefused s (AuditRefused report) = IsReport s report × ¬ IsClean report
-IsRefused s TranscriptDiffers = Unit {0}
-IsRefused s Link = ⊥
+-- why no session is made of logs: a record is beyond its limits, or want of memory
+abbrev pub IsUnread : RunFault → Type 0
+IsUnread LogFull = ⊥
+IsUnread Memory = Unit {0}
+IsUnread (AuditRefused report) = ⊥
+IsUnread TranscriptDiffers = Unit {0}
+IsUnread Link = ⊥
+
+-- why a session has no certificate: its audit's report, which is not that it is clean, or want of memory
+abbrev pub IsUnclean : Recorded → RunFault → Type 0
+IsUnclean s LogFull = ⊥
+IsUnclean s Memory = Unit {0}
+IsUnclean s (AuditRefused report) = IsReport s report × ¬ IsClean report
+IsUnclean s TranscriptDiffers = ⊥
+IsUnclean s Link = ⊥
+
+-- why what a run left is refused: its audit's report, which is not that the session is clean; or the report is that it is,
+-- and something else that is checked does not hold; or want of memory
+abbrev pub IsRefused : List Vcpu → Recorded → List (List Answered) → Frames → RunFault → Type 0
+IsRefused vcpus s transcripts frames LogFull = ⊥
+IsRefused vcpus s transcripts frames Memory = Unit {0}
+IsRefused vcpus s transcripts frames (AuditRefused report) = IsReport s report × ¬ IsClean report
+IsRefused vcpus s transcripts frames TranscriptDiffers = (cert : Certified) × IsReport s (Clean cert) × Differs vcpus s cert transcripts frames
+IsRefused vcpus s transcripts frames Link = ⊥

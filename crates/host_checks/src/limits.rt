@@ -4,7 +4,7 @@ ghost use Rattle.std.specs.Prelude.{◌≡◌, ◌≤◌, IfOk, IfErr, IsTrue};
 ghost use Rattle.std.specs.List.{AllByRecursion};
 ghost use Rattle.migration_types.specs.Follow.{RowFits};
 ghost use Rattle.migration_types.specs.Sessions.{recorded};
-ghost use Rattle.host_checks.specs.Outcomes.{IsRefused};
+ghost use Rattle.host_checks.specs.Outcomes.{IsUnread};
 ghost use Rattle.host_checks.specs.inner.Limits.{AreShort, AreOfMachine};
 
 use crate::outcome::RunFault;
@@ -46,11 +46,14 @@ fn are_of_machine(version: Version, geometry: Geometry, logs: &Logs) -> bool
         && log_fits(version, geometry, LogName::Pager, logs.pager.as_slice())
 }
 
-/// The session of a script's version and machine with these logs. Refused: a record is beyond a session's limits, or
-/// there is no memory.
-pub(crate) fn session_of(alloc: Global, script: &Script, logs: Logs) -> Result<Session, RunFault>
+/// The session of a script's version, machine and initial pages with these logs.
+///
+/// # Errors
+///
+/// `TranscriptDiffers` where a record is beyond a session's limits; `Memory`.
+pub fn session_of(alloc: Global, script: &Script, logs: Logs) -> Result<Session, RunFault>
     ensures session { IfOk result (λ s. s ≡ recorded script.now.version script.now.geometry script.now.init logs) }
-    ensures refused { IfErr result (IsRefused (recorded script.now.version script.now.geometry script.now.init logs)) }
+    ensures refused { IfErr result IsUnread }
 {
     script.keeps_limits();
     let geometry = script.geometry();

@@ -1,6 +1,6 @@
 //! What a run left against one machine that never moved.
 
-ghost use Rattle.std.specs.Prelude.{◌≡◌, ◌≢◌, ◌<◌, ◌≤◌, ℕ, false, length, slice_get, Some, IfOk, IsTrue};
+ghost use Rattle.std.specs.Prelude.{◌≡◌, ◌≢◌, ◌<◌, ◌≤◌, ◌⊎◌, ℕ, false, length, slice_get, Some, IfOk, MatchBool};
 ghost use Rattle.migration_types.specs.Sessions.{IsSession};
 ghost use Rattle.migration_types.specs.Limits.{most_pages};
 ghost use Rattle.migration_types.specs.Memory.{page_of};
@@ -38,7 +38,7 @@ fn run_to(session: &Session, machine: &mut Machine, from: usize, to: usize)
 
 /// Whether an entry says where its page was placed, or that it was released at the target.
 fn says_where(entry: &Entry) -> bool
-    ensures { IsTrue result → entry.now ≢ Nothing }
+    ensures { MatchBool result (entry.now ≢ Nothing) (entry.now ≡ Nothing) }
 {
     match entry {
         Entry::Nothing => false,
@@ -50,7 +50,7 @@ fn says_where(entry: &Entry) -> bool
 
 /// Whether a page is released, or its entry says where it was placed or released.
 fn is_served(is_released: bool, entry: &Entry) -> bool
-    ensures { IsTrue result → is_released ≡ false → entry.now ≢ Nothing }
+    ensures { MatchBool result (is_released ≡ false → entry.now ≢ Nothing) ((is_released ≡ false) × (entry.now ≡ Nothing)) }
 {
     is_released || says_where(entry)
 }
@@ -59,7 +59,9 @@ fn is_served(is_released: bool, entry: &Entry) -> bool
 fn owed_are_placed(machine: &Machine, entries: &[Entry]) -> bool
     requires pages { length entries.now ≡ machine.now.ledger.geometry.pages }
     requires few { length entries.now ≤ most_pages }
-    ensures { IsTrue result → (page : ℕ) (entry : Said) → slice_get entries.now page ≡ Some entry → released machine.now.ledger page ≡ false → entry ≢ Nothing }
+    ensures { MatchBool result
+        ((page : ℕ) (entry : Said) → slice_get entries.now page ≡ Some entry → released machine.now.ledger page ≡ false → entry ≢ Nothing)
+        ((page : ℕ) × (slice_get entries.now page ≡ Some Nothing) × (released machine.now.ledger page ≡ false)) }
 {
     for page in 0..entries.len() {
         let number = PageNo::new(page as u16);
@@ -73,7 +75,9 @@ fn owed_are_placed(machine: &Machine, entries: &[Entry]) -> bool
 /// Whether two machines' frames have the same in each page.
 fn are_same(one: &Store, other: &Store) -> bool
     requires { one.now.geometry ≡ other.now.geometry }
-    ensures { IsTrue result → (page : ℕ) → page < other.now.geometry.pages → page_of other.now.geometry.cells (memory_of one.now) page ≡ page_of other.now.geometry.cells (memory_of other.now) page }
+    ensures { MatchBool result
+        ((page : ℕ) → page < other.now.geometry.pages → page_of other.now.geometry.cells (memory_of one.now) page ≡ page_of other.now.geometry.cells (memory_of other.now) page)
+        ((page : ℕ) × (page < other.now.geometry.pages) × (page_of other.now.geometry.cells (memory_of one.now) page ≢ page_of other.now.geometry.cells (memory_of other.now) page)) }
 {
     let geometry = one.geometry();
     geometry.keeps_limits();
@@ -97,8 +101,7 @@ pub(crate) fn is_whole(
 ) -> Result<bool, AllocError>
     requires shape { IsRightShape session.now }
     requires right { IsRightCertificate session.now cert.now }
-    ensures owed { IfOk result (λ b. IsTrue b → HasEachOwed session.now (spelled cert.now.runs)) }
-    ensures store { IfOk result (λ b. IsTrue b → IsFlatStore session.now store.now) }
+    ensures { IfOk result (λ b. MatchBool b (HasEachOwed session.now (spelled cert.now.runs) × IsFlatStore session.now store.now) (¬ HasEachOwed session.now (spelled cert.now.runs) ⊎ ¬ IsFlatStore session.now store.now)) }
 {
     session.keeps_limits();
     cert.keeps_limits();

@@ -1,8 +1,7 @@
 //! Transcripts against the guest's log.
 
-ghost use Rattle.std.specs.Prelude.{◌≡◌, ◌++◌, [], ◌∷◌, ℕ, List, length, slice_get, slice_index_or, Some, IfOk, IsTrue};
+ghost use Rattle.std.specs.Prelude.{◌≡◌, ◌≢◌, ◌++◌, [], ◌∷◌, ℕ, List, length, slice_index_or, IfOk, MatchBool};
 ghost use Rattle.migration_types.specs.declared.records.GuestRec.{GuestRec as Rec};
-ghost use Rattle.host_checks.specs.declared.transcript.Answered.{Answered as Told};
 ghost use Rattle.host_checks.specs.Outcomes.{answered, told_by, AreOfLog};
 ghost use Rattle.host_checks.specs.inner.Told.{AreTold};
 
@@ -42,17 +41,20 @@ fn told_by(rec: &GuestRec) -> Option<(u8, Answered)>
 
 /// Whether two answered operations are the same.
 fn is_answer(one: &Answered, other: &Answered) -> bool
-    ensures { IsTrue result → one.now ≡ other.now }
+    ensures { MatchBool result (one.now ≡ other.now) (one.now ≢ other.now) }
 {
     one.answer == other.answer && is_same(one.op, other.op)
 }
 
 /// Takes one record of the guest's log, where so many answers of each transcript were told before it: where it tells of
-/// an operation, that is the next of its virtual processor's transcript. Otherwise the answer is false.
+/// an operation, that is the next of its virtual processor's transcript. Otherwise the answer is false: no log that begins
+/// so has these transcripts.
 fn takes(rec: &GuestRec, transcripts: &[Transcript], told: &mut Vec<usize>) -> bool
     requires { length told.old.items ≡ length transcripts.now }
     ensures length { length told.new.items ≡ length transcripts.now }
-    ensures told { IsTrue result → (log : List Rec) → AreTold transcripts.now told.old.items log → AreTold transcripts.now told.new.items (log ++ rec.now ∷ []) }
+    ensures told { MatchBool result
+        ((log : List Rec) → AreTold transcripts.now told.old.items log → AreTold transcripts.now told.new.items (log ++ rec.now ∷ []))
+        ((log rest : List Rec) → AreTold transcripts.now told.old.items log → ¬ AreOfLog (log ++ rec.now ∷ rest) transcripts.now) }
 {
     let Some((vcpu, answered)) = told_by(rec) else {
         return true;
@@ -73,7 +75,9 @@ fn takes(rec: &GuestRec, transcripts: &[Transcript], told: &mut Vec<usize>) -> b
 /// Whether all answers of each transcript were told.
 fn are_all_told(transcripts: &[Transcript], told: &[usize]) -> bool
     requires { length told.now ≡ length transcripts.now }
-    ensures { IsTrue result → (vcpu : ℕ) (transcript : List Told) → slice_get transcripts.now vcpu ≡ Some transcript → slice_index_or told.now vcpu 0 ≡ length transcript }
+    ensures { MatchBool result
+        ((vcpu : ℕ) → slice_index_or told.now vcpu 0 ≡ length (slice_index_or transcripts.now vcpu []))
+        ((vcpu : ℕ) × (slice_index_or told.now vcpu 0 ≢ length (slice_index_or transcripts.now vcpu []))) }
 {
     for vcpu in 0..transcripts.len() {
         if told[vcpu] != transcripts[vcpu].as_slice().len() {
@@ -90,7 +94,7 @@ pub(crate) fn are_of_log(
     log: &[GuestRec],
     transcripts: &[Transcript],
 ) -> Result<bool, AllocError>
-    ensures { IfOk result (λ b. IsTrue b → AreOfLog log.now transcripts.now) }
+    ensures { IfOk result (λ b. MatchBool b (AreOfLog log.now transcripts.now) (¬ AreOfLog log.now transcripts.now)) }
 {
     let mut told = vec![in alloc; 0usize; transcripts.len()]?;
     for rec in log {

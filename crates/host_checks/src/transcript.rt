@@ -1,6 +1,6 @@
 //! Transcripts.
 
-ghost use Rattle.std.specs.Prelude.{◌≡◌, ◌++◌, map, IsTrue};
+ghost use Rattle.std.specs.Prelude.{◌≡◌, ◌≢◌, ◌++◌, map, MatchBool};
 ghost use Rattle.host_checks.specs.Outcomes.{ops_of, asked_of, AreOfScript};
 
 use migration_events::Op;
@@ -19,7 +19,7 @@ pub type Transcript = Seq<Answered>;
 
 /// Whether two operations are the same.
 pub(crate) fn is_same(one: Op, other: Op) -> bool
-    ensures { IsTrue result → one ≡ other }
+    ensures { MatchBool result (one ≡ other) (one ≢ other) }
 {
     match one {
         Op::Read { page, cell } => is_read(page.number(), cell, other),
@@ -30,7 +30,7 @@ pub(crate) fn is_same(one: Op, other: Op) -> bool
 
 /// Whether the operation is the read of this cell.
 fn is_read(page: u16, cell: u16, op: Op) -> bool
-    ensures { IsTrue result → Op.Read page cell ≡ op }
+    ensures { MatchBool result (Op.Read page cell ≡ op) (Op.Read page cell ≢ op) }
 {
     match op {
         Op::Read { page: p, cell: c } => page == p.number() && cell == c,
@@ -40,7 +40,7 @@ fn is_read(page: u16, cell: u16, op: Op) -> bool
 
 /// Whether the operation is the write of this value into this cell.
 fn is_write(page: u16, cell: u16, value: u64, op: Op) -> bool
-    ensures { IsTrue result → Op.Write page cell value ≡ op }
+    ensures { MatchBool result (Op.Write page cell value ≡ op) (Op.Write page cell value ≢ op) }
 {
     match op {
         Op::Write {
@@ -54,7 +54,7 @@ fn is_write(page: u16, cell: u16, value: u64, op: Op) -> bool
 
 /// Whether the operation is the release of this page.
 fn is_release(page: u16, op: Op) -> bool
-    ensures { IsTrue result → Op.Release page ≡ op }
+    ensures { MatchBool result (Op.Release page ≡ op) (Op.Release page ≢ op) }
 {
     match op {
         Op::Release { page: p } => page == p.number(),
@@ -64,7 +64,7 @@ fn is_release(page: u16, op: Op) -> bool
 
 /// Whether answered operations are these, in order.
 fn are_ops(transcript: &[Answered], ops: &[Op]) -> bool
-    ensures { IsTrue result → ops_of transcript.now ≡ ops.now }
+    ensures { MatchBool result (ops_of transcript.now ≡ ops.now) (ops_of transcript.now ≢ ops.now) }
 {
     if transcript.len() != ops.len() {
         return false;
@@ -79,7 +79,7 @@ fn are_ops(transcript: &[Answered], ops: &[Op]) -> bool
 
 /// Whether a transcript has a virtual processor's operations in order, each once.
 fn is_of_script(transcript: &Transcript, vcpu: &Vcpu) -> bool
-    ensures { IsTrue result → ops_of transcript.now ≡ asked_of vcpu.now }
+    ensures { MatchBool result (ops_of transcript.now ≡ asked_of vcpu.now) (ops_of transcript.now ≢ asked_of vcpu.now) }
 {
     let answers = transcript.as_slice();
     let before = vcpu.before_move.as_slice();
@@ -92,7 +92,7 @@ fn is_of_script(transcript: &Transcript, vcpu: &Vcpu) -> bool
 
 /// Whether there is one transcript for each virtual processor, with its operations in order, each once.
 pub(crate) fn are_of_script(transcripts: &[Transcript], vcpus: &[Vcpu]) -> bool
-    ensures { IsTrue result → AreOfScript vcpus.now transcripts.now }
+    ensures { MatchBool result (AreOfScript vcpus.now transcripts.now) (¬ AreOfScript vcpus.now transcripts.now) }
 {
     if transcripts.len() != vcpus.len() {
         return false;

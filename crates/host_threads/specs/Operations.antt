@@ -1,7 +1,9 @@
 -- What comes of a virtual processor's operation.
-use Rattle.std.specs.Prelude.{◌≡◌, ℕ}
+use Rattle.std.specs.Prelude.{◌≡◌, ℕ, List, [], ◌∷◌, ◌++◌}
 use Rattle.migration_events.specs.Ops.{answer_of}
 use Rattle.migration_events.specs.declared.ops.Op.{Op}
+use Rattle.host_checks.specs.declared.transcript.Answered.{Answered as AnsweredOp}
+use Rattle.host_checks.specs.Outcomes.{answered}
 use Rattle.guest_book.specs.GuestPart.{GuestPart, guest_access}
 use Rattle.target_book.specs.TargetPart.{TargetPart, Accessed, target_access}
 use Rattle.target_book.specs.declared.Access.{Access}
@@ -26,3 +28,17 @@ IsTargetStep (Answered x) v op old new = came_to new (Done x) ≡ target_access 
 IsTargetStep Missed v op old new = came_to new Misses ≡ target_access v op old
 IsTargetStep Waits v op old new = came_to new Waiting ≡ target_access v op old
 IsTargetStep (Stops fault) v op old new = new ≡ old
+
+-- what the guest's book is after operations of a virtual processor at the source, and their answers
+abbrev pub guest_after : ℕ → List Op → GuestPart → GuestPart
+guest_after v [] part = part
+guest_after v (op ∷ ops) part = guest_after v ops (guest_access v op part)
+
+abbrev pub answers_to : ℕ → List Op → GuestPart → List AnsweredOp
+answers_to v [] part = []
+answers_to v (op ∷ ops) part = answered op (answer_of op part.memory) ∷ answers_to v ops (guest_access v op part)
+
+-- these operations are done at the source, and each stands with its answer behind those before
+pub record HasDone (v : ℕ) (ops : List Op) (old new : GuestPart) (before answers : List AnsweredOp) : Type 0 where
+  pub part : new ≡ guest_after v ops old
+  pub told : answers ≡ before ++ answers_to v ops old

@@ -1,7 +1,14 @@
 -- What a thread tells of its turn under the locks.
+use Rattle.std.specs.Prelude.{Result, Ok, Err}
 use Rattle.migration_events.specs.declared.events.Event.{Event}
+use Rattle.migration_events.specs.declared.faults.EventFault.{EventFault}
+use Rattle.migration_events.specs.declared.faults.EventFault.TheVariants as refused
 use Rattle.migration_model.specs.Books.{BooksAfter}
 use Rattle.book_events.specs.Parts.{IsMade, IsSame, IsOffered}
+use Rattle.book_events.specs.declared.came.Came.{Came}
+use Rattle.book_events.specs.declared.came.Came.TheVariants as came
+use Rattle.host_threads.specs.declared.bell.Fault.{Fault}
+use Rattle.host_threads.specs.declared.bell.Fault.TheVariants.{LogFull, Memory}
 use Rattle.host_threads.specs.declared.shared.Turn.{Turn}
 use Rattle.host_threads.specs.declared.shared.Turn.TheVariants.{Did, Offered, Served, Idle, Stops}
 
@@ -13,3 +20,23 @@ IsTurn (Offered page) e old new = IsMade e old new × IsOffered page old new
 IsTurn Served e old new = IsMade e old new
 IsTurn Idle e old new = IsSame old new
 IsTurn (Stops fault) e old new = IsSame old new
+
+-- the fault of a run in which an event was refused
+abbrev pub fault_by : EventFault → Fault
+fault_by refused.LogFull = LogFull
+fault_by refused.Memory = Memory
+
+-- what is told of an event that was not refused, and of one that may have been
+abbrev pub turn_by : Came → Turn
+turn_by came.Nothing = Idle
+turn_by came.Made = Did
+turn_by (came.Offered page) = Offered page
+
+abbrev pub turn_of : Result Came EventFault → Turn
+turn_of (Ok c) = turn_by c
+turn_of (Err fault) = Stops (fault_by fault)
+
+-- an event on the pager's and the target's books concerns the virtual processors
+abbrev pub to_all : Turn → Turn
+to_all Did = Served
+to_all turn = turn

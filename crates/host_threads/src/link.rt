@@ -1,11 +1,12 @@
 //! The thread of the link and the lane.
 
-ghost use Rattle.std.specs.Prelude.{◌≡◌, ◌≢◌, true, Some, None, slice_get, slice_index_or};
+ghost use Rattle.std.specs.Prelude.{◌≡◌, ◌↔◌, ℕ, ◌+◌, ◌<◌, true, false, Ok, Some, None, drop, slice_get, IfOk, IfErr, OnErr, MatchBool};
 ghost use Rattle.link_book.specs.LinkPart.{line_of, turned};
 ghost use Rattle.page_stream.specs.declared.Packet.{Packet as Sent};
+ghost use Rattle.host_threads.specs.Fates.{next_fate, fates_over, line, Meets, HaveMet, HaveTurned};
 ghost use Rattle.host_threads.specs.Passages.{HasPassed, arrives};
 
-use crate::bell::Party;
+use crate::bell::{Fault, Party};
 use crate::passage::Passage;
 use crate::relay::Relay;
 use crate::shared::{Shared, Turn, of_link};
@@ -14,35 +15,58 @@ use migration_events::{Direction, Fate};
 use script::Script;
 use std::sync::Wait;
 
-/// What becomes of the packets of a direction, one after another. Behind the last of the fates each is delivered.
+/// The fates that are left for the packets of a line, one for each of the next. Behind the last each is delivered.
 #[derive(Clone, Copy)]
 struct Fates<'a> {
-    direction: Direction,
-    fates: &'a [Fate],
-    /// How many fates were met.
-    met: usize,
+    left: &'a [Fate],
 }
 
 impl<'a> Fates<'a> {
     /// None was met yet.
-    fn new(direction: Direction, fates: &'a [Fate]) -> Self
-        ensures { (result.direction ≡ direction) × (result.fates.now ≡ fates.now) × (result.met ≡ 0) }
+    fn new(left: &'a [Fate]) -> Self
+        ensures { result.left.now ≡ left.now }
     {
-        Fates {
-            direction,
-            fates,
-            met: 0,
-        }
+        Fates { left }
     }
 
     /// The fate of the next packet.
     fn next(&self) -> Fate
-        ensures { result ≡ slice_index_or self.now.fates.now self.now.met Fate.Deliver }
+        ensures { result ≡ next_fate self.now.left.now }
     {
-        match self.fates.get(self.met) {
+        match self.left.first() {
             Some(fate) => *fate,
             None => Fate::Deliver,
         }
+    }
+
+    /// The fate of the next packet is used up.
+    fn pass(&mut self)
+        ensures { self.new.left.now ≡ drop 1 self.old.left.now }
+    {
+        if !self.left.is_empty() {
+            self.left = &self.left[1..];
+        }
+    }
+}
+
+/// The fates that are left for each line.
+#[derive(Clone, Copy)]
+struct Lines<'a> {
+    down: Fates<'a>,
+    up: Fates<'a>,
+    lane: Fates<'a>,
+}
+
+/// The fates of a script, of which none was met yet. Where there is no lane, nothing is ever under way there.
+fn lines_of(script: &Script) -> Lines<'_>
+    ensures down { result.down.left.now ≡ script.now.down }
+    ensures up { result.up.left.now ≡ script.now.up }
+    ensures lane { result.lane.left.now ≡ fates_over script.now.lane }
+{
+    Lines {
+        down: Fates::new(script.down()),
+        up: Fates::new(script.up()),
+        lane: Fates::new(script.lane().unwrap_or(&[])),
     }
 }
 
@@ -56,76 +80,113 @@ fn arrives(fate: Fate) -> bool
     }
 }
 
-/// The packet at the head of a line, if there is one, meets its fate. Where it is to arrive, it has come through the passage before.
+/// The packet at the head of a line meets its fate. Where it is to arrive, it has come through the passage before. False:
+/// there is none.
 fn turn_head<L: Relay>(
     link: &mut LinkBook,
     passage: &mut Passage<L>,
     direction: Direction,
     fate: Fate,
-) -> Turn
-    ensures did { result ≡ Turn.Did → link.new ≡ record link.old { part = turned direction fate link.old.part } }
-    ensures passed { result ≡ Turn.Did → arrives fate ≡ true → (packet : Sent) → slice_get (line_of direction link.old.part) 0 ≡ Some packet → HasPassed passage.new packet }
-    ensures idle { result ≡ Turn.Idle → slice_get (line_of direction link.old.part) 0 ≡ None }
-    ensures stays { result ≢ Turn.Did → link.new ≡ link.old }
+) -> Result<bool, Fault>
+    ensures head { IfOk result (λ met. MatchBool met ((packet : Sent) × (slice_get (line_of direction link.old.part) 0 ≡ Some packet)) (slice_get (line_of direction link.old.part) 0 ≡ None)) }
+    ensures turned { IfOk result (λ met. MatchBool met (link.new ≡ record link.old { part = turned direction fate link.old.part }) (link.new ≡ link.old)) }
+    ensures passed { IfOk result (λ met. met ≡ true → arrives fate ≡ true → (packet : Sent) → slice_get (line_of direction link.old.part) 0 ≡ Some packet → HasPassed passage.new packet) }
+    ensures err { OnErr result (link.new ≡ link.old) }
 {
     let Some(packet) = link.head(direction) else {
-        return Turn::Idle;
+        return Ok(false);
     };
     if arrives(fate) {
-        if let Err(fault) = passage.pass(packet) {
-            return Turn::Stops(fault);
-        }
+        passage.pass(packet)?;
     }
     match link.turn(direction, fate) {
-        Ok(()) => Turn::Did,
-        Err(fault) => Turn::Stops(of_link(fault)),
+        Ok(()) => Ok(true),
+        Err(fault) => Err(of_link(fault)),
     }
 }
 
-/// LinkTurn, of one line, at most so often. The last that was not idle is told.
+/// The packet at the head of a line meets the next fate of these, which is used up. False: there is none, and no fate is
+/// used up.
+fn meet_next<L: Relay>(
+    link: &mut LinkBook,
+    passage: &mut Passage<L>,
+    direction: Direction,
+    fates: &mut Fates<'_>,
+) -> Result<bool, Fault>
+    ensures met { IfOk result (λ met. MatchBool met (Meets direction (line link.old.part fates.old.left.now) (line link.new.part fates.new.left.now)) ((line link.new.part fates.new.left.now ≡ line link.old.part fates.old.left.now) × (slice_get (line_of direction link.new.part) 0 ≡ None))) }
+    ensures err { OnErr result (line link.new.part fates.new.left.now ≡ line link.old.part fates.old.left.now) }
+{
+    let met = turn_head(link, passage, direction, fates.next())?;
+    if met {
+        fates.pass();
+    }
+    Ok(met)
+}
+
+/// LinkTurn, of one line, at most so often: how many packets met their fates. They are fewer only where no packet is left.
 fn turn_line<L: Relay>(
     link: &mut LinkBook,
     passage: &mut Passage<L>,
+    direction: Direction,
     fates: &mut Fates<'_>,
     most: usize,
-) -> Turn {
-    let mut last = Turn::Idle;
-    for _ in 0..most {
-        match turn_head(link, passage, fates.direction, fates.next()) {
-            Turn::Idle => break,
-            Turn::Stops(fault) => return Turn::Stops(fault),
-            other => {
-                fates.met = fates.met.saturating_add(1);
-                last = other;
-            }
+) -> Result<usize, Fault>
+    ensures met { IfOk result (λ count. HaveMet direction count (line link.old.part fates.old.left.now) (line link.new.part fates.new.left.now)) }
+    ensures fewer { IfOk result (λ count. count < most → slice_get (line_of direction link.new.part) 0 ≡ None) }
+    ensures err { OnErr result ((count : ℕ) × HaveMet direction count (line link.old.part fates.old.left.now) (line link.new.part fates.new.left.now)) }
+{
+    for count in 0..most {
+        if !meet_next(link, passage, direction, fates)? {
+            return Ok(count);
         }
     }
-    last
+    Ok(most)
 }
 
-/// Turns of each line, one line after another, under one lock, and of each at most so many. The last that was not idle
-/// is told.
+/// Turns of each line, one line after another, and of each at most so many: whether a packet met its fate.
+fn turn_lines<L: Relay>(
+    link: &mut LinkBook,
+    passage: &mut Passage<L>,
+    lines: &mut Lines<'_>,
+    most: usize,
+) -> Result<bool, Fault>
+    ensures { IfOk result (λ any. (down up lane : ℕ)
+        × HaveTurned down up lane (record { link = link.old.part; down = lines.old.down.left.now; up = lines.old.up.left.now; lane = lines.old.lane.left.now }) (record { link = link.new.part; down = lines.new.down.left.now; up = lines.new.up.left.now; lane = lines.new.lane.left.now })
+        × MatchBool any (0 < down + up + lane) (down + up + lane ≡ 0)) }
+{
+    let down = turn_line(link, passage, Direction::Down, &mut lines.down, most)?;
+    let up = turn_line(link, passage, Direction::Up, &mut lines.up, most)?;
+    let lane = turn_line(link, passage, Direction::Lane, &mut lines.lane, most)?;
+    Ok(down > 0 || up > 0 || lane > 0)
+}
+
+/// What is told of turns of the lines.
+fn told_turns(turned: Result<bool, Fault>) -> Turn
+    ensures did { result ≡ Turn.Did ↔ turned ≡ Ok true }
+    ensures idle { result ≡ Turn.Idle ↔ turned ≡ Ok false }
+    ensures stops { IfErr turned (λ fault. result ≡ Turn.Stops fault) }
+{
+    match turned {
+        Ok(true) => Turn::Did,
+        Ok(false) => Turn::Idle,
+        Err(fault) => Turn::Stops(fault),
+    }
+}
+
+/// The same as `turn_lines`, under one lock.
 fn turn_each<R: Wait, L: Relay>(
     rt: &R,
     shared: &Shared,
     passage: &mut Passage<L>,
-    lines: &mut [Fates<'_>],
+    lines: &mut Lines<'_>,
     most: usize,
 ) -> Turn {
     let mut link = shared.link.lock(rt);
-    let mut last = Turn::Idle;
-    for fates in lines.iter_mut() {
-        match turn_line(&mut link, passage, fates, most) {
-            Turn::Idle => {}
-            Turn::Stops(fault) => return Turn::Stops(fault),
-            other => last = other,
-        }
-    }
-    last
+    told_turns(turn_lines(&mut link, passage, lines, most))
 }
 
-/// The link and the lane: the turns of the lines down, up and over the lane, one after another, until the run is over.
-/// Where there is no lane, nothing is ever under way there. A packet goes through the passage before it is delivered.
+/// The link and the lane: the turns of the lines down, up and over the lane, one after another, until the run is over. A
+/// packet goes through the passage before it is delivered.
 pub(crate) fn run_link<R: Wait, L: Relay + Drop>(
     rt: &R,
     shared: &Shared,
@@ -133,11 +194,7 @@ pub(crate) fn run_link<R: Wait, L: Relay + Drop>(
     mut passage: Passage<L>,
     most: usize,
 ) {
-    let mut lines = [
-        Fates::new(Direction::Down, script.down()),
-        Fates::new(Direction::Up, script.up()),
-        Fates::new(Direction::Lane, script.lane().unwrap_or(&[])),
-    ];
+    let mut lines = lines_of(script);
     for _ in rt.forever() {
         if shared.bell.is_over() {
             break;

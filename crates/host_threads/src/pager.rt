@@ -1,12 +1,13 @@
 //! The pager's thread.
 
-ghost use Rattle.std.specs.Prelude.{◌≡◌, true, Some};
+ghost use Rattle.std.specs.Prelude.{◌≡◌, ◌≢◌, true, Some};
 ghost use Rattle.std.specs.Option.{option_map};
-ghost use Rattle.link_book.specs.Links.{arrival};
+ghost use Rattle.link_book.specs.Links.{arrival, is_quiet};
 ghost use Rattle.link_book.specs.declared.Arrival.{Arrival as Arrived};
 ghost use Rattle.target_book.specs.Kept.{part_of as target_of};
 ghost use Rattle.pager_book.specs.PagerLists.{part_of, IsPacketOf};
 ghost use Rattle.book_events.specs.Parts.{receiving, placing};
+ghost use Rattle.host_threads.specs.Tries.{exchange_tries, attend_tries};
 ghost use Rattle.host_threads.specs.Turns.{IsTurn};
 
 use crate::bell::{Bell, Fault, Party};
@@ -44,7 +45,8 @@ fn is_first_of(geometry: Geometry, oldest: Option<(u32, &Packet)>) -> bool
 /// An event on the link's and the pager's books: PagerPop, PagerPull, PagerFlush or PagerTick. A packet of another
 /// machine is not taken. The pager ticks only where nothing is under way.
 fn exchange(link: &mut LinkBook, pager: &mut PagerBook, event: Event) -> Turn
-    ensures { IsTurn result event (receiving link.old.part (part_of pager.old)) (receiving link.new.part (part_of pager.new)) }
+    ensures turn { IsTurn result event (receiving link.old.part (part_of pager.old)) (receiving link.new.part (part_of pager.new)) }
+    ensures quiet { event ≡ Event.PagerTick → result ≢ Turn.Idle → is_quiet link.old.part ≡ true }
 {
     match event {
         Event::PagerPop => pop_next(link, pager),
@@ -180,12 +182,18 @@ fn place<R: Wait, G: Gate>(rt: &R, shared: &Shared, gate: &G, is_resumed: &mut b
     attend_often(rt, shared, &[Event::PagerDeliver], 1)
 }
 
-/// What there is to do on the pager's and the target's books: pages to settle that the guest released and a miss to learn
-/// of, or else a page to place.
+/// What the pager tries on its book and the target's: pages to settle that the guest released and a miss to learn of, or
+/// else a page to place.
+fn attend_tries() -> [Event; 2]
+    ensures { result ≡ attend_tries }
+{
+    [Event::PagerFault, Event::PagerDeliver]
+}
+
+/// What there is to do on the pager's and the target's books.
 fn serve<R: Wait, G: Gate>(rt: &R, shared: &Shared, gate: &G, is_resumed: &mut bool) -> Turn {
     if gate.is_open() {
-        let events = [Event::PagerFault, Event::PagerDeliver];
-        return attend_often(rt, shared, &events, most_at_once(gate));
+        return attend_often(rt, shared, &attend_tries(), most_at_once(gate));
     }
     match attend_often(rt, shared, &[Event::PagerFault], 1) {
         Turn::Idle => place(rt, shared, gate, is_resumed),
@@ -219,11 +227,17 @@ fn exchange_often<R: Wait>(rt: &R, shared: &Shared, events: &[Event], most: usiz
     turn
 }
 
-/// What there is to do on the link's and the pager's books: a packet to take from the link, or else one to offer, or else
-/// a packet to take from the lane, whose pages nobody asked for. At most so often.
+/// What the pager tries on the link's book and its own: a packet to take from the link, or else one to offer, or else a
+/// packet to take from the lane, whose pages nobody asked for.
+fn exchange_tries() -> [Event; 3]
+    ensures { result ≡ exchange_tries }
+{
+    [Event::PagerPop, Event::PagerFlush, Event::PagerPull]
+}
+
+/// What there is to do on the link's and the pager's books, at most so often.
 fn take_or_offer<R: Wait>(rt: &R, shared: &Shared, most: usize) -> Turn {
-    let events = [Event::PagerPop, Event::PagerFlush, Event::PagerPull];
-    exchange_often(rt, shared, &events, most)
+    exchange_often(rt, shared, &exchange_tries(), most)
 }
 
 /// The pager: what comes from the link and the lane and what the guest misses or releases, until the run is over.

@@ -1,7 +1,11 @@
 //! A run: its threads, and what is made of the books when they have ended.
 
-ghost use Rattle.std.specs.Prelude.{IfOk, IfErr, IfSome};
+ghost use Rattle.std.specs.Prelude.{◌≡◌, Some, IfOk, IfErr, IfSome, IsErrOf};
+ghost use Rattle.guest_book.specs.Books.{part_of as guest_part};
+ghost use Rattle.guest_book.specs.GuestPart.{new_guest};
+ghost use Rattle.host_checks.specs.declared.outcome.RunFault.{RunFault as Refusal};
 ghost use Rattle.host_checks.specs.Outcomes.{HasMigrated, IsRunFault};
+ghost use Rattle.host_threads.specs.Runs.{IsLeft, told_as, told_of, IsRunOf};
 
 use crate::bell::{Bell, Fault};
 use crate::carry::Echo;
@@ -17,7 +21,7 @@ use crate::source::run_source;
 use crate::vcpu::run_vcpu;
 use book_events::logs::logs_of;
 use guest_book::GuestBook;
-use host_checks::{Migrated, RunFault, Transcript, settle};
+use host_checks::{Migrated, RunFault, Transcript, session_of, settle};
 use link_book::LinkBook;
 use migration_types::{Logs, Seq};
 use page_store::Store;
@@ -31,10 +35,17 @@ use std::sync::{Mutex, Wait};
 use std::thread;
 use std::thread::{JoinHandle, Scope, Threads};
 
+/// The guest's book before the first event. An error: there is no memory for it.
+fn guest_of(alloc: Global, script: &Script) -> Result<GuestBook, AllocError>
+    ensures { IfOk result (λ b. guest_part b ≡ new_guest script.now.geometry script.now.init) }
+{
+    script.keeps_limits();
+    GuestBook::new(alloc, script.geometry(), script.init())
+}
+
 /// The books before the first event.
 fn books_of(alloc: Global, script: &Script) -> Result<Shared, AllocError> {
-    script.keeps_limits();
-    let guest = GuestBook::new(alloc, script.geometry(), script.init())?;
+    let guest = guest_of(alloc, script)?;
     let pager = PagerBook::new(alloc, script.geometry())?;
     Ok(Shared {
         source: Mutex::new(None),
@@ -122,7 +133,7 @@ fn run_threads<R: Threads + Wait + Sync, G: Gate, L: Relay + Drop>(
 
 /// Why a run is refused whose threads met this fault, before anything is checked.
 fn refusal(fault: Fault) -> Option<RunFault>
-    ensures { IfSome result IsRunFault }
+    ensures { result ≡ told_as fault }
 {
     match fault {
         Fault::LogFull => Some(RunFault::LogFull),
@@ -138,7 +149,9 @@ fn left_of(
     link: LinkBook,
     pager: PagerBook,
     target: TargetSide,
-) -> Option<(Logs, Store)> {
+) -> Option<(Logs, Store)>
+    ensures { IsLeft source link.part pager.log target result }
+{
     match (source, target) {
         (Some(source), TargetSide::Target(target)) => {
             let (guest, store) = target.into_parts();
@@ -169,6 +182,44 @@ fn left_by(shared: Shared) -> (Option<Fault>, Option<(Logs, Store)>) {
     (bell.into_fault(), left)
 }
 
+/// The checks of what a run left.
+fn settled<R: Threads + Sync>(
+    rt: &R,
+    alloc: Global,
+    script: &Script,
+    logs: Logs,
+    store: Store,
+    transcripts: Seq<Transcript>,
+) -> Result<Migrated, RunFault>
+    ensures migrated { IfOk result (HasMigrated script.now) }
+    ensures left { IfOk result (IsRunOf script.now logs store transcripts) }
+    ensures refused { IfErr result (IsRunFault script.now) }
+{
+    let session = session_of(alloc, script, logs)?;
+    settle(rt, alloc, script, session, store, transcripts)
+}
+
+/// What comes of a run whose threads met this fault and left this.
+fn outcome<R: Threads + Sync>(
+    rt: &R,
+    alloc: Global,
+    script: &Script,
+    fault: Option<Fault>,
+    left: Option<(Logs, Store)>,
+    transcripts: Seq<Transcript>,
+) -> Result<Migrated, RunFault>
+    ensures migrated { IfOk result (HasMigrated script.now) }
+    ensures refused { IfErr result (IsRunFault script.now) }
+    ensures fault { (f : Refusal) → told_of fault ≡ Some f → IsErrOf result f }
+    ensures left { IfOk result (λ m. IfSome left (λ l. IsRunOf script.now l.0 l.1 transcripts m)) }
+{
+    match (fault.and_then(refusal), left) {
+        (Some(fault), _) => Err(fault),
+        (None, Some((logs, store))) => settled(rt, alloc, script, logs, store, transcripts),
+        (None, None) => Err(RunFault::TranscriptDiffers),
+    }
+}
+
 /// The checks of what the threads left.
 fn checked<R: Threads + Sync>(
     rt: &R,
@@ -178,16 +229,10 @@ fn checked<R: Threads + Sync>(
     transcripts: Vec<Transcript>,
 ) -> Result<Migrated, RunFault>
     ensures migrated { IfOk result (HasMigrated script.now) }
-    ensures refused { IfErr result IsRunFault }
+    ensures refused { IfErr result (IsRunFault script.now) }
 {
     let (fault, left) = left_by(shared);
-    match (fault.and_then(refusal), left) {
-        (Some(fault), _) => Err(fault),
-        (None, Some((logs, store))) => {
-            settle(rt, alloc, script, logs, store, Seq::from_vec(transcripts))
-        }
-        (None, None) => Err(RunFault::TranscriptDiffers),
-    }
+    outcome(rt, alloc, script, fault, left, Seq::from_vec(transcripts))
 }
 
 /// A run over this passage, and the checks of what it left.
@@ -199,7 +244,7 @@ fn run<R: Threads + Wait + Sync, G: Gate, L: Relay + Drop>(
     passage: Passage<L>,
 ) -> Result<Migrated, RunFault>
     ensures migrated { IfOk result (HasMigrated script.now) }
-    ensures refused { IfErr result IsRunFault }
+    ensures refused { IfErr result (IsRunFault script.now) }
 {
     let Ok(shared) = books_of(alloc, script) else {
         return Err(RunFault::Memory);
@@ -234,7 +279,7 @@ pub fn migrate<R: Threads + Wait + Sync, G: Gate>(
     gate: &G,
 ) -> Result<Migrated, RunFault>
     ensures migrated { IfOk result (HasMigrated script.now) }
-    ensures refused { IfErr result IsRunFault }
+    ensures refused { IfErr result (IsRunFault script.now) }
 {
     run(rt, alloc, script, gate, Passage::<NoRelay>::InMemory)
 }
@@ -257,7 +302,7 @@ pub fn migrate_over<R: Threads + Wait + Sync, G: Gate, L: Relay + Drop>(
     relay: L,
 ) -> Result<Migrated, RunFault>
     ensures migrated { IfOk result (HasMigrated script.now) }
-    ensures refused { IfErr result IsRunFault }
+    ensures refused { IfErr result (IsRunFault script.now) }
 {
     let echo = Echo::new(alloc, script.geometry());
     run(rt, alloc, script, gate, Passage::Over(relay, echo))
@@ -270,7 +315,7 @@ pub fn migrate_tcp<
     G: Gate,
 >(rt: &R, alloc: Global, script: &Script, gate: &G) -> Result<Migrated, RunFault>
     ensures migrated { IfOk result (HasMigrated script.now) }
-    ensures refused { IfErr result IsRunFault }
+    ensures refused { IfErr result (IsRunFault script.now) }
 {
     match loopback(rt) {
         Ok(ends) => migrate_over(rt, alloc, script, gate, ends),

@@ -1,10 +1,10 @@
 //! The books, each under its lock, and what a thread tells of its turn with them.
 
-ghost use Rattle.std.specs.Prelude.{◌≢◌, IfOk, OnOk, OnErr};
+ghost use Rattle.std.specs.Prelude.{◌≡◌, IfOk, OnOk, OnErr};
 ghost use Rattle.migration_events.specs.declared.events.Event.{Event};
 ghost use Rattle.migration_model.specs.Books.{BooksAfter};
 ghost use Rattle.book_events.specs.Parts.{IsMade, IsSame, Tells};
-ghost use Rattle.host_threads.specs.Turns.{IsTurn};
+ghost use Rattle.host_threads.specs.Turns.{IsTurn, fault_by, turn_by, turn_of, to_all};
 
 use crate::bell::{Bell, Fault, Party};
 use crate::side::TargetSide;
@@ -84,17 +84,19 @@ fn is_under_way(link: &LinkBook) -> bool {
 
 /// What is told of an event.
 pub(crate) fn told(came: Result<Came, EventFault>) -> Turn
-    ensures { (e : Event) (old new : BooksAfter → BooksAfter) → OnOk came (IsMade e old new) → IfOk came (λ c. Tells c old new) → OnErr came (IsSame old new) → IsTurn result e old new }
+    ensures turn { (e : Event) (old new : BooksAfter → BooksAfter) → OnOk came (IsMade e old new) → IfOk came (λ c. Tells c old new) → OnErr came (IsSame old new) → IsTurn result e old new }
+    ensures exact { result ≡ turn_of came }
 {
     match came {
-        Ok(came) => turn_of(came),
+        Ok(came) => turn_by(came),
         Err(fault) => Turn::Stops(of_event(fault)),
     }
 }
 
 /// What is told of an event that was not refused.
-fn turn_of(came: Came) -> Turn
-    ensures { (e : Event) (old new : BooksAfter → BooksAfter) → IsMade e old new → Tells came old new → IsTurn result e old new }
+fn turn_by(came: Came) -> Turn
+    ensures exact { result ≡ turn_by came }
+    ensures turn { (e : Event) (old new : BooksAfter → BooksAfter) → IsMade e old new → Tells came old new → IsTurn result e old new }
 {
     match came {
         Came::Nothing => Turn::Idle,
@@ -105,7 +107,8 @@ fn turn_of(came: Came) -> Turn
 
 /// The same of an event on the pager's and the target's books.
 pub(crate) fn told_to_all(came: Result<Came, EventFault>) -> Turn
-    ensures { (e : Event) (old new : BooksAfter → BooksAfter) → OnOk came (IsMade e old new) → IfOk came (λ c. Tells c old new) → OnErr came (IsSame old new) → IsTurn result e old new }
+    ensures turn { (e : Event) (old new : BooksAfter → BooksAfter) → OnOk came (IsMade e old new) → IfOk came (λ c. Tells c old new) → OnErr came (IsSame old new) → IsTurn result e old new }
+    ensures exact { result ≡ to_all (turn_of came) }
 {
     match told(came) {
         Turn::Did => Turn::Served,
@@ -115,7 +118,7 @@ pub(crate) fn told_to_all(came: Result<Came, EventFault>) -> Turn
 
 /// The fault of a run in which an event was refused.
 pub(crate) fn of_event(fault: EventFault) -> Fault
-    ensures { result ≢ Fault.Astray }
+    ensures { result ≡ fault_by fault }
 {
     match fault {
         EventFault::LogFull => Fault::LogFull,
@@ -124,13 +127,15 @@ pub(crate) fn of_event(fault: EventFault) -> Fault
 }
 
 /// The same where the link's book refused a turn.
-pub(crate) fn of_link(fault: LinkFault) -> Fault {
+pub(crate) fn of_link(fault: LinkFault) -> Fault
+    ensures { result ≡ fault_by fault }
+{
     of_event(EventFault::from(fault))
 }
 
 /// The same where the guest's or the target's book refused an operation.
 pub(crate) fn of_target(fault: TargetFault) -> Fault
-    ensures { result ≢ Fault.Astray }
+    ensures { result ≡ fault_by fault }
 {
     of_event(EventFault::from(fault))
 }

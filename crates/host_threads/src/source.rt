@@ -1,8 +1,10 @@
 //! The source's thread.
 
-ghost use Rattle.std.specs.Prelude.{◌≡◌, ◌≢◌, ◌≤◌};
+ghost use Rattle.std.specs.Prelude.{◌≡◌, ◌≢◌, true, false, is_some};
 ghost use Rattle.source_book.specs.Books.{part_of};
+ghost use Rattle.link_book.specs.Links.{is_quiet};
 ghost use Rattle.book_events.specs.Parts.{pushing};
+ghost use Rattle.host_threads.specs.Tries.{source_tries};
 ghost use Rattle.host_threads.specs.Turns.{IsTurn};
 ghost use Rattle.host_threads.specs.Sides.{Halts};
 
@@ -20,19 +22,21 @@ use source_book::SourceBook;
 use std::mem::{self, drop};
 use std::sync::Wait;
 
-/// An event on the source's and the link's books: Push, Serve or SourceTick. The source ticks only where nothing is
-/// under way and it is not done.
-fn act(
-    book: &mut SourceBook,
-    link: &mut LinkBook,
-    event: Event,
-    window: u32,
-    has_lane: bool,
-) -> Turn
-    ensures { IsTurn result event (pushing window has_lane (part_of book.old) link.old.part) (pushing window has_lane (part_of book.new) link.new.part) }
+/// Whether a script has a lane.
+fn has_lane(script: &Script) -> bool
+    ensures { result ≡ is_some script.now.lane }
+{
+    script.lane().is_some()
+}
+
+/// An event on the source's and the link's books: Push, Serve or SourceTick. Pages are pushed within the script's window,
+/// and over its lane, if it has one. The source ticks only where nothing is under way and it is not done.
+fn act(book: &mut SourceBook, link: &mut LinkBook, event: Event, script: &Script) -> Turn
+    ensures turn { IsTurn result event (pushing script.now.window (is_some script.now.lane) (part_of book.old) link.old.part) (pushing script.now.window (is_some script.now.lane) (part_of book.new) link.new.part) }
+    ensures quiet { event ≡ Event.SourceTick → result ≢ Turn.Idle → (is_quiet link.old.part ≡ true) × (book.old.is_done ≡ false) }
 {
     match event {
-        Event::Push => told(push(book, link, window, has_lane)),
+        Event::Push => told(push(book, link, script.window(), has_lane(script))),
         Event::Serve => told(serve(book, link)),
         Event::SourceTick if !book.is_done() && link.quiet() => told(source_tick(book, link)),
         _ => Turn::Idle,
@@ -45,14 +49,13 @@ fn halt_guest(
     source: &mut Option<SourceBook>,
     link: &mut LinkBook,
     side: &mut TargetSide,
-    pivots: u32,
+    script: &Script,
 ) -> Turn
-    requires some { 1 ≤ pivots }
-    requires few { pivots ≤ 16 }
-    ensures did { result ≡ Turn.Did → Halts pivots side.old link.old.part source.new side.new link.new.part }
+    ensures did { result ≡ Turn.Did → Halts script.now.pivots side.old link.old.part source.new side.new link.new.part }
     ensures stays { result ≢ Turn.Did → (source.new ≡ source.old) × (side.new ≡ side.old) × (link.new.part ≡ link.old.part) }
 {
-    match side.halt(link, pivots) {
+    script.keeps_limits();
+    match side.halt(link, script.pivots()) {
         Ok(Some(book)) => {
             drop(mem::replace(source, Some(book)));
             Turn::Did
@@ -64,31 +67,36 @@ fn halt_guest(
 
 /// Halt.
 fn halt<R: Wait>(rt: &R, shared: &Shared, script: &Script) -> Turn {
-    script.keeps_limits();
     let mut source = shared.source.lock(rt);
     let mut link = shared.link.lock(rt);
     let mut side = shared.target.lock(rt);
-    let turn = halt_guest(&mut source, &mut link, &mut side, script.pivots());
+    let turn = halt_guest(&mut source, &mut link, &mut side, script);
     shared.ring_over(&turn, &link);
     turn
 }
 
-/// The source's and the link's books, and how pages are pushed.
+/// The source's and the link's books, and the script by which pages are pushed.
 #[derive(Drop)]
 struct Acting<'a> {
     book: &'a mut SourceBook,
     link: &'a mut LinkBook,
-    window: u32,
-    has_lane: bool,
+    script: &'a Script,
 }
 
 impl<'a> Books for Acting<'a> {
     fn make(&mut self, event: Event) -> Turn {
-        act(self.book, self.link, event, self.window, self.has_lane)
+        act(self.book, self.link, event, self.script)
     }
 }
 
-/// What there is to do after the halt, at most so often: to serve, or else to push, or else to tick.
+/// What the source tries after the halt: to serve, or else to push, or else to tick.
+fn source_tries() -> [Event; 3]
+    ensures { result ≡ source_tries }
+{
+    [Event::Serve, Event::Push, Event::SourceTick]
+}
+
+/// What there is to do after the halt, at most so often.
 fn turn<R: Wait>(rt: &R, shared: &Shared, script: &Script, most: usize) -> Turn {
     let mut source = shared.source.lock(rt);
     let mut link = shared.link.lock(rt);
@@ -98,11 +106,9 @@ fn turn<R: Wait>(rt: &R, shared: &Shared, script: &Script, most: usize) -> Turn 
     let mut books = Acting {
         book: &mut *book,
         link: &mut link,
-        window: script.window(),
-        has_lane: script.lane().is_some(),
+        script,
     };
-    let events = [Event::Serve, Event::Push, Event::SourceTick];
-    let turn = make_often(&mut books, &events, most);
+    let turn = make_often(&mut books, &source_tries(), most);
     if book.is_done() {
         shared.bell.finish();
     }

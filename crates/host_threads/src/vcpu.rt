@@ -1,10 +1,10 @@
 //! The thread of a virtual processor.
 
-ghost use Rattle.std.specs.Prelude.{◌≢◌};
+ghost use Rattle.std.specs.Prelude.{◌≢◌, ℕ, take, OnOk};
 ghost use Rattle.migration_events.specs.Ops.{OpFits};
 ghost use Rattle.guest_book.specs.Books.{part_of as guest_of};
 ghost use Rattle.target_book.specs.Kept.{geometry_of, part_of as target_of};
-ghost use Rattle.host_threads.specs.Operations.{IsGuestStep, IsTargetStep};
+ghost use Rattle.host_threads.specs.Operations.{HasDone, IsGuestStep, IsTargetStep};
 
 use crate::bell::{Fault, Party};
 use crate::gate::{Gate, most_at_once};
@@ -61,6 +61,31 @@ fn step_target(book: &mut TargetBook, vcpu: u8, op: &Op) -> Step
     }
 }
 
+/// Operations on the guest's book, one after another, each put behind the answers with its own. Where one is refused, those
+/// before it are done, and no other.
+fn work_at_source(
+    book: &mut GuestBook,
+    vcpu: u8,
+    ops: &[Op],
+    answers: &mut Vec<Answered>,
+) -> Result<(), Fault>
+    ensures did { (count : ℕ) × HasDone vcpu (take count ops.now) (guest_of book.old) (guest_of book.new) answers.old.items answers.new.items }
+    ensures all { OnOk result (HasDone vcpu ops.now (guest_of book.old) (guest_of book.new) answers.old.items answers.new.items) }
+{
+    for at in 0..ops.len() {
+        let op = &ops[at];
+        if answers.reserve(1).is_err() {
+            return Err(Fault::Memory);
+        }
+        match step_guest(book, vcpu, op) {
+            Step::Answered(answer) => answers.push_reserved(Answered { op: *op, answer }),
+            Step::Stops(fault) => return Err(fault),
+            Step::Missed | Step::Waits => return Err(Fault::Astray),
+        }
+    }
+    Ok(())
+}
+
 /// At most so many operations of a virtual processor at the source are done before others have their turn.
 const MOST_AT_SOURCE: usize = 256;
 
@@ -99,17 +124,7 @@ impl<'s, G: Gate> Worker<'s, G> {
         let TargetSide::Guest(book) = &mut *side else {
             return Err(Fault::Astray);
         };
-        for op in ops {
-            if self.answers.reserve(1).is_err() {
-                return Err(Fault::Memory);
-            }
-            match step_guest(book, self.vcpu, op) {
-                Step::Answered(answer) => self.answers.push_reserved(Answered { op: *op, answer }),
-                Step::Stops(fault) => return Err(fault),
-                Step::Missed | Step::Waits => return Err(Fault::Astray),
-            }
-        }
-        Ok(())
+        work_at_source(book, self.vcpu, ops, &mut self.answers)
     }
 
     /// Does operations at the source. False: the run stops.

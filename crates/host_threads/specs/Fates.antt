@@ -1,0 +1,52 @@
+-- What becomes of the packets of the lines, one after another.
+use Rattle.std.specs.Prelude.{◌≡◌, ℕ, zero, suc, ◌+◌, ◌<◌, List, [], drop, Option, Some, None, slice_get, slice_index_or, Bool, MatchBool}
+use Rattle.migration_events.specs.declared.events.Fate.{Fate}
+use Rattle.migration_events.specs.declared.events.Fate.TheVariants.{Deliver}
+use Rattle.migration_events.specs.declared.events.Direction.{Direction}
+use Rattle.migration_events.specs.declared.events.Direction.TheVariants.{Down as Downward, Up as Upward, Lane as OverLane}
+use Rattle.page_stream.specs.declared.Packet.{Packet}
+use Rattle.link_book.specs.LinkPart.{LinkPart, line_of, turned}
+
+-- the fate of the next packet, where these are left: behind the last each is delivered
+abbrev pub next_fate : List Fate → Fate
+next_fate fates = slice_index_or fates 0 Deliver
+
+-- the fates over a lane, if there is one
+abbrev pub fates_over : Option (List Fate) → List Fate
+fates_over None = []
+fates_over (Some fates) = fates
+
+-- the links' book, and the fates that are left for a line
+pub record Line : Type 0 where
+  pub link : LinkPart
+  pub fates : List Fate
+
+abbrev pub line : LinkPart → List Fate → Line
+line link fates = record { link = link; fates = fates }
+
+-- the packet at the head of the line meets the next fate, which is used up
+pub record Meets (direction : Direction) (old new : Line) : Type 0 where
+  pub packet : Packet
+  pub head : slice_get (line_of direction old.link) 0 ≡ Some packet
+  pub link : new.link ≡ turned direction (next_fate old.fates) old.link
+  pub fates : new.fates ≡ drop 1 old.fates
+
+-- so many packets of the line meet their fates, one after another
+abbrev pub HaveMet : Direction → ℕ → Line → Line → Type 0
+HaveMet direction zero old new = new ≡ old
+HaveMet direction (suc n) old new = (mid : Line) × HaveMet direction n old mid × Meets direction mid new
+
+-- the links' book, and the fates that are left for each line
+pub record Lines : Type 0 where
+  pub link : LinkPart
+  pub down : List Fate
+  pub up : List Fate
+  pub lane : List Fate
+
+-- so many packets of each line meet their fates, of one line after another
+pub record HaveTurned (down up lane : ℕ) (old new : Lines) : Type 0 where
+  pub after_down : LinkPart
+  pub after_up : LinkPart
+  pub down_met : HaveMet Downward down (line old.link old.down) (line after_down new.down)
+  pub up_met : HaveMet Upward up (line after_down old.up) (line after_up new.up)
+  pub lane_met : HaveMet OverLane lane (line after_up old.lane) (line new.link new.lane)

@@ -1,0 +1,41 @@
+-- What a run comes to when its threads have ended.
+use Rattle.std.specs.Prelude.{◌≡◌, List, Option, Some, None}
+use Rattle.migration_types.specs.declared.records.PagerRec.{PagerRec}
+use Rattle.migration_types.specs.declared.session.Logs.{Logs}
+use Rattle.migration_types.specs.Sessions.{recorded}
+use Rattle.page_store.specs.Frames.{Frames}
+use Rattle.source_book.specs.Books.{SourceKept}
+use Rattle.link_book.specs.LinkPart.{LinkPart}
+use Rattle.script.specs.Scenarios.{Scenario}
+use Rattle.host_checks.specs.declared.transcript.Answered.{Answered}
+use Rattle.host_checks.specs.declared.outcome.Migrated.{Migrated}
+use Rattle.host_checks.specs.declared.outcome.RunFault.{RunFault}
+use Rattle.host_checks.specs.declared.outcome.RunFault.TheVariants as told
+use Rattle.host_threads.specs.declared.bell.Fault.{Fault}
+use Rattle.host_threads.specs.declared.bell.Fault.TheVariants.{LogFull, Memory, Link, Astray}
+use Rattle.host_threads.specs.declared.side.TargetSide.{TargetSide}
+use Rattle.host_threads.specs.declared.side.TargetSide.TheVariants.{Guest, Moving, Target}
+
+-- the logs of the books and the frames at the target; nothing where the guest has not halted
+abbrev pub IsLeft : Option SourceKept → LinkPart → List PagerRec → TargetSide → Option (Logs × Frames) → Type 0
+IsLeft None link pager side left = left ≡ None
+IsLeft (Some s) link pager (Guest b) left = left ≡ None
+IsLeft (Some s) link pager Moving left = left ≡ None
+IsLeft (Some s) link pager (Target t) left = left ≡ Some (record { guest = t.held.log; source = s.log; link = link.log; lane = link.lane_log; pager = pager }, t.held.frames)
+
+-- how a fault of the threads is told, before anything is checked
+abbrev pub told_as : Fault → Option RunFault
+told_as LogFull = Some told.LogFull
+told_as Memory = Some told.Memory
+told_as Link = Some told.Link
+told_as Astray = None
+
+abbrev pub told_of : Option Fault → Option RunFault
+told_of None = None
+told_of (Some fault) = told_as fault
+
+-- what is made of a run of the script has these logs, these frames and these transcripts
+pub record IsRunOf (script : Scenario) (logs : Logs) (store : Frames) (transcripts : List (List Answered)) (m : Migrated) : Type 0 where
+  pub session : m.session ≡ recorded script.version script.geometry script.init logs
+  pub frames : m.store ≡ store
+  pub answers : m.transcripts ≡ transcripts
