@@ -1,4 +1,5 @@
 pub mod Subjects
+pub mod Labels
 pub mod Drawn
 pub mod Rows
 pub mod Pictures

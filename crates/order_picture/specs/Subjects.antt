@@ -16,7 +16,6 @@ use Rattle.migration_types.specs.Sessions.{Recorded}
 use Rattle.migration_types.specs.declared.rows.Field.{Field}
 use Rattle.migration_types.specs.declared.rows.Field.TheVariants as field
 use Rattle.migration_types.specs.Rows.{Consists}
-use Rattle.session_text.specs.Rows.{row_line}
 use Rattle.audit_model.specs.Names.{same_log}
 use Rattle.order_picture.specs.declared.subjects.About.{About}
 use Rattle.order_picture.specs.declared.subjects.About.TheVariants.{Page, Record, Nothing}
@@ -88,11 +87,6 @@ about_among (field.Value n ∷ fields) = about_among fields
 abbrev pub about_by : Option Consists → About
 about_by None = Nothing
 about_by (Some row) = about_among row.fields
-
--- the label of a record: its line, without contents
-abbrev pub label_of : Option Consists → List ℕ
-label_of None = []
-label_of (Some row) = row_line row None
 
 abbrev pub page_by : (Name → Option ℕ) → About → Option ℕ
 page_by next (Page page) = Some page

@@ -6,17 +6,16 @@ ghost use Rattle.order_picture.specs.Pictures.{fault_of, IsFocus};
 
 use crate::records::{Name, is_one};
 use crate::subjects::page_of;
-use audit_model::is_placement_of;
 use audit_report::Report;
-use migration_types::{GuestRec, LogName, PageNo, Session};
-use session_story::{Concern, concern_of, handover_of, last_change, send_of};
+use migration_types::{PageNo, Session};
+use session_story::{Explanation, concerned_of};
 
 /// Why a record stands out.
 #[derive(Clone, Copy, Debug, PartialEq, Eq)]
 pub enum Mark {
     /// It is the faulty record of the report.
     Faulty,
-    /// It is the placement, the sending, the use or the release that the faulty record concerns.
+    /// It is the record that is told of as the one that the fault concerns.
     Concerned,
     /// It is about the page of the faulty record.
     OfPage,
@@ -74,82 +73,18 @@ fn fault_of(report: &Report) -> Option<Name>
     }
 }
 
-/// The pager's first placement of a page.
-fn first_placement(session: &Session, page: PageNo) -> Option<Name> {
-    let place = session
-        .pager()
-        .iter()
-        .position(|rec| is_placement_of(rec, page))?;
-    Some((LogName::Pager, u32::try_from(place).ok()?))
-}
-
-/// The guest's first release of a page at the target.
-fn first_release(session: &Session, page: PageNo) -> Option<Name> {
-    let resume = handover_of(session).resume?;
-    for (n, rec) in session.guest().iter().enumerate().skip(resume as usize) {
-        if let GuestRec::Release { page: released, .. } = *rec {
-            if released.number() == page.number() {
-                return Some((LogName::Guest, u32::try_from(n).ok()?));
-            }
-        }
-    }
-    None
-}
-
-/// Which other record a fault of this record concerns: by its reason, and of one that has not the right shape by its log.
-fn concern_in(report: &Report, log: LogName) -> Concern {
-    match report {
-        Report::Faulty { fault, .. } => concern_of(fault.reason),
-        _ => match log {
-            LogName::Guest => Concern::Placement,
-            LogName::Source => Concern::Change,
-            LogName::Pager => Concern::Origin,
-            _ => Concern::Nothing,
-        },
-    }
-}
-
-/// An earlier placement of a page than this record, or else the page's sending.
-fn origin_of(session: &Session, fault: Name, page: PageNo) -> Option<Name> {
-    let first = first_placement(session, page);
-    if is_one(first, fault) {
-        send_of(session, page).map(|place| (LogName::Source, place))
-    } else {
-        first
-    }
-}
-
-/// The record that a fault of this record, about this page, concerns.
-fn concerned_by(session: &Session, concern: Concern, fault: Name, page: PageNo) -> Option<Name> {
-    match concern {
-        Concern::Placement => first_placement(session, page),
-        Concern::Change => last_change(session, page).map(|place| (LogName::Guest, place)),
-        Concern::Origin => origin_of(session, fault, page),
-        Concern::Release => first_release(session, page),
-        Concern::Nothing => None,
-    }
-}
-
-/// What the picture of a report is about.
-pub(crate) fn focus_of(session: &Session, report: &Report) -> Focus
-    ensures { IsFocus session.now report.now result }
+/// What the picture of a report is about, by what is told of it.
+pub(crate) fn focus_of(session: &Session, report: &Report, told: &Explanation) -> Focus
+    ensures { IsFocus session.now report.now told.now result }
 {
     let fault = fault_of(report);
-    let Some(name) = fault else {
-        return Focus {
-            fault,
-            concerned: None,
-            page: None,
-        };
-    };
-    let page = page_of(session, name);
-    let concerned = match page {
-        Some(page) => concerned_by(session, concern_in(report, name.0), name, page),
+    let page = match fault {
+        Some(name) => page_of(session, name),
         None => None,
     };
     Focus {
         fault,
-        concerned,
+        concerned: concerned_of(session, told),
         page,
     }
 }

@@ -1,10 +1,11 @@
-//! Which records of an order have a row of their own: the page's, what these receive, the halt and the resume, and
-//! those that stand next to the faulty one; of too many the first, the last, those nearest to it, and the release that
-//! a placement is over.
+//! Which records of an order have a row of their own: the page's, but of its reads and writes before the faulty record
+//! those alone that are told of; what these receive, the halt and the resume, and those that stand next to the faulty
+//! one; of too many the first, the last, those nearest to it, and the one that its fault concerns.
 
 use crate::focus::{Focus, Mark, mark_of};
 use crate::records::{Name, is_one};
 use migration_types::{GuestRec, LOG_COUNT, LOGS, LogName, Session};
+use session_story::{Explanation, tells_of};
 use std::alloc::{AllocError, Global};
 
 /// So many are kept at each end of the order.
@@ -48,27 +49,49 @@ fn hands_over(session: &Session, name: Name) -> bool {
         )
 }
 
+/// Whether the record reads or writes a page.
+fn uses(session: &Session, name: Name) -> bool {
+    name.0 == LogName::Guest
+        && matches!(
+            session.guest().get(name.1 as usize),
+            Some(GuestRec::Read { .. } | GuestRec::Write { .. })
+        )
+}
+
+/// What decides which records have rows.
+#[derive(Clone, Copy)]
+pub(crate) struct Keeping<'a> {
+    pub session: &'a Session,
+    pub told: &'a Explanation,
+    pub focus: &'a Focus,
+    /// Around which place of the order most is shown.
+    pub middle: usize,
+}
+
 /// Whether a record concerns what the picture is about: a page, or, where there is none, the order.
-fn concerns(session: &Session, focus: &Focus, name: Name) -> bool {
-    if hands_over(session, name) {
+fn concerns(keeping: &Keeping<'_>, place: usize, name: Name) -> bool {
+    if hands_over(keeping.session, name) {
         return true;
     }
-    match mark_of(session, focus, name) {
-        Mark::Plain => focus.page.is_none() && session.named(name).is_some(),
-        _ => true,
+    match mark_of(keeping.session, keeping.focus, name) {
+        Mark::Plain => { keeping.focus.page.is_none() && keeping.session.named(name).is_some() }
+        Mark::OfPage => {
+            place > keeping.middle || !uses(keeping.session, name) || tells_of(keeping.told, name.1)
+        }
+        Mark::Faulty | Mark::Concerned => true,
     }
 }
 
 /// Which records of the session concern what the picture is about, or are received by such a one.
 fn concerned(
     alloc: Global,
-    session: &Session,
-    focus: &Focus,
+    keeping: &Keeping<'_>,
     order: &[Name],
 ) -> Result<Vec<bool>, AllocError> {
+    let session = keeping.session;
     let mut flags = vec![in alloc; false; records_before(session, LOG_COUNT)]?;
-    for name in order {
-        if concerns(session, focus, *name) {
+    for (place, name) in order.iter().enumerate() {
+        if concerns(keeping, place, *name) {
             want(&mut flags, place_among(session, *name));
             if let Some(sent) = session.named(*name) {
                 want(&mut flags, place_among(session, sent));
@@ -115,41 +138,38 @@ fn leave_nearest(wanted: &mut Vec<bool>, middle: usize) {
     }
 }
 
-/// The release that the faulty placement is over: no other placement concerns a record of the guest.
-fn release_under(focus: &Focus) -> Option<Name> {
-    match (focus.fault, focus.concerned) {
-        (Some((LogName::Pager, _)), Some((LogName::Guest, place))) => Some((LogName::Guest, place)),
-        _ => None,
-    }
+/// Whether a place is wanted, or there is no such place.
+fn is_wanted_or_none(wanted: &[bool], place: usize) -> bool {
+    wanted.get(place).copied().unwrap_or(true)
 }
 
-/// A single record between two that are wanted takes no more room than what would stand for it.
+/// A single record between two that are wanted, or between one and an end, takes no more room than what would stand for
+/// it.
 fn fill_gaps(wanted: &mut Vec<bool>) {
-    for n in 1..wanted.len() {
-        if is_wanted(wanted, n - 1) && is_wanted(wanted, n.saturating_add(1)) {
+    for n in 0..wanted.len() {
+        let is_behind_one = n == 0 || is_wanted(wanted, n.saturating_sub(1));
+        if is_behind_one && is_wanted_or_none(wanted, n.saturating_add(1)) {
             want(wanted, n);
         }
     }
 }
 
-/// Which places of an order have a row of their own, of which this is the middle. Takes a flag for each record. An
-/// error: there is no memory for it.
+/// Which places of an order have a row of their own. Takes a flag for each record. An error: there is no memory for it.
 pub(crate) fn kept_in(
     alloc: Global,
-    session: &Session,
-    focus: &Focus,
+    keeping: &Keeping<'_>,
     order: &[Name],
-    middle: usize,
 ) -> Result<Vec<bool>, AllocError> {
-    let flags = concerned(alloc, session, focus, order)?;
-    let mut wanted = in_order(alloc, session, order, &flags)?;
+    let focus = keeping.focus;
+    let middle = keeping.middle;
+    let flags = concerned(alloc, keeping, order)?;
+    let mut wanted = in_order(alloc, keeping.session, order, &flags)?;
     if focus.fault.is_some() {
         want(&mut wanted, middle.saturating_sub(1));
         want(&mut wanted, middle.saturating_add(1));
     }
     leave_nearest(&mut wanted, middle);
-    let release = release_under(focus);
-    if let Some(place) = order.iter().position(|name| is_one(release, *name)) {
+    if let Some(place) = order.iter().position(|name| is_one(focus.concerned, *name)) {
         want(&mut wanted, place);
     }
     fill_gaps(&mut wanted);

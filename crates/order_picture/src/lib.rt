@@ -2,9 +2,12 @@
 //! folded, what is marked, which record receives which), then its text as SVG.
 #![tactic(auto)]
 
+mod behind;
 mod focus;
+mod heading;
 mod keeping;
 mod labels;
+mod legend;
 mod order;
 mod picture;
 mod records;
@@ -15,5 +18,6 @@ mod svg;
 mod words;
 
 pub use focus::{Focus, Mark};
+pub use heading::Shown;
 pub use picture::{MOST_ROWS, Picture, Row, plan, plan_along};
-pub use svg::{Shown, picture_text, print_picture, print_picture_along};
+pub use svg::{picture_text, print_picture, print_picture_along};

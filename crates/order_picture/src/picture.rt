@@ -1,11 +1,12 @@
 //! The plan of a picture.
 
 ghost use Rattle.std.specs.Prelude.{◌≡◌, IfOk, map, position};
+ghost use Rattle.audit_report.specs.Reports.{IsReport};
 ghost use Rattle.order_picture.specs.Rows.{is_row_of, row_receipt, sender_of};
 ghost use Rattle.order_picture.specs.Pictures.{IsPicture, IsPictureOf};
 
 use crate::focus::{Focus, Mark, focus_of};
-use crate::keeping::kept_in;
+use crate::keeping::{Keeping, kept_in};
 use crate::order::{Drawn, draw_along};
 use crate::records::{Name, is_one};
 use crate::rows::rows_of;
@@ -13,6 +14,7 @@ use audit_report::Report;
 use cert_maker::found_runs;
 use merge_runs::Taken;
 use migration_types::{GuestRec, LogName, Run, Session};
+use session_story::{Explanation, explain};
 use std::alloc::{AllocError, Global};
 
 /// A picture has at most so many rows.
@@ -43,6 +45,8 @@ pub struct Picture {
     /// The place of the first run that cannot be taken, or the number of the runs where records are left; none where it
     /// has all records.
     pub bad: Option<usize>,
+    /// What is told of the session.
+    pub told: Explanation,
     /// What it is about.
     pub focus: Focus,
 }
@@ -129,12 +133,20 @@ pub fn plan_along(
     report: &Report,
     runs: &[Run],
 ) -> Result<Picture, AllocError>
+    requires { IsReport session.now report.now }
     ensures { IfOk result (IsPictureOf session.now report.now runs.now) }
 {
-    let focus = focus_of(session, report);
+    let told = explain(alloc, session, report)?;
+    let focus = focus_of(session, report, &told);
     let Drawn { names, taken, bad } = draw_along(alloc, session, runs)?;
     let middle = middle_of(session, &focus, &names, bad.is_none());
-    let wanted = kept_in(alloc, session, &focus, &names, middle)?;
+    let keeping = Keeping {
+        session,
+        told: &told,
+        focus: &focus,
+        middle,
+    };
+    let wanted = kept_in(alloc, &keeping, &names)?;
     let rows = rows_of(alloc, session, &focus, &names, &wanted)?;
     let senders = senders_of(alloc, session, &rows)?;
     Ok(Picture {
@@ -142,14 +154,17 @@ pub fn plan_along(
         senders,
         taken,
         bad,
+        told,
         focus,
     })
 }
 
 /// The picture of a report: along the runs that show its fault, or those that it has of a knot; of a clean session along
-/// those of its certificate; and of a session of another shape along the found order as far as it goes. Takes a few passes over the records, and
-/// memory for the names of the records and two flags for each. An error: there is no memory for them.
+/// those of its certificate; and of a session of another shape along the found order as far as it goes. Takes what
+/// [`explain`] takes, a few passes over the records, and memory for the names of the records and two flags for each. An
+/// error: there is no memory for them.
 pub fn plan(alloc: Global, session: &Session, report: &Report) -> Result<Picture, AllocError>
+    requires { IsReport session.now report.now }
     ensures { IfOk result (IsPicture session.now report.now) }
 {
     match report {

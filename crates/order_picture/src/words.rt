@@ -3,7 +3,7 @@
 use crate::records::Name;
 use merge_runs::Taken;
 use migration_types::{LogName, Session, logs};
-use session_story::{push_place, push_record};
+use session_story::push_record;
 use std::alloc::AllocError;
 use text_lines::push_number;
 
@@ -23,28 +23,14 @@ pub(crate) fn push_log(out: &mut Vec<u8>, log: LogName) -> Result<(), AllocError
     push(out, log.word().as_bytes())
 }
 
-/// What is told of a record.
-#[derive(Clone, Copy)]
-pub(crate) enum Told {
-    /// Where it stands, as in "line 27 (pager 5)".
-    Place,
-    /// That, and what it says, as in "line 12 (guest 5): virtual processor 0 reads 7 in cell 0 of page 1".
-    Record,
-}
-
-/// Adds what is told of a record.
-pub(crate) fn push_told(
+/// Adds where a record stands and what it says, as in "line 12 (guest 5): virtual processor 0 reads 7 in cell 0 of page 1".
+pub(crate) fn push_record_title(
     out: &mut Vec<u8>,
     session: &Session,
     name: Name,
-    told: Told,
 ) -> Result<(), AllocError> {
-    let (log, place) = name;
     let mut words = String::new(*out.allocator());
-    match told {
-        Told::Place => push_place(&mut words, session, log, place)?,
-        Told::Record => push_record(&mut words, session, log, place)?,
-    }
+    push_record(&mut words, session, name.0, name.1)?;
     push(out, words.as_bytes())
 }
 

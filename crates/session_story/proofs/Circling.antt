@@ -18,7 +18,7 @@ use Rattle.migration_types.specs.declared.records.LaneRec.TheVariants.{Down as L
 use Rattle.migration_types.specs.declared.records.PagerRec.{PagerRec}
 use Rattle.migration_types.specs.declared.records.PagerRec.TheVariants.{Got, Pull, Ready, Fault, Join, Want, Place, Zero, Skip, All}
 use Rattle.migration_types.specs.Receipts.{Name, guest_receipt, source_receipt, link_receipt, lane_receipt, pager_receipt}
-use Rattle.migration_types.specs.Sessions.{Recorded, IsSession, line_of}
+use Rattle.migration_types.specs.Sessions.{Recorded, line_of}
 use Rattle.audit_model.specs.declared.reasons.ShapeReason.TheVariants.{Named}
 use Rattle.audit_model.specs.Names.{if_there, log_length, receipt, same_log}
 use Rattle.audit_model.specs.Shape.{passes, keeps, is_ready, is_placement, is_halt, is_up, goes_down, goes_up, is_down, is_miss, guest_named, source_named, link_named, lane_named, pager_named, IsRightShape}

@@ -6,5 +6,7 @@ pub mod Looks
 pub mod Counted
 pub mod Waits
 pub mod Explained
+pub mod Concerned
+pub mod Amended
 pub mod Told
 pub mod inner

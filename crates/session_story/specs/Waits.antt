@@ -1,5 +1,5 @@
 -- Records that wait for one another.
-use Rattle.std.specs.Prelude.{◌≡◌, ℕ, suc, ◌<◌, ◌≤◌, length, Some, slice_get}
+use Rattle.std.specs.Prelude.{◌≡◌, ℕ, suc, ◌+◌, ◌<◌, ◌≤◌, nat_lt, length, Option, Some, None, slice_get, if◌then◌else◌}
 use Rattle.migration_types.specs.Sessions.{Recorded, line_of}
 use Rattle.audit_model.specs.Names.{receipt}
 use Rattle.audit_model.specs.FoundOrder.{IsKnot}
@@ -10,6 +10,14 @@ use Rattle.session_story.specs.declared.waits.Knot.{Knot}
 pub record WaitsFor (w other : Waiting) : Type 0 where
   pub log : other.log ≡ w.sent_log
   pub place : other.place ≤ w.sent_place
+
+-- the one that stands behind the record of this index, or else the one at which the circle begins
+abbrev pub or_back : Knot → Option Waiting → Option Waiting
+or_back k None = slice_get k.waits.items k.back
+or_back k (Some next) = Some next
+
+abbrev pub next_in : Knot → ℕ → Option Waiting
+next_in k i = if nat_lt i (length k.waits.items) then or_back k (slice_get k.waits.items (i + 1)) else None
 
 -- Records of which each is a receipt for one that comes no earlier than the next of them. The first stands at the line
 -- of the knot. The last waits for one of them, and from that one on they go round in a circle.

@@ -2,6 +2,8 @@
 //! that wait for one another, or how a clean session went.
 #![tactic(auto)]
 
+mod amends;
+mod concerns;
 mod contents;
 mod counting;
 mod explaining;
@@ -17,6 +19,8 @@ mod values;
 mod waits;
 mod words;
 
+pub use amends::{Amended, amended_by, is_always_wrong, tells_of};
+pub use concerns::concerned_of;
 pub use contents::Wrong;
 pub use counting::{Counts, counts_of};
 pub use explaining::{Explanation, explain};
@@ -24,8 +28,7 @@ pub use faults::{Cause, Detail, FaultStory, ShapeStory};
 pub use lines::line_at;
 pub use looks::{Look, greatest_look};
 pub use pages::{Handover, PageStory, handover_of, last_change, send_of, story_of};
-pub use reasons::{Concern, concern_of};
 pub use telling::{print_explained, print_refused};
 pub use values::{Held, instead_of, other_of};
 pub use waits::{Knot, Waiting, circle_of};
-pub use words::{log_word, page_reason, push_place, push_record, shape_reason};
+pub use words::{log_word, push_place, push_record, push_summary, push_wait};

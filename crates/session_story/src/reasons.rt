@@ -5,9 +5,11 @@ ghost use Rattle.std.specs.Prelude.{◌≡◌, ◌<◌, IfOk};
 ghost use Rattle.migration_types.specs.Sessions.{log_length};
 ghost use Rattle.session_story.specs.Pages.{IsPageStory};
 ghost use Rattle.session_story.specs.Explained.{IsDetail, is_read};
+ghost use Rattle.session_story.specs.Concerned.{concerned_by, given_in};
 
+use crate::concerns::{Name, named_in};
 use crate::contents::other_at;
-use crate::faults::{Detail, look_before};
+use crate::faults::{Detail, FaultStory, look_before};
 use crate::looks::greatest_look;
 use crate::pages::PageStory;
 use crate::values::instead_of;
@@ -65,26 +67,29 @@ pub(crate) fn is_read(reason: PageReason) -> bool
     }
 }
 
-/// Which other record of its page a fault concerns.
-#[derive(Clone, Copy, Debug, PartialEq, Eq)]
-pub enum Concern {
-    /// The page's first placement.
-    Placement,
-    /// The page's last change before the halt.
-    Change,
-    /// An earlier placement of the page, or else its sending.
-    Origin,
-    /// The page's first release at the target.
-    Release,
-    Nothing,
+/// The number of the guest's record that gave a cell the value that is told of, if one did.
+pub(crate) fn given_in(detail: &Detail) -> Option<u32>
+    ensures { result ≡ given_in detail.now }
+{
+    match detail {
+        Detail::Instead(Some(held)) | Detail::Other(Some(held)) => held.by,
+        _ => None,
+    }
 }
 
-/// Which other record a fault of this reason concerns.
-pub fn concern_of(reason: PageReason) -> Concern {
-    match reason {
-        PageReason::Read | PageReason::Early => Concern::Placement,
-        PageReason::Given | PageReason::Stale => Concern::Change,
-        PageReason::Twice | PageReason::Altered | PageReason::Unfit => Concern::Origin,
-        PageReason::Over => Concern::Release,
+/// The other record that a fault of a page concerns: of a wrong value what gave the right one, of what comes twice the
+/// first, and of what must not be what rules it out.
+pub(crate) fn concerned_by(story: &FaultStory) -> Option<Name>
+    ensures { result ≡ concerned_by story.now }
+{
+    let page = &story.page;
+    match story.fault.reason {
+        PageReason::Read | PageReason::Stale => {
+            named_in(LogName::Guest, given_in(&story.detail))
+        }
+        PageReason::Given | PageReason::Unfit => named_in(LogName::Guest, page.changed),
+        PageReason::Early | PageReason::Twice => named_in(LogName::Pager, page.found.placement),
+        PageReason::Altered => named_in(LogName::Source, page.sent),
+        PageReason::Over => named_in(LogName::Guest, page.found.touch),
     }
 }

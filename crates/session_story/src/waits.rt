@@ -7,7 +7,7 @@ ghost use Rattle.audit_model.specs.Names.{log_length, receipt};
 ghost use Rattle.audit_model.specs.Shape.{IsRightShape};
 ghost use Rattle.audit_model.specs.FoundOrder.{first_ready};
 ghost use Rattle.cert_maker.specs.Orders.{IsTied};
-ghost use Rattle.session_story.specs.Waits.{IsCircle};
+ghost use Rattle.session_story.specs.Waits.{IsCircle, next_in};
 ghost use Rattle.session_story.specs.inner.Waits.{IsNext, IsCircleAt};
 
 use cert_maker::{FoundRuns, Left};
@@ -34,6 +34,23 @@ pub struct Knot {
     pub waits: Vec<Waiting>,
     /// The index of the one that the last waits for: from it on they go round in a circle.
     pub back: usize,
+}
+
+impl Knot {
+    /// The one that the record of this index waits for: the next, and of the last the one at which the circle begins; none
+    /// where there is no such index. Takes no memory.
+    pub fn next(&self, index: usize) -> Option<Waiting>
+        ensures { result ≡ next_in self.now index }
+    {
+        let waits = self.waits.as_slice();
+        if index >= waits.len() {
+            return None;
+        }
+        match waits.get(index + 1) {
+            Some(next) => Some(*next),
+            None => waits.get(self.back).copied(),
+        }
+    }
 }
 
 /// The next record of a log, where it is a receipt.

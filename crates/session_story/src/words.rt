@@ -8,19 +8,22 @@ mod shapes;
 
 use crate::counting::Counts;
 use crate::explaining::Explanation;
-use crate::words::faults::push_fault;
-use crate::words::knots::push_knot;
+use crate::words::faults::{push_fault, push_faulty};
+use crate::words::knots::{push_knot, push_no_order};
 use crate::words::shapes::push_shape_story;
+pub use knots::push_wait;
 use migration_types::{Session, Version};
-pub use reasons::page_reason;
 pub use records::{log_word, push_place, push_record};
-pub use shapes::shape_reason;
 use std::alloc::{AllocError, Global};
 
 /// Whether the lane of a session has records: of other sessions nothing is said of a lane.
 fn has_lane(session: &Session) -> bool {
     !session.lane().is_empty()
 }
+
+/// That no order of a session goes wrong.
+const CLEAN: &str =
+    "In every order of the records each read gives what one machine that never moved would give.\n";
 
 /// Adds how a clean session went.
 fn push_counts(out: &mut String, version: Version, counts: &Counts) -> Result<(), AllocError> {
@@ -35,9 +38,7 @@ fn push_counts(out: &mut String, version: Version, counts: &Counts) -> Result<()
     let misses = counts.misses;
     let waits = counts.waits;
     let by_lane = counts.by_lane;
-    out.push_str(
-        "In every order of the records each read gives what one machine that never moved would give.\n",
-    )?;
+    out.push_str(CLEAN)?;
     write!(out, "Pages that were sent and placed: {sent}\n")?;
     write!(out, "Released pages that came back as zeros: {zeroed}\n")?;
     match version {
@@ -79,4 +80,19 @@ pub(crate) fn words_of(
         Explanation::Clean(counts) => push_counts(&mut out, session.version(), counts)?,
     }
     Ok(out)
+}
+
+/// Adds what is told of a session first, each sentence on a line of its own: what is wrong, or that nothing is. An
+/// error: there is no memory for it.
+pub fn push_summary(
+    out: &mut String,
+    session: &Session,
+    told: &Explanation,
+) -> Result<(), AllocError> {
+    match told {
+        Explanation::Shape(story) => push_shape_story(out, session, story),
+        Explanation::Knot(_) => push_no_order(out),
+        Explanation::Faulty(story) => push_faulty(out, session, story),
+        Explanation::Clean(_) => out.push_str(CLEAN),
+    }
 }

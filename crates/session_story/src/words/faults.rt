@@ -341,6 +341,18 @@ fn push_cause(out: &mut String, session: &Session, cause: &Cause) -> Result<(), 
     push_contents(out, session, log, wrong.place, &wrong.held)
 }
 
+/// Adds which record is faulty, and what is wrong with it.
+pub(crate) fn push_faulty(
+    out: &mut String,
+    session: &Session,
+    story: &FaultStory,
+) -> Result<(), AllocError> {
+    out.push_str("Wrong is ")?;
+    push_record(out, session, story.fault.log, story.fault.place)?;
+    out.push_str(".\n")?;
+    push_wrong(out, session, story)
+}
+
 /// Adds the fault of a page.
 pub(crate) fn push_fault(
     out: &mut String,
@@ -350,10 +362,7 @@ pub(crate) fn push_fault(
     if let Some(cause) = &story.cause {
         push_cause(out, session, cause)?;
     }
-    out.push_str("Wrong is ")?;
-    push_record(out, session, story.fault.log, story.fault.place)?;
-    out.push_str(".\n")?;
-    push_wrong(out, session, story)?;
+    push_faulty(out, session, story)?;
     push_order(out, story)?;
     push_story(out, session, story)
 }

@@ -5,27 +5,28 @@ use crate::waits::{Knot, Waiting};
 use migration_types::Session;
 use std::alloc::AllocError;
 
-/// Adds a record that waits, and for which one.
-fn push_waiting(out: &mut String, session: &Session, waiting: &Waiting) -> Result<(), AllocError> {
-    out.push_str("  ")?;
-    push_record(out, session, waiting.log, waiting.place)?;
-    out.push_str("; it has to come after ")?;
-    push_place(out, session, waiting.sent_log, waiting.sent_place)
-}
-
-/// Adds that what a record waits for comes after the next that waits, where it is another one.
-fn push_next(
+/// Adds which record one that waits has to come after, and, where that is not the next that waits but comes after it,
+/// the next. An error: there is no memory for it.
+pub fn push_wait(
     out: &mut String,
     session: &Session,
     waiting: &Waiting,
     next: &Waiting,
 ) -> Result<(), AllocError> {
+    out.push_str("; it has to come after ")?;
+    push_place(out, session, waiting.sent_log, waiting.sent_place)?;
     if waiting.sent_place == next.place {
-        return out.push_str("\n");
+        return Ok(());
     }
     out.push_str(", which its log has after ")?;
-    push_place(out, session, next.log, next.place)?;
-    out.push_str("\n")
+    push_place(out, session, next.log, next.place)
+}
+
+/// Adds that there is no order, and why.
+pub(crate) fn push_no_order(out: &mut String) -> Result<(), AllocError> {
+    out.push_str(
+        "No order of the records keeps that of each log and has each record after the one of another log that it names: each of these waits for the next, and the last for one of them.\n",
+    )
 }
 
 /// Adds records that wait for one another.
@@ -34,19 +35,15 @@ pub(crate) fn push_knot(
     session: &Session,
     knot: &Knot,
 ) -> Result<(), AllocError> {
-    out.push_str(
-        "No order of the records keeps that of each log and has each record after the one of another log that it names: each of these waits for the next, and the last for one of them.\n",
-    )?;
-    let waits = knot.waits.as_slice();
-    for index in 0..waits.len() {
-        push_waiting(out, session, &waits[index])?;
-        match waits.get(index + 1) {
-            Some(next) => push_next(out, session, &waits[index], next)?,
-            None => match waits.get(knot.back) {
-                Some(next) => push_next(out, session, &waits[index], next)?,
-                None => {}
-            },
+    push_no_order(out)?;
+    for (index, waiting) in knot.waits.iter().enumerate() {
+        out.push_str("  ")?;
+        push_record(out, session, waiting.log, waiting.place)?;
+        match knot.next(index) {
+            Some(next) => push_wait(out, session, waiting, &next)?,
+            None => {}
         }
+        out.push_str("\n")?;
     }
     Ok(())
 }

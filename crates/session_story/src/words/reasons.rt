@@ -1,29 +1,12 @@
-//! The reason of a page's fault in words: in a picture's heading, and in its story.
+//! The reason of a page's fault in words.
 
 use super::records::push_record;
+use crate::amends::is_always;
 use crate::faults::FaultStory;
 use crate::pages::PageStory;
 use audit_model::PageReason;
 use migration_types::{LogName, Session};
 use std::alloc::AllocError;
-
-/// Why a record is a fault of its page.
-pub fn page_reason(reason: PageReason) -> &'static str {
-    match reason {
-        PageReason::Read => "it reads another value than a machine that never moved",
-        PageReason::Early => {
-            "it uses the page at the target, and no look before it covers the page's placement"
-        }
-        PageReason::Given => "it sends a page that was released at the halt",
-        PageReason::Stale => "it sends other contents than the page had at the halt",
-        PageReason::Twice => "it places a page that was placed before",
-        PageReason::Altered => "it places other contents than the page had at the halt",
-        PageReason::Unfit => "it places zeros for a page that was not released at the halt",
-        PageReason::Over => {
-            "it places a page that was released at the target, and no look before that release covers it"
-        }
-    }
-}
 
 /// Adds the last change of a page before the halt.
 fn push_changed(out: &mut String, session: &Session, page: &PageStory) -> Result<(), AllocError> {
@@ -72,21 +55,14 @@ pub(crate) fn push_plain(
 
 /// Adds how an order of the records shows the fault.
 pub(crate) fn push_order(out: &mut String, story: &FaultStory) -> Result<(), AllocError> {
-    out.push_str(match story.fault.reason {
-        PageReason::Early => match story.page.found.placement {
-            Some(_) => {
-                "The order that the audit shows puts the placement, and all that has to come after it, behind this use, which then finds no page.\n"
-            }
-            None => "In every order of the records the use finds no page.\n",
-        },
-        PageReason::Over => {
+    out.push_str(match (story.fault.reason, is_always(story)) {
+        (PageReason::Early, true) => "In every order of the records the use finds no page.\n",
+        (_, true) => "It is wrong in every order of the records.\n",
+        (PageReason::Over, false) => {
             "The order that the audit shows puts the placement, and all that has to come after it, behind the release, and so over the zeros.\n"
         }
-        PageReason::Read
-        | PageReason::Given
-        | PageReason::Stale
-        | PageReason::Twice
-        | PageReason::Altered
-        | PageReason::Unfit => "It is wrong in every order of the records.\n",
+        (_, false) => {
+            "The order that the audit shows puts the placement, and all that has to come after it, behind this use, which then finds no page.\n"
+        }
     })
 }

@@ -2,29 +2,19 @@
 
 use super::has_lane;
 use super::records::{log_word, push_place, push_record, wanted_by};
+use crate::concerns::named_by;
 use crate::faults::ShapeStory;
 use crate::lines::line_at;
 use audit_model::ShapeReason;
 use migration_types::{GuestRec, LogName, Session, Version};
 use std::alloc::AllocError;
 
-/// The record that the record of this log and number names, if it names one.
-fn named_by(session: &Session, log: LogName, place: u32) -> Option<(LogName, u32)> {
-    let row = session.row((log, place))?;
-    for field in row.fields() {
-        if let Some(name) = field.name() {
-            return Some(name);
-        }
-    }
-    None
-}
-
 /// Adds what a record has to name, and what stands there.
 fn push_named(out: &mut String, session: &Session, story: &ShapeStory) -> Result<(), AllocError> {
     let Some(wanted) = wanted_by(session, story.fault.log, story.fault.place) else {
         return Ok(());
     };
-    let Some((log, place)) = named_by(session, story.fault.log, story.fault.place) else {
+    let Some((log, place)) = named_by(session, (story.fault.log, story.fault.place)) else {
         return Ok(());
     };
     write!(out, "It has to name {wanted}, and names ")?;
@@ -107,17 +97,5 @@ pub(crate) fn push_shape_story(
         ShapeReason::Named => push_named(out, session, story),
         ShapeReason::Start => push_start(out, session, story.fault.log),
         ShapeReason::SecondSend => push_second(out, session, story),
-    }
-}
-
-/// Why a record is not of the right shape.
-pub fn shape_reason(reason: ShapeReason) -> &'static str {
-    match reason {
-        ShapeReason::Phases => "it stands in the wrong phase of the handover",
-        ShapeReason::Named => "it names no record of the kind that it has to name",
-        ShapeReason::Start => {
-            "its log does not begin as it has to, or it stands where only the beginning may"
-        }
-        ShapeReason::SecondSend => "it sends a page that was sent before",
     }
 }

@@ -1,0 +1,91 @@
+-- What stands in a faulty record beside what is right, which uses of its page are told, and where it goes wrong.
+use Rattle.std.specs.Prelude.{ℕ, Bool, true, false, not, is_some, ◌==◌, ◌&&◌, ◌||◌, List, Option, Some, None, slice_get}
+use Rattle.migration_types.specs.declared.records.LogName.TheVariants.{Guest, Source, Pager}
+use Rattle.migration_types.specs.declared.records.GuestRec.{GuestRec}
+use Rattle.migration_types.specs.declared.records.GuestRec.TheVariants.{Read}
+use Rattle.migration_types.specs.Receipts.{Name}
+use Rattle.migration_types.specs.Rows.{source_contents, pager_contents}
+use Rattle.migration_types.specs.Sessions.{Recorded}
+use Rattle.audit_model.specs.declared.reasons.PageReason.{PageReason}
+use Rattle.audit_model.specs.declared.reasons.PageReason.TheVariants.{Early, Over}
+use Rattle.audit_model.specs.Names.{if_there, same_log}
+use Rattle.session_story.specs.declared.amends.Amended.{Amended}
+use Rattle.session_story.specs.declared.values.Held.{Held}
+use Rattle.session_story.specs.declared.faults.Cause.{Cause}
+use Rattle.session_story.specs.declared.faults.Cause.TheVariants.{Sent, Placed}
+use Rattle.session_story.specs.declared.faults.Detail.{Detail}
+use Rattle.session_story.specs.declared.faults.Detail.TheVariants.{Instead, Other}
+use Rattle.session_story.specs.declared.faults.FaultStory.{FaultStory}
+use Rattle.session_story.specs.declared.explaining.Explanation.{Explanation}
+use Rattle.session_story.specs.declared.explaining.Explanation.TheVariants as told
+use Rattle.session_story.specs.Concerned.{given_in}
+
+-- the value of a cell in contents, if there are some
+abbrev pub cell_in : Option (List ℕ) → ℕ → Option ℕ
+cell_in None cell = None
+cell_in (Some contents) cell = slice_get contents cell
+
+abbrev pub read_value : GuestRec → Option ℕ
+read_value (Read vcpu page cell value) = Some value
+read_value rec = None
+
+-- the value that a record has: a read the one that it gives, a record with contents that of the cell
+abbrev pub value_at : Recorded → Name → ℕ → Option ℕ
+value_at s (Guest, n) cell = if_there read_value (slice_get s.guest n)
+value_at s (Source, n) cell = cell_in (if_there source_contents (slice_get s.source n)) cell
+value_at s (Pager, n) cell = cell_in (if_there pager_contents (slice_get s.pager n)) cell
+value_at s name cell = None
+
+-- what is told of a cell, if something is
+abbrev pub held_in : Detail → Option Held
+held_in (Instead held) = held
+held_in (Other held) = held
+held_in detail = None
+
+abbrev pub amended_with : ℕ → Held → Option ℕ → Option Amended
+amended_with page held None = None
+amended_with page held (Some wrong) = Some (record { page = page; cell = held.cell; wrong = wrong; right = held.value })
+
+abbrev pub amended_in : Recorded → FaultStory → Option Held → Option Amended
+amended_in s story None = None
+amended_in s story (Some held) = amended_with story.page.page held (value_at s (story.fault.log, story.fault.place) held.cell)
+
+-- the value that is wrong in the faulty record, and the right one
+abbrev pub amended_by : Recorded → Explanation → Option Amended
+amended_by s (told.Faulty story) = amended_in s story (held_in story.detail)
+amended_by s other = None
+
+abbrev pub cause_in : Option Cause → Option ℕ
+cause_in (Some (Sent wrong)) = wrong.held.by
+cause_in (Some (Placed wrong)) = wrong.held.by
+cause_in cause = None
+
+-- whether it is this number, if there is one
+abbrev pub is_number : Option ℕ → ℕ → Bool
+is_number None n = false
+is_number (Some m) n = m == n
+
+-- whether the guest's record of this number is told of
+abbrev pub tells_in : FaultStory → ℕ → Bool
+tells_in story n =
+    (same_log story.fault.log Guest && (story.fault.place == n))
+    || (is_number story.page.changed n
+    || (is_number story.page.found.touch n
+    || (is_number (given_in story.detail) n
+    || is_number (cause_in story.cause) n)))
+
+abbrev pub tells_of : Explanation → ℕ → Bool
+tells_of (told.Faulty story) n = tells_in story n
+tells_of other n = false
+
+-- whether a fault with this reason is there in every order, by its page's first placement
+abbrev pub is_always : PageReason → Option ℕ → Bool
+is_always Early placement = not (is_some placement)
+is_always Over placement = false
+is_always reason placement = true
+
+-- whether the session goes wrong in every order of its records
+abbrev pub is_always_wrong : Explanation → Bool
+is_always_wrong (told.Faulty story) = is_always story.fault.reason story.page.found.placement
+is_always_wrong (told.Clean counts) = false
+is_always_wrong other = true

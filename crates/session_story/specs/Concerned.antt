@@ -1,0 +1,95 @@
+-- The other record that is told of a fault: the one that it concerns.
+use Rattle.std.specs.Prelude.{ℕ, List, [], ◌∷◌, Option, Some, None, slice_get}
+use Rattle.migration_types.specs.declared.records.LogName.{LogName}
+use Rattle.migration_types.specs.declared.records.LogName.TheVariants.{Guest, Source, Pager}
+use Rattle.migration_types.specs.declared.records.GuestRec.{GuestRec}
+use Rattle.migration_types.specs.declared.records.GuestRec.TheVariants as guest
+use Rattle.migration_types.specs.declared.rows.Field.{Field}
+use Rattle.migration_types.specs.declared.rows.Field.TheVariants as field
+use Rattle.migration_types.specs.Receipts.{Name}
+use Rattle.migration_types.specs.Rows.{Consists, row_of}
+use Rattle.migration_types.specs.Sessions.{Recorded}
+use Rattle.audit_model.specs.declared.reasons.PageReason.{PageReason}
+use Rattle.audit_model.specs.declared.reasons.PageReason.TheVariants as page
+use Rattle.audit_model.specs.declared.reasons.ShapeReason.{ShapeReason}
+use Rattle.audit_model.specs.declared.reasons.ShapeReason.TheVariants as shape
+use Rattle.session_story.specs.declared.pages.Handover.{Handover}
+use Rattle.session_story.specs.declared.faults.Detail.{Detail}
+use Rattle.session_story.specs.declared.faults.Detail.TheVariants.{Instead, Other}
+use Rattle.session_story.specs.declared.faults.FaultStory.{FaultStory}
+use Rattle.session_story.specs.declared.faults.ShapeStory.{ShapeStory}
+use Rattle.session_story.specs.declared.explaining.Explanation.{Explanation}
+use Rattle.session_story.specs.declared.explaining.Explanation.TheVariants as told
+
+-- the record of this number in a log, if there is a number
+abbrev pub named_in : LogName → Option ℕ → Option Name
+named_in log None = None
+named_in log (Some n) = Some (log, n)
+
+-- the number of the guest's record that gave a cell the value that is told of
+abbrev pub given_in : Detail → Option ℕ
+given_in (Instead (Some held)) = held.by
+given_in (Other (Some held)) = held.by
+given_in detail = None
+
+abbrev pub giver_of : Detail → Option Name
+giver_of detail = named_in Guest (given_in detail)
+
+-- Of a fault with this reason: of a wrong value what gave the right one, of a page that must not be sent, or not be
+-- placed as zeros, its last change before the halt, of an early use or a second placement the first placement, of other
+-- contents than were sent the `send`, and of a placement over a release this release.
+abbrev pub concerned_for : PageReason → FaultStory → Option Name
+concerned_for page.Read story = giver_of story.detail
+concerned_for page.Stale story = giver_of story.detail
+concerned_for page.Given story = named_in Guest story.page.changed
+concerned_for page.Unfit story = named_in Guest story.page.changed
+concerned_for page.Early story = named_in Pager story.page.found.placement
+concerned_for page.Twice story = named_in Pager story.page.found.placement
+concerned_for page.Altered story = named_in Source story.page.sent
+concerned_for page.Over story = named_in Guest story.page.found.touch
+
+abbrev pub concerned_by : FaultStory → Option Name
+concerned_by story = concerned_for story.fault.reason story
+
+-- the record that the fields name first, if they name one
+abbrev pub named_among : List Field → Option Name
+named_among [] = None
+named_among (field.Number log n ∷ fields) = Some (log, n)
+named_among (field.Handover log n ∷ fields) = Some (log, n)
+named_among (field.Vcpu n ∷ fields) = named_among fields
+named_among (field.Page n ∷ fields) = named_among fields
+named_among (field.Cell n ∷ fields) = named_among fields
+named_among (field.Value n ∷ fields) = named_among fields
+
+abbrev pub named_by_row : Option Consists → Option Name
+named_by_row None = None
+named_by_row (Some row) = named_among row.fields
+
+-- the record that a record names, if it names one
+abbrev pub named_by : Recorded → Name → Option Name
+named_by s name = named_by_row (row_of s name)
+
+-- the record of the handover that a record of the guest has to heed: a second one the first of its kind, what needs
+-- the target the resume, and anything else the halt
+abbrev pub heeded : Handover → Option GuestRec → Option ℕ
+heeded h (Some (guest.Resume ready)) = h.resume
+heeded h (Some (guest.Miss vcpu page)) = h.resume
+heeded h (Some (guest.See placement)) = h.resume
+heeded h other = h.halt
+
+-- of a record with this fault of its shape
+abbrev pub shape_concerned_for : Recorded → ShapeReason → ShapeStory → Option Name
+shape_concerned_for s shape.Phases story = named_in Guest (heeded story.handover (slice_get s.guest story.fault.place))
+shape_concerned_for s shape.Named story = named_by s (story.fault.log, story.fault.place)
+shape_concerned_for s shape.Start story = None
+shape_concerned_for s shape.SecondSend story = named_in Source story.sent
+
+abbrev pub shape_concerned_by : Recorded → ShapeStory → Option Name
+shape_concerned_by s story = shape_concerned_for s story.fault.reason story
+
+-- the record that is told besides the faulty one, as the one that its fault concerns
+abbrev pub concerned_of : Recorded → Explanation → Option Name
+concerned_of s (told.Shape story) = shape_concerned_by s story
+concerned_of s (told.Knot knot) = None
+concerned_of s (told.Faulty story) = concerned_by story
+concerned_of s (told.Clean counts) = None

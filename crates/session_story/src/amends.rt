@@ -1,0 +1,171 @@
+//! What stands in a faulty record beside what is right, which uses of its page are told, and whether it goes wrong in
+//! every order.
+
+ghost use Rattle.std.specs.Prelude.{◌≡◌, slice_get};
+ghost use Rattle.audit_model.specs.Names.{if_there};
+ghost use Rattle.session_story.specs.Amended.{amended_by, amended_with, cause_in, cell_in, held_in, is_always, is_always_wrong, is_number, read_value, tells_in, tells_of, value_at};
+
+use crate::concerns::Name;
+use crate::explaining::Explanation;
+use crate::faults::{Cause, Detail, FaultStory};
+use crate::reasons::given_in;
+use crate::values::Held;
+use audit_model::PageReason;
+use migration_types::{GuestRec, LogName, PageNo, Record, Session};
+
+/// A wrong value of a cell, and the right one.
+#[derive(Clone, Copy, Debug, PartialEq, Eq)]
+pub struct Amended {
+    pub page: PageNo,
+    pub cell: u16,
+    pub wrong: u64,
+    pub right: u64,
+}
+
+/// The value of a cell in the contents of a record, if it is there and has contents.
+fn value_in<R: Record>(log: &[R], place: usize, cell: u16) -> Option<u64>
+    ensures { result ≡ cell_in (if_there R.contents (slice_get log.now place)) cell }
+{
+    match log.get(place) {
+        Some(rec) => match rec.contents() {
+            Some(contents) => contents.get(cell as usize).copied(),
+            None => None,
+        },
+        None => None,
+    }
+}
+
+/// The value that a read gives.
+fn read_value(guest: &[GuestRec], place: usize) -> Option<u64>
+    ensures { result ≡ if_there read_value (slice_get guest.now place) }
+{
+    match guest.get(place) {
+        Some(GuestRec::Read { value, .. }) => Some(*value),
+        _ => None,
+    }
+}
+
+/// The value that a record has: a read the one that it gives, a record with contents that of the cell.
+fn value_at(session: &Session, name: Name, cell: u16) -> Option<u64>
+    ensures { result ≡ value_at session.now name cell }
+{
+    let place = name.1 as usize;
+    match name.0 {
+        LogName::Guest => read_value(session.guest(), place),
+        LogName::Source => value_in(session.source(), place, cell),
+        LogName::Pager => value_in(session.pager(), place, cell),
+        LogName::Link | LogName::Lane => None,
+    }
+}
+
+/// What is told of a cell, if something is.
+fn held_in(detail: &Detail) -> Option<Held>
+    ensures { result ≡ held_in detail.now }
+{
+    match detail {
+        Detail::Instead(held) | Detail::Other(held) => *held,
+        Detail::Seen(_) | Detail::Plain => None,
+    }
+}
+
+/// The value that is wrong in the faulty record, and the right one; none where its fault is no wrong value. Takes no
+/// memory.
+pub fn amended_by(session: &Session, told: &Explanation) -> Option<Amended>
+    ensures { result ≡ amended_by session.now told.now }
+{
+    let Explanation::Faulty(story) = told else {
+        return None;
+    };
+    match held_in(&story.detail) {
+        Some(held) => {
+            let name = (story.fault.log, story.fault.place);
+            amended_with(story.page.page, held, value_at(session, name, held.cell))
+        }
+        None => None,
+    }
+}
+
+/// A wrong value, if there is one, beside what a cell should have.
+fn amended_with(page: PageNo, held: Held, wrong: Option<u64>) -> Option<Amended>
+    ensures { result ≡ amended_with page held wrong }
+{
+    match wrong {
+        Some(wrong) => Some(Amended {
+            page,
+            cell: held.cell,
+            wrong,
+            right: held.value,
+        }),
+        None => None,
+    }
+}
+
+/// The guest's record that gave the page what went wrong with it before.
+fn cause_in(cause: &Option<Cause>) -> Option<u32>
+    ensures { result ≡ cause_in cause.now }
+{
+    match cause {
+        Some(Cause::Sent(wrong) | Cause::Placed(wrong)) => wrong.held.by,
+        Some(Cause::Unplaced) | None => None,
+    }
+}
+
+/// Whether it is this number, if there is one.
+fn is_number(one: Option<u32>, place: u32) -> bool
+    ensures { result ≡ is_number one place }
+{
+    match one {
+        Some(one) => one == place,
+        None => false,
+    }
+}
+
+/// Whether the guest's record of this number is told of.
+fn tells_in(story: &FaultStory, place: u32) -> bool
+    ensures { result ≡ tells_in story.now place }
+{
+    (story.fault.log == LogName::Guest && story.fault.place == place)
+        || (is_number(story.page.changed, place)
+            || (is_number(story.page.found.touch, place)
+                || (is_number(given_in(&story.detail), place)
+                    || is_number(cause_in(&story.cause), place))))
+}
+
+/// Whether the guest's record of this number is told of: the page's last change before the halt, its first use at the
+/// target, what gave a cell the value that is told of, or the faulty record itself. Takes no memory.
+pub fn tells_of(told: &Explanation, place: u32) -> bool
+    ensures { result ≡ tells_of told.now place }
+{
+    match told {
+        Explanation::Faulty(story) => tells_in(story, place),
+        _ => false,
+    }
+}
+
+/// Whether a fault is there in every order of the records: but for an early use of a page that is placed, and for a
+/// placement over a release, it is.
+pub(crate) fn is_always(story: &FaultStory) -> bool
+    ensures { result ≡ is_always story.now.fault.reason story.now.page.found.placement }
+{
+    match story.fault.reason {
+        PageReason::Early => story.page.found.placement.is_none(),
+        PageReason::Over => false,
+        PageReason::Read
+        | PageReason::Given
+        | PageReason::Stale
+        | PageReason::Twice
+        | PageReason::Altered
+        | PageReason::Unfit => true,
+    }
+}
+
+/// Whether a session of which this is told goes wrong in every order of its records. Takes no memory.
+pub fn is_always_wrong(told: &Explanation) -> bool
+    ensures { result ≡ is_always_wrong told.now }
+{
+    match told {
+        Explanation::Faulty(story) => is_always(story),
+        Explanation::Shape(_) | Explanation::Knot(_) => true,
+        Explanation::Clean(_) => false,
+    }
+}

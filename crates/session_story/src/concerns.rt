@@ -1,0 +1,87 @@
+//! The other record that is told of a fault: the one that it concerns.
+
+ghost use Rattle.std.specs.Prelude.{◌≡◌, slice_get};
+ghost use Rattle.session_story.specs.Concerned.{concerned_of, heeded, named_among, named_by, named_in, shape_concerned_by};
+
+use crate::explaining::Explanation;
+use crate::faults::ShapeStory;
+use crate::pages::Handover;
+use crate::reasons::concerned_by;
+use audit_model::ShapeReason;
+use migration_types::{Field, GuestRec, LogName, Session};
+
+/// A record, by its log and its number there.
+pub(crate) type Name = (LogName, u32);
+
+/// The record of this number in a log, if there is a number.
+pub(crate) fn named_in(log: LogName, place: Option<u32>) -> Option<Name>
+    ensures { result ≡ named_in log place }
+{
+    match place {
+        Some(place) => Some((log, place)),
+        None => None,
+    }
+}
+
+/// The record that fields name first, if they name one.
+fn named_among(fields: &[Field]) -> Option<Name>
+    ensures { result ≡ named_among fields.now }
+{
+    for field in fields {
+        match *field {
+            Field::Number(log, number) | Field::Handover(log, number) => return Some((log, number)),
+            _ => {}
+        }
+    }
+    None
+}
+
+/// The record that a record names, if it names one.
+pub(crate) fn named_by(session: &Session, name: Name) -> Option<Name>
+    ensures { result ≡ named_by session.now name }
+{
+    match session.row(name) {
+        Some(row) => named_among(row.fields()),
+        None => None,
+    }
+}
+
+/// The record of the handover that a record of the guest has to heed.
+fn heeded(handover: &Handover, rec: Option<GuestRec>) -> Option<u32>
+    ensures { result ≡ heeded handover.now rec }
+{
+    match rec {
+        Some(GuestRec::Resume { .. } | GuestRec::Miss { .. } | GuestRec::See { .. }) => {
+            handover.resume
+        }
+        _ => handover.halt,
+    }
+}
+
+/// The other record that a fault of a record's shape concerns.
+fn shape_concerned_by(session: &Session, story: &ShapeStory) -> Option<Name>
+    ensures { result ≡ shape_concerned_by session.now story.now }
+{
+    let fault = &story.fault;
+    match fault.reason {
+        ShapeReason::Phases => {
+            let rec = session.guest().get(fault.place as usize).copied();
+            named_in(LogName::Guest, heeded(&story.handover, rec))
+        }
+        ShapeReason::Named => named_by(session, (fault.log, fault.place)),
+        ShapeReason::Start => None,
+        ShapeReason::SecondSend => named_in(LogName::Source, story.sent),
+    }
+}
+
+/// The record that is told besides the faulty one, as the one that its fault concerns, by log and number; none where
+/// there is no fault, or none is told. Takes no memory.
+pub fn concerned_of(session: &Session, told: &Explanation) -> Option<(LogName, u32)>
+    ensures { result ≡ concerned_of session.now told.now }
+{
+    match told {
+        Explanation::Shape(story) => shape_concerned_by(session, story),
+        Explanation::Faulty(story) => concerned_by(story),
+        Explanation::Knot(_) | Explanation::Clean(_) => None,
+    }
+}
