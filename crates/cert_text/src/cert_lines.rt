@@ -6,14 +6,14 @@ ghost use Rattle.text_lines.specs.Text.{TakesLines};
 ghost use Rattle.cert_text.specs.Grammar.{header, SpellsCert};
 ghost use Rattle.cert_text.specs.inner.CertDraft.{held_at, LiveAt};
 
-use crate::entry_lines::{drop_entry, take_entries, take_entry};
+use crate::entry_lines::{drop_entry, take_entries, take_entry, wanted_entry};
 use crate::run_lines::RunLines;
 use crate::runs::RunForm;
 use migration_types::{Cert, Entry, MOST_PAGES, Seq, Version};
 use std::alloc::Global;
 use std::thread::Threads;
 use text_lines::{
-    Alone, FaultKind, ItemCrew, Stages, StagesApart, StagesBack, Team, is_line, read_some,
+    Alone, FaultKind, ItemCrew, Stages, StagesApart, StagesBack, Team, Wanted, is_line, read_some,
 };
 
 /// How the line with the number of pages begins.
@@ -61,7 +61,25 @@ impl CertParts {
             _ => (bytes, 0),
         }
     }
+
+    /// The next page's entry, or a line of the runs behind the last, which are counted at the line 2.
+    fn wanted_in_entries(&self) -> Wanted
+        requires { LiveAt Stage.Entries self.now }
+    {
+        let came = self.entries.len() as u32;
+        if came < self.pages {
+            return wanted_entry(self.runs.version(), came).counted(came, self.pages, 2);
+        }
+        let wanted = self.runs.wanted(self.pages.saturating_add(3));
+        if self.runs.count() == 0 {
+            return wanted.counted(came, self.pages, 2);
+        }
+        wanted
+    }
 }
+
+/// How the header is written.
+const HEADER_FORMS: &[&str] = &["postcopy-certificate 1", "postcopy-certificate 2"];
 
 impl Stages for CertParts {
     type Stage = Stage;
@@ -112,6 +130,15 @@ impl Stages for CertParts {
     fn goes_on(&self, _stage: Stage) {
         self.runs.goes_on();
         self.runs.few();
+    }
+
+    fn wanted(&self, stage: Stage) -> Wanted {
+        let wanted = match stage {
+            Stage::Header => Wanted::one("the header of a certificate", HEADER_FORMS),
+            Stage::Pages => Wanted::one("the number of pages", &["pages N"]).within(1, MOST_PAGES),
+            Stage::Entries => self.wanted_in_entries(),
+        };
+        wanted.of_machine(self.pages, 0)
     }
 
     fn text(self, stage: Stage) -> Option<Cert> {

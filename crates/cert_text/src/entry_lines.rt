@@ -14,7 +14,8 @@ ghost use Rattle.cert_text.specs.inner.Taken.{LosesLast, TakesEntries, TakesEntr
 use migration_types::{Entry, First, LAST_RECORD, Version};
 use std::alloc::AllocError;
 use text_lines::{
-    FaultKind, after_end, after_key, end_line, front_number, number_then, push_number, push_then,
+    FaultKind, Wanted, after_end, after_key, end_line, front_number, number_then, push_number,
+    push_then,
 };
 
 /// A number up to a limit at the front, and what follows the space after it.
@@ -134,6 +135,32 @@ fn read_entry(line: &[u8], version: Version, page: u32) -> Option<Entry>
         return None;
     }
     Some(entry)
+}
+
+/// How the entries of a version are written.
+fn entry_forms(version: Version) -> &'static [&'static str] {
+    match version {
+        Version::One => &[
+            "page Q none",
+            "page Q source I I I I",
+            "page Q source I I - -",
+            "page Q balloon I I I",
+            "page Q balloon I - -",
+        ],
+        Version::Two => &[
+            "page Q none",
+            "page Q source I I I I",
+            "page Q source I I - -",
+            "page Q balloon I I I",
+            "page Q balloon I - -",
+            "page Q fresh I",
+        ],
+    }
+}
+
+/// What may stand where the entry of this page does.
+pub fn wanted_entry(version: Version, page: u32) -> Wanted {
+    Wanted::one("the entry of a page", entry_forms(version)).within(page, page)
 }
 
 /// Takes the line of the next page's entry, or says why it is none and leaves the entries as they were.

@@ -5,11 +5,11 @@ ghost use Rattle.text_lines.specs.Text.{Begins, TakesLines};
 ghost use Rattle.migration_types.specs.declared.cert.Run.{Run as Told};
 ghost use Rattle.cert_text.specs.Runs.{SpellsRunLines};
 
-use crate::runs::{RUNS_KEY, RunForm};
+use crate::runs::{RUNS_KEY, RunForm, wanted_run, wanted_run_count};
 use migration_types::{Run, Seq, Version, most_runs};
 use std::alloc::Global;
 use std::marker::Model;
-use text_lines::{CLOSING, Counted, FaultKind, ItemCrew, is_line};
+use text_lines::{CLOSING, Counted, FaultKind, ItemCrew, Wanted, is_line};
 
 /// Which line is due.
 #[derive(Clone, Copy)]
@@ -120,6 +120,24 @@ impl RunLines {
         ensures { length self.now.lines < 2 ^ 31 }
     {
         let _ = &self.stage;
+    }
+
+    /// What may stand at the next line, where the number of runs stands at the line `at`.
+    pub fn wanted(&self, at: u32) -> Wanted {
+        match self.stage {
+            RunStage::Count => wanted_run_count(self.form.version),
+            RunStage::Runs => self.wanted_in_list().of_list(&self.runs, at),
+            RunStage::Done => Wanted::nothing_more(),
+        }
+    }
+
+    /// A run, or the closing line behind the last.
+    fn wanted_in_list(&self) -> Wanted {
+        if self.runs.is_whole() {
+            Wanted::closing_line()
+        } else {
+            wanted_run(self.form.version)
+        }
     }
 
     /// The runs, where the lines so far are theirs.

@@ -8,12 +8,12 @@ ghost use Rattle.text_lines.specs.Text.{ended};
 ghost use Rattle.cert_text.specs.Runs.{log_word, run_line, runs_lines};
 ghost use Rattle.cert_text.specs.inner.Held.{MayFollow};
 
-use migration_types::{LogName, MOST_RECORDS, Run, Version};
+use migration_types::{LogName, MOST_RECORDS, Run, Version, most_runs};
 use std::alloc::AllocError;
 use std::thread::Threads;
 use text_lines::{
-    CLOSING, FaultKind, ItemCrew, LineForm, Team, after_end, after_key, end_line, front_number,
-    push_counted, push_line, push_number, take_parts,
+    CLOSING, FaultKind, ItemCrew, LineForm, Team, Wanted, after_end, after_key, end_line,
+    front_number, push_counted, push_line, push_number, take_parts,
 };
 
 /// How the line with the number of runs begins.
@@ -66,6 +66,32 @@ fn run_then(text: &[u8], version: Version) -> Option<(Run, &[u8])>
     }
     let count = count as u32;
     Some((Run { log, count }, rest))
+}
+
+/// How the runs of a version are written.
+fn run_forms(version: Version) -> &'static [&'static str] {
+    match version {
+        Version::One => &["run guest N", "run source N", "run link N", "run pager N"],
+        Version::Two => &[
+            "run guest N",
+            "run source N",
+            "run link N",
+            "run lane N",
+            "run pager N",
+        ],
+    }
+}
+
+/// What may stand where a run of a version does.
+pub fn wanted_run(version: Version) -> Wanted {
+    Wanted::one("a run", run_forms(version))
+        .within(1, MOST_RECORDS)
+        .under("two runs in a row take from different logs")
+}
+
+/// What may stand where the number of runs of a version does.
+pub fn wanted_run_count(version: Version) -> Wanted {
+    Wanted::one("the number of runs", &["runs N"]).within(0, most_runs(version))
 }
 
 /// Whether a run of this log may stand after these: the last of them is of another log.

@@ -6,7 +6,7 @@ use crate::run_lines::RunLines;
 use migration_types::{Run, Seq, Version};
 use std::alloc::Global;
 use std::thread::Threads;
-use text_lines::{Alone, FaultKind, Stages, StagesApart, StagesBack, Team, expect_line};
+use text_lines::{Alone, FaultKind, Stages, StagesApart, StagesBack, Team, Wanted, expect_line};
 
 /// The first line of a text of runs.
 pub const RUNS_HEADER: &[u8] = b"postcopy-runs 1";
@@ -55,6 +55,14 @@ impl Stages for RunsParts {
     fn goes_on(&self, _headed: bool) {
         self.runs.goes_on();
         self.runs.few();
+    }
+
+    fn wanted(&self, headed: bool) -> Wanted {
+        if headed {
+            self.runs.wanted(2)
+        } else {
+            Wanted::one("the header of a runs text", &["postcopy-runs 1"])
+        }
     }
 
     fn text(self, headed: bool) -> Option<Seq<Run>> {

@@ -12,6 +12,24 @@ use migration_types::LAST_VCPU;
 use std::alloc::AllocError;
 use text_lines::{FaultKind, LineForm, after_key, is_line, push_keyed, push_line, read_keyed};
 
+/// How events are written.
+pub const EVENT_FORMS: &[&str] = &[
+    "guest V",
+    "halt",
+    "push",
+    "serve",
+    "source-tick",
+    "link down FATE",
+    "link up FATE",
+    "link lane FATE",
+    "pop",
+    "pop-lane",
+    "fault",
+    "flush",
+    "deliver",
+    "pager-tick",
+];
+
 /// The fate that a word spells.
 pub fn read_fate(word: &[u8]) -> Option<Fate>
     ensures { MatchOption result ((fate : Met) → word.now ≢ fate_word fate) (λ fate. word.now ≡ fate_word fate) }

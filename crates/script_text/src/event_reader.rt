@@ -2,11 +2,11 @@
 
 ghost use Rattle.script_text.specs.Events.{SpellsEvents};
 
-use crate::event_steps::{EventStage, take_event_line};
+use crate::event_steps::{EventStage, take_event_line, wanted_event_line};
 use migration_events::Event;
 use migration_types::Seq;
 use std::alloc::Global;
-use text_lines::{Counted, FaultKind, Stages};
+use text_lines::{Counted, FaultKind, Stages, Wanted};
 
 /// The events that came.
 #[derive(Drop)]
@@ -41,6 +41,10 @@ impl Stages for EventParts {
     }
 
     fn goes_on(&self, _stage: EventStage) {}
+
+    fn wanted(&self, stage: EventStage) -> Wanted {
+        wanted_event_line(&self.events, stage)
+    }
 
     fn text(self, stage: EventStage) -> Option<Seq<Event>> {
         match stage {

@@ -2,11 +2,11 @@
 
 ghost use Rattle.script_text.specs.inner.EventHeld.{EventsLive, EventsStep};
 
-use crate::event_form::EventForm;
+use crate::event_form::{EVENT_FORMS, EventForm};
 use crate::keys::{EVENTS_HEADER, EVENTS_KEY};
 use migration_events::Event;
 use migration_types::MOST_RECORDS;
-use text_lines::{CLOSING, Counted, FaultKind, is_line};
+use text_lines::{CLOSING, Counted, FaultKind, Wanted, is_line};
 
 /// Which line is due.
 #[derive(Clone, Copy)]
@@ -59,4 +59,25 @@ fn take_event(events: &mut Counted<Event>, line: &[u8]) -> Result<EventStage, Fa
     }
     events.line(&EventForm, line)?;
     Ok(EventStage::Events)
+}
+
+/// What may stand at the next line.
+pub fn wanted_event_line(events: &Counted<Event>, stage: EventStage) -> Wanted {
+    match stage {
+        EventStage::Header => Wanted::one("the header of events", &["postcopy-events 1"]),
+        EventStage::Count => {
+            Wanted::one("the number of events", &["events N"]).within(0, MOST_RECORDS)
+        }
+        EventStage::Events => wanted_event(events).of_list(events, 2),
+        EventStage::Done => Wanted::nothing_more(),
+    }
+}
+
+/// An event, or the closing line behind the last.
+fn wanted_event(events: &Counted<Event>) -> Wanted {
+    if events.is_whole() {
+        Wanted::closing_line()
+    } else {
+        Wanted::one("an event", EVENT_FORMS)
+    }
 }

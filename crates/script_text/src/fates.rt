@@ -8,7 +8,7 @@ use migration_events::Fate;
 use migration_types::Seq;
 use script::MOST_FATES;
 use std::alloc::{AllocError, Global};
-use text_lines::{FaultKind, after_key, end_line, is_line};
+use text_lines::{FaultKind, Wanted, after_key, end_line, is_line};
 
 /// Stands where there are no fates.
 const NONE: &[u8] = b"-";
@@ -71,6 +71,11 @@ pub fn read_fates(alloc: Global, line: &[u8], key: &[u8]) -> Result<Seq<Fate>, F
     }
     let fates = read_letters(alloc, text)?;
     Ok(Seq::from_vec(fates))
+}
+
+/// What may stand where a line of fates does.
+pub fn wanted_fates(what: &'static str, forms: &'static [&'static str]) -> Wanted {
+    Wanted::one(what, forms).within(1, MOST_FATES)
 }
 
 /// Adds a line that is a key and fates.

@@ -25,13 +25,14 @@ mod script_reader;
 mod script_steps;
 mod stages;
 mod versions;
+mod wanting;
 
 use event_form::EventForm;
-use event_reader::EventParts;
+pub use event_reader::EventParts;
 use fates::push_fates;
 use keys::{DOWN_KEY, EVENTS_HEADER, EVENTS_KEY, PIVOTS_KEY, UP_KEY, VCPUS_KEY, WINDOW_KEY};
 use op_form::push_vcpus;
-use script_steps::ScriptParts;
+pub use script_steps::ScriptParts;
 use versions::{push_lanes, script_header};
 
 /// The events that the bytes are the text of, at most 1,048,576.

@@ -16,7 +16,8 @@ use script::{MOST_OPS, Vcpu, When, may_release};
 use session_text::Sizes;
 use std::alloc::AllocError;
 use text_lines::{
-    FaultKind, after_key, end_line, number_then, push_keyed, push_number, push_then, read_decimal,
+    FaultKind, Wanted, after_key, end_line, number_then, push_keyed, push_number, push_then,
+    read_decimal,
 };
 
 /// A number of at most `limit` that a text spells.
@@ -74,6 +75,19 @@ fn read_op(line: &[u8], sizes: Sizes, when: When) -> Option<Op>
     })
 }
 
+/// What may stand where an operation does, before a move or after it.
+pub fn wanted_op(when: When) -> Wanted {
+    let what = match when {
+        When::BeforeMove => "an operation before the move",
+        When::AfterMove(_) => "an operation after the move",
+    };
+    if may_release(when) {
+        Wanted::one(what, &["r P C", "w P C X", "z P"])
+    } else {
+        Wanted::one(what, &["r P C", "w P C X"])
+    }
+}
+
 /// Takes the line of an operation behind others, before a move or after it.
 pub fn take_op(ops: &mut Vec<Op>, sizes: Sizes, when: When, line: &[u8]) -> Result<(), FaultKind>
     requires { IsExtent (record { pages = sizes.pages; cells = sizes.cells }) }
@@ -105,6 +119,12 @@ pub fn read_counts(line: &[u8]) -> Result<(u32, u32), FaultKind>
         return Err(FaultKind::Form);
     };
     Ok((before as u32, after as u32))
+}
+
+/// What may stand where the numbers of a virtual processor's operations do.
+pub fn wanted_counts() -> Wanted {
+    let what = "the numbers of operations before and after the move of a virtual processor";
+    Wanted::one(what, &["vcpu N N"]).within(0, MOST_OPS)
 }
 
 /// Adds the line of an operation.

@@ -6,7 +6,7 @@ use crate::script_steps::ScriptParts;
 use crate::stages::ScriptStage;
 use script::Script;
 use std::alloc::Global;
-use text_lines::{FaultKind, Stages};
+use text_lines::{FaultKind, Stages, Wanted};
 
 impl Stages for ScriptParts {
     type Stage = ScriptStage;
@@ -30,6 +30,10 @@ impl Stages for ScriptParts {
     ghost Live = { LiveAt };
 
     fn goes_on(&self, _stage: ScriptStage) {}
+
+    fn wanted(&self, stage: ScriptStage) -> Wanted {
+        self.wanted_at(stage)
+    }
 
     fn text(self, stage: ScriptStage) -> Option<Script> {
         match stage {

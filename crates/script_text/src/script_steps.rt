@@ -22,30 +22,30 @@ use text_lines::{CLOSING, Counted, FaultKind, is_line, read_some};
 /// What came of a script.
 #[derive(Drop)]
 pub struct ScriptParts {
-    pub version: Version,
-    pub sizes: Sizes,
-    pub init: Counted<InitPage>,
-    pub pivots: u32,
-    pub window: u32,
-    pub down: Seq<Fate>,
-    pub up: Seq<Fate>,
+    pub(crate) version: Version,
+    pub(crate) sizes: Sizes,
+    pub(crate) init: Counted<InitPage>,
+    pub(crate) pivots: u32,
+    pub(crate) window: u32,
+    pub(crate) down: Seq<Fate>,
+    pub(crate) up: Seq<Fate>,
     /// None where there is no lane, and until its fates came.
-    pub lane: Option<Seq<Fate>>,
+    pub(crate) lane: Option<Seq<Fate>>,
     /// How many virtual processors there are.
-    pub count: u32,
+    pub(crate) count: u32,
     /// Those of which all came.
-    pub vcpus: Vec<Vcpu>,
+    pub(crate) vcpus: Vec<Vcpu>,
     /// How many operations the one that is coming has before its move, and those that came.
-    pub before_count: u32,
-    pub before: Vec<Op>,
+    pub(crate) before_count: u32,
+    pub(crate) before: Vec<Op>,
     /// So for those after it.
-    pub after_count: u32,
-    pub after: Vec<Op>,
+    pub(crate) after_count: u32,
+    pub(crate) after: Vec<Op>,
 }
 
 impl ScriptParts {
     /// Nothing came. Takes no memory.
-    pub fn new(alloc: Global) -> Self
+    pub(crate) fn new(alloc: Global) -> Self
         ensures { ScriptLive ScriptStage.Header (draft_of result) }
     {
         ScriptParts {
@@ -71,7 +71,7 @@ impl ScriptParts {
     }
 
     /// The script, where all of it came.
-    pub fn into_script(self) -> Option<Script>
+    pub(crate) fn into_script(self) -> Option<Script>
         requires { ScriptFits ScriptStage.Done (draft_of self) }
         ensures { IsSomeAnd result (λ script. script ≡ scenario_of (draft_of self)) }
     {
@@ -92,7 +92,7 @@ impl ScriptParts {
     }
 
     /// Takes the next line, and answers the stage after it.
-    pub fn step(&mut self, stage: ScriptStage, line: &[u8]) -> Result<ScriptStage, FaultKind>
+    pub(crate) fn step(&mut self, stage: ScriptStage, line: &[u8]) -> Result<ScriptStage, FaultKind>
         requires { ScriptLive stage (draft_of self.old) }
         ensures { ScriptStep stage (draft_of self.old) line.now (draft_of self.new) result }
     {

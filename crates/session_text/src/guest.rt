@@ -20,6 +20,17 @@ use text_lines::{
 /// How the line with the number of the guest's records begins.
 pub(crate) const GUEST_KEY: &[u8] = b"guest ";
 
+/// How the guest's records are written.
+pub(crate) const GUEST_FORMS: &[&str] = &[
+    "r V P C X",
+    "w V P C X",
+    "z V P",
+    "miss V P",
+    "halt",
+    "resume I",
+    "see I",
+];
+
 /// The processor, page, cell and value of a read or a write at the front, and what follows. Nothing follows where the text
 /// is theirs alone.
 #[inline(always)]

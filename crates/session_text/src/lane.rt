@@ -16,6 +16,9 @@ use text_lines::{FaultKind, push_keyed};
 /// How the line with the number of the lane's records begins.
 pub(crate) const LANE_KEY: &[u8] = b"lane ";
 
+/// How the lane's records are written.
+pub(crate) const LANE_FORMS: &[&str] = &["down I"];
+
 /// The lines of the lane's log, which only the second version has.
 #[derive(Clone, Copy)]
 pub(crate) struct LaneLines;

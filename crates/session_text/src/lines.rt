@@ -6,7 +6,7 @@ use crate::parts::{Parts, Stage};
 use migration_types::{Geometry, Session};
 use std::alloc::Global;
 use std::thread::Threads;
-use text_lines::{Alone, FaultKind, Stages, StagesApart, StagesBack, Team};
+use text_lines::{Alone, FaultKind, Stages, StagesApart, StagesBack, Team, Wanted};
 
 impl Stages for Parts {
     type Stage = Stage;
@@ -34,6 +34,10 @@ impl Stages for Parts {
     }
 
     fn goes_on(&self, _stage: Stage) {}
+
+    fn wanted(&self, stage: Stage) -> Wanted {
+        self.wanted_at(stage)
+    }
 
     fn text(self, stage: Stage) -> Option<Session> {
         match stage {

@@ -14,6 +14,9 @@ use text_lines::{FaultKind, push_keyed};
 /// How the line with the number of the link's records begins.
 pub(crate) const LINK_KEY: &[u8] = b"link ";
 
+/// How the link's records are written.
+pub(crate) const LINK_FORMS: &[&str] = &["down I", "up I"];
+
 /// How the line of a packet's way down begins.
 pub(crate) const DOWN_KEY: &[u8] = b"down ";
 

@@ -7,7 +7,7 @@ ghost use Rattle.session_text.specs.Grammar.{pages_key, cells_key};
 
 use crate::keys::{CELLS_KEY, PAGES_KEY};
 use migration_types::{Geometry, MOST_CELLS, MOST_PAGES};
-use text_lines::{FaultKind, read_keyed, read_some};
+use text_lines::{FaultKind, Wanted, read_keyed, read_some};
 
 /// The number of pages that a line says, 1 to 65,536.
 pub fn read_pages(line: &[u8]) -> Result<u32, FaultKind>
@@ -15,6 +15,11 @@ pub fn read_pages(line: &[u8]) -> Result<u32, FaultKind>
     ensures refused { OnErr result ((n : ℕ) → 1 ≤ n → n ≤ 65536 → line.now ≢ pages_key ++ decimal n) }
 {
     read_some(line, PAGES_KEY, MOST_PAGES)
+}
+
+/// What may stand where the number of pages does.
+pub fn wanted_pages() -> Wanted {
+    Wanted::one("the number of pages", &["pages N"]).within(1, MOST_PAGES)
 }
 
 /// The number of cells of each of so many pages that a line says, 1 to 512 and at most 1,048,576 in all.
@@ -27,4 +32,11 @@ pub fn read_cells(line: &[u8], pages: u32) -> Result<u32, FaultKind>
         Ok(_geometry) => Ok(cells),
         Err(_) => Err(FaultKind::Range),
     }
+}
+
+/// What may stand where the number of cells does.
+pub fn wanted_cells() -> Wanted {
+    Wanted::one("the number of cells", &["cells N"])
+        .within(1, MOST_CELLS)
+        .under("the cells of all pages are at most 1,048,576")
 }

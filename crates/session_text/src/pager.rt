@@ -20,6 +20,35 @@ use text_lines::{FaultKind, after_key, end_line, number_then, push_keyed, push_l
 /// How the line with the number of the pager's records begins.
 pub(crate) const PAGER_KEY: &[u8] = b"pager ";
 
+/// How the pager's records of a version are written.
+pub(crate) fn pager_forms(version: Version) -> &'static [&'static str] {
+    match version {
+        Version::One => &[
+            "got I",
+            "ready",
+            "fault I",
+            "join I",
+            "want P",
+            "place P I HEX",
+            "zero P",
+            "skip I",
+            "all",
+        ],
+        Version::Two => &[
+            "got I",
+            "pull I",
+            "ready",
+            "fault I",
+            "join I",
+            "want P",
+            "place P I HEX",
+            "zero P",
+            "skip I",
+            "all",
+        ],
+    }
+}
+
 const WANT_KEY: &[u8] = b"want ";
 
 const ZERO_KEY: &[u8] = b"zero ";

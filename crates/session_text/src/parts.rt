@@ -122,7 +122,7 @@ impl Parts {
     }
 
     /// How many items of a stage's list have yet to come.
-    fn left(&self, stage: Stage) -> u32
+    pub(crate) fn left(&self, stage: Stage) -> u32
         ensures { result ≡ left_at stage (draft_of self.now) }
     {
         match stage {

@@ -19,6 +19,16 @@ use text_lines::{FaultKind, after_key, number_then, push_keyed, push_line};
 /// How the line with the number of the source's records begins.
 pub(crate) const SOURCE_KEY: &[u8] = b"source ";
 
+/// How the source's records are written.
+pub(crate) const SOURCE_FORMS: &[&str] = &[
+    "halted I",
+    "state",
+    "send P HEX",
+    "again I",
+    "ask I",
+    "done",
+];
+
 /// The page and the contents that were sent at the front, and what follows. Nothing follows where the text is theirs
 /// alone.
 #[inline(always)]

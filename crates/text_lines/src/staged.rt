@@ -5,7 +5,7 @@ ghost use Rattle.std.specs.List.{AllByRecursion};
 ghost use Rattle.std.specs.Thread.{IsSync};
 ghost use Rattle.text_lines.specs.Text.{Begins, IsLine, TakesLines};
 
-use crate::{FaultKind, LineReader, LinesApart, Rewind};
+use crate::{FaultKind, LineReader, LinesApart, Rewind, Wanted};
 use std::alloc::Global;
 use std::marker::Model;
 use std::thread::Threads;
@@ -54,6 +54,14 @@ pub trait Stages: Drop {
         requires { Live stage self.now }
         ensures begins { Begins spells (held stage self.now) }
         ensures few { length (held stage self.now) + 1 < 2 ^ 32 };
+
+    /// What may stand at the next line.
+    fn wanted(&self, stage: Self::Stage) -> Wanted
+        requires { Live stage self.now }
+    {
+        let _ = stage;
+        Wanted::unknown()
+    }
 
     /// The value, where the lines so far are a text.
     fn text(self, stage: Self::Stage) -> Option<Self::Text>
@@ -146,6 +154,10 @@ impl<P: Stages> LineReader for Staged<P> {
 
     fn goes_on(&self) {
         self.parts.goes_on(self.stage);
+    }
+
+    fn wanted(&self) -> Wanted {
+        self.parts.wanted(self.stage)
     }
 
     fn text(self) -> Option<P::Text> {

@@ -1,0 +1,2 @@
+-- Why a text is refused, in words.
+pub mod Placed

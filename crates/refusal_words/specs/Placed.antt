@@ -1,0 +1,19 @@
+-- What words on a refused text begin and end with.
+use Rattle.std.specs.Prelude.{◌≡◌, ◌≤◌, ℕ, List, [], ◌∷◌, ◌++◌}
+use Rattle.std.specs.Fmt.{decimal}
+use Rattle.text_lines.specs.Text.{IsLine}
+
+-- words behind a text's name and a place in it, as NAME:LINE:COLUMN: WORDS, and their LF
+abbrev pub placed : List ℕ → ℕ → ℕ → List ℕ → List ℕ
+placed name line column words =
+    name ++ 58 ∷ decimal line ++ 58 ∷ decimal column ++ 58 ∷ 32 ∷ words ++ 10 ∷ []
+
+-- words in one line are added so, and nothing more; columns count from 1
+abbrev pub AddsPlaced : List ℕ → ℕ → List ℕ → List ℕ → Type 0
+AddsPlaced name line before after =
+    (column : ℕ) × (words : List ℕ) × ((1 ≤ column) × IsLine words × (after ≡ before ++ placed name line column words))
+
+-- words in one line are added so, and perhaps more below them
+abbrev pub AddsPlacedFirst : List ℕ → ℕ → List ℕ → List ℕ → Type 0
+AddsPlacedFirst name line before after =
+    (first : List ℕ) × (rest : List ℕ) × (AddsPlaced name line before first × (after ≡ first ++ rest))

@@ -1,0 +1,206 @@
+//! The fields of a form, and which words may stand in them.
+
+use text_lines::{Wanted, read_decimal};
+
+/// The most of a machine, where it is not known how many it has.
+const MOST_PAGES: u32 = 65_536;
+
+const MOST_CELLS: u32 = 512;
+
+/// The greatest number of a virtual processor.
+const LAST_PROCESSOR: u64 = 63;
+
+/// The greatest number of a record.
+const LAST_RECORD: u64 = 1_048_575;
+
+/// How many digits the contents of a cell have.
+const CELL_DIGITS: u32 = 16;
+
+/// How many letters the fates of packets are at most.
+pub(crate) const MOST_FATES: usize = 4_096;
+
+/// That no packet has a fate of its own.
+const NO_FATES: &[u8] = b"-";
+
+/// What may become of a packet.
+const FATES: [&[u8]; 4] = [b"deliver", b"lose", b"repeat", b"back"];
+
+/// What a word of capital letters stands for in a form.
+#[derive(Clone, Copy)]
+pub(crate) enum Field {
+    Processor,
+    Page,
+    Cell,
+    Value,
+    Record,
+    /// A number within the limits that are wanted.
+    Number,
+    /// The greatest of these alone.
+    Exact,
+    Contents,
+    Fates,
+    Fate,
+}
+
+/// The least and the greatest number of a field.
+#[derive(Clone, Copy)]
+pub(crate) struct Range {
+    pub(crate) least: u64,
+    pub(crate) most: u64,
+}
+
+/// Where a word stops being one of its field.
+#[derive(Clone, Copy)]
+pub(crate) enum Misfit {
+    /// At one of its bytes.
+    Byte(usize),
+    /// It is none as a whole.
+    Whole,
+}
+
+/// The field that a word of a form stands for, if it stands for one.
+pub(crate) fn field_of(slot: &str) -> Option<Field> {
+    match slot.as_bytes() {
+        b"V" => Some(Field::Processor),
+        b"P" => Some(Field::Page),
+        b"C" => Some(Field::Cell),
+        b"X" => Some(Field::Value),
+        b"I" => Some(Field::Record),
+        b"N" => Some(Field::Number),
+        b"Q" => Some(Field::Exact),
+        b"HEX" => Some(Field::Contents),
+        b"FATES" => Some(Field::Fates),
+        b"FATE" => Some(Field::Fate),
+        _ => None,
+    }
+}
+
+/// From 0 to one less than a count, or than the most where the count is not known.
+fn below(count: u32, most: u32) -> Range {
+    let count = if count == 0 { most } else { count };
+    Range {
+        least: 0,
+        most: u64::from(count.saturating_sub(1)),
+    }
+}
+
+fn up_to(most: u64) -> Range {
+    Range { least: 0, most }
+}
+
+/// The numbers that may stand in a field, where it is one of numbers.
+pub(crate) fn range_of(field: Field, wanted: &Wanted) -> Option<Range> {
+    match field {
+        Field::Processor => Some(up_to(LAST_PROCESSOR)),
+        Field::Page => Some(below(wanted.pages, MOST_PAGES)),
+        Field::Cell => Some(below(wanted.cells, MOST_CELLS)),
+        Field::Value => Some(up_to(u64::MAX)),
+        Field::Record => Some(up_to(LAST_RECORD)),
+        Field::Number => Some(Range {
+            least: u64::from(wanted.least),
+            most: u64::from(wanted.most),
+        }),
+        Field::Exact => Some(Range {
+            least: u64::from(wanted.most),
+            most: u64::from(wanted.most),
+        }),
+        Field::Contents | Field::Fates | Field::Fate => None,
+    }
+}
+
+/// How many digits the contents of a page have. None: its cells are not known.
+pub(crate) fn digits_of(wanted: &Wanted) -> Option<u64> {
+    if wanted.cells == 0 {
+        return None;
+    }
+    Some(u64::from(wanted.cells).saturating_mul(u64::from(CELL_DIGITS)))
+}
+
+fn is_digit_of_contents(byte: u8) -> bool {
+    byte.is_ascii_digit() || (b'a'..=b'f').contains(&byte)
+}
+
+fn is_letter_of_fates(byte: u8) -> bool {
+    matches!(byte, b'd' | b'l' | b'r' | b'b')
+}
+
+/// Where bytes stop being such ones: at the first that is none. None: they are such ones.
+fn stop_at(found: Option<usize>) -> Option<Misfit> {
+    match found {
+        None => None,
+        Some(0) => Some(Misfit::Whole),
+        Some(at) => Some(Misfit::Byte(at)),
+    }
+}
+
+fn misfit_of_contents(word: &[u8], wanted: &Wanted) -> Option<Misfit> {
+    if begins_as_hexadecimal(word) {
+        return Some(Misfit::Whole);
+    }
+    if let Some(misfit) = stop_at(word.iter().position(|byte| !is_digit_of_contents(*byte))) {
+        return Some(misfit);
+    }
+    let fits = match digits_of(wanted) {
+        Some(digits) => word.len() as u64 == digits,
+        None => !word.is_empty(),
+    };
+    if fits { None } else { Some(Misfit::Whole) }
+}
+
+fn misfit_of_fates(word: &[u8]) -> Option<Misfit> {
+    if word == NO_FATES {
+        return None;
+    }
+    if word.is_empty() || word.len() > MOST_FATES {
+        return Some(Misfit::Whole);
+    }
+    stop_at(word.iter().position(|byte| !is_letter_of_fates(*byte)))
+}
+
+fn misfit_of_fate(word: &[u8]) -> Option<Misfit> {
+    if FATES.iter().any(|fate| word == *fate) {
+        return None;
+    }
+    Some(Misfit::Whole)
+}
+
+fn misfit_of_number(word: &[u8], range: Range) -> Option<Misfit> {
+    match read_decimal(word) {
+        Some(number) if range.least <= number && number <= range.most => None,
+        _ => Some(Misfit::Whole),
+    }
+}
+
+/// Where a word stops being one that may stand in a field. None: it may.
+pub(crate) fn misfit_of(field: Field, word: &[u8], wanted: &Wanted) -> Option<Misfit> {
+    if let Some(range) = range_of(field, wanted) {
+        return misfit_of_number(word, range);
+    }
+    match field {
+        Field::Contents => misfit_of_contents(word, wanted),
+        Field::Fates => misfit_of_fates(word),
+        _ => misfit_of_fate(word),
+    }
+}
+
+fn may_go_on_as_contents(word: &[u8], wanted: &Wanted) -> bool {
+    let has_room = match digits_of(wanted) {
+        Some(digits) => (word.len() as u64) < digits,
+        None => true,
+    };
+    has_room && word.iter().all(|byte| is_digit_of_contents(*byte))
+}
+
+/// Whether a word that does not fit a field may be the front of one that does.
+pub(crate) fn may_go_on(field: Field, word: &[u8], wanted: &Wanted) -> bool {
+    match field {
+        Field::Contents => may_go_on_as_contents(word, wanted),
+        Field::Fate => FATES.iter().any(|fate| fate.starts_with(word)),
+        _ => false,
+    }
+}
+
+/// Whether a word begins as other programs write hexadecimal numbers.
+pub(crate) fn begins_as_hexadecimal(word: &[u8]) -> bool {
+    word.starts_with(b"0x") || word.starts_with(b"0X")
+}

@@ -1,0 +1,171 @@
+//! The form that a line fits furthest, and where it stops.
+
+use crate::fields::{Misfit, field_of, may_go_on, misfit_of};
+use memchr::memchr;
+use text_lines::{Refusal, Wanted};
+
+const SPACE: u8 = b' ';
+
+/// Where a line stops being in a form.
+#[derive(Clone, Copy)]
+pub(crate) enum Stop<'a> {
+    /// Nowhere: it has the form.
+    Nowhere,
+    /// It ends where the form goes on with this word.
+    Missing(&'static str),
+    /// The text ends in the middle of what may be this word of the form.
+    Cut(&'static str),
+    /// At a word, where the form has another one or a field.
+    Word {
+        slot: &'static str,
+        word: &'a [u8],
+        misfit: Misfit,
+    },
+    /// It goes on where the form ends.
+    Surplus,
+}
+
+/// How a line fits a form.
+#[derive(Clone, Copy)]
+pub(crate) struct Fit<'a> {
+    pub(crate) form: &'static str,
+    /// How many of the line's words fit.
+    pub(crate) words: usize,
+    /// How many bytes stand before the place where it stops.
+    pub(crate) at: usize,
+    pub(crate) stop: Stop<'a>,
+}
+
+impl<'a> Fit<'a> {
+    /// The word of the form at which the line stops, where it has one there.
+    pub(crate) fn slot(&self) -> Option<&'static str> {
+        match self.stop {
+            Stop::Missing(slot) | Stop::Cut(slot) | Stop::Word { slot, .. } => Some(slot),
+            Stop::Nowhere | Stop::Surplus => None,
+        }
+    }
+
+    /// Whether the text ends in the middle of a word.
+    pub(crate) fn is_cut(&self) -> bool {
+        matches!(self.stop, Stop::Cut(_))
+    }
+
+    /// Whether the line fits this form as far as another one.
+    pub(crate) fn is_as_far(&self, other: &Fit<'_>) -> bool {
+        self.words == other.words && self.is_cut() == other.is_cut()
+    }
+
+    /// Whether the line fits this form further than another one.
+    fn is_further(&self, other: &Fit<'_>) -> bool {
+        self.words > other.words || (self.words == other.words && self.is_cut() && !other.is_cut())
+    }
+}
+
+/// The first word, and what follows the space after it, if one does.
+fn first_word(text: &[u8]) -> (&[u8], Option<&[u8]>) {
+    match memchr(SPACE, text) {
+        None => (text, None),
+        Some(at) => (&text[..at], Some(&text[at + 1..])),
+    }
+}
+
+/// Where a word stops being one that may stand where a form has `slot`. None: it may.
+fn misfit_at(slot: &str, word: &[u8], wanted: &Wanted) -> Option<Misfit> {
+    match field_of(slot) {
+        Some(field) => misfit_of(field, word, wanted),
+        None if word == slot.as_bytes() => None,
+        None => Some(Misfit::Whole),
+    }
+}
+
+/// How many bytes of a line stand before its last part.
+fn before(line: &[u8], part: &[u8]) -> usize {
+    line.len().saturating_sub(part.len())
+}
+
+/// How far a misfit is from the word's first byte.
+fn depth(misfit: Misfit) -> usize {
+    match misfit {
+        Misfit::Byte(at) => at,
+        Misfit::Whole => 0,
+    }
+}
+
+/// Whether a word may be the front of one that may stand where a form has `slot`.
+fn is_front(slot: &str, word: &[u8], wanted: &Wanted) -> bool {
+    match field_of(slot) {
+        Some(field) => may_go_on(field, word, wanted),
+        None => slot.as_bytes().starts_with(word),
+    }
+}
+
+/// Where a word stops being one that may stand where a form has `slot`, behind so many of its bytes. None: it may.
+fn stop_at<'a>(
+    refusal: &Refusal,
+    slot: &'static str,
+    word: &'a [u8],
+    is_end: bool,
+) -> Option<(usize, Stop<'a>)> {
+    if word.is_empty() && is_end {
+        return Some((0, Stop::Missing(slot)));
+    }
+    let misfit = misfit_at(slot, word, &refusal.wanted)?;
+    if refusal.is_last && is_end && is_front(slot, word, &refusal.wanted) {
+        return Some((word.len(), Stop::Cut(slot)));
+    }
+    Some((depth(misfit), Stop::Word { slot, word, misfit }))
+}
+
+/// How a refused line fits a form.
+pub(crate) fn fit_of<'a>(refusal: &'a Refusal, form: &'static str) -> Fit<'a> {
+    let line = refusal.line.as_slice();
+    let mut words = 0usize;
+    let mut left = Some(line);
+    for slot in form.split(' ') {
+        let Some(text) = left else {
+            return Fit {
+                form,
+                words,
+                at: line.len().saturating_add(1),
+                stop: Stop::Missing(slot),
+            };
+        };
+        let (word, after) = first_word(text);
+        if let Some((depth, stop)) = stop_at(refusal, slot, word, after.is_none()) {
+            return Fit {
+                form,
+                words,
+                at: before(line, text).saturating_add(depth),
+                stop,
+            };
+        }
+        words = words.saturating_add(1);
+        left = after;
+    }
+    let (at, stop) = match left {
+        None => (line.len(), Stop::Nowhere),
+        Some(text) => (before(line, text).saturating_sub(1), Stop::Surplus),
+    };
+    Fit {
+        form,
+        words,
+        at,
+        stop,
+    }
+}
+
+/// The form that a refused line fits furthest, the first of these. None: there is no form.
+pub(crate) fn best_fit(refusal: &Refusal) -> Option<Fit<'_>> {
+    let mut best: Option<Fit<'_>> = None;
+    for form in refusal.wanted.forms {
+        let fit = fit_of(refusal, form);
+        let is_better = match &best {
+            None => true,
+            Some(best) => fit.is_further(best),
+        };
+        if is_better {
+            best = Some(fit);
+        }
+    }
+    best
+}

@@ -1,0 +1,51 @@
+//! Why a text is refused, in words for people. They may change, and no program should read them.
+#![tactic(auto)]
+
+ghost use Rattle.std.specs.Prelude.{OnOk};
+ghost use Rattle.refusal_words.specs.Placed.{AddsPlaced, AddsPlacedFirst};
+
+use crate::cause::{cause_of, column_of};
+use crate::marking::push_marked;
+use crate::placing::{first_line, push_placed};
+use crate::words::push_sentence;
+use std::alloc::AllocError;
+use text_lines::Refusal;
+
+mod cause;
+mod fields;
+mod fitting;
+mod marking;
+mod placing;
+mod quoting;
+mod slips;
+mod special;
+mod words;
+
+/// Adds why a text is refused, in one line that begins as `NAME:LINE:COLUMN: `: what was found there, and what may stand
+/// there. Columns count bytes from 1. An error: there is no memory for it.
+pub fn push_why(out: &mut Vec<u8>, name: &[u8], refusal: &Refusal) -> Result<(), AllocError>
+    ensures { OnOk result (AddsPlaced name.now refusal.now.fault.line out.old.items out.new.items) }
+{
+    let mut words = String::new(*out.allocator());
+    let cause = cause_of(refusal);
+    push_sentence(&mut words, refusal, &cause)?;
+    let column = column_of(refusal, &cause);
+    push_placed(
+        out,
+        name,
+        refusal.fault.line,
+        column,
+        first_line(words.as_bytes()),
+    )
+}
+
+/// Adds the same, and below it the line with a mark under the place, each form that the line may have, and what their
+/// fields stand for. An error: there is no memory for it.
+pub fn push_why_in_full(out: &mut Vec<u8>, name: &[u8], refusal: &Refusal) -> Result<(), AllocError>
+    ensures { OnOk result (AddsPlacedFirst name.now refusal.now.fault.line out.old.items out.new.items) }
+{
+    push_why(out, name, refusal)?;
+    let mut below = String::new(*out.allocator());
+    push_marked(&mut below, refusal, &cause_of(refusal))?;
+    out.extend_from_slice(below.as_bytes())
+}

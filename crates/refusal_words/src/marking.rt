@@ -1,0 +1,132 @@
+//! A refused line with a mark under the place, and the forms that it may have.
+
+use crate::cause::{Cause, place_of};
+use crate::fields::field_of;
+use crate::quoting::{CUT, push_shown, width};
+use crate::words::{push_meaning, push_new};
+use std::alloc::AllocError;
+use text_lines::{Refusal, Wanted};
+
+/// How many columns a line's bytes take at most: 100 with what stands before them, and where more are left out.
+const ROOM: usize = 96;
+
+/// How many bytes before the place are shown of a line that takes more.
+const BEFORE: usize = 20;
+
+/// Begins a line that belongs to the one above it.
+const INDENT: &str = "  ";
+
+/// How many columns bytes take.
+fn columns(bytes: &[u8]) -> usize {
+    let mut sum = 0usize;
+    for byte in bytes {
+        sum = sum.saturating_add(width(*byte));
+    }
+    sum
+}
+
+/// How many of the first bytes take no more than so many columns.
+fn fitting(bytes: &[u8], room: usize) -> usize {
+    let mut taken = 0usize;
+    let mut count = 0usize;
+    for byte in bytes {
+        taken = taken.saturating_add(width(*byte));
+        if taken > room {
+            return count;
+        }
+        count = count.saturating_add(1);
+    }
+    count
+}
+
+fn push_spaces(out: &mut String, count: usize) -> Result<(), AllocError> {
+    for _ in 0..count {
+        out.push(' ')?;
+    }
+    Ok(())
+}
+
+/// Where the part of a line that is shown begins.
+fn begin_of(line: &[u8], at: usize) -> usize {
+    if columns(line) <= ROOM {
+        return 0;
+    }
+    at.saturating_sub(BEFORE)
+}
+
+/// Adds a line, cut where it is long, and a mark under the place that has so many bytes before it.
+fn push_line_marked(out: &mut String, line: &[u8], at: usize) -> Result<(), AllocError> {
+    let (before, behind) = line.split_at(at.min(line.len()));
+    let (left_out, front) = before.split_at(begin_of(line, before.len()).min(before.len()));
+    let lead = if left_out.is_empty() { "" } else { CUT };
+    let taken = lead.len().saturating_add(columns(front));
+    let room = ROOM.saturating_sub(taken);
+    let (back, rest) = behind.split_at(fitting(behind, room).min(behind.len()));
+    write!(out, "{INDENT}{lead}")?;
+    push_shown(out, front)?;
+    push_shown(out, back)?;
+    if !rest.is_empty() {
+        out.push_str(CUT)?;
+    }
+    write!(out, "\n{INDENT}")?;
+    push_spaces(out, taken.saturating_add(at.saturating_sub(line.len())))?;
+    out.push_str("^\n")
+}
+
+/// The fields of forms, each once.
+fn fields_in(out: &String, forms: &[&'static str]) -> Result<Vec<&'static str>, AllocError> {
+    let mut fields = Vec::new(*out.allocator());
+    for form in forms {
+        for slot in form.split(' ') {
+            if field_of(slot).is_some() {
+                push_new(&mut fields, slot)?;
+            }
+        }
+    }
+    Ok(fields)
+}
+
+fn push_forms(out: &mut String, forms: &[&'static str]) -> Result<(), AllocError> {
+    out.push_str(if forms.len() == 1 {
+        "its form:\n"
+    } else {
+        "one of:\n"
+    })?;
+    for form in forms {
+        write!(out, "{INDENT}{form}\n")?;
+    }
+    Ok(())
+}
+
+/// Adds what each field of the forms stands for.
+fn push_fields(out: &mut String, wanted: &Wanted) -> Result<(), AllocError> {
+    let fields = fields_in(out, wanted.forms)?;
+    for slot in &fields {
+        if let Some(field) = field_of(slot) {
+            write!(out, "{slot} is ")?;
+            push_meaning(out, field, wanted)?;
+            out.push('\n')?;
+        }
+    }
+    Ok(())
+}
+
+/// Adds a line with a mark under the place where it is wrong, and the forms that may stand there.
+pub(crate) fn push_marked(
+    out: &mut String,
+    refusal: &Refusal,
+    cause: &Cause<'_>,
+) -> Result<(), AllocError> {
+    let line = refusal.line.as_slice();
+    if !line.is_empty() {
+        push_line_marked(out, line, place_of(refusal, cause))?;
+    }
+    match cause {
+        Cause::Memory | Cause::Special(_) => Ok(()),
+        _ if refusal.wanted.forms.is_empty() => Ok(()),
+        _ => {
+            push_forms(out, refusal.wanted.forms)?;
+            push_fields(out, &refusal.wanted)
+        }
+    }
+}

@@ -1,0 +1,94 @@
+//! What people often write in a word's place.
+
+use crate::fields::{Field, begins_as_hexadecimal, range_of};
+use text_lines::{Wanted, read_decimal};
+
+/// What is unusual about a word that does not fit.
+#[derive(Clone, Copy)]
+pub(crate) enum Slip {
+    /// A tab, or a space too many.
+    Separated,
+    /// A number with a sign.
+    Signed,
+    /// A number in hexadecimal digits.
+    Hexadecimal,
+    /// A number with a leading zero.
+    LeadingZero,
+    /// A number of pages that no machine has.
+    TooManyPages,
+    /// Contents with `0x` before them.
+    Prefixed,
+    /// Contents in capital letters.
+    Capitals,
+    /// Contents of so many digits, which are not as many as there have to be.
+    Length(usize),
+}
+
+/// The form of the line that tells how many pages a machine has.
+const PAGES: &str = "pages N";
+
+fn slip_of_number(word: &[u8]) -> Option<Slip> {
+    if begins_as_hexadecimal(word) {
+        return Some(Slip::Hexadecimal);
+    }
+    let (first, digits) = word.split_first()?;
+    if !is_digits(digits) {
+        return None;
+    }
+    match first {
+        b'+' | b'-' => Some(Slip::Signed),
+        b'0' => Some(Slip::LeadingZero),
+        _ => None,
+    }
+}
+
+/// Whether bytes are digits, and not none.
+fn is_digits(bytes: &[u8]) -> bool {
+    !bytes.is_empty() && bytes.iter().all(|byte| byte.is_ascii_digit())
+}
+
+fn slip_of_contents(word: &[u8]) -> Option<Slip> {
+    if begins_as_hexadecimal(word) {
+        return Some(Slip::Prefixed);
+    }
+    if !word.iter().all(|byte| byte.is_ascii_hexdigit()) {
+        return None;
+    }
+    if word.iter().any(|byte| byte.is_ascii_uppercase()) {
+        return Some(Slip::Capitals);
+    }
+    Some(Slip::Length(word.len()))
+}
+
+/// What is unusual about how a word is separated from others.
+pub(crate) fn slip_between(word: &[u8]) -> Option<Slip> {
+    if word.is_empty() || word.contains(&b'\t') {
+        return Some(Slip::Separated);
+    }
+    None
+}
+
+/// What is unusual about a word that does not fit a field of a form.
+pub(crate) fn slip_of(form: &str, field: Field, word: &[u8], wanted: &Wanted) -> Option<Slip> {
+    if let Some(slip) = slip_between(word) {
+        return Some(slip);
+    }
+    match range_of(field, wanted) {
+        Some(range) if form == PAGES && read_decimal(word).is_some_and(|n| n > range.most) => {
+            Some(Slip::TooManyPages)
+        }
+        Some(_) => slip_of_number(word),
+        None => match field {
+            Field::Contents => slip_of_contents(word),
+            _ => None,
+        },
+    }
+}
+
+/// What is unusual about how the words of a line are separated.
+pub(crate) fn slip_of_line(line: &[u8]) -> Option<Slip> {
+    if line.contains(&b'\t') || line.starts_with(b" ") {
+        return Some(Slip::Separated);
+    }
+    None
+}

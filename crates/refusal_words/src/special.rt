@@ -1,0 +1,165 @@
+//! Files that are no text of this kind at all, and line ends of another kind.
+
+use text_lines::{Refusal, Wanted};
+
+/// What a file is, or what ends its lines, where that is the reason why it is refused.
+#[derive(Clone, Copy)]
+pub(crate) enum Special {
+    ByteOrderMark,
+    Utf16,
+    /// A compressed file, of this kind with its article.
+    Packed(&'static str),
+    /// A text of another kind than is wanted.
+    Swapped { found: Kind, wanted: Kind },
+    /// What an audit wrote, and which text stands behind its first line.
+    Report { behind: Option<Kind>, wanted: Kind },
+    CarriageReturn,
+}
+
+/// The kinds of texts.
+#[derive(Clone, Copy, PartialEq, Eq)]
+pub(crate) enum Kind {
+    Session,
+    Certificate,
+    Runs,
+    Script,
+    Events,
+}
+
+impl Kind {
+    const ALL: [Kind; 5] = [
+        Kind::Session,
+        Kind::Certificate,
+        Kind::Runs,
+        Kind::Script,
+        Kind::Events,
+    ];
+
+    /// What the first line of such a text begins with.
+    fn key(self) -> &'static [u8] {
+        match self {
+            Kind::Session => b"postcopy-session ",
+            Kind::Certificate => b"postcopy-certificate ",
+            Kind::Runs => b"postcopy-runs ",
+            Kind::Script => b"postcopy-script ",
+            Kind::Events => b"postcopy-events ",
+        }
+    }
+
+    /// The kind of the text whose first line this is, in words.
+    pub(crate) fn words(self) -> &'static str {
+        match self {
+            Kind::Session => "a session",
+            Kind::Certificate => "a certificate",
+            Kind::Runs => "a text of runs",
+            Kind::Script => "a script",
+            Kind::Events => "a list of events",
+        }
+    }
+
+    /// The kind of the text that begins with this line.
+    fn of(line: &[u8]) -> Option<Kind> {
+        for kind in Kind::ALL {
+            if line.starts_with(kind.key()) {
+                return Some(kind);
+            }
+        }
+        None
+    }
+
+    /// The kind of text whose first line is wanted.
+    fn wanted(wanted: &Wanted) -> Option<Kind> {
+        let form = wanted.forms.first()?;
+        Kind::of(form.as_bytes())
+    }
+}
+
+/// What compressed files begin with, and their kinds with the article.
+const PACKED: [(&[u8], &str); 5] = [
+    (b"\x1f\x8b", "a gzip"),
+    (b"\x28\xb5\x2f\xfd", "a zstd"),
+    (b"\xfd7zXZ\0", "an xz"),
+    (b"BZh", "a bzip2"),
+    (b"PK", "a zip"),
+];
+
+/// The kind of a compressed file that begins so, with its article.
+fn packed(line: &[u8]) -> Option<&'static str> {
+    for (front, kind) in PACKED {
+        if line.starts_with(front) {
+            return Some(kind);
+        }
+    }
+    None
+}
+
+/// The kind of an encoding or of a compressed file that begins so.
+fn encoded(line: &[u8]) -> Option<Special> {
+    if line.starts_with(b"\xef\xbb\xbf") {
+        return Some(Special::ByteOrderMark);
+    }
+    if line.starts_with(b"\xff\xfe") || line.starts_with(b"\xfe\xff") {
+        return Some(Special::Utf16);
+    }
+    let kind = packed(line)?;
+    Some(Special::Packed(kind))
+}
+
+/// The whole first line of the report on a clean session.
+const CLEAN: &[u8] = b"clean";
+
+/// What the report on a session with a fault begins with.
+const FAULTY: &[u8] = b"faulty line ";
+
+/// What reports begin with that are one line alone.
+const LONE: [&[u8]; 4] = [
+    b"knot line ",
+    b"shape line ",
+    b"session-text line ",
+    b"incomplete ",
+];
+
+/// What an audit wrote, where a text begins so.
+fn report(line: &[u8], wanted: Kind) -> Option<Special> {
+    let behind = if line == CLEAN {
+        Some(Kind::Certificate)
+    } else if line.starts_with(FAULTY) {
+        Some(Kind::Runs)
+    } else if LONE.iter().any(|front| line.starts_with(front)) {
+        None
+    } else {
+        return None;
+    };
+    Some(Special::Report { behind, wanted })
+}
+
+/// A text of another kind, by its first line.
+fn of_another_kind(line: &[u8], wanted: &Wanted) -> Option<Special> {
+    let wanted = Kind::wanted(wanted)?;
+    match Kind::of(line) {
+        None => report(line, wanted),
+        Some(found) if found != wanted => Some(Special::Swapped { found, wanted }),
+        Some(_) => None,
+    }
+}
+
+fn carriage_return(line: &[u8]) -> Option<Special> {
+    match line.last() {
+        Some(b'\r') => Some(Special::CarriageReturn),
+        _ => None,
+    }
+}
+
+/// What a file is, or what ends its lines, where that is the reason why it is refused.
+pub(crate) fn special_of(refusal: &Refusal) -> Option<Special> {
+    let line = refusal.line.as_slice();
+    if refusal.fault.line == 1 {
+        if let Some(special) = encoded(line) {
+            return Some(special);
+        }
+        if let Some(special) = of_another_kind(line, &refusal.wanted) {
+            return Some(special);
+        }
+    }
+    carriage_return(line)
+}

@@ -1,0 +1,35 @@
+//! The sentence on a line that is refused.
+
+mod expected;
+mod found;
+mod meanings;
+mod specials;
+
+use crate::cause::Cause;
+use crate::words::expected::push_expected;
+use crate::words::found::push_found;
+use crate::words::specials::push_special;
+pub(crate) use meanings::{push_meaning, push_new};
+use std::alloc::AllocError;
+use text_lines::Refusal;
+
+/// Adds what was found at a line, and what may stand there.
+pub(crate) fn push_sentence(
+    out: &mut String,
+    refusal: &Refusal,
+    cause: &Cause<'_>,
+) -> Result<(), AllocError> {
+    match cause {
+        Cause::Memory => out.push_str("out of memory"),
+        Cause::Special(special) => push_special(out, *special),
+        Cause::Ends
+        | Cause::Unended
+        | Cause::Empty
+        | Cause::Rule
+        | Cause::Other
+        | Cause::Stops(_) => {
+            push_found(out, refusal, cause)?;
+            push_expected(out, refusal, cause)
+        }
+    }
+}

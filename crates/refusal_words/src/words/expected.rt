@@ -1,0 +1,202 @@
+//! What may stand at a line, in words.
+
+use super::found::has_field;
+use super::meanings::{push_meaning, push_new};
+use crate::cause::Cause;
+use crate::fields::field_of;
+use crate::fitting::{Fit, Stop, fit_of};
+use crate::quoting::push_quote;
+use crate::slips::{Slip, slip_between, slip_of, slip_of_line};
+use std::alloc::AllocError;
+use text_lines::{Refusal, Wanted};
+
+/// Of how many forms each is written out where none begins as the line does.
+const FEW: usize = 2;
+
+/// Adds what stands between the words of a list, before the one at a place.
+fn push_between(out: &mut String, at: usize, count: usize) -> Result<(), AllocError> {
+    if at == 0 {
+        return Ok(());
+    }
+    out.push_str(if at.saturating_add(1) < count {
+        ", "
+    } else {
+        " or "
+    })
+}
+
+/// Adds forms in quotes, as a choice.
+fn push_forms(out: &mut String, forms: &[&'static str]) -> Result<(), AllocError> {
+    for (at, form) in forms.iter().enumerate() {
+        push_between(out, at, forms.len())?;
+        push_quote(out, form.as_bytes())?;
+    }
+    Ok(())
+}
+
+/// The end of an ordinal number.
+fn ordinal(number: u64) -> &'static str {
+    match (number % 100, number % 10) {
+        (11 | 12 | 13, _) => "th",
+        (_, 1) => "st",
+        (_, 2) => "nd",
+        (_, 3) => "rd",
+        _ => "th",
+    }
+}
+
+/// Adds which item of a list is wanted, or that the list is whole.
+fn push_promise(out: &mut String, wanted: &Wanted) -> Result<(), AllocError> {
+    let at = wanted.counted_at;
+    let count = wanted.count;
+    if at == 0 {
+        return Ok(());
+    }
+    if wanted.came < count {
+        let next = u64::from(wanted.came).saturating_add(1);
+        let end = ordinal(next);
+        return write!(out, ", the {next}{end} of {count} that line {at} promises");
+    }
+    match count {
+        0 => write!(out, ": line {at} promises none"),
+        1 => write!(out, ": the one that line {at} promises is there"),
+        _ => write!(out, ": all {count} that line {at} promises are there"),
+    }
+}
+
+/// Adds what is wanted where nothing of the line fits.
+fn push_wanted(out: &mut String, wanted: &Wanted) -> Result<(), AllocError> {
+    let forms = wanted.forms;
+    if forms.is_empty() && wanted.what.is_empty() {
+        return out.push_str("another line");
+    }
+    if forms.len() <= FEW {
+        push_forms(out, forms)?;
+        if !forms.is_empty() && !wanted.what.is_empty() {
+            out.push_str(", ")?;
+        }
+    }
+    out.push_str(wanted.what)?;
+    push_promise(out, wanted)
+}
+
+/// Adds what is wanted of a line that has its form.
+fn push_rule(out: &mut String, wanted: &Wanted) -> Result<(), AllocError> {
+    out.push_str(wanted.what)?;
+    push_promise(out, wanted)?;
+    if !wanted.rule.is_empty() {
+        out.push_str(": ")?;
+    }
+    out.push_str(wanted.rule)
+}
+
+/// Adds what is unusual about what was found.
+fn push_slip(out: &mut String, slip: Option<Slip>) -> Result<(), AllocError> {
+    let Some(slip) = slip else {
+        return Ok(());
+    };
+    out.push_str("; ")?;
+    match slip {
+        Slip::Separated => out.push_str("words are separated by one space"),
+        Slip::Signed => out.push_str("a number has no sign"),
+        Slip::Hexadecimal => out.push_str("numbers are decimal"),
+        Slip::LeadingZero => out.push_str("a number has no leading zero"),
+        Slip::TooManyPages => {
+            out.push_str("of a larger machine a window can be recorded: see RECORDING")
+        }
+        Slip::Prefixed => out.push_str("contents have no 0x"),
+        Slip::Capitals => out.push_str("contents are written in lower case"),
+        Slip::Length(count) => write!(out, "these are {count}"),
+    }
+}
+
+/// The forms that a line fits as far as one of them, and the words that they have where it stops, each once.
+#[derive(Drop)]
+struct Choices {
+    forms: Vec<&'static str>,
+    slots: Vec<&'static str>,
+}
+
+fn choices_of(out: &String, refusal: &Refusal, best: &Fit<'_>) -> Result<Choices, AllocError> {
+    let mut forms = Vec::new(*out.allocator());
+    let mut slots = Vec::new(*out.allocator());
+    for form in refusal.wanted.forms {
+        let fit = fit_of(refusal, form);
+        if fit.is_as_far(best) {
+            forms.push(*form)?;
+            if let Some(slot) = fit.slot() {
+                push_new(&mut slots, slot)?;
+            }
+        }
+    }
+    Ok(Choices { forms, slots })
+}
+
+/// Adds what a word of a form stands for.
+fn push_slot(out: &mut String, slot: &str, wanted: &Wanted) -> Result<(), AllocError> {
+    match field_of(slot) {
+        None => push_quote(out, slot.as_bytes()),
+        Some(field) => {
+            write!(out, "{slot}, ")?;
+            push_meaning(out, field, wanted)
+        }
+    }
+}
+
+fn push_slots(out: &mut String, slots: &[&'static str], wanted: &Wanted) -> Result<(), AllocError> {
+    for (at, slot) in slots.iter().enumerate() {
+        push_between(out, at, slots.len())?;
+        push_slot(out, slot, wanted)?;
+    }
+    Ok(())
+}
+
+/// What is unusual about the word at which a line stops.
+fn slip_at(fit: &Fit<'_>, wanted: &Wanted) -> Option<Slip> {
+    let Stop::Word { slot, word, .. } = fit.stop else {
+        return None;
+    };
+    match field_of(slot) {
+        Some(field) => slip_of(fit.form, field, word, wanted),
+        None => slip_between(word),
+    }
+}
+
+/// Adds what may stand where a line stops being in a form.
+fn push_stop(out: &mut String, refusal: &Refusal, fit: &Fit<'_>) -> Result<(), AllocError> {
+    if fit.slot().is_none() {
+        return out.push_str("the end of the line");
+    }
+    let choices = choices_of(out, refusal, fit)?;
+    if has_field(fit.form) {
+        push_slots(out, choices.slots.as_slice(), &refusal.wanted)?;
+        out.push_str(", as in ")?;
+        push_quote(out, fit.form.as_bytes())?;
+    } else {
+        push_forms(out, choices.forms.as_slice())?;
+    }
+    push_slip(out, slip_at(fit, &refusal.wanted))
+}
+
+/// Adds what may stand at a line.
+pub(crate) fn push_expected(
+    out: &mut String,
+    refusal: &Refusal,
+    cause: &Cause<'_>,
+) -> Result<(), AllocError> {
+    let line = refusal.line.as_slice();
+    let wanted = &refusal.wanted;
+    out.push_str("; expected ")?;
+    match cause {
+        Cause::Unended => {
+            out.push_str("a line feed after ")?;
+            push_quote(out, line)
+        }
+        Cause::Rule => push_rule(out, wanted),
+        Cause::Stops(fit) => push_stop(out, refusal, fit),
+        Cause::Memory | Cause::Special(_) | Cause::Ends | Cause::Empty | Cause::Other => {
+            push_wanted(out, wanted)?;
+            push_slip(out, slip_of_line(line))
+        }
+    }
+}

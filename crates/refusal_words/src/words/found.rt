@@ -1,0 +1,111 @@
+//! What was found at a line, in words.
+
+use crate::cause::Cause;
+use crate::fields::{Misfit, field_of};
+use crate::fitting::{Fit, Stop};
+use crate::quoting::push_quote;
+use std::alloc::AllocError;
+use text_lines::Refusal;
+
+/// Whether a word of a form stands for a field.
+fn is_field(slot: &str) -> bool {
+    field_of(slot).is_some()
+}
+
+/// Whether a form has a field.
+pub(crate) fn has_field(form: &str) -> bool {
+    form.split(' ').any(|slot| is_field(slot))
+}
+
+/// Whether a form is a key and one word more, which needs no line around it to be understood.
+fn is_keyed(form: &str) -> bool {
+    form.split(' ').count() <= 2
+}
+
+fn push_found_quote(out: &mut String, bytes: &[u8]) -> Result<(), AllocError> {
+    out.push_str("found ")?;
+    push_quote(out, bytes)
+}
+
+fn push_in_line(out: &mut String, line: &[u8]) -> Result<(), AllocError> {
+    out.push_str(" in ")?;
+    push_quote(out, line)
+}
+
+/// Adds a word that stands where the form has another one.
+fn push_word(
+    out: &mut String,
+    line: &[u8],
+    form: &str,
+    word: &[u8],
+    misfit: Misfit,
+) -> Result<(), AllocError> {
+    if word.is_empty() {
+        out.push_str("found a second space")?;
+        return push_in_line(out, line);
+    }
+    if !has_field(form) {
+        return push_found_quote(out, line);
+    }
+    match misfit {
+        Misfit::Byte(at) => {
+            let (_, from) = word.split_at(at.min(word.len()));
+            let (byte, _) = from.split_at(from.len().min(1));
+            push_found_quote(out, byte)?;
+            push_in_line(out, line)
+        }
+        Misfit::Whole => {
+            push_found_quote(out, word)?;
+            if is_keyed(form) {
+                return Ok(());
+            }
+            push_in_line(out, line)
+        }
+    }
+}
+
+/// Adds what stands where a line stops being in a form.
+fn push_stop(
+    out: &mut String,
+    line: &[u8],
+    is_last: bool,
+    fit: &Fit<'_>,
+) -> Result<(), AllocError> {
+    match fit.stop {
+        Stop::Missing(_) | Stop::Cut(_) => {
+            out.push_str(if is_last {
+                "the text ends in the middle of a line, after "
+            } else {
+                "found the end of the line after "
+            })?;
+            push_quote(out, line)
+        }
+        Stop::Word { word, misfit, .. } => push_word(out, line, fit.form, word, misfit),
+        Stop::Surplus => {
+            let (before, surplus) = line.split_at(fit.at.min(line.len()));
+            push_found_quote(out, surplus)?;
+            out.push_str(" after ")?;
+            push_quote(out, before)
+        }
+        Stop::Nowhere => push_found_quote(out, line),
+    }
+}
+
+/// Adds what was found at a line.
+pub(crate) fn push_found(
+    out: &mut String,
+    refusal: &Refusal,
+    cause: &Cause<'_>,
+) -> Result<(), AllocError> {
+    let line = refusal.line.as_slice();
+    match cause {
+        Cause::Ends if refusal.fault.line == 1 => out.push_str("the text is empty"),
+        Cause::Ends => out.push_str("the text ends here"),
+        Cause::Unended => out.push_str("the text ends in the middle of a line"),
+        Cause::Empty => out.push_str("found an empty line"),
+        Cause::Stops(fit) => push_stop(out, line, refusal.is_last, fit),
+        Cause::Memory | Cause::Special(_) | Cause::Rule | Cause::Other => {
+            push_found_quote(out, line)
+        }
+    }
+}

@@ -1,0 +1,70 @@
+//! What the fields of a form stand for, in words.
+
+use crate::fields::{Field, MOST_FATES, digits_of, range_of};
+use std::alloc::AllocError;
+use text_lines::Wanted;
+
+/// What stands in a field.
+fn noun(field: Field) -> &'static str {
+    match field {
+        Field::Processor => "a virtual processor",
+        Field::Page => "a page",
+        Field::Cell => "a cell",
+        Field::Value => "a value",
+        Field::Record => "the number of a record",
+        Field::Number => "a number",
+        Field::Exact => "the number",
+        Field::Contents => "contents",
+        Field::Fates => "the fates of packets",
+        Field::Fate => "the fate of a packet",
+    }
+}
+
+fn push_contents(out: &mut String, wanted: &Wanted) -> Result<(), AllocError> {
+    match digits_of(wanted) {
+        None => out.push_str("16 digits for each cell")?,
+        Some(digits) => {
+            let cells = wanted.cells;
+            let s = if cells == 1 { "" } else { "s" };
+            write!(out, "{digits} digits for {cells} cell{s}")?;
+        }
+    }
+    out.push_str(", each 0 to 9 or a to f")
+}
+
+/// Adds what a field stands for.
+pub(crate) fn push_meaning(
+    out: &mut String,
+    field: Field,
+    wanted: &Wanted,
+) -> Result<(), AllocError> {
+    let noun = noun(field);
+    if let Some(range) = range_of(field, wanted) {
+        let least = range.least;
+        let most = range.most;
+        return match field {
+            Field::Exact => write!(out, "{noun} {most}"),
+            _ if least == most => write!(out, "{noun}, here only {most}"),
+            _ => write!(out, "{noun} from {least} to {most}"),
+        };
+    }
+    match field {
+        Field::Contents => push_contents(out, wanted),
+        Field::Fates => write!(
+            out,
+            "{noun}, - or 1 to {MOST_FATES} letters of d, l, r and b"
+        ),
+        _ => write!(out, "{noun}, deliver, lose, repeat or back"),
+    }
+}
+
+/// Adds a word to those that are there, where it is not among them.
+pub(crate) fn push_new(
+    words: &mut Vec<&'static str>,
+    word: &'static str,
+) -> Result<(), AllocError> {
+    if !words.iter().any(|other| *other == word) {
+        words.push(word)?;
+    }
+    Ok(())
+}

@@ -1,0 +1,38 @@
+//! What a file is that is no text of its kind, in words.
+
+use crate::special::{Kind, Special};
+use std::alloc::AllocError;
+
+fn push_report(out: &mut String, behind: Option<Kind>, wanted: Kind) -> Result<(), AllocError> {
+    let kind = wanted.words();
+    write!(out, "this is a report of audit; expected {kind}")?;
+    if behind == Some(wanted) {
+        out.push_str(", which stands below its first line")?;
+    }
+    Ok(())
+}
+
+/// Adds what a file is, or what ends its lines, and what helps.
+pub(crate) fn push_special(out: &mut String, special: Special) -> Result<(), AllocError> {
+    match special {
+        Special::ByteOrderMark => {
+            out.push_str("found a byte order mark; texts are ASCII and have none")
+        }
+        Special::Utf16 => out.push_str(
+            "this is UTF-16; texts are ASCII, a byte for each character",
+        ),
+        Special::Packed(kind) => write!(out, "this is {kind} file; unpack it first"),
+        Special::Swapped { found, wanted } => {
+            let found = found.words();
+            let wanted = wanted.words();
+            write!(
+                out,
+                "this is {found}; expected {wanted}: are the two files swapped?"
+            )
+        }
+        Special::Report { behind, wanted } => push_report(out, behind, wanted),
+        Special::CarriageReturn => out.push_str(
+            "found a carriage return at the end of the line; lines end with a line feed alone (dos2unix mends a file)",
+        ),
+    }
+}
