@@ -1,11 +1,13 @@
 -- What was read of a text.
 use Rattle.std.proofs.Common.{◌≡◌, ◌≢◌, ℕ, ◌<◌, List, ◌++◌, refl, subst, sym, append_assoc}
-use Rattle.std.specs.Prelude.{Option, Result, Ok, Err, IfOk, OnOk}
+use Rattle.std.specs.Prelude.{Option, Result, Ok, Err, IfOk, OnOk, MatchResult}
 use Rattle.std.specs.Io.KnownBytes.{Appends}
 use Rattle.text_lines.specs.declared.FaultKind.{FaultKind}
 use Rattle.text_lines.specs.declared.FaultKind.TheVariants.{Form, Range, Ended, Memory}
-use Rattle.text_lines.specs.Answer.{Refused}
-use Rattle.text_lines.specs.Text.{IsRefusalLine}
+use Rattle.std.specs.declared.alloc.AllocError.{AllocError}
+use Rattle.text_lines.specs.declared.wanted.Refusal.{Refusal}
+use Rattle.text_lines.specs.Answer.{IsRead, Refused}
+use Rattle.text_lines.specs.Text.{IsRefusalLine, IsSpelling}
 use Rattle.command_texts.specs.declared.answer.Answer.{Answer}
 use Rattle.command_texts.specs.declared.answer.Fault.{Fault}
 use Rattle.command_texts.specs.Told.{Tells}
@@ -41,3 +43,12 @@ few_written (Err fault) own few e = tt
 pub ok_then : {V E : Type 0} (r : Result V E) (P Q : Type 0) → OnOk r P → (P → Q) → OnOk r Q
 ok_then (Ok v) P Q h f = f h
 ok_then (Err e) P Q h f = tt
+
+-- what is told of a text that was read
+pub told_read : {V : Type 0} (Spells : V → List (List ℕ) → Type 0) (text : List ℕ) (read : Result V Refusal) (told : Result (Result V ℕ) AllocError)
+    → MatchResult read (λ v. IsSpelling Spells v text) (λ why. Refused Spells text why.fault.line why.fault.kind)
+    → MatchResult read (λ v. told ≡ Ok (Ok v)) (λ why. IfOk told (λ found. (found ≡ Err why.fault.line) × (why.fault.kind ≢ Memory)))
+    → IfOk told (IsRead Spells text)
+told_read Spells text (Ok v) told is same = rw same is
+told_read Spells text (Err why) (Ok found) is same = rw same.0 (refused_at Spells text why.fault.line why.fault.kind is same.1)
+told_read Spells text (Err why) (Err e) is same = tt

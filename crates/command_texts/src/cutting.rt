@@ -5,6 +5,7 @@ ghost use Rattle.command_texts.specs.Cutting.{IsCutAtEnd};
 ghost use Rattle.command_texts.specs.inner.Ends.{CameAs, EndsThere, IsLacking, NoEndYet};
 
 use crate::taking::Taker;
+use crate::why::keep_first;
 use std::alloc::{AllocError, Global};
 use std::thread::Threads;
 use text_lines::{after_key, is_line, next_line};
@@ -62,8 +63,10 @@ pub struct Both<A: Taker, B: Taker> {
     lacking: Option<&'static [u8]>,
 }
 
-impl<A: Taker, B: Taker> Taker for Both<A, B> {
+impl<A: Taker, B: Taker<Why = A::Why>> Taker for Both<A, B> {
     type Found = (A::Found, B::Found);
+
+    type Why = A::Why;
 
     ghost is_found = { λ input found. (texts : List ℕ × List ℕ) × IsCutAtEnd input texts.0 texts.1 × A.is_found texts.0 found.0 × B.is_found texts.1 found.1 };
 
@@ -98,7 +101,11 @@ impl<A: Taker, B: Taker> Taker for Both<A, B> {
         }
     }
 
-    fn end(self) -> (A::Found, B::Found) {
-        (self.first.end(), self.second.end())
+    fn end(self, why: &mut Option<A::Why>) -> Result<(A::Found, B::Found), AllocError> {
+        let mut later = None;
+        let first = self.first.end(why)?;
+        let second = self.second.end(&mut later)?;
+        keep_first(why, later);
+        Ok((first, second))
     }
 }

@@ -4,17 +4,21 @@
 
 mod ahead;
 mod answer;
+mod closing;
 mod cutting;
 mod naming;
 mod performing;
 mod reading;
 mod taking;
+mod why;
 
 pub use answer::{
     ACCEPTED, Answer, Fault, Given, REFUSED, USAGE, given, refused, remark, status_where, tell,
     written,
 };
+pub use closing::Closable;
 pub use naming::read_named;
 pub use performing::{OnOne, OnTwo, perform_one, perform_two};
 pub use reading::TextSource;
-pub use taking::Taker;
+pub use taking::{Gathered, Taker};
+pub use why::{Telling, Why, tell_why};

@@ -8,21 +8,28 @@ use crate::answer::{Fault, Given, written};
 use crate::naming::{read_named, read_pair};
 use crate::reading::TextSource;
 use crate::taking::Taker;
+use crate::why::{Telling, tell_why};
 use std::alloc::Global;
 use std::io::{Read, Write};
 use std::mem;
 use std::thread::Threads;
+use text_lines::Refusal;
 
 /// A command on one text.
 pub trait OnOne {
     /// Takes its text.
-    type Text: Taker;
+    type Text: Taker<Why = Refusal>;
 
     // What lets it answer.
     ghost ready: { Type 0 } = { ⊤ };
 
     /// This is its answer to a text, and its status.
     ghost is_answer: { Self → List ℕ → List ℕ → ℕ → Type 0 };
+
+    /// How much it tells of a text that is refused.
+    fn telling(&self) -> Telling {
+        Telling::Short
+    }
 
     /// Its answer to what was found of a text, with a status of 0 or 1. There is none where memory ran out or a link failed.
     fn answer(&self, alloc: Global, found: &<Self::Text as Taker>::Found) -> Given
@@ -34,10 +41,10 @@ pub trait OnOne {
 /// A command on two texts.
 pub trait OnTwo {
     /// Takes the first.
-    type First: Taker;
+    type First: Taker<Why = Refusal>;
 
     /// Takes the second.
-    type Second: Taker;
+    type Second: Taker<Why = Refusal>;
 
     // What lets it answer.
     ghost ready: { Type 0 } = { ⊤ };
@@ -57,8 +64,16 @@ pub trait OnTwo {
         ensures told { (texts : List ℕ × List ℕ) → Self.First.is_found texts.0 first.now → Self.Second.is_found texts.1 second.now → IfOk result (λ answer. is_answer self.now texts answer.text.items answer.status) };
 }
 
-/// Does a command on the text under a name.
-pub fn perform_one<'a, C: OnOne, R: Threads + Sync, S: TextSource, I: Read + Send, O: Write>(
+/// Does a command on the text under a name. Where it is refused, the errors tell why.
+pub fn perform_one<
+    'a,
+    C: OnOne,
+    R: Threads + Sync,
+    S: TextSource,
+    I: Read + Send,
+    O: Write,
+    E: Write,
+>(
     rt: &R,
     alloc: Global,
     command: &C,
@@ -66,21 +81,33 @@ pub fn perform_one<'a, C: OnOne, R: Threads + Sync, S: TextSource, I: Read + Sen
     texts: &S,
     input: &mut I,
     output: &mut O,
+    errors: &mut E,
 ) -> Result<u8, Fault<'a>>
     requires ready { C.ready }
     ensures few { IfOk result (λ status. status < 2) }
     ensures told { IfOk result (Tells (IsNamed name.entry.now (S.bytes_of texts.now) (I.remaining input.old)) (C.is_answer command.now) (O.contents output.old) (O.contents output.new)) }
 {
-    let found = read_named::<C::Text, R, S, I>(rt, alloc, name, texts, input)?;
+    let mut why = None;
+    let found = read_named::<C::Text, R, S, I>(rt, alloc, name, texts, input, &mut why)?;
     let answer = command.answer(alloc, &found)?;
     let status = written(&answer, output);
+    tell_why(alloc, &why, command.telling(), &status, errors);
     mem::forget(found);
     mem::forget(answer);
     status
 }
 
-/// Does a command on the texts under two names, which are read in this order.
-pub fn perform_two<'a, C: OnTwo, R: Threads + Sync, S: TextSource, I: Read + Send, O: Write>(
+/// Does a command on the texts under two names, which are read in this order. Where one is refused, the errors tell why, of the
+/// first where both are.
+pub fn perform_two<
+    'a,
+    C: OnTwo,
+    R: Threads + Sync,
+    S: TextSource,
+    I: Read + Send,
+    O: Write,
+    E: Write,
+>(
     rt: &R,
     alloc: Global,
     command: &C,
@@ -89,16 +116,19 @@ pub fn perform_two<'a, C: OnTwo, R: Threads + Sync, S: TextSource, I: Read + Sen
     texts: &S,
     input: &mut I,
     output: &mut O,
+    errors: &mut E,
 ) -> Result<u8, Fault<'a>>
     requires ready { C.ready }
     ensures few { IfOk result (λ status. status < 2) }
     ensures told { IfOk result (Tells (AreNamed first.entry.now second.entry.now (S.bytes_of texts.now) (I.remaining input.old)) (C.is_answer command.now) (O.contents output.old) (O.contents output.new)) }
 {
+    let mut why = None;
     let (found, other) = read_pair::<C::First, C::Second, R, S, I>(
-        rt, alloc, first, second, texts, input,
+        rt, alloc, first, second, texts, input, &mut why,
     )?;
     let answer = command.answer(alloc, &found, &other)?;
     let status = written(&answer, output);
+    tell_why(alloc, &why, Telling::Short, &status, errors);
     mem::forget((found, other));
     mem::forget(answer);
     status

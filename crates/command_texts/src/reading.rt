@@ -53,11 +53,12 @@ const FIRST_PIECES: u32 = 8;
 
 /// What is found of the text that a reader has left, which is taken piece by piece as it is read: at most 268,435,456
 /// bytes, in at most 1,048,576 reads. Of a long text the pieces are taken by several threads, and the next one is read
-/// meanwhile.
+/// meanwhile. Where it is refused, `why` tells the reason from now on.
 pub fn read_text<H: Threads + Sync, R: Read + Send, T: Taker>(
     rt: &H,
     alloc: Global,
     reader: &mut R,
+    why: &mut Option<T::Why>,
 ) -> Result<T::Found, ReadFault>
     ensures { IfOk result (λ found. (text : List ℕ) × AreRead (R.remaining reader.old) text × T.is_found text found) }
 {
@@ -67,7 +68,7 @@ pub fn read_text<H: Threads + Sync, R: Read + Send, T: Taker>(
     };
     let mut taker = T::new(alloc);
     read_within(rt, alloc, reader, &mut taker, most)?;
-    Ok(taker.end())
+    Ok(taker.end(why)?)
 }
 
 /// How many bytes of an input may yet come, in how many reads.

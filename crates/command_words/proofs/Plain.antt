@@ -9,6 +9,7 @@ use Rattle.clap.proofs.OnLiterals.{clap_on_literals}
 use Rattle.command_words.specs.declared.asked.Asked.{Asked}
 use Rattle.command_words.specs.declared.asked.Asked.TheVariants.{One, Two, Migrate, Draw}
 use Rattle.command_words.specs.declared.asked.Carrier.TheVariants.{Memory}
+use Rattle.command_words.specs.declared.asked.Demand.TheVariants.{Safety}
 use Rattle.command_words.specs.declared.asked.OneText.{OneText}
 use Rattle.command_words.specs.declared.asked.OneText.TheVariants.{Certify, Audit, Explain}
 use Rattle.command_words.specs.declared.asked.TwoTexts.{TwoTexts}
@@ -31,57 +32,59 @@ pub record IsTaken (words : List Text) (job : Asked Text) : Type 0 where
   pub taken : takes postcopy_words words ≡ true
   pub given : asked words ≡ Some job
 
-one_name : OneText → Text
-one_name Certify = codes "certify"
-one_name Audit = codes "audit"
-one_name Explain = codes "explain"
+taken_certify : (program name : Text) → Form name → IsTaken (program ∷ codes "certify" ∷ name ∷ []) (One Certify name)
+unfolding clap_on_literals
+taken_certify program _ Dash = record { taken = refl; given = refl }
+taken_certify program _ Empty = record { taken = refl; given = refl }
+taken_certify program _ (Other b rest e) = record { taken = simp e; given = simp e }
 
-two_name : TwoTexts → Text
-two_name Check = codes "check"
-two_name Replay = codes "replay"
-two_name Steps = codes "steps"
+taken_audit : (program name : Text) → Form name → IsTaken (program ∷ codes "audit" ∷ name ∷ []) (One (Audit Safety) name)
+unfolding clap_on_literals
+taken_audit program _ Dash = record { taken = refl; given = refl }
+taken_audit program _ Empty = record { taken = refl; given = refl }
+taken_audit program _ (Other b rest e) = record { taken = simp e; given = simp e }
 
-taken_one : (task : OneText) (program name : Text) → Form name → IsTaken (program ∷ one_name task ∷ name ∷ []) (One task name)
-unfolding clap_on_literals one_name
-taken_one Certify program _ Dash = record { taken = refl; given = refl }
-taken_one Certify program _ Empty = record { taken = refl; given = refl }
-taken_one Certify program _ (Other a front d) = record { taken = simp d; given = simp d }
-taken_one Audit program _ Dash = record { taken = refl; given = refl }
-taken_one Audit program _ Empty = record { taken = refl; given = refl }
-taken_one Audit program _ (Other a front d) = record { taken = simp d; given = simp d }
-taken_one Explain program _ Dash = record { taken = refl; given = refl }
-taken_one Explain program _ Empty = record { taken = refl; given = refl }
-taken_one Explain program _ (Other a front d) = record { taken = simp d; given = simp d }
+taken_explain : (program name : Text) → Form name → IsTaken (program ∷ codes "explain" ∷ name ∷ []) (One Explain name)
+unfolding clap_on_literals
+taken_explain program _ Dash = record { taken = refl; given = refl }
+taken_explain program _ Empty = record { taken = refl; given = refl }
+taken_explain program _ (Other b rest e) = record { taken = simp e; given = simp e }
 
-taken_two : (task : TwoTexts) (program first second : Text) → Form first → Form second → IsTaken (program ∷ two_name task ∷ first ∷ second ∷ []) (Two task first second)
-unfolding clap_on_literals two_name
-taken_two Check program _ _ Dash Dash = record { taken = refl; given = refl }
-taken_two Check program _ _ Dash Empty = record { taken = refl; given = refl }
-taken_two Check program _ _ Dash (Other b rest e) = record { taken = simp e; given = simp e }
-taken_two Check program _ _ Empty Dash = record { taken = refl; given = refl }
-taken_two Check program _ _ Empty Empty = record { taken = refl; given = refl }
-taken_two Check program _ _ Empty (Other b rest e) = record { taken = simp e; given = simp e }
-taken_two Check program _ _ (Other a front d) Dash = record { taken = simp d; given = simp d }
-taken_two Check program _ _ (Other a front d) Empty = record { taken = simp d; given = simp d }
-taken_two Check program _ _ (Other a front d) (Other b rest e) = record { taken = simp (d, e); given = simp (d, e) }
-taken_two Replay program _ _ Dash Dash = record { taken = refl; given = refl }
-taken_two Replay program _ _ Dash Empty = record { taken = refl; given = refl }
-taken_two Replay program _ _ Dash (Other b rest e) = record { taken = simp e; given = simp e }
-taken_two Replay program _ _ Empty Dash = record { taken = refl; given = refl }
-taken_two Replay program _ _ Empty Empty = record { taken = refl; given = refl }
-taken_two Replay program _ _ Empty (Other b rest e) = record { taken = simp e; given = simp e }
-taken_two Replay program _ _ (Other a front d) Dash = record { taken = simp d; given = simp d }
-taken_two Replay program _ _ (Other a front d) Empty = record { taken = simp d; given = simp d }
-taken_two Replay program _ _ (Other a front d) (Other b rest e) = record { taken = simp (d, e); given = simp (d, e) }
-taken_two Steps program _ _ Dash Dash = record { taken = refl; given = refl }
-taken_two Steps program _ _ Dash Empty = record { taken = refl; given = refl }
-taken_two Steps program _ _ Dash (Other b rest e) = record { taken = simp e; given = simp e }
-taken_two Steps program _ _ Empty Dash = record { taken = refl; given = refl }
-taken_two Steps program _ _ Empty Empty = record { taken = refl; given = refl }
-taken_two Steps program _ _ Empty (Other b rest e) = record { taken = simp e; given = simp e }
-taken_two Steps program _ _ (Other a front d) Dash = record { taken = simp d; given = simp d }
-taken_two Steps program _ _ (Other a front d) Empty = record { taken = simp d; given = simp d }
-taken_two Steps program _ _ (Other a front d) (Other b rest e) = record { taken = simp (d, e); given = simp (d, e) }
+taken_check : (program first second : Text) → Form first → Form second → IsTaken (program ∷ codes "check" ∷ first ∷ second ∷ []) (Two (Check Safety) first second)
+unfolding clap_on_literals
+taken_check program _ _ Dash Dash = record { taken = refl; given = refl }
+taken_check program _ _ Dash Empty = record { taken = refl; given = refl }
+taken_check program _ _ Dash (Other b rest e) = record { taken = simp e; given = simp e }
+taken_check program _ _ Empty Dash = record { taken = refl; given = refl }
+taken_check program _ _ Empty Empty = record { taken = refl; given = refl }
+taken_check program _ _ Empty (Other b rest e) = record { taken = simp e; given = simp e }
+taken_check program _ _ (Other a front d) Dash = record { taken = simp d; given = simp d }
+taken_check program _ _ (Other a front d) Empty = record { taken = simp d; given = simp d }
+taken_check program _ _ (Other a front d) (Other b rest e) = record { taken = simp (d, e); given = simp (d, e) }
+
+taken_replay : (program first second : Text) → Form first → Form second → IsTaken (program ∷ codes "replay" ∷ first ∷ second ∷ []) (Two Replay first second)
+unfolding clap_on_literals
+taken_replay program _ _ Dash Dash = record { taken = refl; given = refl }
+taken_replay program _ _ Dash Empty = record { taken = refl; given = refl }
+taken_replay program _ _ Dash (Other b rest e) = record { taken = simp e; given = simp e }
+taken_replay program _ _ Empty Dash = record { taken = refl; given = refl }
+taken_replay program _ _ Empty Empty = record { taken = refl; given = refl }
+taken_replay program _ _ Empty (Other b rest e) = record { taken = simp e; given = simp e }
+taken_replay program _ _ (Other a front d) Dash = record { taken = simp d; given = simp d }
+taken_replay program _ _ (Other a front d) Empty = record { taken = simp d; given = simp d }
+taken_replay program _ _ (Other a front d) (Other b rest e) = record { taken = simp (d, e); given = simp (d, e) }
+
+taken_steps : (program first second : Text) → Form first → Form second → IsTaken (program ∷ codes "steps" ∷ first ∷ second ∷ []) (Two Steps first second)
+unfolding clap_on_literals
+taken_steps program _ _ Dash Dash = record { taken = refl; given = refl }
+taken_steps program _ _ Dash Empty = record { taken = refl; given = refl }
+taken_steps program _ _ Dash (Other b rest e) = record { taken = simp e; given = simp e }
+taken_steps program _ _ Empty Dash = record { taken = refl; given = refl }
+taken_steps program _ _ Empty Empty = record { taken = refl; given = refl }
+taken_steps program _ _ Empty (Other b rest e) = record { taken = simp e; given = simp e }
+taken_steps program _ _ (Other a front d) Dash = record { taken = simp d; given = simp d }
+taken_steps program _ _ (Other a front d) Empty = record { taken = simp d; given = simp d }
+taken_steps program _ _ (Other a front d) (Other b rest e) = record { taken = simp (d, e); given = simp (d, e) }
 
 taken_migrate : (program name : Text) → Form name → IsTaken (program ∷ codes "migrate" ∷ name ∷ []) (Migrate Memory name)
 unfolding clap_on_literals
@@ -108,21 +111,21 @@ taken_draw_along program _ _ (Other a front d) Empty = record { taken = simp d; 
 taken_draw_along program _ _ (Other a front d) (Other b rest e) = record { taken = simp (d, e); given = simp (d, e) }
 
 -- a command with so many names, which are plain, is taken
-one_taken : (task : OneText) (program word : Text) (names : List Text) (job : Asked Text) → AllByRecursion IsPlainName names → with_names names (One task word) ≡ Some job → IsTaken (program ∷ one_name task ∷ names) job
-one_taken task program word [] job plain e = let none : None ≡ Some job = e in absurd cc
-one_taken task program word (name ∷ []) job plain e =
+one_taken : (task : OneText) (command : Text) (taken : (program name : Text) → Form name → IsTaken (program ∷ command ∷ name ∷ []) (One task name)) (program word : Text) (names : List Text) (job : Asked Text) → AllByRecursion IsPlainName names → with_names names (One task word) ≡ Some job → IsTaken (program ∷ command ∷ names) job
+one_taken task command taken program word [] job plain e = let none : None ≡ Some job = e in absurd cc
+one_taken task command taken program word (name ∷ []) job plain e =
     let same : One task name ≡ job = cc in
-    subst (IsTaken (program ∷ one_name task ∷ name ∷ [])) same (taken_one task program name (form_of name plain.0))
-one_taken task program word (name ∷ other ∷ []) job plain e = let none : None ≡ Some job = e in absurd cc
-one_taken task program word (name ∷ other ∷ third ∷ rest) job plain e = let none : None ≡ Some job = e in absurd cc
+    subst (IsTaken (program ∷ command ∷ name ∷ [])) same (taken program name (form_of name plain.0))
+one_taken task command taken program word (name ∷ other ∷ []) job plain e = let none : None ≡ Some job = e in absurd cc
+one_taken task command taken program word (name ∷ other ∷ third ∷ rest) job plain e = let none : None ≡ Some job = e in absurd cc
 
-two_taken : (task : TwoTexts) (program word other : Text) (names : List Text) (job : Asked Text) → AllByRecursion IsPlainName names → with_names names (Two task word other) ≡ Some job → IsTaken (program ∷ two_name task ∷ names) job
-two_taken task program word other [] job plain e = let none : None ≡ Some job = e in absurd cc
-two_taken task program word other (name ∷ []) job plain e = let none : None ≡ Some job = e in absurd cc
-two_taken task program word other (first ∷ second ∷ []) job plain e =
+two_taken : (task : TwoTexts) (command : Text) (taken : (program first second : Text) → Form first → Form second → IsTaken (program ∷ command ∷ first ∷ second ∷ []) (Two task first second)) (program word other : Text) (names : List Text) (job : Asked Text) → AllByRecursion IsPlainName names → with_names names (Two task word other) ≡ Some job → IsTaken (program ∷ command ∷ names) job
+two_taken task command taken program word other [] job plain e = let none : None ≡ Some job = e in absurd cc
+two_taken task command taken program word other (name ∷ []) job plain e = let none : None ≡ Some job = e in absurd cc
+two_taken task command taken program word other (first ∷ second ∷ []) job plain e =
     let same : Two task first second ≡ job = cc in
-    subst (IsTaken (program ∷ two_name task ∷ first ∷ second ∷ [])) same (taken_two task program first second (form_of first plain.0) (form_of second plain.1.0))
-two_taken task program word other (first ∷ second ∷ third ∷ rest) job plain e = let none : None ≡ Some job = e in absurd cc
+    subst (IsTaken (program ∷ command ∷ first ∷ second ∷ [])) same (taken program first second (form_of first plain.0) (form_of second plain.1.0))
+two_taken task command taken program word other (first ∷ second ∷ third ∷ rest) job plain e = let none : None ≡ Some job = e in absurd cc
 
 migrate_taken : (program word : Text) (names : List Text) (job : Asked Text) → AllByRecursion IsPlainName names → with_names names (Migrate Memory word) ≡ Some job → IsTaken (program ∷ codes "migrate" ∷ names) job
 migrate_taken program word [] job plain e = let none : None ≡ Some job = e in absurd cc
@@ -146,15 +149,14 @@ draw_taken program word further (name ∷ other ∷ third ∷ rest) job plain e 
 row_taken : (program name : Text) (names : List Text) (job : Asked Text) → AllByRecursion IsPlainName names
     → (check certify audit explain replay steps migrate draw : Bool)
     → (check ≡ true → codes "check" ≡ name) → (certify ≡ true → codes "certify" ≡ name) → (audit ≡ true → codes "audit" ≡ name) → (explain ≡ true → codes "explain" ≡ name) → (replay ≡ true → codes "replay" ≡ name) → (steps ≡ true → codes "steps" ≡ name) → (migrate ≡ true → codes "migrate" ≡ name) → (draw ≡ true → codes "draw" ≡ name)
-    → option_and_then (λ (row : Text × Asked Text). with_names names row.1) (cond check (Some (codes "check", Two Check (codes "SESSION") (codes "CERT"))) (cond certify (Some (codes "certify", One Certify (codes "SESSION"))) (cond audit (Some (codes "audit", One Audit (codes "SESSION"))) (cond explain (Some (codes "explain", One Explain (codes "SESSION"))) (cond replay (Some (codes "replay", Two Replay (codes "SESSION") (codes "RUNS"))) (cond steps (Some (codes "steps", Two Steps (codes "SCRIPT") (codes "EVENTS"))) (cond migrate (Some (codes "migrate", Migrate Memory (codes "SCRIPT"))) (cond draw (Some (codes "draw", Draw (codes "SESSION") (Some (codes "RUNS")))) None)))))))) ≡ Some job
+    → option_and_then (λ (row : Text × Asked Text). with_names names row.1) (cond check (Some (codes "check", Two (Check Safety) (codes "SESSION") (codes "CERT"))) (cond certify (Some (codes "certify", One Certify (codes "SESSION"))) (cond audit (Some (codes "audit", One (Audit Safety) (codes "SESSION"))) (cond explain (Some (codes "explain", One Explain (codes "SESSION"))) (cond replay (Some (codes "replay", Two Replay (codes "SESSION") (codes "RUNS"))) (cond steps (Some (codes "steps", Two Steps (codes "SCRIPT") (codes "EVENTS"))) (cond migrate (Some (codes "migrate", Migrate Memory (codes "SCRIPT"))) (cond draw (Some (codes "draw", Draw (codes "SESSION") (Some (codes "RUNS")))) None)))))))) ≡ Some job
     → IsTaken (program ∷ name ∷ names) job
-unfolding one_name two_name
-row_taken program name names job plain true certify audit explain replay steps migrate draw a b c d f g h i e = subst (λ (x : Text). IsTaken (program ∷ x ∷ names) job) (a refl) (two_taken Check program _ _ names job plain e)
-row_taken program name names job plain false true audit explain replay steps migrate draw a b c d f g h i e = subst (λ (x : Text). IsTaken (program ∷ x ∷ names) job) (b refl) (one_taken Certify program _ names job plain e)
-row_taken program name names job plain false false true explain replay steps migrate draw a b c d f g h i e = subst (λ (x : Text). IsTaken (program ∷ x ∷ names) job) (c refl) (one_taken Audit program _ names job plain e)
-row_taken program name names job plain false false false true replay steps migrate draw a b c d f g h i e = subst (λ (x : Text). IsTaken (program ∷ x ∷ names) job) (d refl) (one_taken Explain program _ names job plain e)
-row_taken program name names job plain false false false false true steps migrate draw a b c d f g h i e = subst (λ (x : Text). IsTaken (program ∷ x ∷ names) job) (f refl) (two_taken Replay program _ _ names job plain e)
-row_taken program name names job plain false false false false false true migrate draw a b c d f g h i e = subst (λ (x : Text). IsTaken (program ∷ x ∷ names) job) (g refl) (two_taken Steps program _ _ names job plain e)
+row_taken program name names job plain true certify audit explain replay steps migrate draw a b c d f g h i e = subst (λ (x : Text). IsTaken (program ∷ x ∷ names) job) (a refl) (two_taken (Check Safety) (codes "check") taken_check program _ _ names job plain e)
+row_taken program name names job plain false true audit explain replay steps migrate draw a b c d f g h i e = subst (λ (x : Text). IsTaken (program ∷ x ∷ names) job) (b refl) (one_taken Certify (codes "certify") taken_certify program _ names job plain e)
+row_taken program name names job plain false false true explain replay steps migrate draw a b c d f g h i e = subst (λ (x : Text). IsTaken (program ∷ x ∷ names) job) (c refl) (one_taken (Audit Safety) (codes "audit") taken_audit program _ names job plain e)
+row_taken program name names job plain false false false true replay steps migrate draw a b c d f g h i e = subst (λ (x : Text). IsTaken (program ∷ x ∷ names) job) (d refl) (one_taken Explain (codes "explain") taken_explain program _ names job plain e)
+row_taken program name names job plain false false false false true steps migrate draw a b c d f g h i e = subst (λ (x : Text). IsTaken (program ∷ x ∷ names) job) (f refl) (two_taken Replay (codes "replay") taken_replay program _ _ names job plain e)
+row_taken program name names job plain false false false false false true migrate draw a b c d f g h i e = subst (λ (x : Text). IsTaken (program ∷ x ∷ names) job) (g refl) (two_taken Steps (codes "steps") taken_steps program _ _ names job plain e)
 row_taken program name names job plain false false false false false false true draw a b c d f g h i e = subst (λ (x : Text). IsTaken (program ∷ x ∷ names) job) (h refl) (migrate_taken program _ names job plain e)
 row_taken program name names job plain false false false false false false false true a b c d f g h i e = subst (λ (x : Text). IsTaken (program ∷ x ∷ names) job) (i refl) (draw_taken program _ _ names job plain e)
 row_taken program name names job plain false false false false false false false false a b c d f g h i e = let none : None ≡ Some job = e in absurd cc

@@ -7,18 +7,19 @@ use Rattle.command_words.specs.declared.asked.Asked.{Asked}
 use Rattle.command_words.specs.declared.asked.Asked.TheVariants.{One, Two, Migrate, Draw}
 use Rattle.command_words.specs.declared.asked.Carrier.{Carrier}
 use Rattle.command_words.specs.declared.asked.Carrier.TheVariants.{Memory, Tcp}
+use Rattle.command_words.specs.declared.asked.Demand.TheVariants.{Safety}
 use Rattle.command_words.specs.declared.asked.OneText.TheVariants.{Certify, Audit, Explain}
 use Rattle.command_words.specs.declared.asked.TwoTexts.TheVariants.{Check, Replay, Steps}
 use Rattle.command_words.specs.declared.table.Word.{Word}
 use Rattle.command_words.specs.declared.table.Row.{Row}
 
 -- `check SESSION CERT`, `certify SESSION`, `audit SESSION`, `explain SESSION`, `replay SESSION RUNS`,
--- `steps SCRIPT EVENTS`, `migrate SCRIPT`, `draw SESSION`, `draw SESSION RUNS`
+-- `steps SCRIPT EVENTS`, `migrate SCRIPT`, `draw SESSION`, `draw SESSION RUNS`; with no option, safety is asked for
 abbrev pub table : List (Text × Asked Text)
 table =
-    (codes "check", Two Check (codes "SESSION") (codes "CERT")) ∷
+    (codes "check", Two (Check Safety) (codes "SESSION") (codes "CERT")) ∷
     (codes "certify", One Certify (codes "SESSION")) ∷
-    (codes "audit", One Audit (codes "SESSION")) ∷
+    (codes "audit", One (Audit Safety) (codes "SESSION")) ∷
     (codes "explain", One Explain (codes "SESSION")) ∷
     (codes "replay", Two Replay (codes "SESSION") (codes "RUNS")) ∷
     (codes "steps", Two Steps (codes "SCRIPT") (codes "EVENTS")) ∷

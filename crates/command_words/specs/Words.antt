@@ -1,5 +1,5 @@
 -- The words of the command line.
-use Rattle.std.specs.Prelude.{◌≡◌, ◌≢◌, [], ◌∷◌, ◌++◌, ◌⊎◌, List, Option, Some, None, true, codes, fold, find, map, option_and_then, option_map, unwrap_or}
+use Rattle.std.specs.Prelude.{◌≡◌, ◌≢◌, [], ◌∷◌, ◌++◌, ◌⊎◌, Bool, List, Option, Some, None, true, codes, fold, find, map, option_and_then, option_map, unwrap_or, if◌then◌else◌, false}
 use Rattle.std.specs.List.{AllByRecursion}
 use Rattle.std.specs.Str.{bytes_eq}
 use Rattle.std.specs.Borrow.{Bor}
@@ -10,7 +10,13 @@ use Rattle.command_words.specs.declared.asked.Asked.TheVariants.{One, Two, Migra
 use Rattle.clap.specs.declared.builder.value_parser.ValueParser.{ValueParser}
 use Rattle.clap.specs.declared.builder.value_parser.ValueParser.TheVariants as parser
 use Rattle.command_words.specs.declared.asked.Carrier.{Carrier}
+use Rattle.command_words.specs.declared.asked.Demand.{Demand}
+use Rattle.command_words.specs.declared.asked.Demand.TheVariants.{Completeness}
+use Rattle.command_words.specs.declared.asked.OneText.{OneText}
+use Rattle.command_words.specs.declared.asked.OneText.TheVariants.{Certify, Audit, Explain}
 use Rattle.command_words.specs.declared.asked.TwoTexts.{TwoTexts}
+use Rattle.command_words.specs.declared.asked.TwoTexts.TheVariants.{Check, Replay, Steps}
+use Rattle.clap.specs.declared.builder.action.ArgAction.TheVariants.{SetTrue}
 use Rattle.command_words.specs.Table.{carriers, carrier_name, carrier_named, table}
 
 -- a word that has to be there
@@ -21,6 +27,25 @@ needed id = record (new_rule id) { required = true }
 abbrev pub link_rule : ValueParser → Carrier → Rule
 link_rule names carrier = record (new_rule (codes "link")) { long = Some (codes "link"); value_names = 1; parser = Some names; defaults = carrier_name carrier ∷ [] }
 
+-- the option that asks for a complete session
+abbrev pub complete_rule : Rule
+complete_rule = record (new_rule (codes "complete")) { long = Some (codes "complete"); action = Some SetTrue }
+
+-- a command with that option
+abbrev pub with_demand : App → App
+with_demand app = with_rule app complete_rule
+
+-- a command on one text, and one on two, with its option
+abbrev pub with_one : OneText → App → App
+with_one (Audit demand) app = with_demand app
+with_one Certify app = app
+with_one Explain app = app
+
+abbrev pub with_two : TwoTexts → App → App
+with_two (Check demand) app = with_demand app
+with_two Replay app = app
+with_two Steps app = app
+
 -- a command with a further word, which may be there
 abbrev pub with_further : App → Option Text → App
 with_further app None = app
@@ -28,8 +53,8 @@ with_further app (Some word) = with_rule app (new_rule word)
 
 -- a command with a word for each of its texts, and its option
 abbrev pub with_words : ValueParser → App → Asked Text → App
-with_words names app (One task word) = with_rule app (needed word)
-with_words names app (Two task first second) = with_rule (with_rule app (needed first)) (needed second)
+with_words names app (One task word) = with_one task (with_rule app (needed word))
+with_words names app (Two task first second) = with_two task (with_rule (with_rule app (needed first)) (needed second))
 with_words names app (Migrate carrier word) = with_rule (with_rule app (needed word)) (link_rule names carrier)
 with_words names app (Draw word further) = with_further (with_rule app (needed word)) further
 
@@ -75,14 +100,34 @@ both_names task (Some first) (Some second) = Some (Two task first second)
 abbrev pub carrier_in : List Row → Carrier → Carrier
 carrier_in rows otherwise = unwrap_or (option_and_then carrier_named (first_of (codes "link") rows)) otherwise
 
+-- whether a text is there, and is "true"
+abbrev pub is_set : Option Text → Bool
+is_set None = false
+is_set (Some text) = bytes_eq text (codes "true")
+
+-- what is asked of a session: that it is complete where the option is among what was given, or else this
+abbrev pub demand_in : List Row → Demand → Demand
+demand_in rows otherwise = if is_set (first_of (codes "complete") rows) then Completeness else otherwise
+
+-- a command on one text, and one on two, with what is asked of them
+abbrev pub one_in : List Row → OneText → OneText
+one_in rows (Audit demand) = Audit (demand_in rows demand)
+one_in rows Certify = Certify
+one_in rows Explain = Explain
+
+abbrev pub two_in : List Row → TwoTexts → TwoTexts
+two_in rows (Check demand) = Check (demand_in rows demand)
+two_in rows Replay = Replay
+two_in rows Steps = Steps
+
 -- what was given for a further word
 abbrev pub further_in : List Row → Option Text → Option Text
 further_in rows word = option_and_then (λ id. first_of id rows) word
 
 -- what a command asks for with the names among what it was given
 abbrev pub given_in : List Row → Asked Text → Option (Asked Text)
-given_in rows (One task word) = option_map (λ name. One task name) (first_of word rows)
-given_in rows (Two task first second) = both_names task (first_of first rows) (first_of second rows)
+given_in rows (One task word) = option_map (λ name. One (one_in rows task) name) (first_of word rows)
+given_in rows (Two task first second) = both_names (two_in rows task) (first_of first rows) (first_of second rows)
 given_in rows (Migrate carrier word) = option_map (λ name. Migrate (carrier_in rows carrier) name) (first_of word rows)
 given_in rows (Draw word further) = option_map (λ name. Draw name (further_in rows further)) (first_of word rows)
 

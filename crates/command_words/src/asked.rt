@@ -3,13 +3,22 @@
 ghost use Rattle.std.specs.Prelude.{◌≡◌};
 ghost use Rattle.command_words.specs.Table.{carrier_name};
 
+/// What is asked of a session before all is well.
+#[derive(Clone, Copy)]
+pub enum Demand {
+    /// That it is safe.
+    Safety,
+    /// That it is complete too.
+    Completeness,
+}
+
 /// A command on one text.
 #[derive(Clone, Copy)]
 pub enum OneText {
     /// The certificate of a session, or the first line of the report on it.
     Certify,
-    /// The report on a session.
-    Audit,
+    /// The report on a session, of which this is asked.
+    Audit(Demand),
     /// What happened in a session, in words.
     Explain,
 }
@@ -17,8 +26,8 @@ pub enum OneText {
 /// A command on two texts.
 #[derive(Clone, Copy)]
 pub enum TwoTexts {
-    /// The verdict on a session and its certificate.
-    Check,
+    /// The verdict on a session and its certificate, where this is asked of the session.
+    Check(Demand),
     /// What becomes of a merging of a session along its runs.
     Replay,
     /// The session that events record of a script.

@@ -2,14 +2,14 @@
 
 ghost use Rattle.std.specs.Prelude.{◌≡◌, IfOk, false};
 ghost use Rattle.command_words.specs.Table.{further_name, row_of};
-ghost use Rattle.command_words.specs.Words.{command_words, line_words, link_rule, needed, program_words, with_further};
+ghost use Rattle.command_words.specs.Words.{command_words, complete_rule, line_words, link_rule, needed, program_words, with_demand, with_further, with_one, with_two};
 ghost use Rattle.clap.specs.Words.{app_of, rule_of, with_rule};
 ghost use Rattle.clap.specs.declared.builder.command.Command.TheViews.{out-Command as fields_of};
 
-use crate::asked::{Asked, Carrier};
-use crate::table::{LINK, Row, Word, commands};
+use crate::asked::{Asked, Carrier, OneText, TwoTexts};
+use crate::table::{COMPLETE, LINK, Row, Word, commands};
 use clap::builder::ValueParser;
-use clap::{Arg, Command};
+use clap::{Arg, ArgAction, Command};
 use std::alloc::{AllocError, Global};
 
 const VERSION: &str = "1.0.0";
@@ -77,6 +77,53 @@ fn with_link<'a>(
     command.arg(arg)
 }
 
+// The command with the option that asks for a complete session.
+fn with_complete<'a>(alloc: Global, command: Command<'a>) -> Result<Command<'a>, AllocError>
+    requires { (fields_of command).has_globals ≡ false }
+    ensures app { IfOk result (λ c. app_of c ≡ with_demand (app_of command.entry)) }
+    ensures local { IfOk result (λ c. (fields_of c).has_globals ≡ false) }
+{
+    let arg = Arg::new(alloc, COMPLETE)
+        .long(COMPLETE)
+        .action(ArgAction::SetTrue)
+        .help(
+            "All is well only where the session is of a whole migration, from the halt to the end",
+        );
+    command.arg(arg)
+}
+
+// The command on one text, with its option where it has one.
+fn with_one<'a>(
+    alloc: Global,
+    command: Command<'a>,
+    task: OneText,
+) -> Result<Command<'a>, AllocError>
+    requires { (fields_of command).has_globals ≡ false }
+    ensures app { IfOk result (λ c. app_of c ≡ with_one task (app_of command.entry)) }
+    ensures local { IfOk result (λ c. (fields_of c).has_globals ≡ false) }
+{
+    match task {
+        OneText::Audit(_) => with_complete(alloc, command),
+        OneText::Certify | OneText::Explain => Ok(command),
+    }
+}
+
+// The command on two texts, with its option where it has one.
+fn with_two<'a>(
+    alloc: Global,
+    command: Command<'a>,
+    task: TwoTexts,
+) -> Result<Command<'a>, AllocError>
+    requires { (fields_of command).has_globals ≡ false }
+    ensures app { IfOk result (λ c. app_of c ≡ with_two task (app_of command.entry)) }
+    ensures local { IfOk result (λ c. (fields_of c).has_globals ≡ false) }
+{
+    match task {
+        TwoTexts::Check(_) => with_complete(alloc, command),
+        TwoTexts::Replay | TwoTexts::Steps => Ok(command),
+    }
+}
+
 // The command of a row, where this parser reads the name of a carrier.
 fn command_of<'a>(
     alloc: Global,
@@ -88,10 +135,14 @@ fn command_of<'a>(
 {
     let command = Command::new(alloc, row.name).about(row.about);
     match &row.asked {
-        Asked::One(_, word) => with_word(alloc, command, word),
-        Asked::Two(_, first, second) => {
+        Asked::One(task, word) => {
+            let command = with_word(alloc, command, word)?;
+            with_one(alloc, command, *task)
+        }
+        Asked::Two(task, first, second) => {
             let command = with_word(alloc, command, first)?;
-            with_word(alloc, command, second)
+            let command = with_word(alloc, command, second)?;
+            with_two(alloc, command, *task)
         }
         Asked::Migrate(carrier, word) => {
             let command = with_word(alloc, command, word)?;

@@ -3,12 +3,12 @@
 ghost use Rattle.std.specs.Prelude.{◌≡◌, IfOk, IfErr, option_and_then, option_map, true, find};
 ghost use Rattle.std.specs.Str.{bytes_eq};
 ghost use Rattle.command_words.specs.Table.{asked_names, further_name, word_names};
-ghost use Rattle.command_words.specs.Words.{asked, asked_in, carrier_in, further_in, given_in, postcopy_words, word_texts};
+ghost use Rattle.command_words.specs.Words.{asked, asked_in, carrier_in, demand_in, further_in, given_in, one_in, postcopy_words, two_in, word_texts};
 ghost use Rattle.clap.specs.Words.{first_of, found_of, kind_of, rows_of, takes, subcommand_rows_of};
 
-use crate::asked::{Asked, Carrier, Job};
+use crate::asked::{Asked, Carrier, Demand, Job, OneText, TwoTexts};
 use crate::building::command_line;
-use crate::table::{LINK, Row, Word, carrier_named, carrier_names, commands};
+use crate::table::{COMPLETE, LINK, Row, Word, carrier_named, carrier_names, commands};
 use clap::ArgMatches;
 use clap::builder::ValueParser;
 use clap::error::ErrorKind;
@@ -31,6 +31,40 @@ fn carrier_given(otherwise: Carrier, matches: &ArgMatches<'_>) -> Carrier
     }
 }
 
+// What is asked of a session: that it is complete where the option was given, or else this.
+fn demand_given(otherwise: Demand, matches: &ArgMatches<'_>) -> Demand
+    ensures { result ≡ demand_in (rows_of (found_of matches.now)) otherwise }
+{
+    match name_given(COMPLETE, matches) {
+        Some(given) => if given == "true" {
+            Demand::Completeness
+        } else {
+            otherwise
+        },
+        None => otherwise,
+    }
+}
+
+// A command on one text, with what is asked of it.
+fn one_given(task: OneText, matches: &ArgMatches<'_>) -> OneText
+    ensures { result ≡ one_in (rows_of (found_of matches.now)) task }
+{
+    match task {
+        OneText::Audit(demand) => OneText::Audit(demand_given(demand, matches)),
+        OneText::Certify | OneText::Explain => task,
+    }
+}
+
+// A command on two texts, with what is asked of them.
+fn two_given(task: TwoTexts, matches: &ArgMatches<'_>) -> TwoTexts
+    ensures { result ≡ two_in (rows_of (found_of matches.now)) task }
+{
+    match task {
+        TwoTexts::Check(demand) => TwoTexts::Check(demand_given(demand, matches)),
+        TwoTexts::Replay | TwoTexts::Steps => task,
+    }
+}
+
 // What was given for a word that may be there.
 fn further_given<'a>(word: &Option<Word>, matches: &ArgMatches<'a>) -> Option<&'a str>
     ensures { option_map (λ name. name.now) result ≡ further_in (rows_of (found_of matches.now)) (further_name word.now) }
@@ -48,12 +82,12 @@ fn given<'a>(asks: &Asked<Word>, matches: &ArgMatches<'a>) -> Option<Job<'a>>
     match asks {
         Asked::One(task, word) => {
             let name = name_given(word.name, matches)?;
-            Some(Asked::One(*task, name))
+            Some(Asked::One(one_given(*task, matches), name))
         }
         Asked::Two(task, first, second) => {
             let first = name_given(first.name, matches)?;
             let second = name_given(second.name, matches)?;
-            Some(Asked::Two(*task, first, second))
+            Some(Asked::Two(two_given(*task, matches), first, second))
         }
         Asked::Migrate(carrier, word) => {
             let name = name_given(word.name, matches)?;

@@ -3,7 +3,7 @@
 ghost use Rattle.std.specs.Prelude.{◌≡◌, map};
 ghost use Rattle.command_words.specs.Table.{carriers, carrier_name, carrier_named, rows_of, table};
 
-use crate::asked::{Asked, Carrier, OneText, TwoTexts};
+use crate::asked::{Asked, Carrier, Demand, OneText, TwoTexts};
 
 /// A word of the command line that names a text.
 #[derive(Clone, Copy)]
@@ -51,6 +51,9 @@ const EVENTS: Word = Word {
 /// The option that names what carries a migration.
 pub const LINK: &str = "link";
 
+/// The option that asks for a complete session.
+pub const COMPLETE: &str = "complete";
+
 static CARRIERS: [Carrier; 2] = [Carrier::Memory, Carrier::Tcp];
 
 static CARRIER_NAMES: [&str; 2] = ["memory", "tcp"];
@@ -76,7 +79,7 @@ static COMMANDS: [Row; 8] = [
     Row {
         name: "check",
         about: "Judges the certificate of a session, as in: postcopy check session cert",
-        asked: Asked::Two(TwoTexts::Check, SESSION, CERT),
+        asked: Asked::Two(TwoTexts::Check(Demand::Safety), SESSION, CERT),
     },
     Row {
         name: "certify",
@@ -86,7 +89,7 @@ static COMMANDS: [Row; 8] = [
     Row {
         name: "audit",
         about: "Writes the report on a session, as in: postcopy audit session",
-        asked: Asked::One(OneText::Audit, SESSION),
+        asked: Asked::One(OneText::Audit(Demand::Safety), SESSION),
     },
     Row {
         name: "explain",

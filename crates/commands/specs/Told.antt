@@ -2,6 +2,7 @@
 use Rattle.std.specs.Prelude.{ℕ, List, Option, Some, None}
 use Rattle.command_words.specs.declared.asked.Asked.{Asked}
 use Rattle.command_words.specs.declared.asked.Asked.TheVariants.{One, Two, Migrate, Draw}
+use Rattle.command_words.specs.declared.asked.Demand.TheVariants.{Safety, Completeness}
 use Rattle.command_words.specs.declared.asked.OneText.{OneText}
 use Rattle.command_words.specs.declared.asked.OneText.TheVariants.{Certify, Audit, Explain}
 use Rattle.command_words.specs.declared.asked.TwoTexts.{TwoTexts}
@@ -9,6 +10,7 @@ use Rattle.command_words.specs.declared.asked.TwoTexts.TheVariants.{Check, Repla
 use Rattle.judged_texts.specs.declared.wanted.Wanted.TheVariants as wanted
 use Rattle.command_texts.specs.Told.{AreNamed, IsNamed, Tells}
 use Rattle.judge_commands.specs.Answers.{IsAuditAnswer, IsVerdictAnswer}
+use Rattle.judge_commands.specs.Completed.{IsCompleteAuditAnswer, IsCompleteVerdictAnswer}
 use Rattle.judge_commands.specs.Replayed.{IsReplayAnswer}
 use Rattle.host_commands.specs.Steps.{IsStepsAnswer}
 use Rattle.host_commands.specs.Migrations.{IsMigrateAnswer}
@@ -18,12 +20,14 @@ use Rattle.commands.specs.Explained.{IsExplainAnswer}
 -- the answer of a command on one text
 abbrev pub IsOneAnswer : OneText → List ℕ → List ℕ → ℕ → Type 0
 IsOneAnswer Certify session = IsAuditAnswer wanted.Certificate session
-IsOneAnswer Audit session = IsAuditAnswer wanted.Report session
+IsOneAnswer (Audit Safety) session = IsAuditAnswer wanted.Report session
+IsOneAnswer (Audit Completeness) session = IsCompleteAuditAnswer session
 IsOneAnswer Explain session = IsExplainAnswer session
 
 -- the answer of a command on two texts
 abbrev pub IsTwoAnswer : TwoTexts → List ℕ × List ℕ → List ℕ → ℕ → Type 0
-IsTwoAnswer Check texts = IsVerdictAnswer texts.0 texts.1
+IsTwoAnswer (Check Safety) texts = IsVerdictAnswer texts.0 texts.1
+IsTwoAnswer (Check Completeness) texts = IsCompleteVerdictAnswer texts.0 texts.1
 IsTwoAnswer Replay texts = IsReplayAnswer texts.0 texts.1
 IsTwoAnswer Steps texts = IsStepsAnswer texts.0 texts.1
 

@@ -8,19 +8,100 @@ ghost use Rattle.commands.specs.Told.{IsOneAnswer, IsTwoAnswer, TellsAsked};
 
 use crate::drawing::{DrawAlongCommand, DrawCommand};
 use crate::explaining::ExplainCommand;
-use command_texts::{Fault, TextSource, perform_one, perform_two, read_named, written};
-use command_words::{Asked, Carrier, Job, OneText, TwoTexts};
-use host_commands::{StepsCommand, migrate_text};
-use judge_commands::{AuditCommand, CheckCommand, ReplayCommand};
+use command_texts::{
+    Fault, Gathered, Telling, TextSource, perform_one, perform_two, read_named, tell_why, written,
+};
+use command_words::{Asked, Carrier, Demand, Job, OneText, TwoTexts};
+use host_commands::{StepsCommand, migrate_read};
+use judge_commands::{
+    AuditCommand, CheckCommand, CompleteAuditCommand, CompleteCheckCommand, ReplayCommand,
+};
 use judged_texts::Wanted;
+use script_text::ScriptParts;
 use std::alloc::Global;
 use std::io::{Read, Write};
 use std::net::{Net, TcpListener, TcpStream};
 use std::sync::Wait;
 use std::thread::Threads;
 
+// Audits the session under a name, of which this is asked.
+fn asked_audit<'a, R: Threads + Sync, S: TextSource, I: Read + Send, O: Write, E: Write>(
+    rt: &R,
+    alloc: Global,
+    demand: Demand,
+    name: &'a str,
+    texts: &S,
+    input: &mut I,
+    output: &mut O,
+    errors: &mut E,
+) -> Result<u8, Fault<'a>>
+    ensures few { IfOk result (λ status. status < 2) }
+    ensures told { IfOk result (Tells (IsNamed name.entry.now (S.bytes_of texts.now) (I.remaining input.old)) (IsOneAnswer (OneText.Audit demand)) (O.contents output.old) (O.contents output.new)) }
+{
+    match demand {
+        Demand::Safety => {
+            let command = AuditCommand {
+                rt,
+                wanted: Wanted::Report,
+            };
+            perform_one(rt, alloc, &command, name, texts, input, output, errors)
+        }
+        Demand::Completeness => perform_one(
+            rt,
+            alloc,
+            &CompleteAuditCommand { rt },
+            name,
+            texts,
+            input,
+            output,
+            errors,
+        ),
+    }
+}
+
+// Judges the session and the certificate under two names, where this is asked of the session.
+fn asked_check<'a, R: Threads + Sync, S: TextSource, I: Read + Send, O: Write, E: Write>(
+    rt: &R,
+    alloc: Global,
+    demand: Demand,
+    first: &'a str,
+    second: &'a str,
+    texts: &S,
+    input: &mut I,
+    output: &mut O,
+    errors: &mut E,
+) -> Result<u8, Fault<'a>>
+    ensures few { IfOk result (λ status. status < 2) }
+    ensures told { IfOk result (Tells (AreNamed first.entry.now second.entry.now (S.bytes_of texts.now) (I.remaining input.old)) (IsTwoAnswer (TwoTexts.Check demand)) (O.contents output.old) (O.contents output.new)) }
+{
+    match demand {
+        Demand::Safety => perform_two(
+            rt,
+            alloc,
+            &CheckCommand { rt },
+            first,
+            second,
+            texts,
+            input,
+            output,
+            errors,
+        ),
+        Demand::Completeness => perform_two(
+            rt,
+            alloc,
+            &CompleteCheckCommand { rt },
+            first,
+            second,
+            texts,
+            input,
+            output,
+            errors,
+        ),
+    }
+}
+
 // Does a command on the text under a name.
-fn asked_one<'a, R: Threads + Sync, S: TextSource, I: Read + Send, O: Write>(
+fn asked_one<'a, R: Threads + Sync, S: TextSource, I: Read + Send, O: Write, E: Write>(
     rt: &R,
     alloc: Global,
     task: OneText,
@@ -28,6 +109,7 @@ fn asked_one<'a, R: Threads + Sync, S: TextSource, I: Read + Send, O: Write>(
     texts: &S,
     input: &mut I,
     output: &mut O,
+    errors: &mut E,
 ) -> Result<u8, Fault<'a>>
     ensures few { IfOk result (λ status. status < 2) }
     ensures told { IfOk result (Tells (IsNamed name.entry.now (S.bytes_of texts.now) (I.remaining input.old)) (IsOneAnswer task) (O.contents output.old) (O.contents output.new)) }
@@ -38,15 +120,11 @@ fn asked_one<'a, R: Threads + Sync, S: TextSource, I: Read + Send, O: Write>(
                 rt,
                 wanted: Wanted::Certificate,
             };
-            perform_one(rt, alloc, &command, name, texts, input, output)
+            perform_one(rt, alloc, &command, name, texts, input, output, errors)
         }
-        OneText::Audit => {
-            let command = AuditCommand {
-                rt,
-                wanted: Wanted::Report,
-            };
-            perform_one(rt, alloc, &command, name, texts, input, output)
-        }
+        OneText::Audit(demand) => asked_audit(
+            rt, alloc, demand, name, texts, input, output, errors,
+        ),
         OneText::Explain => perform_one(
             rt,
             alloc,
@@ -55,12 +133,13 @@ fn asked_one<'a, R: Threads + Sync, S: TextSource, I: Read + Send, O: Write>(
             texts,
             input,
             output,
+            errors,
         ),
     }
 }
 
 // Does a command on the texts under two names, read in this order.
-fn asked_two<'a, R: Threads + Sync, S: TextSource, I: Read + Send, O: Write>(
+fn asked_two<'a, R: Threads + Sync, S: TextSource, I: Read + Send, O: Write, E: Write>(
     rt: &R,
     alloc: Global,
     task: TwoTexts,
@@ -69,21 +148,17 @@ fn asked_two<'a, R: Threads + Sync, S: TextSource, I: Read + Send, O: Write>(
     texts: &S,
     input: &mut I,
     output: &mut O,
+    errors: &mut E,
 ) -> Result<u8, Fault<'a>>
     ensures few { IfOk result (λ status. status < 2) }
     ensures told { IfOk result (Tells (AreNamed first.entry.now second.entry.now (S.bytes_of texts.now) (I.remaining input.old)) (IsTwoAnswer task) (O.contents output.old) (O.contents output.new)) }
 {
     match task {
-        TwoTexts::Check => perform_two(
-            rt,
-            alloc,
-            &CheckCommand { rt },
-            first,
-            second,
-            texts,
-            input,
-            output,
-        ),
+        TwoTexts::Check(demand) => {
+            asked_check(
+                rt, alloc, demand, first, second, texts, input, output, errors,
+            )
+        }
         TwoTexts::Replay => perform_two(
             rt,
             alloc,
@@ -93,6 +168,7 @@ fn asked_two<'a, R: Threads + Sync, S: TextSource, I: Read + Send, O: Write>(
             texts,
             input,
             output,
+            errors,
         ),
         TwoTexts::Steps => perform_two(
             rt,
@@ -103,6 +179,7 @@ fn asked_two<'a, R: Threads + Sync, S: TextSource, I: Read + Send, O: Write>(
             texts,
             input,
             output,
+            errors,
         ),
     }
 }
@@ -114,6 +191,7 @@ fn asked_migrate<
     S: TextSource,
     I: Read + Send,
     O: Write,
+    E: Write,
 >(
     rt: &R,
     alloc: Global,
@@ -122,17 +200,23 @@ fn asked_migrate<
     texts: &S,
     input: &mut I,
     output: &mut O,
+    errors: &mut E,
 ) -> Result<u8, Fault<'a>>
     ensures few { IfOk result (λ status. status < 2) }
     ensures told { IfOk result (Tells (IsNamed name.entry.now (S.bytes_of texts.now) (I.remaining input.old)) IsMigrateAnswer (O.contents output.old) (O.contents output.new)) }
 {
-    let script = read_named::<Vec<u8>, R, S, I>(rt, alloc, name, texts, input)?;
-    let answer = migrate_text(rt, alloc, carrier, &script)?;
-    written(&answer, output)
+    let mut why = None;
+    let script = read_named::<Gathered<ScriptParts>, R, S, I>(
+        rt, alloc, name, texts, input, &mut why,
+    )?;
+    let answer = migrate_read(rt, alloc, carrier, &script)?;
+    let status = written(&answer, output);
+    tell_why(alloc, &why, Telling::Short, &status, errors);
+    status
 }
 
 // Draws the session under a name, along the runs under a further one where there is one.
-fn asked_draw<'a, R: Threads + Sync, S: TextSource, I: Read + Send, O: Write>(
+fn asked_draw<'a, R: Threads + Sync, S: TextSource, I: Read + Send, O: Write, E: Write>(
     rt: &R,
     alloc: Global,
     name: &'a str,
@@ -140,12 +224,22 @@ fn asked_draw<'a, R: Threads + Sync, S: TextSource, I: Read + Send, O: Write>(
     texts: &S,
     input: &mut I,
     output: &mut O,
+    errors: &mut E,
 ) -> Result<u8, Fault<'a>>
     ensures few { IfOk result (λ status. status < 2) }
     ensures told { IfOk result (TellsAsked (asked_names (Asked.Draw name.entry further.entry)) (S.bytes_of texts.now) (I.remaining input.old) (O.contents output.old) (O.contents output.new)) }
 {
     match further {
-        None => perform_one(rt, alloc, &DrawCommand { rt }, name, texts, input, output),
+        None => perform_one(
+            rt,
+            alloc,
+            &DrawCommand { rt },
+            name,
+            texts,
+            input,
+            output,
+            errors,
+        ),
         Some(second) => perform_two(
             rt,
             alloc,
@@ -155,6 +249,7 @@ fn asked_draw<'a, R: Threads + Sync, S: TextSource, I: Read + Send, O: Write>(
             texts,
             input,
             output,
+            errors,
         ),
     }
 }
@@ -166,6 +261,7 @@ pub fn perform<
     S: TextSource,
     I: Read + Send,
     O: Write,
+    E: Write,
 >(
     rt: &R,
     alloc: Global,
@@ -173,18 +269,21 @@ pub fn perform<
     texts: &S,
     input: &mut I,
     output: &mut O,
+    errors: &mut E,
 ) -> Result<u8, Fault<'a>>
     ensures few { IfOk result (λ status. status < 2) }
     ensures told { IfOk result (TellsAsked (asked_names job.entry) (S.bytes_of texts.now) (I.remaining input.old) (O.contents output.old) (O.contents output.new)) }
 {
     match job {
-        Asked::One(task, name) => asked_one(rt, alloc, task, name, texts, input, output),
+        Asked::One(task, name) => asked_one(rt, alloc, task, name, texts, input, output, errors),
         Asked::Two(task, first, second) => {
-            asked_two(rt, alloc, task, first, second, texts, input, output)
+            asked_two(rt, alloc, task, first, second, texts, input, output, errors)
         }
         Asked::Migrate(carrier, name) => {
-            asked_migrate(rt, alloc, carrier, name, texts, input, output)
+            asked_migrate(rt, alloc, carrier, name, texts, input, output, errors)
         }
-        Asked::Draw(name, further) => asked_draw(rt, alloc, name, further, texts, input, output),
+        Asked::Draw(name, further) => asked_draw(
+            rt, alloc, name, further, texts, input, output, errors,
+        ),
     }
 }

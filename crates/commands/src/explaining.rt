@@ -7,7 +7,7 @@ ghost use Rattle.session_text.specs.Grammar.{SpellsSession};
 ghost use Rattle.commands.specs.Explained.{IsExplainAnswer, TellsReport};
 
 use audit_report::audit;
-use command_texts::{Answer, Given, OnOne, REFUSED, given};
+use command_texts::{Answer, Given, OnOne, REFUSED, Telling, given};
 use judge_commands::report_status;
 use migration_types::Session;
 use session_story::{print_explained, print_refused};
@@ -60,6 +60,10 @@ impl<R: Threads + Sync> OnOne for ExplainCommand<'_, R> {
     ghost ready = { IsSync R.row };
 
     ghost is_answer = { λ _. IsExplainAnswer };
+
+    fn telling(&self) -> Telling {
+        Telling::Full
+    }
 
     fn answer(&self, alloc: Global, session: &Result<Session, u32>) -> Given {
         given(explain_read(self.rt, alloc, session))

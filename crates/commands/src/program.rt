@@ -10,7 +10,7 @@ ghost use Rattle.commands.specs.Told.{IsTwoAnswer, TellsAsked};
 use crate::answering::perform;
 use clap::error::ErrorKind;
 use command_texts::{Fault, TextSource, USAGE, perform_two, tell};
-use command_words::{TwoTexts, read_words};
+use command_words::{Demand, TwoTexts, read_words};
 use judge_commands::CheckCommand;
 use std::alloc::Global;
 use std::io::{Read, Write};
@@ -19,15 +19,16 @@ use std::sync::Wait;
 use std::thread::Threads;
 
 // Judges the two texts of the input.
-fn check_input<R: Threads + Sync, S: TextSource, I: Read + Send, O: Write>(
+fn check_input<R: Threads + Sync, S: TextSource, I: Read + Send, O: Write, E: Write>(
     rt: &R,
     alloc: Global,
     texts: &S,
     input: &mut I,
     output: &mut O,
+    errors: &mut E,
 ) -> Result<u8, Fault<'static>>
     ensures few { IfOk result (λ status. status < 2) }
-    ensures told { IfOk result (Tells (AreOfInput (I.remaining input.old)) (IsTwoAnswer TwoTexts.Check) (O.contents output.old) (O.contents output.new)) }
+    ensures told { IfOk result (Tells (AreOfInput (I.remaining input.old)) (IsTwoAnswer (TwoTexts.Check Demand.Safety)) (O.contents output.old) (O.contents output.new)) }
 {
     perform_two(
         rt,
@@ -38,6 +39,7 @@ fn check_input<R: Threads + Sync, S: TextSource, I: Read + Send, O: Write>(
         texts,
         input,
         output,
+        errors,
     )
 }
 
@@ -75,7 +77,7 @@ fn refuse<O: Write, E: Write>(error: clap::Error, output: &mut O, errors: &mut E
 /// The first of the words is the program's own name; with no other it checks the two texts of the input. The status is
 /// 0 where all is well or help was asked for, 1 for another answer, 2 where the words are no command, 3 where a text was
 /// not read whole, has more than 268,435,456 bytes or takes too many reads, where a migration's link failed, or the output
-/// was not written, and 4 where memory ran out. At 2 to 4 the errors tell why. The texts are read in the order of the words,
+/// was not written, and 4 where memory ran out. At 2 to 4 the errors tell why, and where a text is refused. The texts are read in the order of the words,
 /// and both before an answer is sought.
 ///
 /// The handle starts and joins threads, and opens the connection of a migration over TCP. Nothing is promised of when a
@@ -97,17 +99,20 @@ pub fn run<
 ) -> u8
     ensures known { result ≤ 4 }
     ensures bare_usage { length words.entry.now ≤ 1 → result ≢ 2 }
-    ensures bare { length words.entry.now ≤ 1 → result < 2 → Tells (AreOfInput (I.remaining input.old)) (IsTwoAnswer TwoTexts.Check) (O.contents output.old) (O.contents output.new) result }
+    ensures bare { length words.entry.now ≤ 1 → result < 2 → Tells (AreOfInput (I.remaining input.old)) (IsTwoAnswer (TwoTexts.Check Demand.Safety)) (O.contents output.old) (O.contents output.new) result }
     ensures usage { takes postcopy_words (word_texts words.entry.now) ≡ true → result ≢ 2 }
     ensures told { takes postcopy_words (word_texts words.entry.now) ≡ true → result < 2 → IfSome (asked (word_texts words.entry.now)) (λ job. TellsAsked job (S.bytes_of texts.now) (I.remaining input.old) (O.contents output.old) (O.contents output.new) result) }
     ensures plain { (name : List ℕ) (names : List (List ℕ)) → IsPlain (word_texts words.entry.now) name names → IfSome (asked_by name names) (λ job. (result ≢ 2) × (result < 2 → TellsAsked job (S.bytes_of texts.now) (I.remaining input.old) (O.contents output.old) (O.contents output.new) result)) }
 {
     if words.len() <= 1 {
-        return settle(check_input(rt, alloc, texts, input, output), errors);
+        return settle(check_input(rt, alloc, texts, input, output, errors), errors);
     }
     match read_words(alloc, words) {
-        Ok(Some(job)) => settle(perform(rt, alloc, job, texts, input, output), errors),
-        Ok(None) => settle(check_input(rt, alloc, texts, input, output), errors),
+        Ok(Some(job)) => settle(
+            perform(rt, alloc, job, texts, input, output, errors),
+            errors,
+        ),
+        Ok(None) => settle(check_input(rt, alloc, texts, input, output, errors), errors),
         Err(error) => refuse(error, output, errors),
     }
 }

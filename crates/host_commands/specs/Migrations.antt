@@ -2,7 +2,8 @@
 use Rattle.std.specs.Prelude.{◌≡◌, ℕ, List, ◌++◌, codes}
 use Rattle.text_lines.specs.Text.{ended, IsSpelling, IsRefusalLine}
 use Rattle.migration_types.specs.Certs.{Certified, IsCert}
-use Rattle.migration_types.specs.Sessions.{Recorded, IsSession}
+use Rattle.migration_types.specs.declared.session.Logs.{Logs}
+use Rattle.migration_types.specs.Sessions.{Recorded, recorded, IsSession}
 use Rattle.session_text.specs.Grammar.{session_lines}
 use Rattle.cert_text.specs.Grammar.{cert_lines}
 use Rattle.audit_model.specs.Mergings.{spelled}
@@ -44,12 +45,12 @@ pub data Migration : Type 0 where
   TranscriptDiffers : Migration
   Records : Recorded → Certified → Migration
 
--- What becomes of the text. Of a run that was refused nothing is told but the report. What was recorded is within all
+-- What becomes of the text. Of a run that was refused nothing is told but the report, which is on a session of the script. What was recorded is within all
 -- limits, so that its text is read.
 abbrev pub IsMigration : List ℕ → Migration → Type 0
 IsMigration script (ScriptText line) = IsRefusalLine SpellsScript script line
 IsMigration script LogFull = (s : Scenario) × IsSpelling SpellsScript s script
-IsMigration script (AuditRefused report) = (s : Scenario) × IsSpelling SpellsScript s script × (session : Recorded) × IsReport session report × ¬ IsClean report
+IsMigration script (AuditRefused report) = (s : Scenario) × IsSpelling SpellsScript s script × (logs : Logs) × IsReport (recorded s.version s.geometry s.init logs) report × ¬ IsClean report
 IsMigration script TranscriptDiffers = (s : Scenario) × IsSpelling SpellsScript s script
 IsMigration script (Records session cert) = (s : Scenario) × IsSpelling SpellsScript s script × IsMigrationOf s session cert × IsSession session × IsCert cert
 

@@ -4,5 +4,5 @@
 mod migrating;
 mod stepping;
 
-pub use migrating::migrate_text;
+pub use migrating::migrate_read;
 pub use stepping::StepsCommand;

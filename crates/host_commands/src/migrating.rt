@@ -1,7 +1,7 @@
 //! The migration of a script, as a text and a status.
 
 ghost use Rattle.std.specs.Prelude.{ℕ, List, IfOk, IfErr};
-ghost use Rattle.text_lines.specs.Answer.{Refused};
+ghost use Rattle.text_lines.specs.Answer.{IsRead};
 ghost use Rattle.text_lines.specs.Text.{IsSpelling};
 ghost use Rattle.audit_report.specs.Reports.{ReportFits};
 ghost use Rattle.report_text.specs.ReportText.{report_text};
@@ -18,13 +18,11 @@ use command_words::Carrier;
 use host_threads::{Migrated, Open, RunFault, migrate, migrate_tcp};
 use report_text::print_report;
 use script::Script;
-use script_text::read_script;
 use session_text::write_session;
 use std::alloc::{AllocError, Global};
 use std::net::{Net, TcpListener, TcpStream};
 use std::sync::Wait;
 use std::thread::Threads;
-use text_lines::TextFault;
 
 /// Runs the migration of a script over a carrier.
 fn carried<R: Threads + Wait + Sync + Net<Listener = TcpListener, Stream = TcpStream>>(
@@ -34,7 +32,7 @@ fn carried<R: Threads + Wait + Sync + Net<Listener = TcpListener, Stream = TcpSt
     script: &Script,
 ) -> Result<Migrated, RunFault>
     ensures migrated { IfOk result (λ m. IsMigrationOf script.now m.session m.cert) }
-    ensures refused { IfErr result IsRunFault }
+    ensures refused { IfErr result (IsRunFault script.now) }
 {
     match carrier {
         Carrier::Memory => migrate(rt, alloc, script, &Open),
@@ -69,8 +67,8 @@ fn reported(alloc: Global, report: &Report) -> Result<Answer, AllocError>
 
 /// The answer to a run that was refused.
 fn stopped(alloc: Global, fault: &RunFault) -> Result<Answer, Fault<'static>>
-    requires { IsRunFault fault.now }
-    ensures { (s : Scenario) (text : List ℕ) → IsSpelling SpellsScript s text → IfOk result (λ answer. IsMigrateAnswer text answer.text.items answer.status) }
+    requires { (s : Scenario) × IsRunFault s fault.now }
+    ensures { (s : Scenario) (text : List ℕ) → IsRunFault s fault.now → IsSpelling SpellsScript s text → IfOk result (λ answer. IsMigrateAnswer text answer.text.items answer.status) }
 {
     match fault {
         RunFault::LogFull => given(remark(alloc, b"log-full")),
@@ -100,25 +98,18 @@ fn answer_to<R: Threads + Wait + Sync + Net<Listener = TcpListener, Stream = Tcp
     }
 }
 
-/// The answer to a script's text that is not read.
-fn unread(alloc: Global, fault: TextFault) -> Result<Answer, AllocError>
-    ensures { (text : List ℕ) → Refused SpellsScript text fault.line fault.kind → IfOk result (λ answer. IsMigrateAnswer text answer.text.items answer.status) }
-{
-    refused(alloc, b"script-text line ", fault.refused_line()?)
-}
-
-/// `migrate`: what becomes of a script, by its text. Its migration is run in threads over this carrier, with a gate that
-/// never waits. The faults: there is no memory, or the link failed.
-pub fn migrate_text<R: Threads + Wait + Sync + Net<Listener = TcpListener, Stream = TcpStream>>(
+/// `migrate`: what becomes of a script, by what was read of its text. Its migration is run in threads over this carrier, with a
+/// gate that never waits. The faults: there is no memory, or the link failed.
+pub fn migrate_read<R: Threads + Wait + Sync + Net<Listener = TcpListener, Stream = TcpStream>>(
     rt: &R,
     alloc: Global,
     carrier: Carrier,
-    script: &[u8],
+    script: &Result<Script, u32>,
 ) -> Result<Answer, Fault<'static>>
-    ensures { IfOk result (λ answer. IsMigrateAnswer script.now answer.text.items answer.status) }
+    ensures { (text : List ℕ) → IsRead SpellsScript text script.now → IfOk result (λ answer. IsMigrateAnswer text answer.text.items answer.status) }
 {
-    match read_script(alloc, script) {
-        Ok(script) => answer_to(rt, alloc, carrier, &script),
-        Err(fault) => given(unread(alloc, fault)),
+    match script {
+        Ok(script) => answer_to(rt, alloc, carrier, script),
+        Err(line) => given(refused(alloc, b"script-text line ", *line)),
     }
 }

@@ -1,6 +1,7 @@
 //! The session that events record of a script, as a text and a status.
 
-ghost use Rattle.std.specs.Prelude.{◌≡◌, ℕ, List, IfOk};
+ghost use Rattle.std.specs.Prelude.{ℕ, List, IfOk};
+ghost use Rattle.text_lines.specs.Answer.{IsRead};
 ghost use Rattle.text_lines.specs.Text.{ended, IsSpelling};
 ghost use Rattle.session_text.specs.Grammar.{session_lines};
 ghost use Rattle.script_text.specs.Events.{SpellsEvents};
@@ -8,11 +9,11 @@ ghost use Rattle.script_text.specs.Scripts.{SpellsScript};
 ghost use Rattle.command_texts.specs.Answers.{Says};
 ghost use Rattle.host_commands.specs.Steps.{IsStepsAnswer};
 
-use command_texts::{ACCEPTED, Answer, Given, OnTwo, given, refused, remark};
+use command_texts::{ACCEPTED, Answer, Gathered, Given, OnTwo, given, refused, remark};
 use migration_events::Event;
-use migration_types::Session;
+use migration_types::{Seq, Session};
 use script::Script;
-use script_text::{read_events, read_script};
+use script_text::{EventParts, ScriptParts};
 use session_core::{CoreFault, run};
 use session_text::write_session;
 use std::alloc::{AllocError, Global};
@@ -39,31 +40,32 @@ fn answer_to(alloc: Global, script: &Script, events: &[Event]) -> Result<Answer,
     }
 }
 
-/// What becomes of a script, whatever its text is, with the text of events.
-fn with_events(alloc: Global, script: &Script, events: &[u8]) -> Result<Answer, AllocError>
-    ensures { (first : List ℕ) → IsSpelling SpellsScript script.now first → IfOk result (λ answer. IsStepsAnswer first events.now answer.text.items answer.status) }
+/// What becomes of a script, whatever its text is, with what was read of the text of events.
+fn with_events(
+    alloc: Global,
+    script: &Script,
+    events: &Result<Seq<Event>, u32>,
+) -> Result<Answer, AllocError>
+    ensures { (first second : List ℕ) → IsSpelling SpellsScript script.now first → IsRead SpellsEvents second events.now → IfOk result (λ answer. IsStepsAnswer first second answer.text.items answer.status) }
 {
-    match read_events(alloc, events) {
+    match events {
         Ok(events) => answer_to(alloc, script, events.as_slice()),
-        Err(fault) => refused(alloc, b"events-text line ", fault.refused_line()?),
+        Err(line) => refused(alloc, b"events-text line ", *line),
     }
 }
 
-/// What becomes of a script with events, by their texts.
-fn steps_texts(alloc: Global, script: &[u8], events: &[u8]) -> Result<Answer, AllocError>
-    ensures { IfOk result (λ answer. IsStepsAnswer script.now events.now answer.text.items answer.status) }
+/// What becomes of a script with events, by what was read of their texts.
+fn steps_read(
+    alloc: Global,
+    script: &Result<Script, u32>,
+    events: &Result<Seq<Event>, u32>,
+) -> Result<Answer, AllocError>
+    ensures { (first second : List ℕ) → IsRead SpellsScript first script.now → IsRead SpellsEvents second events.now → IfOk result (λ answer. IsStepsAnswer first second answer.text.items answer.status) }
 {
-    match read_script(alloc, script) {
-        Ok(script) => with_events(alloc, &script, events),
-        Err(fault) => refused(alloc, b"script-text line ", fault.refused_line()?),
+    match script {
+        Ok(script) => with_events(alloc, script, events),
+        Err(line) => refused(alloc, b"script-text line ", *line),
     }
-}
-
-/// What becomes of a script with events, by what was read of their texts, which is all of them.
-fn steps_read(alloc: Global, script: &Vec<u8>, events: &Vec<u8>) -> Result<Answer, AllocError>
-    ensures { (first second : List ℕ) → script.now.items ≡ first → events.now.items ≡ second → IfOk result (λ answer. IsStepsAnswer first second answer.text.items answer.status) }
-{
-    steps_texts(alloc, script, events)
 }
 
 /// `steps`: the session that events record of a script.
@@ -71,13 +73,18 @@ fn steps_read(alloc: Global, script: &Vec<u8>, events: &Vec<u8>) -> Result<Answe
 pub struct StepsCommand;
 
 impl OnTwo for StepsCommand {
-    type First = Vec<u8>;
+    type First = Gathered<ScriptParts>;
 
-    type Second = Vec<u8>;
+    type Second = Gathered<EventParts>;
 
     ghost is_answer = { λ _ texts. IsStepsAnswer texts.0 texts.1 };
 
-    fn answer(&self, alloc: Global, script: &Vec<u8>, events: &Vec<u8>) -> Given {
+    fn answer(
+        &self,
+        alloc: Global,
+        script: &Result<Script, u32>,
+        events: &Result<Seq<Event>, u32>,
+    ) -> Given {
         given(steps_read(alloc, script, events))
     }
 }

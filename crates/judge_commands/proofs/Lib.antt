@@ -1,3 +1,4 @@
 pub mod Statuses
 pub mod Closed
 pub mod Judged
+pub mod Lacking

@@ -12,7 +12,7 @@ use Rattle.judged_texts.specs.declared.replaying.Outcome.TheVariants as outcome
 use Rattle.judge_commands.specs.Answers.{IsAuditAnswer, IsVerdictAnswer, audited_status, report_status, verdict_status}
 use Rattle.judge_commands.specs.Replayed.{IsReplayAnswer, outcome_status}
 
-verdict_few : (v : Verdict) → verdict_status v < 2
+pub verdict_few : (v : Verdict) → verdict_status v < 2
 verdict_few (verdict.SessionText n) = omega arith
 verdict_few (verdict.CertText n) = omega arith
 verdict_few (verdict.Shape fault) = omega arith

@@ -41,7 +41,7 @@ pub fn push_verdict(out: &mut Vec<u8>, verdict: Verdict) -> Result<(), AllocErro
 }
 
 /// The verdict on a session and a certificate, by what was read of their texts.
-fn judge_read<R: Threads + Sync>(
+pub(crate) fn judge_read<R: Threads + Sync>(
     rt: &R,
     alloc: Global,
     session: &Result<Session, u32>,

@@ -3,8 +3,10 @@
 
 mod auditing;
 mod checking;
+mod completing;
 mod replaying;
 
 pub use auditing::{AuditCommand, report_status};
 pub use checking::{CheckCommand, push_verdict, verdict_status};
+pub use completing::{CompleteAuditCommand, CompleteCheckCommand, push_missing};
 pub use replaying::ReplayCommand;

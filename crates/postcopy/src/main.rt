@@ -6,12 +6,12 @@
 //! guest in threads and writes the session that was recorded, and its certificate after it. A file named `-` is standard
 //! input; where two are, the first text ends with the first line `end`. With no word it does `check - -`. The status is 0
 //! where all is well, 1 for another answer, 2 for words that are no command, 3 for a file, a link or an output that failed,
-//! and 4 where memory ran out.
+//! and 4 where memory ran out. An output whose reader goes away, as `head` does, has not failed: the rest is dropped.
 #![tactic(auto)]
 
 ghost use Rattle.std.specs.Prelude.{◌≤◌};
 
-use command_texts::{Fault, TextSource, USAGE, tell};
+use command_texts::{Closable, Fault, TextSource, USAGE, tell};
 use commands::run;
 use std::alloc::{AllocError, Global};
 use std::io::{ErrorKind, Write};
@@ -66,13 +66,14 @@ fn main(rt: HostRuntime) -> ExitCode {
         return ExitCode::from(tell(Fault::Memory, &mut errors));
     };
     let files = Disk { rt: &rt };
+    let mut output = Closable::new(rt.stdout());
     let status = run(
         &rt,
         alloc,
         words.as_slice(),
         &files,
         &mut rt.reader(),
-        &mut rt.stdout(),
+        &mut output,
         &mut errors,
     );
     ExitCode::from(status)

@@ -41,6 +41,7 @@ pub struct Showing {
 
 /// The picture of a session in the order of its report.
 fn picture_of(alloc: Global, session: &Session, report: &Report) -> Result<Vec<u8>, AllocError>
+    requires { IsReport session.now report.now }
     ensures { IfOk result (λ text. IsShownText ShownAs.Picture (Audited.Reported report.now) text.items) }
 {
     let picture = plan(alloc, session, report)?;

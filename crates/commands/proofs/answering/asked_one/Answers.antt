@@ -4,7 +4,7 @@ pub returns-in-Certify-clause-told : goal.returns-in-Certify-clause-told
 returns-in-Certify-clause-told g c = rw c.in-Certify.is c.perform_one.ensures.told
 
 pub returns-in-Audit-clause-told : goal.returns-in-Audit-clause-told
-returns-in-Audit-clause-told g c = rw c.in-Audit.is c.perform_one-in-Audit.ensures.told
+returns-in-Audit-clause-told g c = rw c.in-Audit.is c.asked_audit.ensures.told
 
 pub returns-in-Explain-clause-told : goal.returns-in-Explain-clause-told
 returns-in-Explain-clause-told g c = rw c.in-Explain.is c.perform_one-in-Explain.ensures.told

@@ -11,4 +11,4 @@ returns-in-Ok g c = λ text script.
     c.given.ensures
 
 pub returns-in-Err : goal.returns-in-Err
-returns-in-Err g c = c.stopped.ensures c.args.script.now
+returns-in-Err g c = λ text script. c.stopped.ensures c.args.script.now text c.in-Err.ensures.refused script

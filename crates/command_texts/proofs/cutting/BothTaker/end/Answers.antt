@@ -5,6 +5,6 @@ pub returns : goal.returns
 returns g c = λ text came. (
   (came.first, came.second),
   cut_at c.args.self.ended c.args.self.lacking text came.first came.second came.parts came.cut,
-  c.end.ensures came.first came.first_came,
-  c.end-2.ensures came.second came.second_came,
+  c.in_ok-first.ensures came.first came.first_came,
+  c.in_ok-second.ensures came.second came.second_came,
 )

@@ -1,0 +1,3 @@
+-- What serves proofs alone.
+pub mod Least
+pub mod Walks

@@ -1,0 +1,15 @@
+//! Whether the session of a migration is complete, and what is missing from one that is not.
+//!
+//! Logs that say nothing are faultless, and so are those of a recorder that left records out. A complete session tells of
+//! a whole migration: the guest was halted and resumed, every owed page was placed or released at the target, the pager
+//! said so and the source learned of it, and all that the pager took was placed or dropped. [`first_missing`] tells the
+//! first of these that is missing.
+#![tactic(auto)]
+
+mod missing;
+mod pages;
+mod searching;
+mod taken;
+
+pub use missing::Missing;
+pub use searching::first_missing;

@@ -1,0 +1,83 @@
+//! The first thing that is missing.
+
+ghost use Rattle.std.specs.Prelude.{◌≡◌, IfOk, MatchOption};
+ghost use Rattle.std.specs.List.{list_any};
+ghost use Rattle.audit_model.specs.Shape.{is_halt, is_resume};
+ghost use Rattle.completeness.specs.Complete.{is_all, is_done, IsComplete, IsFirstMissing};
+
+use crate::missing::Missing;
+use crate::pages::first_page;
+use crate::taken::first_taken;
+use audit_model::{is_halt, is_resume};
+use migration_types::{GuestRec, PagerRec, Session, SourceRec};
+use std::alloc::{AllocError, Global};
+
+/// Whether it says that every owed page came.
+fn is_all(rec: &PagerRec) -> bool
+    ensures { result ≡ is_all rec.now }
+{
+    matches!(rec, PagerRec::All)
+}
+
+/// Whether it says that the source learned of it.
+fn is_done(rec: &SourceRec) -> bool
+    ensures { result ≡ is_done rec.now }
+{
+    matches!(rec, SourceRec::Done)
+}
+
+/// Whether the guest was halted.
+fn has_halt(guest: &[GuestRec]) -> bool
+    ensures { result ≡ list_any is_halt guest.now }
+{
+    guest.iter().any(is_halt)
+}
+
+/// Whether the guest was resumed.
+fn has_resume(guest: &[GuestRec]) -> bool
+    ensures { result ≡ list_any is_resume guest.now }
+{
+    guest.iter().any(is_resume)
+}
+
+/// Whether the pager said that every owed page came.
+fn has_all(pager: &[PagerRec]) -> bool
+    ensures { result ≡ list_any is_all pager.now }
+{
+    pager.iter().any(is_all)
+}
+
+/// Whether the source learned of it.
+fn has_done(source: &[SourceRec]) -> bool
+    ensures { result ≡ list_any is_done source.now }
+{
+    source.iter().any(is_done)
+}
+
+/// The first thing that is missing from a session, in the order of [`Missing`] and then by the number of the page or the
+/// record. None: the session is complete. Takes a few passes over the logs, and memory for three marks of each page and
+/// one of each record of the pager, which is the only error.
+pub fn first_missing(alloc: Global, session: &Session) -> Result<Option<Missing>, AllocError>
+    ensures { IfOk result (λ found. MatchOption found (IsComplete session.now) (IsFirstMissing session.now)) }
+{
+    session.keeps_limits();
+    if !has_halt(session.guest()) {
+        return Ok(Some(Missing::Halt));
+    }
+    if !has_resume(session.guest()) {
+        return Ok(Some(Missing::Resume));
+    }
+    if let Some(page) = first_page(alloc, session)? {
+        return Ok(Some(Missing::Page(page)));
+    }
+    if !has_all(session.pager()) {
+        return Ok(Some(Missing::All));
+    }
+    if !has_done(session.source()) {
+        return Ok(Some(Missing::Done));
+    }
+    match first_taken(alloc, session)? {
+        Some(n) => Ok(Some(Missing::Taken(n))),
+        None => Ok(None),
+    }
+}
