@@ -23,12 +23,19 @@ def read(name):
         return file.read()
 
 
+def text_of(path):
+    """A file's text, or nothing where it has bytes that no text has."""
+    with open(path, "rb") as file:
+        data = file.read()
+    return data.decode("ascii") if data.isascii() else ""
+
+
 def known_sessions(audit):
     """Sessions of the right shape, once each: the texts and the first lines of their reports."""
     found = {}
     for path in sorted(glob.glob(f"{TOP}/examples/*/session") + glob.glob(f"{TOP}/tests/cases/*/session")):
-        text = read(os.path.relpath(path, TOP))
-        if text not in found:
+        text = text_of(path)
+        if text and text not in found:
             said = audit(text)
             if said.split()[0] in ("clean", "faulty", "knot"):
                 found[text] = said

@@ -5,6 +5,8 @@ pub mod changes;
 #[cfg(test)]
 mod compared;
 #[cfg(test)]
+mod complete;
+#[cfg(test)]
 mod facts;
 #[cfg(test)]
 mod found;

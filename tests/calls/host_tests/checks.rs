@@ -1,6 +1,6 @@
 //! What a run of a script could leave, whole or with something wrong, and what is told of it.
 
-use host_checks::{Answered, RunFault, Transcript, settle};
+use host_checks::{Answered, RunFault, Transcript, session_of, settle};
 use migration_events::Op;
 use migration_types::{Contents, GuestRec, LinkRec, Logs, PageNo, PagerRec, Seq, SourceRec};
 use page_store::Store;
@@ -268,7 +268,10 @@ fn is_told<R: Threads + Sync>(
     let logs = logs_of(alloc, left)?;
     let store = store_of(alloc, script, left)?;
     let transcripts = transcripts_of(alloc, left)?;
-    let found = settle(rt, alloc, script, logs, store, transcripts);
+    let Ok(session) = session_of(alloc, script, logs) else {
+        return Ok(false);
+    };
+    let found = settle(rt, alloc, script, session, store, transcripts);
     Ok(match told {
         Told::Migrated => found.is_ok(),
         Told::Refused(line) => match &found {

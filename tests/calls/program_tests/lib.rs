@@ -165,6 +165,22 @@ fn wrong_case<
     None
 }
 
+// What is told of inputs that are empty, or begin with an empty line, and of a certificate that stands for another text.
+
+const EMPTY_SESSION: &[u8] = b"-:1:1: the text is empty; expected \"postcopy-session 1\" or \"postcopy-session 2\", the header of a session\n";
+
+const EMPTY_CERT: &[u8] = b"-:1:1: the text is empty; expected \"postcopy-certificate 1\" or \"postcopy-certificate 2\", the header of a certificate\n";
+
+const EMPTY_RUNS: &[u8] = b"-:1:1: the text is empty; expected \"postcopy-runs 1\", the header of a runs text\n";
+
+const EMPTY_EVENTS: &[u8] = b"-:1:1: the text is empty; expected \"postcopy-events 1\", the header of events\n";
+
+const EMPTY_LINE: &[u8] = b"-:1:1: found an empty line; expected \"postcopy-session 1\" or \"postcopy-session 2\", the header of a session\n";
+
+const CERT_FOR_SESSION: &[u8] = b"cert:1:1: this is a certificate; expected a session: are the two files swapped?\n";
+
+const CERT_FOR_RUNS: &[u8] = b"cert:1:1: this is a certificate; expected a text of runs: are the two files swapped?\n";
+
 // Each pair of texts, of which one or both may be the input.
 static VERDICTS: [Case; 10] = [
     Case(
@@ -188,7 +204,7 @@ static VERDICTS: [Case; 10] = [
         b"",
         1,
         EMPTY_SESSION_LINE,
-        b"",
+        EMPTY_SESSION,
         None,
     ),
     Case(
@@ -204,7 +220,7 @@ static VERDICTS: [Case; 10] = [
         b"",
         1,
         EMPTY_CERT_LINE,
-        b"",
+        EMPTY_CERT,
         None,
     ),
     Case(
@@ -220,11 +236,11 @@ static VERDICTS: [Case; 10] = [
         SESSION,
         1,
         EMPTY_CERT_LINE,
-        b"",
+        EMPTY_CERT,
         None,
     ),
     Case(&["postcopy"], BOTH, 0, ACCEPTED_LINE, b"", None),
-    Case(&["postcopy"], SESSION, 1, EMPTY_CERT_LINE, b"", None),
+    Case(&["postcopy"], SESSION, 1, EMPTY_CERT_LINE, EMPTY_CERT, None),
     Case(&[], BOTH, 0, ACCEPTED_LINE, b"", None),
 ];
 
@@ -272,7 +288,7 @@ static REPLAYS: [Case; 7] = [
         HANDOVER,
         1,
         b"runs-text line 1\n",
-        b"",
+        EMPTY_RUNS,
         None,
     ),
     Case(
@@ -280,7 +296,7 @@ static REPLAYS: [Case; 7] = [
         b"",
         1,
         b"session-text line 1\n",
-        b"",
+        CERT_FOR_SESSION,
         None,
     ),
     Case(
@@ -288,7 +304,7 @@ static REPLAYS: [Case; 7] = [
         b"",
         1,
         b"runs-text line 1\n",
-        b"",
+        CERT_FOR_RUNS,
         None,
     ),
 ];
@@ -321,7 +337,7 @@ static STEPS: [Case; 4] = [
         b"",
         1,
         b"events-text line 1\n",
-        b"",
+        EMPTY_EVENTS,
         None,
     ),
     Case(
@@ -420,7 +436,7 @@ static AUDITS: [Case; 5] = [
         b"",
         1,
         EMPTY_SESSION_LINE,
-        b"",
+        CERT_FOR_SESSION,
         None,
     ),
     Case(
@@ -428,7 +444,7 @@ static AUDITS: [Case; 5] = [
         b"",
         1,
         EMPTY_SESSION_LINE,
-        b"",
+        CERT_FOR_SESSION,
         None,
     ),
     Case(
@@ -687,7 +703,7 @@ fn is_limit_kept<
     };
     let found = ran_over(rt, AUDIT.as_slice(), &mut input);
     if fits {
-        is_outcome(&found, 1, EMPTY_SESSION_LINE, b"")
+        is_outcome(&found, 1, EMPTY_SESSION_LINE, EMPTY_LINE)
     } else {
         is_outcome(&found, 3, b"", b"file -\n")
     }

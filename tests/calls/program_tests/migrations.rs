@@ -63,7 +63,7 @@ static REFUSALS: [Case; 3] = [
         b"",
         1,
         b"script-text line 1\n",
-        b"",
+        b"session:1:1: this is a session; expected a script: are the two files swapped?\n",
         Some(1),
     ),
     Case(
@@ -71,7 +71,7 @@ static REFUSALS: [Case; 3] = [
         b"postcopy-script 1\npages 0\n",
         1,
         b"script-text line 2\n",
-        b"",
+        b"-:2:7: found \"0\"; expected N, a number from 1 to 65536, as in \"pages N\"\n",
         Some(0),
     ),
     Case(

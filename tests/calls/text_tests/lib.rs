@@ -13,7 +13,15 @@ mod parts;
 #[cfg(test)]
 mod pieces;
 #[cfg(test)]
+mod reason_lines;
+#[cfg(test)]
+mod reasons;
+#[cfg(test)]
 mod records;
+#[cfg(test)]
+mod refusals;
+#[cfg(test)]
+mod refused_texts;
 #[cfg(test)]
 mod script_faults;
 #[cfg(test)]

@@ -1,0 +1,179 @@
+//! What is missing first from sessions of two pages, of which page 0 begins as 5. Not all of them are of the right shape.
+
+use crate::texts::{Logs, session_of};
+use completeness::{Missing, first_missing};
+use std::alloc::Global;
+
+/// The logs of a session, and what is missing from it first.
+struct Case {
+    is: &'static str,
+    logs: Logs,
+    /// Its kind, and the number of the page or the record.
+    missing: (&'static str, u32),
+}
+
+/// A guest that is halted and resumed.
+const MOVED: &str = "halt\nresume 1\n";
+
+/// A source that sends both pages, and learns that they came.
+const SENT: &str =
+    "halted 0\nstate\nsend 0 0000000000000005\nsend 1 0000000000000000\nask 4\ndone\n";
+
+const LINK: &str = "down 1\ndown 2\ndown 3\ndown 3\nup 6\n";
+
+static CASES: [Case; 12] = [
+    Case {
+        is: "empty logs",
+        logs: Logs {
+            guest: "",
+            source: "",
+            link: "",
+            pager: "",
+        },
+        missing: ("halt", 0),
+    },
+    Case {
+        is: "a guest that is never resumed",
+        logs: Logs {
+            guest: "halt\n",
+            source: "",
+            link: "",
+            pager: "",
+        },
+        missing: ("resume", 0),
+    },
+    Case {
+        is: "two pages that never came",
+        logs: Logs {
+            guest: MOVED,
+            source: "",
+            link: "",
+            pager: "",
+        },
+        missing: ("page", 0),
+    },
+    Case {
+        is: "a page that never came, behind one that is released at the halt",
+        logs: Logs {
+            guest: "z 0 0\nhalt\nresume 1\n",
+            source: "",
+            link: "",
+            pager: "",
+        },
+        missing: ("page", 1),
+    },
+    Case {
+        is: "a page that is released and written again before the halt",
+        logs: Logs {
+            guest: "z 0 0\nw 0 0 0 5\nz 0 1\nhalt\nresume 1\n",
+            source: "",
+            link: "",
+            pager: "",
+        },
+        missing: ("page", 0),
+    },
+    Case {
+        is: "pages that are released, one of them at the target",
+        logs: Logs {
+            guest: "z 0 0\nhalt\nresume 1\nz 0 1\n",
+            source: "",
+            link: "",
+            pager: "",
+        },
+        missing: ("all", 0),
+    },
+    Case {
+        is: "a release between the halt and the resume",
+        logs: Logs {
+            guest: "halt\nz 0 0\nresume 1\n",
+            source: "",
+            link: "",
+            pager: "",
+        },
+        missing: ("page", 0),
+    },
+    Case {
+        is: "pages that are placed, of which nobody is told",
+        logs: Logs {
+            guest: MOVED,
+            source: SENT,
+            link: LINK,
+            pager: "got 0\nready\ngot 1\nplace 0 2 0000000000000005\ngot 2\nplace 1 4 0000000000000000\n",
+        },
+        missing: ("all", 0),
+    },
+    Case {
+        is: "a source that is not told",
+        logs: Logs {
+            guest: MOVED,
+            source: "halted 0\nstate\nsend 0 0000000000000005\nsend 1 0000000000000000\n",
+            link: LINK,
+            pager: "got 0\nready\ngot 1\nplace 0 2 0000000000000005\ngot 2\nplace 1 4 0000000000000000\nall\n",
+        },
+        missing: ("done", 0),
+    },
+    Case {
+        is: "a repeat that is neither placed nor dropped",
+        logs: Logs {
+            guest: MOVED,
+            source: SENT,
+            link: LINK,
+            pager: "got 0\nready\ngot 1\nplace 0 2 0000000000000005\ngot 2\nplace 1 4 0000000000000000\nall\ngot 3\n",
+        },
+        missing: ("taken", 7),
+    },
+    Case {
+        is: "the same, dropped",
+        logs: Logs {
+            guest: MOVED,
+            source: SENT,
+            link: LINK,
+            pager: "got 0\nready\ngot 1\nplace 0 2 0000000000000005\ngot 2\nplace 1 4 0000000000000000\nall\ngot 3\nskip 7\n",
+        },
+        missing: ("nothing", 0),
+    },
+    Case {
+        is: "zeros, with a name that is past the log",
+        logs: Logs {
+            guest: MOVED,
+            source: SENT,
+            link: LINK,
+            pager: "got 0\nready\ngot 1\nplace 0 2 0000000000000005\nzero 1\nall\nskip 1000000\n",
+        },
+        missing: ("nothing", 0),
+    },
+];
+
+/// The kind of what is missing, and its number.
+fn said(missing: Option<Missing>) -> (&'static str, u32) {
+    match missing {
+        Some(Missing::Halt) => ("halt", 0),
+        Some(Missing::Resume) => ("resume", 0),
+        Some(Missing::Page(page)) => ("page", page.number() as u32),
+        Some(Missing::All) => ("all", 0),
+        Some(Missing::Done) => ("done", 0),
+        Some(Missing::Taken(n)) => ("taken", n),
+        None => ("nothing", 0),
+    }
+}
+
+/// Whether what is said of a session is told of it.
+fn is_met(alloc: Global, case: &Case) -> bool {
+    let Some(session) = session_of(alloc, &case.logs) else {
+        return false;
+    };
+    match first_missing(alloc, &session) {
+        Ok(missing) => {
+            let (kind, number) = said(missing);
+            kind == case.missing.0 && number == case.missing.1
+        }
+        Err(_) => false,
+    }
+}
+
+#[test]
+fn tells_what_is_missing_first(rt: HostRuntime) {
+    for case in &CASES {
+        assert!(rt; is_met(rt.alloc(), case), "{}", case.is);
+    }
+}
