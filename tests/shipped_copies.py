@@ -152,7 +152,7 @@ class Room:
         built = f"{folder}/built"
         shutil.copytree(self.tree, built, symlinks=True)
         write(f"{built}/{PROGRAM}", read(program), 0o755)
-        write(f"{built}/{PROGRAM}.o", b"")
+        write(f"{built}/{PROGRAM}.by-rattle", b"")
         for name in LIBRARIES:
             write(f"{built}/crates/postcopy_c/out/{name}", read(f"{TOP}/crates/postcopy_c/out/{name}"))
         write(f"{built}/crates/postcopy_c/out/libpostcopy_c.a", b"")
