@@ -72,11 +72,21 @@ pub fn tell<E: Write>(fault: Fault<'_>, errors: &mut E) -> u8
 }
 
 /// An answer, or the fault that there is none.
-pub fn given(answer: Result<Answer, AllocError>) -> Given
+pub fn given<V>(answer: Result<V, AllocError>) -> Result<V, Fault<'static>>
     ensures { IfOk result (λ given. answer ≡ Ok given) }
 {
     match answer {
         Ok(answer) => Ok(answer),
+        Err(_) => Err(Fault::Memory),
+    }
+}
+
+/// An answer of which no more is told, or the fault that there is none.
+pub fn given_alone(answer: Result<Answer, AllocError>) -> Result<(Answer, ()), Fault<'static>>
+    ensures { IfOk result (λ given. answer ≡ Ok given.0) }
+{
+    match answer {
+        Ok(answer) => Ok((answer, ())),
         Err(_) => Err(Fault::Memory),
     }
 }

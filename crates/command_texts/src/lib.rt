@@ -13,8 +13,8 @@ mod taking;
 mod why;
 
 pub use answer::{
-    ACCEPTED, Answer, Fault, Given, REFUSED, USAGE, given, refused, remark, status_where, tell,
-    written,
+    ACCEPTED, Answer, Fault, Given, REFUSED, USAGE, given, given_alone, refused, remark,
+    status_where, tell, written,
 };
 pub use closing::Closable;
 pub use naming::read_named;

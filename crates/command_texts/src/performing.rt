@@ -4,12 +4,12 @@
 ghost use Rattle.std.specs.Prelude.{⊤, ◌<◌, ℕ, List, IfOk};
 ghost use Rattle.command_texts.specs.Told.{AreNamed, IsNamed, Tells};
 
-use crate::answer::{Fault, Given, written};
+use crate::answer::{Answer, Fault, Given, written};
 use crate::naming::{read_named, read_pair};
 use crate::reading::TextSource;
 use crate::taking::Taker;
 use crate::why::{Telling, tell_why};
-use std::alloc::Global;
+use std::alloc::{AllocError, Global};
 use std::io::{Read, Write};
 use std::mem;
 use std::thread::Threads;
@@ -46,22 +46,39 @@ pub trait OnTwo {
     /// Takes the second.
     type Second: Taker<Why = Refusal>;
 
+    /// What its answer says, where more can be told of it.
+    type Said: Copy;
+
     // What lets it answer.
     ghost ready: { Type 0 } = { ⊤ };
 
     /// This is its answer to two texts, and its status.
     ghost is_answer: { Self → List ℕ × List ℕ → List ℕ → ℕ → Type 0 };
 
-    /// Its answer to what was found of two texts, with a status of 0 or 1. There is none where memory ran out.
+    /// Its answer to what was found of two texts, with a status of 0 or 1, and what this says. There is none where memory ran
+    /// out.
     fn answer(
         &self,
         alloc: Global,
         first: &<Self::First as Taker>::Found,
         second: &<Self::Second as Taker>::Found,
-    ) -> Given
+    ) -> Result<(Answer, Self::Said), Fault<'static>>
         requires ready { ready }
-        ensures few { (texts : List ℕ × List ℕ) → Self.First.is_found texts.0 first.now → Self.Second.is_found texts.1 second.now → IfOk result (λ answer. answer.status < 2) }
-        ensures told { (texts : List ℕ × List ℕ) → Self.First.is_found texts.0 first.now → Self.Second.is_found texts.1 second.now → IfOk result (λ answer. is_answer self.now texts answer.text.items answer.status) };
+        ensures few { (texts : List ℕ × List ℕ) → Self.First.is_found texts.0 first.now → Self.Second.is_found texts.1 second.now → IfOk result (λ given. given.0.status < 2) }
+        ensures told { (texts : List ℕ × List ℕ) → Self.First.is_found texts.0 first.now → Self.Second.is_found texts.1 second.now → IfOk result (λ given. is_answer self.now texts given.0.text.items given.0.status) };
+
+    /// Adds what more can be told of what its answer says, in words for people, with the name that the second text stands
+    /// under. Many commands have no more to tell. An error: there is no memory for the words.
+    fn push_more(
+        &self,
+        _out: &mut Vec<u8>,
+        _name: &[u8],
+        _first: &<Self::First as Taker>::Found,
+        _second: &<Self::Second as Taker>::Found,
+        _said: Self::Said,
+    ) -> Result<(), AllocError> {
+        Ok(())
+    }
 }
 
 /// Does a command on the text under a name. Where it is refused, the errors tell why.
@@ -97,8 +114,29 @@ pub fn perform_one<
     status
 }
 
+// Tells what more there is to tell of an answer that was written. What is not told, since it is not written or there is no
+// memory for it, is left out: the answer says it in short.
+fn tell_more<C: OnTwo, E: Write>(
+    alloc: Global,
+    command: &C,
+    name: &[u8],
+    first: &<C::First as Taker>::Found,
+    second: &<C::Second as Taker>::Found,
+    said: C::Said,
+    written: &Result<u8, Fault<'_>>,
+    errors: &mut E,
+) {
+    if written.is_err() {
+        return;
+    }
+    let mut words = Vec::new(alloc);
+    if command.push_more(&mut words, name, first, second, said).is_ok() {
+        let _ = errors.write_all(words.as_slice());
+    }
+}
+
 /// Does a command on the texts under two names, which are read in this order. Where one is refused, the errors tell why, of the
-/// first where both are.
+/// first where both are; and they tell what more there is to tell of the answer.
 pub fn perform_two<
     'a,
     C: OnTwo,
@@ -126,9 +164,19 @@ pub fn perform_two<
     let (found, other) = read_pair::<C::First, C::Second, R, S, I>(
         rt, alloc, first, second, texts, input, &mut why,
     )?;
-    let answer = command.answer(alloc, &found, &other)?;
+    let (answer, said) = command.answer(alloc, &found, &other)?;
     let status = written(&answer, output);
     tell_why(alloc, &why, Telling::Short, &status, errors);
+    tell_more(
+        alloc,
+        command,
+        second.as_bytes(),
+        &found,
+        &other,
+        said,
+        &status,
+        errors,
+    );
     mem::forget((found, other));
     mem::forget(answer);
     status

@@ -17,3 +17,11 @@ AddsPlaced name line before after =
 abbrev pub AddsPlacedFirst : List ℕ → ℕ → List ℕ → List ℕ → Type 0
 AddsPlacedFirst name line before after =
     (first : List ℕ) × (rest : List ℕ) × (AddsPlaced name line before first × (after ≡ first ++ rest))
+
+-- words behind a text's name and a line's number, as NAME:LINE: WORDS, and their LF
+abbrev pub placed_at : List ℕ → ℕ → List ℕ → List ℕ
+placed_at name line words = name ++ 58 ∷ decimal line ++ 58 ∷ 32 ∷ words ++ 10 ∷ []
+
+-- words in one line are added so, and nothing more
+abbrev pub AddsAt : List ℕ → ℕ → List ℕ → List ℕ → Type 0
+AddsAt name line before after = (words : List ℕ) × (IsLine words × (after ≡ before ++ placed_at name line words))

@@ -21,6 +21,9 @@ mod slips;
 mod special;
 mod words;
 
+pub use placing::push_at;
+pub use quoting::push_quote;
+
 /// Adds why a text is refused, in one line that begins as `NAME:LINE:COLUMN: `: what was found there, and what may stand
 /// there. Columns count bytes from 1. An error: there is no memory for it.
 pub fn push_why(out: &mut Vec<u8>, name: &[u8], refusal: &Refusal) -> Result<(), AllocError>

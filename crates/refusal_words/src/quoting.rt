@@ -31,8 +31,8 @@ pub(crate) fn push_shown(out: &mut String, bytes: &[u8]) -> Result<(), AllocErro
     Ok(())
 }
 
-/// Adds bytes between quotation marks. Of many it shows the first.
-pub(crate) fn push_quote(out: &mut String, bytes: &[u8]) -> Result<(), AllocError> {
+/// Adds bytes between quotation marks. Of many it shows the first. An error: there is no memory for it.
+pub fn push_quote(out: &mut String, bytes: &[u8]) -> Result<(), AllocError> {
     let (shown, left_out) = bytes.split_at(bytes.len().min(QUOTED));
     out.push('"')?;
     push_shown(out, shown)?;
