@@ -7,6 +7,7 @@ ghost use Rattle.audit_model.specs.Mergings.{IsMerging, spelled};
 ghost use Rattle.audit_model.specs.Shape.{IsRightShape};
 ghost use Rattle.cert_check.specs.Verdicts.{IsVerdict, SamePages, AreRightEntries, IsFirstBadPage};
 
+use crate::places::{BEFORE_ENTRIES, BEFORE_RUNS};
 use crate::shape_fault::shape;
 use crate::verdict::Verdict;
 use merge_runs::first_bad_run;
@@ -15,12 +16,6 @@ use page_facts::{Alone, InThreads, Judges, is_small};
 use std::alloc::{AllocError, Global};
 use std::marker::Sync;
 use std::thread::{Threads, join};
-
-/// An entry's line is so many after its page's number.
-const BEFORE_ENTRIES: u32 = 3;
-
-/// A run's line is so many after the number of pages and its place.
-const BEFORE_RUNS: u32 = 4;
 
 /// Who judges a session and a certificate. What is answered is the same whoever does.
 pub trait EntryJudges {

@@ -5,10 +5,12 @@ mod entry_judges;
 mod judge;
 mod log_passes;
 mod passes;
+mod places;
 mod shape_fault;
 mod verdict;
 
 pub use entry_judges::EntryJudges;
 pub use judge::{check, check_by, check_par};
+pub use places::{page_at, run_at};
 pub use shape_fault::shape;
 pub use verdict::{ShapeFault, Verdict};

@@ -8,7 +8,7 @@ use Rattle.migration_types.specs.declared.cert.Entry.TheVariants.{Nothing, Fresh
 use Rattle.migration_types.specs.declared.version.Version.{Version}
 use Rattle.migration_types.specs.Certs.{Certified}
 use Rattle.migration_types.specs.Sessions.{Recorded}
-use Rattle.audit_model.specs.Certificates.{IsRightCertificate}
+use Rattle.audit_model.specs.Certificates.{IsRightCertificate, IsRightEntry}
 use Rattle.audit_model.specs.Shape.{IsRightShape}
 use Rattle.cert_maker.specs.declared.maker.MakeFault.{MakeFault}
 use Rattle.cert_maker.specs.declared.maker.MakeFault.TheVariants.{NoCertificate, Memory}
@@ -24,6 +24,15 @@ NamesEarliest s Nothing = Unit {0}
 NamesEarliest s (Fresh first) = Unit {0}
 NamesEarliest s (Source send place first) = IsEarliest s place first
 NamesEarliest s (Balloon place first) = IsEarliest s place first
+
+-- a right entry of a page, which names the earliest look
+pub record IsMadeEntry (s : Recorded) (page : ℕ) (entry : Entry) : Type 0 where
+  pub right : IsRightEntry s page entry
+  pub earliest : NamesEarliest s entry
+
+-- no entry of a page is right
+abbrev pub HasNoEntry : Recorded → ℕ → Type 0
+HasNoEntry s page = (entry : Entry) → IsRightEntry s page entry → ⊥
 
 -- a right certificate with these runs, and with the earliest looks, in the version of a session of the right shape
 pub record IsMade (s : Recorded) (runs : List Run) (cert : Certified) : Type 0 where

@@ -6,9 +6,10 @@ ghost use Rattle.migration_types.specs.Sessions.{IsSession};
 ghost use Rattle.audit_model.specs.Names.{if_there};
 ghost use Rattle.audit_model.specs.Certificates.{is_fresh};
 ghost use Rattle.page_facts.specs.Facts.{IsFacts};
-ghost use Rattle.page_facts.specs.Findings.{AreFindings};
+ghost use Rattle.page_facts.specs.Findings.{AreFindings, IsFindings};
 ghost use Rattle.page_facts.specs.Looks.{first_look};
-ghost use Rattle.cert_maker.specs.inner.Entries.{send_of, first_of, entry_at, unplaced_entry, entry_of, IsMadeEntry, HasNoEntry, AreMade, HasBarePage, version_for};
+ghost use Rattle.cert_maker.specs.Made.{HasNoEntry, IsMadeEntry};
+ghost use Rattle.cert_maker.specs.inner.Entries.{send_of, first_of, entry_at, unplaced_entry, entry_of, AreMade, HasBarePage, version_for};
 
 use audit_model::delivery;
 use migration_types::{Entry, First, PageNo, PagerRec, Seq, Session, SourceRec, Version};
@@ -72,8 +73,8 @@ fn entry_of(session: &Session, facts: &PageFacts, look: Option<u32>) -> Option<E
     entry_at(session, place, first)
 }
 
-/// The right entry of a page, where it has one.
-fn made_entry(
+/// The right entry of a page with these facts, where it has one.
+fn entry_by_facts(
     session: &Session,
     page: PageNo,
     facts: &PageFacts,
@@ -88,6 +89,16 @@ fn made_entry(
     };
     let is_right = is_right_entry(session, page, facts, &entry);
     if is_right { Some(entry) } else { None }
+}
+
+/// The right entry of a page by what is found of it, with the earliest look that serves; none where no entry of the page is
+/// right. Takes no memory.
+pub fn made_entry(session: &Session, findings: &Findings, page: PageNo) -> Option<Entry>
+    requires { IsFindings session.now page findings.now }
+    ensures { MatchOption result (HasNoEntry session.now page) (IsMadeEntry session.now page) }
+{
+    let facts = facts_of(session, findings, page);
+    entry_by_facts(session, page, &facts, findings.look)
 }
 
 /// Whether it is of a fresh page.
@@ -129,9 +140,7 @@ pub(crate) fn entries_in(
     let mut entries = Vec::with_capacity(alloc, pages)?;
     for page in 0..pages {
         let number = PageNo::new(page as u16);
-        let findings = &found[page];
-        let facts = facts_of(session, findings, number);
-        let Some(entry) = made_entry(session, number, &facts, findings.look) else {
+        let Some(entry) = made_entry(session, &found[page], number) else {
             return Ok(None);
         };
         entries.push(entry)?;

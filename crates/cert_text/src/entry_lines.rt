@@ -266,13 +266,20 @@ fn push_said(out: &mut Vec<u8>, entry: Entry) -> Result<(), AllocError>
     }
 }
 
+/// Adds the line of a page's entry, without its line feed. An error: there is no memory for it.
+pub fn push_entry_line(out: &mut Vec<u8>, page: u32, entry: Entry) -> Result<(), AllocError>
+    ensures { OnOk result (out.new.items ≡ out.old.items ++ entry_line page entry) }
+{
+    out.extend_from_slice(PAGE_KEY)?;
+    push_then(out, page)?;
+    push_said(out, entry)
+}
+
 /// Adds the line of a page's entry.
 fn push_entry(out: &mut Vec<u8>, page: u32, entry: Entry) -> Result<(), AllocError>
     ensures { OnOk result (out.new.items ≡ out.old.items ++ (entry_line page entry ++ 10 ∷ [])) }
 {
-    out.extend_from_slice(PAGE_KEY)?;
-    push_then(out, page)?;
-    push_said(out, entry)?;
+    push_entry_line(out, page, entry)?;
     end_line(out)
 }
 

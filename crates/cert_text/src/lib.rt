@@ -21,6 +21,7 @@ mod runs_text;
 
 use cert_lines::{CertParts, PAGES_KEY, cert_header};
 use entry_lines::push_entries;
+pub use entry_lines::push_entry_line;
 use runs::push_runs;
 use runs_text::{RUNS_HEADER, RunsParts};
 

@@ -130,7 +130,10 @@ fn tell_more<C: OnTwo, E: Write>(
         return;
     }
     let mut words = Vec::new(alloc);
-    if command.push_more(&mut words, name, first, second, said).is_ok() {
+    if command
+        .push_more(&mut words, name, first, second, said)
+        .is_ok()
+    {
         let _ = errors.write_all(words.as_slice());
     }
 }

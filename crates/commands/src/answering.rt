@@ -13,9 +13,7 @@ use command_texts::{
 };
 use command_words::{Asked, Carrier, Demand, Job, OneText, TwoTexts};
 use host_commands::{StepsCommand, migrate_read};
-use judge_commands::{
-    AuditCommand, CheckCommand, CompleteAuditCommand, CompleteCheckCommand, ReplayCommand,
-};
+use judge_commands::{AuditCommand, CheckCommand, Complete, ReplayCommand};
 use judged_texts::Wanted;
 use script_text::ScriptParts;
 use std::alloc::Global;
@@ -38,18 +36,16 @@ fn asked_audit<'a, R: Threads + Sync, S: TextSource, I: Read + Send, O: Write, E
     ensures few { IfOk result (λ status. status < 2) }
     ensures told { IfOk result (Tells (IsNamed name.entry.now (S.bytes_of texts.now) (I.remaining input.old)) (IsOneAnswer (OneText.Audit demand)) (O.contents output.old) (O.contents output.new)) }
 {
+    let command = AuditCommand {
+        rt,
+        wanted: Wanted::Report,
+    };
     match demand {
-        Demand::Safety => {
-            let command = AuditCommand {
-                rt,
-                wanted: Wanted::Report,
-            };
-            perform_one(rt, alloc, &command, name, texts, input, output, errors)
-        }
+        Demand::Safety => perform_one(rt, alloc, &command, name, texts, input, output, errors),
         Demand::Completeness => perform_one(
             rt,
             alloc,
-            &CompleteAuditCommand { rt },
+            &Complete { command },
             name,
             texts,
             input,
@@ -74,22 +70,15 @@ fn asked_check<'a, R: Threads + Sync, S: TextSource, I: Read + Send, O: Write, E
     ensures few { IfOk result (λ status. status < 2) }
     ensures told { IfOk result (Tells (AreNamed first.entry.now second.entry.now (S.bytes_of texts.now) (I.remaining input.old)) (IsTwoAnswer (TwoTexts.Check demand)) (O.contents output.old) (O.contents output.new)) }
 {
+    let command = CheckCommand { rt };
     match demand {
         Demand::Safety => perform_two(
-            rt,
-            alloc,
-            &CheckCommand { rt },
-            first,
-            second,
-            texts,
-            input,
-            output,
-            errors,
+            rt, alloc, &command, first, second, texts, input, output, errors,
         ),
         Demand::Completeness => perform_two(
             rt,
             alloc,
-            &CompleteCheckCommand { rt },
+            &Complete { command },
             first,
             second,
             texts,

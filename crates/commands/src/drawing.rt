@@ -12,7 +12,9 @@ ghost use Rattle.commands.specs.Drawings.{IsDrawAnswer, IsDrawAlongAnswer};
 
 use audit_report::audit;
 use cert_text::RunsReader;
-use command_texts::{ACCEPTED, Answer, Given, OnOne, OnTwo, REFUSED, given, refused};
+use command_texts::{
+    ACCEPTED, Answer, Fault, Given, OnOne, OnTwo, REFUSED, given, given_alone, refused,
+};
 use migration_types::{Run, Seq, Session};
 use order_picture::{print_picture, print_picture_along};
 use report_text::print_refused_session;
@@ -124,6 +126,8 @@ impl<R: Threads + Sync> OnTwo for DrawAlongCommand<'_, R> {
 
     type Second = RunsReader;
 
+    type Said = ();
+
     ghost ready = { IsSync R.row };
 
     ghost is_answer = { λ _. IsDrawAlongAnswer };
@@ -133,7 +137,7 @@ impl<R: Threads + Sync> OnTwo for DrawAlongCommand<'_, R> {
         alloc: Global,
         session: &Result<Session, u32>,
         runs: &Result<Seq<Run>, u32>,
-    ) -> Given {
-        given(draw_along_read(self.rt, alloc, session, runs))
+    ) -> Result<(Answer, ()), Fault<'static>> {
+        given_alone(draw_along_read(self.rt, alloc, session, runs))
     }
 }

@@ -9,7 +9,7 @@ ghost use Rattle.script_text.specs.Scripts.{SpellsScript};
 ghost use Rattle.command_texts.specs.Answers.{Says};
 ghost use Rattle.host_commands.specs.Steps.{IsStepsAnswer};
 
-use command_texts::{ACCEPTED, Answer, Gathered, Given, OnTwo, given, refused, remark};
+use command_texts::{ACCEPTED, Answer, Fault, Gathered, OnTwo, given_alone, refused, remark};
 use migration_events::Event;
 use migration_types::{Seq, Session};
 use script::Script;
@@ -77,6 +77,8 @@ impl OnTwo for StepsCommand {
 
     type Second = Gathered<EventParts>;
 
+    type Said = ();
+
     ghost is_answer = { λ _ texts. IsStepsAnswer texts.0 texts.1 };
 
     fn answer(
@@ -84,7 +86,7 @@ impl OnTwo for StepsCommand {
         alloc: Global,
         script: &Result<Script, u32>,
         events: &Result<Seq<Event>, u32>,
-    ) -> Given {
-        given(steps_read(alloc, script, events))
+    ) -> Result<(Answer, ()), Fault<'static>> {
+        given_alone(steps_read(alloc, script, events))
     }
 }

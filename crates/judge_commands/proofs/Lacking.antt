@@ -12,8 +12,10 @@ use Rattle.session_text.specs.Grammar.{SpellsSession}
 use Rattle.audit_model.specs.Shape.{passes, is_taking}
 use Rattle.completeness.specs.Complete.{IsComplete, is_taken_left, settles}
 use Rattle.command_texts.specs.declared.answer.Answer.{Answer}
-use Rattle.command_texts.specs.Answers.{IsAnswer}
-use Rattle.judge_commands.specs.Completed.{IsCompleteAnswer, IsHeld, Stays, Becomes, Plain, Lacks, found_status}
+use Rattle.command_texts.specs.declared.answer.Fault.{Fault}
+use Rattle.command_texts.proofs.Said.{given_few, given_holds}
+use Rattle.judge_commands.specs.Completed.{IsCompleteAnswer}
+use Rattle.judge_commands.specs.inner.Held.{IsHeld, Stays, Becomes}
 
 -- a record that took something is one of the pager's
 pub taken_within : (s : Recorded) (n : ℕ) → is_taken_left s n ≡ true → n < length s.pager
@@ -24,37 +26,41 @@ taken_within s (suc n) e = go (cases_lt (suc n) (length s.pager))
     go (inl lt) = lt
     go (inr past) = let none = slice_get_past s.pager (suc n) past in absurd (cc)
 
-module _ {V : Type 0} (IsRight : V → Type 0) (text_of : V → List ℕ) (status_of : V → ℕ) (one : IsUnambiguous SpellsSession) (text : List ℕ) where
+module _ (IsPlain : List ℕ → ℕ → Type 0) (one : IsUnambiguous SpellsSession) (text : List ℕ) where
   -- an answer that is held to what was read answers a command that asks for a complete session
-  held_answer : (read : Result Recorded ℕ) (before after : Answer) → IsRead SpellsSession text read → IsAnswer IsRight text_of status_of before.text.items before.status → IsHeld read before after → IsCompleteAnswer IsRight text_of status_of text after.text.items after.status
-  held_answer (Err line) before after refused is same = record {
-    value = Plain is.value;
-    is_right = (is.is_right, λ zero other spelled. absurd (refused.spells_nothing other spelled));
-    is_text = ap (λ (a : Answer). a.text.items) same ∙ is.is_text;
-    is_status = ap (λ (a : Answer). a.status) same ∙ is.is_status;
-  }
-  held_answer (Ok s) before after spelled is (inl stays) = record {
-    value = Plain is.value;
-    is_right = (is.is_right, λ zero other spells. subst (λ (x : Recorded). IsComplete x) (sym (one.one_value other s text spells spelled)) (stays.complete (is.is_status ∙ zero)));
-    is_text = ap (λ (a : Answer). a.text.items) stays.same ∙ is.is_text;
-    is_status = ap (λ (a : Answer). a.status) stays.same ∙ is.is_status;
-  }
-  held_answer (Ok s) before after spelled is (inr becomes) = record {
-    value = Lacks s becomes.lacking;
-    is_right = ((is.value, is.is_right, sym is.is_status ∙ becomes.was_well), spelled, becomes.is_first);
-    is_text = becomes.says.0;
-    is_status = becomes.says.1;
-  }
+  held_answer : (read : Result Recorded ℕ) (before after : Answer) → IsRead SpellsSession text read → IsPlain before.text.items before.status → IsHeld read before after → IsCompleteAnswer IsPlain text after.text.items after.status
+  held_answer (Err line) before after refused is same = inl (record {
+    is_plain = subst (λ (a : Answer). IsPlain a.text.items a.status) (sym same) is;
+    complete = λ zero other spelled. absurd (refused.spells_nothing other spelled);
+  })
+  held_answer (Ok s) before after spelled is (inl stays) = inl (record {
+    is_plain = subst (λ (a : Answer). IsPlain a.text.items a.status) (sym stays.same) is;
+    complete = λ zero other spells. subst (λ (x : Recorded). IsComplete x) (sym (one.one_value other s text spells spelled)) (stays.complete (sym (ap (λ (a : Answer). a.status) stays.same) ∙ zero));
+  })
+  held_answer (Ok s) before after spelled is (inr becomes) = inr (record {
+    before = before.text.items;
+    was_well = subst (λ (n : ℕ). IsPlain before.text.items n) becomes.was_well is;
+    recorded = s;
+    is_spelled = spelled;
+    lacking = becomes.lacking;
+    is_first = becomes.is_first;
+    says = becomes.says.0;
+    refused = becomes.says.1;
+  })
+
+  held_all : (read : Result Recorded ℕ) (before : Answer) (held : Result Answer AllocError) → IsRead SpellsSession text read → IsPlain before.text.items before.status → IfOk held (λ after. IsHeld read before after) → IfOk held (λ a. IsCompleteAnswer IsPlain text a.text.items a.status)
+  held_all read before (Ok after) is_read is is_held = held_answer read before after is_read is is_held
+  held_all read before (Err error) is_read is is_held = tt
 
   -- the same where memory may have run out
-  pub held_answers : (read : Result Recorded ℕ) (before : Answer) (found : Result Answer AllocError) → IsRead SpellsSession text read → IsAnswer IsRight text_of status_of before.text.items before.status → IfOk found (λ after. IsHeld read before after) → IfOk found (λ after. IsCompleteAnswer IsRight text_of status_of text after.text.items after.status)
-  held_answers read before (Ok after) is_read is held = held_answer read before after is_read is held
-  held_answers read before (Err error) is_read is held = tt
+  pub held_answers : (read : Result Recorded ℕ) (before : Answer) (held : Result Answer AllocError) (given : Result Answer Fault) → IsRead SpellsSession text read → IsPlain before.text.items before.status → IfOk held (λ after. IsHeld read before after) → IfOk given (λ g. held ≡ Ok g) → IfOk given (λ a. IsCompleteAnswer IsPlain text a.text.items a.status)
+  held_answers read before held given is_read is is_held same = given_holds (λ (a : Answer). IsCompleteAnswer IsPlain text a.text.items a.status) held given (held_all read before held is_read is is_held) same
 
--- the status stays 0 or 1
-pub complete_few : {V : Type 0} (IsRight : V → Type 0) (text_of : V → List ℕ) (status_of : V → ℕ) → ((v : V) → status_of v < 2) → (session text : List ℕ) (status : ℕ) → IsCompleteAnswer IsRight text_of status_of session text status → status < 2
-complete_few IsRight text_of status_of few session text status h = rw h.is_status (go h.value)
-  where
-    go : (f : _) → found_status status_of f < 2
-    go (Plain v) = few v
-    go (Lacks s m) = omega arith
+-- the status of an answer that is held stays 0 or 1
+held_few : (read : Result Recorded ℕ) (before after : Answer) → before.status < 2 → IsHeld read before after → after.status < 2
+held_few (Err line) before after few same = rw same few
+held_few (Ok s) before after few (inl stays) = rw stays.same few
+held_few (Ok s) before after few (inr becomes) = rw becomes.says.1 (omega arith)
+
+pub held_answers_few : (read : Result Recorded ℕ) (before : Answer) (held : Result Answer AllocError) (given : Result Answer Fault) → before.status < 2 → IfOk held (λ after. IsHeld read before after) → IfOk given (λ g. held ≡ Ok g) → IfOk given (λ a. a.status < 2)
+held_answers_few read before held given few is_held same = given_few (λ a. IsHeld read before a) held given (λ a is. held_few read before a few is) is_held same

@@ -1,3 +1,4 @@
 pub mod Answers
 pub mod Replayed
 pub mod Completed
+pub mod inner

@@ -65,7 +65,7 @@ fn audited<R: Threads + Sync>(
 }
 
 /// What is wanted of the audit of a session, by what was read of its text.
-pub(crate) fn audit_read<R: Threads + Sync>(
+fn audit_read<R: Threads + Sync>(
     rt: &R,
     alloc: Global,
     session: &Result<Session, u32>,

@@ -5,13 +5,16 @@ ghost use Rattle.std.specs.Thread.{IsSync};
 ghost use Rattle.text_lines.specs.Answer.{IsRead};
 ghost use Rattle.session_text.specs.Grammar.{SpellsSession};
 ghost use Rattle.cert_text.specs.Grammar.{SpellsCert};
+ghost use Rattle.judged_texts.specs.Checked.{IsTextVerdict};
+ghost use Rattle.command_texts.specs.Answers.{Says};
 ghost use Rattle.judge_commands.specs.Answers.{IsVerdictAnswer, verdict_line, verdict_status};
 
 use cert_check::Verdict;
 use cert_text::CertReader;
-use command_texts::{Answer, Given, OnTwo, given, status_where};
+use command_texts::{Answer, Fault, OnTwo, given, status_where};
 use judged_texts::check_read;
 use migration_types::{Cert, Session};
+use misfit_words::push_misfit;
 use report_text::{push_refused_certificate, push_refused_session, push_shape};
 use session_text::SessionReader;
 use std::alloc::{AllocError, Global};
@@ -40,22 +43,24 @@ pub fn push_verdict(out: &mut Vec<u8>, verdict: Verdict) -> Result<(), AllocErro
     }
 }
 
-/// The verdict on a session and a certificate, by what was read of their texts.
-pub(crate) fn judge_read<R: Threads + Sync>(
+/// The verdict on a session and a certificate, by what was read of their texts, told and as it is.
+fn judge_read<R: Threads + Sync>(
     rt: &R,
     alloc: Global,
     session: &Result<Session, u32>,
     cert: &Result<Cert, u32>,
-) -> Result<Answer, AllocError>
-    ensures { (first second : List ℕ) → IsRead SpellsSession first session.now → IsRead SpellsCert second cert.now → IfOk result (λ answer. IsVerdictAnswer first second answer.text.items answer.status) }
+) -> Result<(Answer, Verdict), AllocError>
+    ensures right { (first second : List ℕ) → IsRead SpellsSession first session.now → IsRead SpellsCert second cert.now → IfOk result (λ judged. IsTextVerdict first second judged.1) }
+    ensures told { IfOk result (λ judged. Says judged.0 (verdict_line judged.1) (verdict_status judged.1)) }
 {
     let verdict = check_read(rt, alloc, session, cert)?;
     let mut text = Vec::new(alloc);
     push_verdict(&mut text, verdict)?;
-    Ok(Answer {
+    let answer = Answer {
         text,
         status: verdict_status(verdict),
-    })
+    };
+    Ok((answer, verdict))
 }
 
 /// `check`: the verdict on a session and its certificate.
@@ -69,6 +74,8 @@ impl<R: Threads + Sync> OnTwo for CheckCommand<'_, R> {
 
     type Second = CertReader;
 
+    type Said = Verdict;
+
     ghost ready = { IsSync R.row };
 
     ghost is_answer = { λ _ texts. IsVerdictAnswer texts.0 texts.1 };
@@ -78,7 +85,21 @@ impl<R: Threads + Sync> OnTwo for CheckCommand<'_, R> {
         alloc: Global,
         session: &Result<Session, u32>,
         cert: &Result<Cert, u32>,
-    ) -> Given {
+    ) -> Result<(Answer, Verdict), Fault<'static>> {
         given(judge_read(self.rt, alloc, session, cert))
+    }
+
+    fn push_more(
+        &self,
+        out: &mut Vec<u8>,
+        name: &[u8],
+        session: &Result<Session, u32>,
+        cert: &Result<Cert, u32>,
+        verdict: Verdict,
+    ) -> Result<(), AllocError> {
+        match (session, cert) {
+            (Ok(session), Ok(cert)) => push_misfit(out, name, session, cert, verdict),
+            _ => Ok(()),
+        }
     }
 }

@@ -1,23 +1,15 @@
-//! The commands that ask for a complete session: they answer as without asking, but for a session that lacks something.
+//! Commands that ask for a complete session: they answer as without asking, but for a session that lacks something.
 
 ghost use Rattle.std.specs.Prelude.{◌≡◌, ◌++◌, ℕ, List, IfOk, MatchOption, OnOk};
-ghost use Rattle.std.specs.Thread.{IsSync};
-ghost use Rattle.text_lines.specs.Answer.{IsRead};
-ghost use Rattle.session_text.specs.Grammar.{SpellsSession};
-ghost use Rattle.cert_text.specs.Grammar.{SpellsCert};
 ghost use Rattle.completeness.specs.Complete.{IsComplete, IsFirstMissing};
-ghost use Rattle.judge_commands.specs.Completed.{IsCompleteAuditAnswer, IsCompleteVerdictAnswer, IsHeld, IsLine, missing_text};
+ghost use Rattle.judge_commands.specs.Completed.{IsCompleteAnswer, missing_text};
+ghost use Rattle.judge_commands.specs.inner.Held.{IsHeld, IsLine};
 
-use crate::auditing::audit_read;
-use crate::checking::judge_read;
-use cert_text::CertReader;
-use command_texts::{Answer, Given, OnOne, OnTwo, REFUSED, given};
+use command_texts::{Answer, Fault, Given, OnOne, OnTwo, REFUSED, Taker, Telling, given};
 use completeness::{Missing, first_missing};
-use judged_texts::Wanted;
-use migration_types::{Cert, LogName, Session, line_of};
+use migration_types::{LogName, Session, line_of};
 use session_text::{SessionReader, session_texts_are_unambiguous};
 use std::alloc::{AllocError, Global};
-use std::thread::Threads;
 use text_lines::{push_keyed, push_line};
 
 /// Adds the line that says what is missing from a session.
@@ -81,76 +73,62 @@ fn held(alloc: Global, session: &Result<Session, u32>, answer: Answer) -> Result
     }
 }
 
-/// The report on a session, which has to be complete, by what was read of its text.
-fn audit_complete<R: Threads + Sync>(
-    rt: &R,
-    alloc: Global,
-    session: &Result<Session, u32>,
-) -> Result<Answer, AllocError>
-    ensures { (text : List ℕ) → IsRead SpellsSession text session.now → IfOk result (λ answer. IsCompleteAuditAnswer text answer.text.items answer.status) }
-{
-    session_texts_are_unambiguous();
-    match audit_read(rt, alloc, session, Wanted::Report) {
-        Ok(answer) => held(alloc, session, answer),
-        Err(error) => Err(error),
-    }
-}
-
-/// The verdict on a session, which has to be complete, and a certificate, by what was read of their texts.
-fn check_complete<R: Threads + Sync>(
-    rt: &R,
-    alloc: Global,
-    session: &Result<Session, u32>,
-    cert: &Result<Cert, u32>,
-) -> Result<Answer, AllocError>
-    ensures { (first second : List ℕ) → IsRead SpellsSession first session.now → IsRead SpellsCert second cert.now → IfOk result (λ answer. IsCompleteVerdictAnswer first second answer.text.items answer.status) }
-{
-    session_texts_are_unambiguous();
-    match judge_read(rt, alloc, session, cert) {
-        Ok(answer) => held(alloc, session, answer),
-        Err(error) => Err(error),
-    }
-}
-
-/// `audit --complete`: the report on a session, or what a clean one lacks.
+/// A command that judges a session, which has to be complete: as `audit --complete` is `audit`, and `check --complete` is
+/// `check`. It answers what the command does, or what a session lacks of which that would say that all is well.
 #[derive(Clone, Copy)]
-pub struct CompleteAuditCommand<'a, R> {
-    pub rt: &'a R,
+pub struct Complete<C> {
+    pub command: C,
 }
 
-impl<R: Threads + Sync> OnOne for CompleteAuditCommand<'_, R> {
+impl<C: OnOne<Text = SessionReader>> OnOne for Complete<C> {
     type Text = SessionReader;
 
-    ghost ready = { IsSync R.row };
+    ghost ready = { C.ready };
 
-    ghost is_answer = { λ _. IsCompleteAuditAnswer };
+    ghost is_answer = { λ complete session. IsCompleteAnswer (C.is_answer complete.command session) session };
+
+    fn telling(&self) -> Telling {
+        self.command.telling()
+    }
 
     fn answer(&self, alloc: Global, session: &Result<Session, u32>) -> Given {
-        given(audit_complete(self.rt, alloc, session))
+        session_texts_are_unambiguous();
+        let answer = self.command.answer(alloc, session)?;
+        given(held(alloc, session, answer))
     }
 }
 
-/// `check --complete`: the verdict on a session and its certificate, or what a session lacks that would have `yes`.
-#[derive(Clone, Copy)]
-pub struct CompleteCheckCommand<'a, R> {
-    pub rt: &'a R,
-}
-
-impl<R: Threads + Sync> OnTwo for CompleteCheckCommand<'_, R> {
+impl<C: OnTwo<First = SessionReader>> OnTwo for Complete<C> {
     type First = SessionReader;
 
-    type Second = CertReader;
+    type Second = C::Second;
 
-    ghost ready = { IsSync R.row };
+    type Said = C::Said;
 
-    ghost is_answer = { λ _ texts. IsCompleteVerdictAnswer texts.0 texts.1 };
+    ghost ready = { C.ready };
+
+    ghost is_answer = { λ complete texts. IsCompleteAnswer (C.is_answer complete.command texts) texts.0 };
 
     fn answer(
         &self,
         alloc: Global,
         session: &Result<Session, u32>,
-        cert: &Result<Cert, u32>,
-    ) -> Given {
-        given(check_complete(self.rt, alloc, session, cert))
+        second: &<C::Second as Taker>::Found,
+    ) -> Result<(Answer, C::Said), Fault<'static>> {
+        session_texts_are_unambiguous();
+        let (answer, said) = self.command.answer(alloc, session, second)?;
+        let whole = given(held(alloc, session, answer))?;
+        Ok((whole, said))
+    }
+
+    fn push_more(
+        &self,
+        out: &mut Vec<u8>,
+        name: &[u8],
+        session: &Result<Session, u32>,
+        second: &<C::Second as Taker>::Found,
+        said: C::Said,
+    ) -> Result<(), AllocError> {
+        self.command.push_more(out, name, session, second, said)
     }
 }

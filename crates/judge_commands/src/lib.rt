@@ -8,5 +8,5 @@ mod replaying;
 
 pub use auditing::{AuditCommand, report_status};
 pub use checking::{CheckCommand, push_verdict, verdict_status};
-pub use completing::{CompleteAuditCommand, CompleteCheckCommand, push_missing};
+pub use completing::{Complete, push_missing};
 pub use replaying::ReplayCommand;

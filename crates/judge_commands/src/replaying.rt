@@ -7,7 +7,7 @@ ghost use Rattle.cert_text.specs.Runs.{SpellsRuns};
 ghost use Rattle.judge_commands.specs.Replayed.{IsReplayAnswer, outcome_line, outcome_status};
 
 use cert_text::RunsReader;
-use command_texts::{Answer, Given, OnTwo, given, status_where};
+use command_texts::{Answer, Fault, OnTwo, given_alone, status_where};
 use judged_texts::{Outcome, find_outcome};
 use migration_types::{Run, Seq, Session};
 use report_text::{push_refused_session, push_shape};
@@ -62,6 +62,8 @@ impl OnTwo for ReplayCommand {
 
     type Second = RunsReader;
 
+    type Said = ();
+
     ghost is_answer = { λ _ texts. IsReplayAnswer texts.0 texts.1 };
 
     fn answer(
@@ -69,7 +71,7 @@ impl OnTwo for ReplayCommand {
         alloc: Global,
         session: &Result<Session, u32>,
         runs: &Result<Seq<Run>, u32>,
-    ) -> Given {
-        given(replay_read(alloc, session, runs))
+    ) -> Result<(Answer, ()), Fault<'static>> {
+        given_alone(replay_read(alloc, session, runs))
     }
 }

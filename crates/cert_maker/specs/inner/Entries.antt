@@ -13,9 +13,9 @@ use Rattle.migration_types.specs.declared.version.Version.TheVariants.{Two}
 use Rattle.migration_types.specs.Sessions.{Recorded}
 use Rattle.audit_model.specs.Names.{if_there}
 use Rattle.audit_model.specs.Shape.{delivery}
-use Rattle.audit_model.specs.Certificates.{is_fresh, IsRightEntry}
+use Rattle.audit_model.specs.Certificates.{is_fresh}
 use Rattle.page_facts.specs.declared.facts.PageFacts.{PageFacts}
-use Rattle.cert_maker.specs.Made.{NamesEarliest}
+use Rattle.cert_maker.specs.Made.{HasNoEntry, IsMadeEntry}
 
 abbrev pub repeated : ℕ → Option SourceRec → ℕ
 repeated delivered (Some (Again sending)) = sending
@@ -49,14 +49,6 @@ entry_with s f look (Some place) = if_there (λ first. if_there (entry_at s plac
 
 abbrev pub entry_of : Recorded → PageFacts → Option ℕ → Option Entry
 entry_of s f look = entry_with s f look f.placement
-
--- a right entry that names the earliest look
-pub record IsMadeEntry (s : Recorded) (page : ℕ) (entry : Entry) : Type 0 where
-  pub right : IsRightEntry s page entry
-  pub earliest : NamesEarliest s entry
-
-abbrev pub HasNoEntry : Recorded → ℕ → Type 0
-HasNoEntry s page = (entry : Entry) → IsRightEntry s page entry → ⊥
 
 -- a page of the machine has no right entry
 pub record HasBarePage (s : Recorded) : Type 0 where

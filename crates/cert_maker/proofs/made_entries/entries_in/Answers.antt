@@ -1,20 +1,16 @@
 use Rattle.std.proofs.Common.{ℕ, ◌<◌, length, ◌∙◌, List, sym, ap, subst, arith}
 use Rattle.migration_types.specs.Extents.{Extent}
 use Rattle.migration_types.specs.declared.cert.Entry.{Entry}
-use Rattle.cert_maker.specs.inner.Entries.{IsMadeEntry, AreMade}
+use Rattle.cert_maker.specs.Made.{IsMadeEntry}
+use Rattle.cert_maker.specs.inner.Entries.{AreMade}
 use Rattle.page_facts.proofs.Growing.{each_more, pushed_length}
 use Rattle.page_facts.proofs.OverPages.{found_at}
 use Rattle.cert_maker.proofs.made_entries.entries_in.Goals as goal
 
-pub facts_of-facts-requires : goal.facts_of-facts-requires
-facts_of-facts-requires c =
+pub made_entry-requires : goal.made_entry-requires
+made_entry-requires c =
     let lt : c.loop-page.page < length c.args.found.now = omega (arith, c.requires.found.pages, ap (λ (e : Extent). e.pages) c.geometry.ensures, c.pages-pages.ensures, c.loop-page-test.true) in
     found_at c.args.session.now c.args.found.now c.loop-page.page c.new-number.result _ c.requires.found lt c.new-number.ensures
-
-pub made_entry-requires-clause-look : goal.made_entry-requires-clause-look
-made_entry-requires-clause-look c =
-    let lt : c.loop-page.page < length c.args.found.now = omega (arith, c.requires.found.pages, ap (λ (e : Extent). e.pages) c.geometry.ensures, c.pages-pages.ensures, c.loop-page-test.true) in
-    (found_at c.args.session.now c.args.found.now c.loop-page.page c.new-number.result _ c.requires.found lt c.new-number.ensures).look
 
 pub loop-page-preserved : goal.loop-page-preserved
 loop-page-preserved c =

@@ -1,7 +1,7 @@
 use Rattle.std.proofs.Common.{◌≡◌, ℕ, length, Some}
 use Rattle.std.specs.Prelude.{slice_get}
 use Rattle.migration_types.specs.declared.cert.Entry.{Entry}
-use Rattle.cert_maker.specs.inner.Entries.{IsMadeEntry}
+use Rattle.cert_maker.specs.Made.{IsMadeEntry}
 use Rattle.cert_maker.proofs.made_entries.entries_in.Given as goal
 
 abbrev pub invariant-loop-page : goal.invariant-loop-page

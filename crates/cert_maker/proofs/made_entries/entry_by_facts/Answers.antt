@@ -2,7 +2,7 @@ use Rattle.std.proofs.Common.{◌≡◌, Some, sym, ◌∙◌, subst}
 use Rattle.migration_types.specs.declared.cert.Entry.{Entry}
 use Rattle.audit_model.specs.Certificates.{IsRightEntry}
 use Rattle.cert_maker.proofs.Making.{made_right, made_earliest}
-use Rattle.cert_maker.proofs.made_entries.made_entry.Goals as goal
+use Rattle.cert_maker.proofs.made_entries.entry_by_facts.Goals as goal
 
 pub returns-in_default : goal.returns-in_default
 returns-in_default c = λ entry right.

@@ -1,0 +1,2 @@
+-- What of a certificate does not fit its session.
+pub mod Misfits

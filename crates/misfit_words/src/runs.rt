@@ -1,0 +1,113 @@
+//! A run that cannot be taken, in words; or the records that no run takes.
+
+use cert_check::run_at;
+use merge_runs::{Taken, goes_to};
+use migration_types::{LogName, Run, Session, logs};
+use session_story::{log_word, push_place, push_record};
+use std::alloc::AllocError;
+
+/// How many records of each log these runs take.
+fn taken_by(runs: &[Run]) -> Taken {
+    let mut taken = Taken::nothing();
+    for run in runs {
+        let count = taken.of(run.log).saturating_add(run.count as usize);
+        taken = taken.with(run.log, count);
+    }
+    taken
+}
+
+/// Adds how many records a log has, which is not enough.
+fn push_past(out: &mut String, session: &Session, log: LogName) -> Result<(), AllocError> {
+    let word = log_word(log);
+    let count = session.len(log);
+    write!(
+        out,
+        "the run takes {word} {count}, and the {word}'s log has "
+    )?;
+    match count {
+        0 => out.push_str("no records"),
+        1 => out.push_str("1 record (0)"),
+        _ => {
+            let last = count - 1;
+            write!(out, "{count} records (0 to {last})")
+        }
+    }
+}
+
+/// Adds that a record has to come after the one that it names, which is not taken.
+fn push_early(
+    out: &mut String,
+    session: &Session,
+    log: LogName,
+    place: u32,
+) -> Result<(), AllocError> {
+    out.push_str("the run takes the session's ")?;
+    push_record(out, session, log, place)?;
+    if let Some((sent_log, sent_place)) = session.named((log, place)) {
+        out.push_str("; it has to come after ")?;
+        push_place(out, session, sent_log, sent_place)?;
+        out.push_str(", which is not taken yet")?;
+    }
+    Ok(())
+}
+
+/// Adds the first record that a run cannot take, where these were taken before it, and what stands in its way.
+fn push_run(
+    out: &mut String,
+    session: &Session,
+    taken: &Taken,
+    run: &Run,
+) -> Result<(), AllocError> {
+    let from = taken.of(run.log);
+    let end = session.len(run.log);
+    let to = from.saturating_add(run.count as usize).min(end);
+    let at = goes_to(session, taken, run.log, from, to);
+    if at < end {
+        push_early(out, session, run.log, at as u32)
+    } else {
+        push_past(out, session, run.log)
+    }
+}
+
+/// Adds how many more records of a log there are, if there are more.
+fn push_more(out: &mut String, log: LogName, more: usize) -> Result<(), AllocError> {
+    if more == 0 {
+        return Ok(());
+    }
+    let word = log_word(log);
+    write!(out, " and {more} more of the {word}")
+}
+
+/// Adds the records that are left where these were taken: of each log the first, and how many more there are.
+fn push_left(out: &mut String, session: &Session, taken: &Taken) -> Result<(), AllocError> {
+    let mut before = "no run takes the session's ";
+    for log in logs() {
+        let from = taken.of(log);
+        let end = session.len(log);
+        if from < end {
+            out.push_str(before)?;
+            push_place(out, session, log, from as u32)?;
+            push_more(out, log, end - from - 1)?;
+            before = ", ";
+        }
+    }
+    Ok(())
+}
+
+/// Adds what stands in the way of the run at this line of the certificate, or at its `end` which records no run takes.
+pub(crate) fn push_runs(
+    out: &mut String,
+    session: &Session,
+    runs: &[Run],
+    line: u32,
+) -> Result<(), AllocError> {
+    let Some(place) = run_at(session.geometry().pages(), line) else {
+        return Ok(());
+    };
+    let (before, rest) = runs.split_at((place as usize).min(runs.len()));
+    let taken = taken_by(before);
+    match rest.first() {
+        Some(run) => push_run(out, session, &taken, run),
+        None => push_left(out, session, &taken),
+    }
+}
