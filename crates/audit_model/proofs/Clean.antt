@@ -29,6 +29,8 @@ use Rattle.audit_model.proofs.FirstTouch.{IsFirstTouch, first_touch_at}
 use Rattle.audit_model.proofs.Entries.{IsFreedFirst, IsKept, HasLook}
 use Rattle.audit_model.specs.Worlds.{placed_before}
 use Rattle.audit_model.proofs.Orders.{is_at, page_at_halt, ledger_at_halt, source_left, pager_left}
+use Rattle.audit_model.specs.Fitting.{Fits}
+use Rattle.audit_model.proofs.Fits.{session_fits}
 use Rattle.audit_model.proofs.Safe.{safe_if_kept}
 
 same_or_not : (xs ys : List ℕ) → (xs ≡ ys) ⊎ (xs ≡ ys → ⊥)
@@ -188,8 +190,11 @@ module _ (s : Recorded) (clean : HasNoPageFault s) where
       once n m r t is js e f (inr (inl lt)) = absurd (not_twice page m n t r js is f e lt)
       once n m r t is js e f (inr (inr lt)) = absurd (not_twice page n m r t is js e f lt)
 
+  pub fitting_safe : Fits s → IsRightShape s → IsSafe s
+  fitting_safe fits shape = safe_if_kept s shape fits (λ page small. clean_kept page)
+
   pub clean_safe : IsSession s → IsRightShape s → IsSafe s
-  clean_safe fits shape = safe_if_kept s shape fits (λ page small. clean_kept page)
+  clean_safe limits = fitting_safe (session_fits s limits)
 
 module _ (s : Recorded) (shape : IsRightShape s) (order : List Name) (merging : IsMerging s order) (past : List Name) where
   -- a fault other than `early` and `over` breaks the demand at its record, in every merging

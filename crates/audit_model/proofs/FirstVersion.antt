@@ -1,24 +1,24 @@
--- A session of the first version and of the right shape releases no page at the target; within its limits it has no
--- lane.
-use Rattle.std.proofs.Common.{◌≡◌, ℕ, zero, suc, Bool, false, ◌==◌, List, [], ◌∷◌, Option, Some, None, refl, sym, ◌∙◌, subst}
+-- A session of the first version and of the right shape releases no page at the target; where it fits, it has no lane.
+use Rattle.std.proofs.Common.{◌≡◌, ℕ, zero, suc, Bool, false, ◌==◌, List, [], ◌∷◌, Option, Some, None, refl, sym, ap, ◌∙◌, subst}
 use Rattle.std.specs.Prelude.{slice_get}
-use Rattle.std.specs.List.{AllByRecursion}
+use Rattle.std.specs.Option.{option_map}
+use Rattle.migration_types.specs.declared.records.LogName.TheVariants.{Lane}
 use Rattle.migration_types.specs.declared.records.GuestRec.{GuestRec}
 use Rattle.migration_types.specs.declared.records.GuestRec.TheVariants.{Read, Write, Release, Miss, Halt, Resume, See}
 use Rattle.migration_types.specs.declared.records.LaneRec.{LaneRec}
-use Rattle.migration_types.specs.declared.records.LaneRec.TheVariants.{Down}
 use Rattle.migration_types.specs.declared.records.PagerRec.TheVariants.{Pull}
 use Rattle.migration_types.specs.declared.version.Version.TheVariants.{One}
-use Rattle.migration_types.specs.Sessions.{Recorded, HasLane, LaneRecFits}
+use Rattle.migration_types.specs.Rows.{lane_row}
+use Rattle.migration_types.specs.Sessions.{Recorded, HasLane}
 use Rattle.audit_model.specs.Flat.{changed, freed, marked_late, freed_after, Home, AtSource, Nowhere, AtTarget, home}
 use Rattle.audit_model.specs.Shape.{IsRightShape}
 use Rattle.audit_model.specs.Laws.{FirstVersionIsPlain}
 use Rattle.audit_model.proofs.Fits.{pager_fits}
 use Rattle.audit_model.proofs.History.{AtSource≢AtTarget, first_home_at_release}
 
-no_lane : (lane : List LaneRec) → AllByRecursion (LaneRecFits One) lane → lane ≡ []
-no_lane [] fits = refl
-no_lane (Down sending ∷ lane) fits = absurd fits.0.0
+no_lane : (lane : List LaneRec) → ((n : ℕ) (x : LaneRec) → slice_get lane n ≡ Some x → ⊥) → lane ≡ []
+no_lane [] none = refl
+no_lane (x ∷ lane) none = absurd (none 0 x refl)
 
 module _ (s : Recorded) (one : s.version ≡ One) (shape : IsRightShape s) where
   released_before : (n v p : ℕ) → slice_get s.guest n ≡ Some (Release v p) → home s n ≡ AtTarget → ⊥
@@ -49,6 +49,6 @@ first_version_plain s one shape = record {
   none_freed = none_freed s one shape;
   none_over = λ page over. released_before s one shape over.release over.vcpu page over.stands over.is_late;
   none_fresh = λ page first right. released_before s one shape first right.1.vcpu page right.1.is_release right.1.is_late;
-  no_lane = λ limits. no_lane s.lane (subst (λ v. AllByRecursion (LaneRecFits v) s.lane) one limits.lane);
-  none_pulled = λ limits n down is. subst (λ v. HasLane v) one (pager_fits s limits n (Pull down) is).0;
+  no_lane = λ fits. no_lane s.lane (λ n x is. subst (λ v. HasLane v) one (fits.logs (Lane, n) (lane_row x) (ap (option_map lane_row) is)));
+  none_pulled = λ fits n down is. subst (λ v. HasLane v) one (pager_fits s fits n (Pull down) is).0;
 }

@@ -18,26 +18,30 @@ use Rattle.audit_model.specs.Certificates.{is_access_of}
 use Rattle.audit_model.specs.Laws.{IsCertified, GuestAt, PagerAt, FindsResident, ReadsFlat, PlacedOnce, PlacedUntouched, ReleasedAsZeros, IsMigrated}
 use Rattle.audit_model.specs.Worlds.{TargetIsFlat}
 use Rattle.audit_model.proofs.Consistent.{there}
-use Rattle.audit_model.proofs.Fits.{source_fits, pager_fits}
+use Rattle.audit_model.specs.Fitting.{Fits}
+use Rattle.audit_model.proofs.Fits.{session_fits, source_fits, pager_fits}
 use Rattle.audit_model.proofs.Entries.{IsKept, kept_from, placed_owed}
 use Rattle.audit_model.proofs.Orders.{is_at}
 use Rattle.audit_model.proofs.Safe.{safe_if_kept, target_if_kept}
 
 module _ (s : Recorded) (c : Certified) (given : IsCertified s c) where
+  fits : Fits s
+  fits = session_fits s given.is_session
+
   kept : (page : ℕ) → page < s.geometry.pages → IsKept s page
   kept page small =
       let entry = there c.entries page s.geometry.pages small (omega (arith, given.certificate.pages)) in
       kept_from s page entry.0 (given.certificate.entries page entry.0 entry.1)
 
   pub certified_safe : IsSafe s
-  certified_safe = safe_if_kept s given.shape given.is_session kept
+  certified_safe = safe_if_kept s given.shape fits kept
 
   pub certified_target_is_flat : TargetIsFlat s
-  certified_target_is_flat = target_if_kept s given.shape given.is_session kept
+  certified_target_is_flat = target_if_kept s given.shape fits kept
 
   placed_page_small : (n : ℕ) (r : PagerRec) → slice_get s.pager n ≡ Some r → (page : ℕ) → is_placement_of page r ≡ true → page < s.geometry.pages
-  placed_page_small n (Place q got content) is page e = let same : q ≡ page = eqb-true q page e in let lt = (pager_fits s given.is_session n (Place q got content) is).0 in subst (λ k. k < s.geometry.pages) same lt
-  placed_page_small n (Zero q) is page e = let same : q ≡ page = eqb-true q page e in let lt = pager_fits s given.is_session n (Zero q) is in subst (λ k. k < s.geometry.pages) same lt
+  placed_page_small n (Place q got content) is page e = let same : q ≡ page = eqb-true q page e in let lt = (pager_fits s fits n (Place q got content) is).0 in subst (λ k. k < s.geometry.pages) same lt
+  placed_page_small n (Zero q) is page e = let same : q ≡ page = eqb-true q page e in let lt = (pager_fits s fits n (Zero q) is).0 in subst (λ k. k < s.geometry.pages) same lt
   placed_page_small n (Got k) is page e = absurd (cc)
   placed_page_small n (Pull k) is page e = absurd (cc)
   placed_page_small n Ready is page e = absurd (cc)
@@ -87,7 +91,7 @@ module _ (s : Recorded) (c : Certified) (given : IsCertified s c) where
   pub certified_released_as_zeros : ReleasedAsZeros s
   certified_released_as_zeros = record {
     unsent = λ page n content released is.
-        let honest = (kept page (source_fits s given.is_session n (Send page content) is).0).honest in
+        let honest = (kept page (source_fits s fits n (Send page content) is).0).honest in
         let owed = honest.owed n content is in cc;
     zeroed = zeroed;
   }
@@ -96,7 +100,7 @@ module _ (s : Recorded) (c : Certified) (given : IsCertified s c) where
       zeroed page n (Place q got content) released is e =
           let same : q ≡ page = eqb-true q page e in
           let at : slice_get s.pager n ≡ Some (Place page got content) = is ∙ ap (λ k. Some (Place k got content)) same in
-          let small = (pager_fits s given.is_session n (Place page got content) at).0 in
+          let small = (pager_fits s fits n (Place page got content) at).0 in
           let entry = there c.entries page s.geometry.pages small (omega (arith, given.certificate.pages)) in
           let owed = placed_owed s page entry.0 (given.certificate.entries page entry.0 entry.1) n got content at in
           absurd (cc)

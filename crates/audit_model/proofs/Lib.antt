@@ -28,3 +28,13 @@ pub mod Certifying
 pub mod PageFaultTests
 pub mod FirstVersion
 pub mod FirstNames
+pub mod Ranks
+pub mod WindowCells
+pub mod WindowFolds
+pub mod WindowLooks
+pub mod WindowFaults
+pub mod WindowCovers
+pub mod WindowMergings
+pub mod WindowShape
+pub mod WindowPlaces
+pub mod WindowStarts

@@ -10,8 +10,8 @@ use Rattle.migration_types.specs.declared.records.SourceRec.TheVariants.{Halted,
 use Rattle.migration_types.specs.declared.records.PagerRec.{PagerRec}
 use Rattle.migration_types.specs.declared.records.PagerRec.TheVariants.{Got, Pull, Ready, Fault, Join, Want, Place, Zero, Skip, All}
 use Rattle.migration_types.specs.Sessions.{Recorded}
-use Rattle.migration_types.specs.Sessions.{IsSession}
 use Rattle.migration_types.specs.Receipts.{Name}
+use Rattle.audit_model.specs.Fitting.{Fits}
 use Rattle.audit_model.specs.Mergings.{Cursors}
 use Rattle.audit_model.specs.Flat.{freed, changed, flat, Home, AtSource, Nowhere, AtTarget, home, at_halt}
 use Rattle.audit_model.specs.World.{World, step, memory_at, Demand, guest_demand, source_demand, pager_demand, if_record, IsSafe}
@@ -32,7 +32,7 @@ pub record IsFlatAt (s : Recorded) (c : Cursors) (w : World) : Type 0 where
   pub at : IsAt s c w
   pub flat_target : IsFlatAtTarget s (c Guest) (c Pager) w
 
-module _ (s : Recorded) (shape : IsRightShape s) (fits : IsSession s) (kept : (page : ℕ) → page < s.geometry.pages → IsKept s page) where
+module _ (s : Recorded) (shape : IsRightShape s) (fits : Fits s) (kept : (page : ℕ) → page < s.geometry.pages → IsKept s page) where
   -- a page that is resident, by the cursors
   left_if_resident : (c : Cursors) → IsConsistentCut s c → (q : ℕ) → resident_before s (c Guest) (c Pager) q ≡ true → home s (c Guest) ≢ AtSource
   left_if_resident c cut q e = go (or_cases _ _ e)
@@ -95,12 +95,12 @@ module _ (s : Recorded) (shape : IsRightShape s) (fits : IsSession s) (kept : (p
   guest_demand_holds c w i (Read v q d x) is =
       let n = (c Guest) in
       let fit = guest_fits s fits n (Read v q d x) is in
-      let placed : home s n ≡ AtTarget → resident_before s n (c Pager) q ≡ true = λ e. access_resident c i.at.cut q fit.1 (Read v q d x) is (itself q) e in
-      let answer = (kept q fit.1).honest.reads n v d x is in
+      let placed : home s n ≡ AtTarget → resident_before s n (c Pager) q ≡ true = λ e. access_resident c i.at.cut q fit.1.0 (Read v q d x) is (itself q) e in
+      let answer = (kept q fit.1.0).honest.reads n v d x is in
       record {
         is_somewhere = λ e. home_at_read s shape n v q d x is (sym i.at.world.home_is ∙ e);
         is_resident = λ e. i.at.world.resident_is q ∙ placed (sym i.at.world.home_is ∙ e);
-        is_the_cell = answer ∙ cell fit.2 placed (home s n) refl;
+        is_the_cell = answer ∙ cell fit.1.1.0 placed (home s n) refl;
         is_flat = answer;
       }
     where
@@ -113,7 +113,7 @@ module _ (s : Recorded) (shape : IsRightShape s) (fits : IsSession s) (kept : (p
       let fit = guest_fits s fits n (Write v q d x) is in
       record {
         is_somewhere = λ e. home_at_write s shape n v q d x is (sym i.at.world.home_is ∙ e);
-        is_resident = λ e. i.at.world.resident_is q ∙ access_resident c i.at.cut q fit.1 (Write v q d x) is (itself q) (sym i.at.world.home_is ∙ e);
+        is_resident = λ e. i.at.world.resident_is q ∙ access_resident c i.at.cut q fit.1.0 (Write v q d x) is (itself q) (sym i.at.world.home_is ∙ e);
       }
   guest_demand_holds c w i (Release v q) is = tt
   guest_demand_holds c w i (Miss v q) is = tt
@@ -144,7 +144,7 @@ module _ (s : Recorded) (shape : IsRightShape s) (fits : IsSession s) (kept : (p
         is_the_page = (kept q small).placed_flat (c Pager) got content is ∙ page_at_halt s shape c w i.at left q;
       }
   pager_demand_holds c w i left (Zero q) is =
-      let small = pager_fits s fits (c Pager) (Zero q) is in
+      let small = (pager_fits s fits (c Pager) (Zero q) is).0 in
       record {
         is_new = i.at.world.placed_is q ∙ placement_new (c Pager) q small (Zero q) is (itself q) (c Pager) (omega arith);
         is_untouched = i.at.world.touched_is q ∙ placement_untouched c i.at.cut q small (Zero q) is (itself q);
@@ -180,7 +180,7 @@ module _ (s : Recorded) (shape : IsRightShape s) (fits : IsSession s) (kept : (p
 
   placement_page_small : (n : ℕ) (r : PagerRec) → slice_get s.pager n ≡ Some r → (a : ℕ) → is_placement_of a r ≡ true → a < s.geometry.pages
   placement_page_small n (Place q got content) is a e = let same : q ≡ a = eqb-true q a e in let lt = (pager_fits s fits n (Place q got content) is).0 in subst (λ k. k < s.geometry.pages) same lt
-  placement_page_small n (Zero q) is a e = let same : q ≡ a = eqb-true q a e in let lt = pager_fits s fits n (Zero q) is in subst (λ k. k < s.geometry.pages) same lt
+  placement_page_small n (Zero q) is a e = let same : q ≡ a = eqb-true q a e in let lt = (pager_fits s fits n (Zero q) is).0 in subst (λ k. k < s.geometry.pages) same lt
   placement_page_small n (Got k) is a e = absurd (cc)
   placement_page_small n (Pull k) is a e = absurd (cc)
   placement_page_small n Ready is a e = absurd (cc)
@@ -199,7 +199,7 @@ module _ (s : Recorded) (shape : IsRightShape s) (fits : IsSession s) (kept : (p
       resident v q d x e at =
           let write : slice_get s.guest (c Guest) ≡ Some (Write v q d x) = is ∙ ap (λ t. Some t) e in
           let fit = guest_fits s fits (c Guest) (Write v q d x) write in
-          i.at.world.resident_is q ∙ access_resident c i.at.cut q fit.1 (Write v q d x) write (itself q) at
+          i.at.world.resident_is q ∙ access_resident c i.at.cut q fit.1.0 (Write v q d x) write (itself q) at
 
   pager_step_flat : (c : Cursors) (w : World) → IsFlatAt s c w → home s (c Guest) ≢ AtSource → (r : PagerRec) → slice_get s.pager (c Pager) ≡ Some r → IsFlatAtTarget s (c Guest) (suc (c Pager)) (step s (Pager, (c Pager)) w)
   pager_step_flat c w i left r is =

@@ -1,5 +1,5 @@
 -- A page fault breaks the demand at its record, and a session without one is safe.
-use Rattle.std.proofs.Common.{◌≡◌, ◌≢◌, ℕ, ◌<◌, Bool, true, false, List, length, Option, Some, None, refl, ◌∙◌, subst, eqb-true}
+use Rattle.std.proofs.Common.{◌≡◌, ◌≢◌, ◌↔◌, ℕ, ◌<◌, Bool, true, false, List, length, Option, Some, None, refl, ◌∙◌, subst, eqb-true}
 use Rattle.std.specs.Prelude.{slice_get}
 use Rattle.migration_types.specs.declared.records.GuestRec.{GuestRec}
 use Rattle.migration_types.specs.declared.records.GuestRec.TheVariants.{Release}
@@ -20,12 +20,14 @@ use Rattle.migration_types.specs.declared.records.SourceRec.{SourceRec}
 use Rattle.migration_types.specs.declared.records.LogName.TheVariants.{Source, Link, Lane}
 use Rattle.audit_model.specs.Laws.{IsFaultless, FaultsBreak, DelayedBreaks, DelayedUnplaced, DelayedOver, UnplacedBreaks, BreaksAt, SafeExactlyIfClean}
 use Rattle.std.proofs.lemmas.Option.{slice_get_within}
+use Rattle.audit_model.specs.Fitting.{Fits}
+use Rattle.audit_model.proofs.Fits.{session_fits}
 use Rattle.audit_model.proofs.Delays.{delayed_order}
 use Rattle.audit_model.proofs.History.{earlier_witness, earlier_true}
 use Rattle.audit_model.proofs.Orders.{is_at}
 use Rattle.audit_model.proofs.Touched.{access_touches}
 use Rattle.audit_model.proofs.Entries.{itself}
-use Rattle.audit_model.proofs.Clean.{clean_safe, fault_breaks, early_breaks, first_placement, IsOverPlacement, fault_over, false_if_not_true, clash}
+use Rattle.audit_model.proofs.Clean.{fitting_safe, clean_safe, fault_breaks, early_breaks, first_placement, IsOverPlacement, fault_over, false_if_not_true, clash}
 use Rattle.audit_model.proofs.Late.{stands_somewhere, delayed_merges, delayed_breaks, delayed_unplaced, delayed_is_touched}
 
 pub faultless_is_safe : (s : Recorded) → IsFaultless s → IsSafe s
@@ -177,5 +179,9 @@ module _ (s : Recorded) (shape : IsRightShape s) (given : HasMerging s) (safe : 
   safe_is_clean Unfit name f = other_fault Unfit (λ e. cc) (λ e. cc) name f
   safe_is_clean Over name f = over_fault_at name f
 
+-- so a session of any size that fits, and has a merging, is safe exactly where no page has a fault
+pub fitting_exactly : (s : Recorded) → Fits s → IsRightShape s → HasMerging s → IsSafe s ↔ HasNoPageFault s
+fitting_exactly s fits shape given = (λ safe. safe_is_clean s shape given safe, λ clean. fitting_safe s clean fits shape)
+
 pub safe_exactly_if_clean : (s : Recorded) → SafeExactlyIfClean s
-safe_exactly_if_clean s fits shape given = (λ safe. safe_is_clean s shape given safe, λ clean. clean_safe s clean fits shape)
+safe_exactly_if_clean s limits = fitting_exactly s (session_fits s limits)

@@ -14,6 +14,7 @@ use Rattle.migration_types.specs.Certs.{Certified}
 use Rattle.migration_types.specs.declared.version.Version.TheVariants.{One}
 use Rattle.migration_types.specs.Receipts.{Name}
 use Rattle.migration_types.specs.Sessions.{Recorded, IsSession}
+use Rattle.audit_model.specs.Fitting.{Fits}
 use Rattle.audit_model.specs.declared.reasons.PageReason.{PageReason}
 use Rattle.audit_model.specs.declared.reasons.PageReason.TheVariants.{Early, Over}
 use Rattle.audit_model.specs.Mergings.{IsMerging, HasMerging, StandsAfter, spelled}
@@ -148,15 +149,15 @@ HasCertificate s =
     (entries : List Entry) × IsRightCertificate s (record { version = s.version; entries = entries; runs = runs })
 
 -- Nothing that is new in the second version is met in a session of the first: no page is released at the target, so
--- none is freed there, no placement is over such a release, and no right certificate has a fresh page; and within the
--- limits of sessions the lane is empty, and nothing is pulled from it.
+-- none is freed there, no placement is over such a release, and no right certificate has a fresh page; and where the
+-- session fits, the lane is empty, and nothing is pulled from it.
 pub record IsPlain (s : Recorded) : Type 0 where
   pub releases_before : (n vcpu page : ℕ) → slice_get s.guest n ≡ Some (Release vcpu page) → home s n ≡ AtTarget → ⊥
   pub none_freed : (n page : ℕ) → freed s n page ≡ false
   pub none_over : (page : ℕ) → IsOver s page → ⊥
   pub none_fresh : (page first : ℕ) → IsRightEntry s page (Fresh first) → ⊥
-  pub no_lane : IsSession s → s.lane ≡ []
-  pub none_pulled : IsSession s → (n down : ℕ) → slice_get s.pager n ≡ Some (Pull down) → ⊥
+  pub no_lane : Fits s → s.lane ≡ []
+  pub none_pulled : Fits s → (n down : ℕ) → slice_get s.pager n ≡ Some (Pull down) → ⊥
 
 abbrev pub FirstVersionIsPlain : Recorded → Type 0
 FirstVersionIsPlain s = s.version ≡ One → IsRightShape s → IsPlain s

@@ -1,4 +1,5 @@
 pub mod Names
+pub mod Fitting
 pub mod Mergings
 pub mod Walks
 pub mod Flat
@@ -11,5 +12,7 @@ pub mod Reasons
 pub mod FirstFault
 pub mod FoundOrder
 pub mod Delayed
+pub mod Windows
+pub mod WindowLaws
 pub mod Laws
 pub mod inner

@@ -3,7 +3,7 @@
 ghost use Rattle.std.specs.Prelude.{ℕ, List, [], ◌∷◌, ◌++◌, ◌<◌, ◌↔◌};
 ghost use Rattle.migration_types.specs.Certs.{Certified};
 ghost use Rattle.migration_types.specs.Receipts.{Name};
-ghost use Rattle.migration_types.specs.Sessions.{Recorded};
+ghost use Rattle.migration_types.specs.Sessions.{Recorded, IsSession};
 ghost use Rattle.migration_types.specs.declared.records.LogName.{LogName};
 ghost use Rattle.audit_model.specs.Names.{log_length};
 ghost use Rattle.audit_model.specs.Mergings.{IsMerging, HasMerging, Cursors};
@@ -12,6 +12,10 @@ ghost use Rattle.audit_model.specs.FoundOrder.{IsKnot};
 ghost use Rattle.audit_model.specs.World.{IsSafe};
 ghost use Rattle.audit_model.specs.Worlds.{FollowsCursors, TargetIsFlat};
 ghost use Rattle.audit_model.specs.Shape.{IsRightShape};
+ghost use Rattle.audit_model.specs.Fitting.{Fits, IsWithinLimits};
+ghost use Rattle.audit_model.specs.Faults.{HasNoPageFault};
+ghost use Rattle.audit_model.specs.Windows.{Numbers, IsNumbering, window};
+ghost use Rattle.audit_model.specs.WindowLaws.{KeepsPageFaults, MergesThrough, IsCleanThroughWindows};
 ghost use Rattle.audit_model.specs.Laws.{IsCertified, FindsResident, ReadsFlat, PlacedOnce, PlacedUntouched, ReleasedAsZeros, IsMigrated, IsFaultless, FaultsBreak, DelayedBreaks, DelayedUnplaced, HasDelayedOrders, UnplacedBreaks, DelayedOver, SafeExactlyIfClean, HasCertificate, FirstVersionIsPlain, CertifiedFromSource, CertifiedOverLane, CertifiedBalloon, CertifiedFresh};
 
 /// A list of names is a merging exactly where it is a walk of one cursor for each log, to the end of each. Where
@@ -81,4 +85,27 @@ pub fn premises_can_be_met()
     ensures over_lane { CertifiedOverLane }
     ensures balloon { CertifiedBalloon }
     ensures fresh { CertifiedFresh }
+{}
+
+/// A session is one whose records fit its machine, within the limits of size. These limits are not what makes it safe: a
+/// session of any size that fits and has the right shape is safe where no page has a fault, and, where it has a merging,
+/// only there.
+pub fn any_size_is_judged_alike()
+    ensures session { (s : Recorded) → IsSession s ↔ (Fits s × IsWithinLimits s) }
+    ensures clean { (s : Recorded) → Fits s → IsRightShape s → HasNoPageFault s → IsSafe s }
+    ensures exactly { (s : Recorded) → Fits s → IsRightShape s → HasMerging s → IsSafe s ↔ HasNoPageFault s }
+{}
+
+/// Through a window, which has the records of some pages alone, a record that is kept has the faults of its page that it
+/// has without, whatever the shape; a session of the right shape stays one, and keeps its mergings. So a session of any
+/// size that fits its machine is clean where each of its pages is in a window that is, and one of the right shape is then
+/// safe, and, where it has a merging, only then. That it has the right shape and a merging, no window tells.
+pub fn windows_keep_faults()
+    ensures kept { (s : Recorded) (number : Numbers) (count : ℕ) → IsNumbering number → KeepsPageFaults s number count }
+    ensures clean { (s : Recorded) (number : Numbers) (count : ℕ) → IsNumbering number → HasNoPageFault s → HasNoPageFault (window number count s) }
+    ensures right { (s : Recorded) (number : Numbers) (count : ℕ) → IsNumbering number → IsRightShape s → IsRightShape (window number count s) }
+    ensures merges { (s : Recorded) (number : Numbers) (count : ℕ) → IsRightShape s → MergesThrough s number count }
+    ensures cover { (s : Recorded) → Fits s → IsCleanThroughWindows s → HasNoPageFault s }
+    ensures safe { (s : Recorded) → Fits s → IsRightShape s → IsCleanThroughWindows s → IsSafe s }
+    ensures exactly { (s : Recorded) → Fits s → IsRightShape s → HasMerging s → IsSafe s ↔ IsCleanThroughWindows s }
 {}

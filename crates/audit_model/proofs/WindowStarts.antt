@@ -1,0 +1,159 @@
+-- The first records of the source and of the pager through a window.
+use Rattle.std.proofs.Common.{◌≡◌, ℕ, zero, suc, ◌-◌, ◌<◌, ◌≤◌, Bool, true, List, [], ◌∷◌, length, Some, refl, sym, ap, ◌∙◌, subst, arith}
+use Rattle.std.specs.Prelude.{slice_get, nat_lt}
+use Rattle.std.proofs.lemmas.Option.{slice_get_within}
+use Rattle.std.proofs.lemmas.Bool.{ltb-true, lt-ltb}
+use Rattle.migration_types.specs.declared.records.LogName.TheVariants.{Guest, Source, Link, Lane, Pager}
+use Rattle.migration_types.specs.declared.records.SourceRec.{SourceRec}
+use Rattle.migration_types.specs.declared.records.SourceRec.TheVariants.{Halted, State, Send, Again, Ask, Done}
+use Rattle.migration_types.specs.declared.records.PagerRec.{PagerRec}
+use Rattle.migration_types.specs.declared.records.PagerRec.TheVariants.{Got, Pull, Ready, Fault, Join, Want, Place, Zero, Skip, All}
+use Rattle.migration_types.specs.Sessions.{Recorded}
+use Rattle.audit_model.specs.declared.reasons.ShapeReason.TheVariants.{Phases, Named, Start, SecondSend}
+use Rattle.audit_model.specs.Shape.{delivers, is_state, source_start, pager_start, keeps, is_right, IsRightShape}
+use Rattle.audit_model.specs.Windows.{Numbers, IsNumbering, rank, keeps_sending, keeps_source, keeps_pager, marks, moved_to, new_source, new_pager, window}
+use Rattle.audit_model.proofs.Ranks.{rank_next, rank_up, new_at}
+use Rattle.audit_model.proofs.WindowShape.{keeps_through, phase_right, guest_named_right, source_named_right, link_named_right, lane_named_right, second_right}
+use Rattle.audit_model.proofs.WindowPlaces.{mark_is, delivers_through, pager_named_right}
+
+-- where a record stands, one stands at each place before it
+lower_there : {A : Type 0} (log : List A) (m n : ℕ) (x : A) → slice_get log n ≡ Some x → m ≤ n → (y : A) × (slice_get log m ≡ Some y)
+lower_there [] m n x is le = absurd (cc)
+lower_there (y ∷ log) zero n x is le = (y, refl)
+lower_there (y ∷ log) (suc m) zero x is le = absurd (omega arith)
+lower_there (y ∷ log) (suc m) (suc n) x is le = lower_there log m n x is (omega arith)
+
+at_within : {A : Type 0} (log : List A) (n : ℕ) → n < length log → (x : A) × (slice_get log n ≡ Some x)
+at_within [] n lt = absurd (omega arith)
+at_within (x ∷ log) zero lt = (x, refl)
+at_within (x ∷ log) (suc n) lt = at_within log n (omega arith)
+
+-- the first two records are kept, so these have their places still
+first_rank : (marks : List Bool) → slice_get marks 0 ≡ Some true → rank marks 1 ≡ 1
+first_rank marks mark = rank_next marks 0 mark
+
+second_rank : (marks : List Bool) → slice_get marks 0 ≡ Some true → slice_get marks 1 ≡ Some true → rank marks 2 ≡ 2
+second_rank marks zeroth first = rank_next marks 1 first ∙ ap suc (first_rank marks zeroth)
+
+later : (k : ℕ) → 2 ≤ k → (j : ℕ) × (k ≡ suc (suc j))
+later k le = (k - 2, omega arith)
+
+module _ (number : Numbers) (s : Recorded) (count : ℕ) (shape : IsRightShape s) where
+  start_at : (n : ℕ) (x : SourceRec) → slice_get s.source n ≡ Some x → source_start s n x ≡ true
+  start_at n x is = sym (ap (keeps (source_start s n)) is) ∙ shape Start (Source, n)
+
+  zeroth_mark : (n : ℕ) (x : SourceRec) → slice_get s.source n ≡ Some x → slice_get (marks s number Source) 0 ≡ Some true
+  zeroth_mark n x is = let r = lower_there s.source 0 n x is (omega arith) in go r.0 r.1 (start_at 0 r.0 r.1)
+    where
+      go : (y : SourceRec) → slice_get s.source 0 ≡ Some y → source_start s 0 y ≡ true → slice_get (marks s number Source) 0 ≡ Some true
+      go (Halted i) at e = mark_is (keeps_source s number) s.source 0 (Halted i) at refl
+      go y at e = absurd (cc)
+
+  first_mark : (n : ℕ) (x : SourceRec) → slice_get s.source n ≡ Some x → 1 ≤ n → slice_get (marks s number Source) 1 ≡ Some true
+  first_mark n x is le = let r = lower_there s.source 1 n x is le in go r.0 r.1 (start_at 1 r.0 r.1)
+    where
+      go : (y : SourceRec) → slice_get s.source 1 ≡ Some y → source_start s 1 y ≡ true → slice_get (marks s number Source) 1 ≡ Some true
+      go State at e = mark_is (keeps_source s number) s.source 1 State at refl
+      go y at e = absurd (cc)
+
+  long : nat_lt 1 (length s.source) ≡ true → nat_lt 1 (length (window number count s).source) ≡ true
+  long e =
+      let r = at_within s.source 1 (ltb-true 1 (length s.source) e) in
+      let mark = first_mark 1 r.0 r.1 (omega arith) in
+      let one = first_rank (marks s number Source) (zeroth_mark 1 r.0 r.1) in
+      let there = new_at (new_source s number) (marks s number Source) s.source 1 r.0 r.1 mark in
+      lt-ltb 1 _ (subst (λ k. k < length (window number count s).source) one (slice_get_within _ _ _ there))
+
+  source_later : (n : ℕ) (x : SourceRec) → source_start s (suc (suc n)) x ≡ true → (j : ℕ) → source_start (window number count s) (suc (suc j)) (new_source s number x) ≡ true
+  source_later n (Halted i) e j = absurd (cc)
+  source_later n State e j = absurd (cc)
+  source_later n (Send p content) e j = refl
+  source_later n (Again i) e j = refl
+  source_later n (Ask i) e j = refl
+  source_later n Done e j = refl
+
+  source_start_at : (n : ℕ) (x : SourceRec) → slice_get s.source n ≡ Some x → source_start s n x ≡ true → source_start (window number count s) (moved_to s number Source n) (new_source s number x) ≡ true
+  source_start_at zero (Halted i) is e = long e
+  source_start_at zero x is e = absurd (cc)
+  source_start_at (suc zero) State is e = ap (λ k. source_start (window number count s) k State) (first_rank (marks s number Source) (zeroth_mark 1 State is))
+  source_start_at (suc zero) x is e = absurd (cc)
+  source_start_at (suc (suc n)) x is e =
+      let two = second_rank (marks s number Source) (zeroth_mark (suc (suc n)) x is) (first_mark (suc (suc n)) x is (omega arith)) in
+      let up = rank_up (marks s number Source) 2 (suc (suc n)) (omega arith) in
+      let far = later (moved_to s number Source (suc (suc n))) (subst (λ k. k ≤ moved_to s number Source (suc (suc n))) two up) in
+      ap (λ k. source_start (window number count s) k (new_source s number x)) far.1 ∙ source_later n x e far.0
+
+  pub source_start_right : (n : ℕ) → is_right (window number count s) Start (Source, n) ≡ true
+  source_start_right =
+      keeps_through (new_source s number) (marks s number Source) s.source (source_start (window number count s))
+      (λ n x is mark. source_start_at n x is (start_at n x is))
+
+  pager_start_of : (n : ℕ) (x : PagerRec) → slice_get s.pager n ≡ Some x → pager_start s n x ≡ true
+  pager_start_of n x is = sym (ap (keeps (pager_start s n)) is) ∙ shape Start (Pager, n)
+
+  state_through : delivers s is_state 0 ≡ true → (slice_get (marks s number Pager) 0 ≡ Some true) × (delivers (window number count s) is_state 0 ≡ true)
+  state_through e = delivers_through number s count is_state is_state narrow renews 0 e
+    where
+      narrow : (x : SourceRec) → is_state x ≡ true → keeps_sending number x ≡ true
+      narrow State e = refl
+      narrow x e = absurd (cc)
+
+      renews : (x : SourceRec) → is_state x ≡ true → is_state (new_source s number x) ≡ true
+      renews State e = refl
+      renews x e = absurd (cc)
+
+  zeroth_taken : (n : ℕ) (x : PagerRec) → slice_get s.pager n ≡ Some x → slice_get (marks s number Pager) 0 ≡ Some true
+  zeroth_taken n x is = let r = lower_there s.pager 0 n x is (omega arith) in go r.0 (pager_start_of 0 r.0 r.1)
+    where
+      go : (y : PagerRec) → pager_start s 0 y ≡ true → slice_get (marks s number Pager) 0 ≡ Some true
+      go (Got i) e = (state_through e).0
+      go (Pull i) e = (state_through e).0
+      go y e = absurd (cc)
+
+  first_ready : (n : ℕ) (x : PagerRec) → slice_get s.pager n ≡ Some x → 1 ≤ n → slice_get (marks s number Pager) 1 ≡ Some true
+  first_ready n x is le = let r = lower_there s.pager 1 n x is le in go r.0 r.1 (pager_start_of 1 r.0 r.1)
+    where
+      go : (y : PagerRec) → slice_get s.pager 1 ≡ Some y → pager_start s 1 y ≡ true → slice_get (marks s number Pager) 1 ≡ Some true
+      go Ready at e = mark_is (keeps_pager s number) s.pager 1 Ready at refl
+      go y at e = absurd (cc)
+
+  pager_later : (n : ℕ) (x : PagerRec) → pager_start s (suc (suc n)) x ≡ true → (j : ℕ) → pager_start (window number count s) (suc (suc j)) (new_pager s number x) ≡ true
+  pager_later n Ready e j = absurd (cc)
+  pager_later n (Got i) e j = refl
+  pager_later n (Pull i) e j = refl
+  pager_later n (Fault i) e j = refl
+  pager_later n (Join i) e j = refl
+  pager_later n (Want p) e j = refl
+  pager_later n (Place p got content) e j = refl
+  pager_later n (Zero p) e j = refl
+  pager_later n (Skip i) e j = refl
+  pager_later n All e j = refl
+
+  pager_start_at : (n : ℕ) (x : PagerRec) → slice_get s.pager n ≡ Some x → pager_start s n x ≡ true → pager_start (window number count s) (moved_to s number Pager n) (new_pager s number x) ≡ true
+  pager_start_at zero (Got i) is e = (state_through e).1
+  pager_start_at zero (Pull i) is e = (state_through e).1
+  pager_start_at zero x is e = absurd (cc)
+  pager_start_at (suc zero) Ready is e = ap (λ k. pager_start (window number count s) k Ready) (first_rank (marks s number Pager) (zeroth_taken 1 Ready is))
+  pager_start_at (suc zero) x is e = absurd (cc)
+  pager_start_at (suc (suc n)) x is e =
+      let two = second_rank (marks s number Pager) (zeroth_taken (suc (suc n)) x is) (first_ready (suc (suc n)) x is (omega arith)) in
+      let up = rank_up (marks s number Pager) 2 (suc (suc n)) (omega arith) in
+      let far = later (moved_to s number Pager (suc (suc n))) (subst (λ k. k ≤ moved_to s number Pager (suc (suc n))) two up) in
+      ap (λ k. pager_start (window number count s) k (new_pager s number x)) far.1 ∙ pager_later n x e far.0
+
+  pub pager_start_right : (n : ℕ) → is_right (window number count s) Start (Pager, n) ≡ true
+  pager_start_right =
+      keeps_through (new_pager s number) (marks s number Pager) s.pager (pager_start (window number count s))
+      (λ n x is mark. pager_start_at n x is (pager_start_of n x is))
+
+pub right_through : (number : Numbers) → IsNumbering number → (s : Recorded) (count : ℕ) → IsRightShape s → IsRightShape (window number count s)
+right_through number ours s count shape Phases (Guest, n) = phase_right number s count shape n
+right_through number ours s count shape Named (Guest, n) = guest_named_right number s count shape n
+right_through number ours s count shape Named (Source, n) = source_named_right number s count shape n
+right_through number ours s count shape Named (Link, n) = link_named_right number s count shape n
+right_through number ours s count shape Named (Lane, n) = lane_named_right number s count shape n
+right_through number ours s count shape Named (Pager, n) = pager_named_right number s count shape ours n
+right_through number ours s count shape Start (Source, n) = source_start_right number s count shape n
+right_through number ours s count shape Start (Pager, n) = pager_start_right number s count shape n
+right_through number ours s count shape SecondSend (Source, n) = second_right number s count shape ours n
+right_through number ours s count shape reason name = refl

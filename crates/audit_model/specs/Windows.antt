@@ -1,0 +1,227 @@
+-- A session seen through a window: the records of some pages alone, with pages and receipts numbered anew.
+use Rattle.std.specs.Prelude.{◌≡◌, ℕ, zero, suc, ◌+◌, ◌-◌, Bool, true, false, ◌&&◌, nat_lt, nat_le, List, [], ◌∷◌, map, Option, Some, None, slice_get, if◌then◌else◌}
+use Rattle.migration_types.specs.declared.pages.InitPage.{InitPage}
+use Rattle.migration_types.specs.declared.records.LogName.{LogName}
+use Rattle.migration_types.specs.declared.records.LogName.TheVariants.{Guest, Source, Link, Lane, Pager}
+use Rattle.migration_types.specs.declared.records.GuestRec.{GuestRec}
+use Rattle.migration_types.specs.declared.records.GuestRec.TheVariants.{Read, Write, Release, Miss, Halt, Resume, See}
+use Rattle.migration_types.specs.declared.records.SourceRec.{SourceRec}
+use Rattle.migration_types.specs.declared.records.SourceRec.TheVariants.{Halted, State, Send, Again, Ask, Done}
+use Rattle.migration_types.specs.declared.records.LinkRec.{LinkRec}
+use Rattle.migration_types.specs.declared.records.LinkRec.TheVariants.{Down, Up}
+use Rattle.migration_types.specs.declared.records.LaneRec.{LaneRec}
+use Rattle.migration_types.specs.declared.records.LaneRec.TheVariants.{Down as LaneDown}
+use Rattle.migration_types.specs.declared.records.PagerRec.{PagerRec}
+use Rattle.migration_types.specs.declared.records.PagerRec.TheVariants.{Got, Pull, Ready, Fault, Join, Want, Place, Zero, Skip, All}
+use Rattle.migration_types.specs.Receipts.{Name}
+use Rattle.migration_types.specs.Sessions.{Recorded}
+use Rattle.audit_model.specs.Shape.{passes, is_or_repeats}
+
+-- the pages of a window, each by its number there
+abbrev pub Numbers : Type 0
+Numbers = ℕ → Option ℕ
+
+-- the window of so many pages from one on
+abbrev pub numbers_from : ℕ → ℕ → Numbers
+numbers_from first count page = if nat_le first page && nat_lt page (first + count) then Some (page - first) else None
+
+-- no two pages have one number
+abbrev pub IsNumbering : Numbers → Type 0
+IsNumbering number = (p r q : ℕ) → number p ≡ Some q → number r ≡ Some q → p ≡ r
+
+-- a page of the window
+abbrev pub is_seen : Option ℕ → Bool
+is_seen None = false
+is_seen (Some q) = true
+
+-- its number; of what is not seen nothing is asked
+abbrev pub new_page : Option ℕ → ℕ
+new_page None = 0
+new_page (Some q) = q
+
+-- what is kept of a log, by a mark for each record
+abbrev pub kept_in : {A : Type 0} → List Bool → List A → List A
+kept_in [] log = []
+kept_in (mark ∷ marks) [] = []
+kept_in (true ∷ marks) (x ∷ log) = x ∷ kept_in marks log
+kept_in (false ∷ marks) (x ∷ log) = kept_in marks log
+
+-- one more, where there is a mark and it is to keep
+abbrev pub tallied : Option Bool → ℕ → ℕ
+tallied None k = k
+tallied (Some true) k = suc k
+tallied (Some false) k = k
+
+-- how many records before this place are kept
+abbrev pub rank : List Bool → ℕ → ℕ
+rank marks zero = 0
+rank marks (suc n) = tallied (slice_get marks n) (rank marks n)
+
+-- whether it sends the state or a page of the window
+abbrev pub keeps_sending : Numbers → SourceRec → Bool
+keeps_sending number State = true
+keeps_sending number (Send p content) = is_seen (number p)
+keeps_sending number _ = false
+
+-- whether it asks for a page of the window, or tells that all is placed
+abbrev pub keeps_asking : Numbers → PagerRec → Bool
+keeps_asking number (Want p) = is_seen (number p)
+keeps_asking number All = true
+keeps_asking number _ = false
+
+-- whether it misses a page of the window
+abbrev pub keeps_miss : Numbers → GuestRec → Bool
+keeps_miss number (Miss vcpu p) = is_seen (number p)
+keeps_miss number _ = false
+
+-- whether it places a page of the window
+abbrev pub keeps_placement : Numbers → PagerRec → Bool
+keeps_placement number (Place p got content) = is_seen (number p)
+keeps_placement number (Zero p) = is_seen (number p)
+keeps_placement number _ = false
+
+-- which deliveries are kept: those of what is kept
+abbrev pub keeps_link : Recorded → Numbers → LinkRec → Bool
+keeps_link s number (Down sending) = passes (is_or_repeats s (keeps_sending number)) (slice_get s.source sending)
+keeps_link s number (Up asking) = passes (keeps_asking number) (slice_get s.pager asking)
+
+abbrev pub keeps_lane : Recorded → Numbers → LaneRec → Bool
+keeps_lane s number (LaneDown sending) = passes (is_or_repeats s (keeps_sending number)) (slice_get s.source sending)
+
+-- which takings are kept
+abbrev pub keeps_taking : Recorded → Numbers → PagerRec → Bool
+keeps_taking s number (Got down) = passes (keeps_link s number) (slice_get s.link down)
+keeps_taking s number (Pull down) = passes (keeps_lane s number) (slice_get s.lane down)
+keeps_taking s number _ = false
+
+-- which records of the source are kept
+abbrev pub keeps_source : Recorded → Numbers → SourceRec → Bool
+keeps_source s number (Halted halt) = true
+keeps_source s number State = true
+keeps_source s number (Send p content) = is_seen (number p)
+keeps_source s number (Again sending) = passes (keeps_sending number) (slice_get s.source sending)
+keeps_source s number (Ask up) = passes (keeps_link s number) (slice_get s.link up)
+keeps_source s number Done = true
+
+-- which records of the pager are kept
+abbrev pub keeps_pager : Recorded → Numbers → PagerRec → Bool
+keeps_pager s number (Got down) = passes (keeps_link s number) (slice_get s.link down)
+keeps_pager s number (Pull down) = passes (keeps_lane s number) (slice_get s.lane down)
+keeps_pager s number Ready = true
+keeps_pager s number (Fault miss) = passes (keeps_miss number) (slice_get s.guest miss)
+keeps_pager s number (Join want) = passes (keeps_asking number) (slice_get s.pager want)
+keeps_pager s number (Want p) = is_seen (number p)
+keeps_pager s number (Place p got content) = is_seen (number p)
+keeps_pager s number (Zero p) = is_seen (number p)
+keeps_pager s number (Skip got) = passes (keeps_taking s number) (slice_get s.pager got)
+keeps_pager s number All = true
+
+-- one more than the place of the newest record before n that passes, or 0
+abbrev pub newest : {A : Type 0} → (A → Bool) → List A → ℕ → ℕ
+newest test log zero = 0
+newest test log (suc n) = if passes test (slice_get log n) then suc n else newest test log n
+
+-- how far a look at a placement reaches in the window
+abbrev pub reach : Recorded → Numbers → ℕ → ℕ
+reach s number placement = newest (keeps_placement number) s.pager (suc placement)
+
+-- whether a record of the guest is kept, and how far looks reach after it, by how far they reached before it
+abbrev pub keeps_guest : Recorded → Numbers → ℕ → GuestRec → Bool
+keeps_guest s number reached (Read vcpu p c value) = is_seen (number p)
+keeps_guest s number reached (Write vcpu p c value) = is_seen (number p)
+keeps_guest s number reached (Release vcpu p) = is_seen (number p)
+keeps_guest s number reached (Miss vcpu p) = is_seen (number p)
+keeps_guest s number reached Halt = true
+keeps_guest s number reached (Resume ready) = true
+keeps_guest s number reached (See placement) = nat_lt reached (reach s number placement)
+
+abbrev pub reached_after : Recorded → Numbers → ℕ → GuestRec → ℕ
+reached_after s number reached (See placement) = if nat_lt reached (reach s number placement) then reach s number placement else reached
+reached_after s number reached _ = reached
+
+-- the marks of the guest's log from a place on
+abbrev pub guest_marks_from : Recorded → Numbers → ℕ → List GuestRec → List Bool
+guest_marks_from s number reached [] = []
+guest_marks_from s number reached (r ∷ log) = keeps_guest s number reached r ∷ guest_marks_from s number (reached_after s number reached r) log
+
+-- which records of a log are kept
+abbrev pub marks : Recorded → Numbers → LogName → List Bool
+marks s number Guest = guest_marks_from s number 0 s.guest
+marks s number Source = map (keeps_source s number) s.source
+marks s number Link = map (keeps_link s number) s.link
+marks s number Lane = map (keeps_lane s number) s.lane
+marks s number Pager = map (keeps_pager s number) s.pager
+
+-- the number that a record of a log has in the window
+abbrev pub moved_to : Recorded → Numbers → LogName → ℕ → ℕ
+moved_to s number log n = rank (marks s number log) n
+
+-- a record with its page and its receipt numbered anew
+abbrev pub new_guest : Recorded → Numbers → GuestRec → GuestRec
+new_guest s number (Read vcpu p c value) = Read vcpu (new_page (number p)) c value
+new_guest s number (Write vcpu p c value) = Write vcpu (new_page (number p)) c value
+new_guest s number (Release vcpu p) = Release vcpu (new_page (number p))
+new_guest s number (Miss vcpu p) = Miss vcpu (new_page (number p))
+new_guest s number Halt = Halt
+new_guest s number (Resume ready) = Resume (moved_to s number Pager ready)
+new_guest s number (See placement) = See (moved_to s number Pager (reach s number placement - 1))
+
+abbrev pub new_source : Recorded → Numbers → SourceRec → SourceRec
+new_source s number (Halted halt) = Halted (moved_to s number Guest halt)
+new_source s number State = State
+new_source s number (Send p content) = Send (new_page (number p)) content
+new_source s number (Again sending) = Again (moved_to s number Source sending)
+new_source s number (Ask up) = Ask (moved_to s number Link up)
+new_source s number Done = Done
+
+abbrev pub new_link : Recorded → Numbers → LinkRec → LinkRec
+new_link s number (Down sending) = Down (moved_to s number Source sending)
+new_link s number (Up asking) = Up (moved_to s number Pager asking)
+
+abbrev pub new_lane : Recorded → Numbers → LaneRec → LaneRec
+new_lane s number (LaneDown sending) = LaneDown (moved_to s number Source sending)
+
+abbrev pub new_pager : Recorded → Numbers → PagerRec → PagerRec
+new_pager s number (Got down) = Got (moved_to s number Link down)
+new_pager s number (Pull down) = Pull (moved_to s number Lane down)
+new_pager s number Ready = Ready
+new_pager s number (Fault miss) = Fault (moved_to s number Guest miss)
+new_pager s number (Join want) = Join (moved_to s number Pager want)
+new_pager s number (Want p) = Want (new_page (number p))
+new_pager s number (Place p got content) = Place (new_page (number p)) (moved_to s number Pager got) content
+new_pager s number (Zero p) = Zero (new_page (number p))
+new_pager s number (Skip got) = Skip (moved_to s number Pager got)
+new_pager s number All = All
+
+-- the pages of the window that do not begin as zeros
+abbrev pub keeps_init : Numbers → InitPage → Bool
+keeps_init number given = is_seen (number given.page)
+
+abbrev pub new_init : Numbers → InitPage → InitPage
+new_init number given = record { page = new_page (number given.page); cells = given.cells }
+
+-- a session through a window of so many pages
+abbrev pub window : Numbers → ℕ → Recorded → Recorded
+window number count s = record {
+  version = s.version;
+  geometry = record { pages = count; cells = s.geometry.cells };
+  init = map (new_init number) (kept_in (map (keeps_init number) s.init) s.init);
+  guest = map (new_guest s number) (kept_in (marks s number Guest) s.guest);
+  source = map (new_source s number) (kept_in (marks s number Source) s.source);
+  link = map (new_link s number) (kept_in (marks s number Link) s.link);
+  lane = map (new_lane s number) (kept_in (marks s number Lane) s.lane);
+  pager = map (new_pager s number) (kept_in (marks s number Pager) s.pager);
+}
+
+-- what the record of this name is called in the window
+abbrev pub new_name : Recorded → Numbers → Name → Name
+new_name s number name = (name.0, moved_to s number name.0 name.1)
+
+-- a mark that keeps
+abbrev pub is_marked : Option Bool → Bool
+is_marked None = false
+is_marked (Some mark) = mark
+
+-- the record of this name is kept
+abbrev pub IsInWindow : Recorded → Numbers → Name → Type 0
+IsInWindow s number name = is_marked (slice_get (marks s number name.0) name.1) ≡ true
