@@ -86,13 +86,17 @@ module _ (v : Version) (e : Extent) where
   pager_splits (Skip i) = (λ h. bare (pager_row (Skip i)) (tt, tt) (h, tt), λ h. h.numbers.0)
   pager_splits All = (λ h. bare (pager_row All) tt tt, λ h. tt)
 
--- a row is that of a record, of which what holds of each record holds
-row_from : {A : Type 0} (P : A → Type 0) (row_by : A → Consists) (log : List A) (n : ℕ) (row : Consists) → AllByRecursion P log → option_map row_by (slice_get log n) ≡ Some row → (r : A) × P r × (row_by r ≡ row)
-row_from {A} P row_by log n row all is = go (slice_get log n) refl is
+-- the record that a row is of
+pub of_record : {A : Type 0} (row_by : A → Consists) (log : List A) (n : ℕ) (row : Consists) → option_map row_by (slice_get log n) ≡ Some row → (x : A) × (slice_get log n ≡ Some x) × (row_by x ≡ row)
+of_record {A} row_by log n row is = go (slice_get log n) refl is
   where
-    go : (o : Option A) → slice_get log n ≡ o → option_map row_by o ≡ Some row → (r : A) × P r × (row_by r ≡ row)
+    go : (o : Option A) → slice_get log n ≡ o → option_map row_by o ≡ Some row → (x : A) × (slice_get log n ≡ Some x) × (row_by x ≡ row)
     go None at e = absurd (cc)
-    go (Some r) at e = let same : row_by r ≡ row = cc in (r, each_at P log n r all at, same)
+    go (Some x) at e = let same : row_by x ≡ row = cc in (x, at, same)
+
+-- of which what holds of each record holds
+row_from : {A : Type 0} (P : A → Type 0) (row_by : A → Consists) (log : List A) (n : ℕ) (row : Consists) → AllByRecursion P log → option_map row_by (slice_get log n) ≡ Some row → (r : A) × P r × (row_by r ≡ row)
+row_from P row_by log n row all is = let f = of_record row_by log n row is in (f.0, each_at P log n f.0 all f.1, f.2)
 
 contents_from : {A : Type 0} (P : A → Type 0) (contents_by : A → Option (List ℕ)) (log : List A) (n : ℕ) (content : List ℕ) → AllByRecursion P log → if_there contents_by (slice_get log n) ≡ Some content → (r : A) × P r × (contents_by r ≡ Some content)
 contents_from {A} P contents_by log n content all is = go (slice_get log n) refl is
@@ -131,7 +135,7 @@ module _ (s : Recorded) where
         contents (Lane, n) content is = absurd (cc)
 
     session_within : IsWithinLimits s
-    session_within = record { extent = h.geometry; few = few; numbers = numbers }
+    session_within = record { small = record { extent = h.geometry; few = few }; numbers = numbers }
       where
         few : (log : LogName) → log_length s log ≤ most_records
         few Guest = h.few_guest
@@ -151,15 +155,15 @@ module _ (s : Recorded) where
     splits_at : (name : Name) (row : Consists) → row_of s name ≡ Some row → (contents : Option (List ℕ)) → ((content : List ℕ) → contents ≡ Some content → contents_of s name ≡ Some content) → Splits s.version s.geometry row contents
     splits_at name row is contents at = record { fields = fits.fields name row is; numbers = within.numbers name row is; contents = λ content e. fits.contents name content (at content e) }
 
-    is_session : IsSession s
+    pub is_session : IsSession s
     is_session = record {
-      geometry = within.extent;
+      geometry = within.small.extent;
       init = fits.init;
-      few_guest = within.few Guest;
-      few_source = within.few Source;
-      few_link = within.few Link;
-      few_lane = within.few Lane;
-      few_pager = within.few Pager;
+      few_guest = within.small.few Guest;
+      few_source = within.small.few Source;
+      few_link = within.small.few Link;
+      few_lane = within.small.few Lane;
+      few_pager = within.small.few Pager;
       guest = each_from (GuestRecFits s.geometry) s.guest (λ n r is. (guest_splits s.version s.geometry r).1 (splits_at (Guest, n) (guest_row r) (ap (option_map guest_row) is) None (λ content e. absurd (cc))));
       source = each_from (SourceRecFits s.geometry) s.source (λ n r is. (source_splits s.version s.geometry r).1 (splits_at (Source, n) (source_row r) (ap (option_map source_row) is) (source_contents r) (λ content e. ap (if_there source_contents) is ∙ e)));
       link = each_from LinkRecFits s.link (λ n r is. (link_splits s.version s.geometry r).1 (splits_at (Link, n) (link_row r) (ap (option_map link_row) is) None (λ content e. absurd (cc))));

@@ -38,3 +38,5 @@ pub mod WindowMergings
 pub mod WindowShape
 pub mod WindowPlaces
 pub mod WindowStarts
+pub mod WindowFits
+pub mod WindowSessions

@@ -12,6 +12,7 @@ use Rattle.migration_types.specs.Sessions.{Recorded}
 use Rattle.audit_model.specs.declared.reasons.ShapeReason.TheVariants.{Phases, Named, Start, SecondSend}
 use Rattle.audit_model.specs.Shape.{delivers, is_state, source_start, pager_start, keeps, is_right, IsRightShape}
 use Rattle.audit_model.specs.Windows.{Numbers, IsNumbering, rank, keeps_sending, keeps_source, keeps_pager, marks, moved_to, new_source, new_pager, window}
+use Rattle.audit_model.proofs.Consistent.{there}
 use Rattle.audit_model.proofs.Ranks.{rank_next, rank_up, new_at}
 use Rattle.audit_model.proofs.WindowShape.{keeps_through, phase_right, guest_named_right, source_named_right, link_named_right, lane_named_right, second_right}
 use Rattle.audit_model.proofs.WindowPlaces.{mark_is, delivers_through, pager_named_right}
@@ -22,11 +23,6 @@ lower_there [] m n x is le = absurd (cc)
 lower_there (y ∷ log) zero n x is le = (y, refl)
 lower_there (y ∷ log) (suc m) zero x is le = absurd (omega arith)
 lower_there (y ∷ log) (suc m) (suc n) x is le = lower_there log m n x is (omega arith)
-
-at_within : {A : Type 0} (log : List A) (n : ℕ) → n < length log → (x : A) × (slice_get log n ≡ Some x)
-at_within [] n lt = absurd (omega arith)
-at_within (x ∷ log) zero lt = (x, refl)
-at_within (x ∷ log) (suc n) lt = at_within log n (omega arith)
 
 -- the first two records are kept, so these have their places still
 first_rank : (marks : List Bool) → slice_get marks 0 ≡ Some true → rank marks 1 ≡ 1
@@ -58,7 +54,7 @@ module _ (number : Numbers) (s : Recorded) (count : ℕ) (shape : IsRightShape s
 
   long : nat_lt 1 (length s.source) ≡ true → nat_lt 1 (length (window number count s).source) ≡ true
   long e =
-      let r = at_within s.source 1 (ltb-true 1 (length s.source) e) in
+      let r = there s.source 1 (length s.source) (ltb-true 1 (length s.source) e) (omega arith) in
       let mark = first_mark 1 r.0 r.1 (omega arith) in
       let one = first_rank (marks s number Source) (zeroth_mark 1 r.0 r.1) in
       let there = new_at (new_source s number) (marks s number Source) s.source 1 r.0 r.1 mark in

@@ -43,12 +43,16 @@ pub record Fits (s : Recorded) : Type 0 where
   pub fields : (name : Name) (row : Consists) → row_of s name ≡ Some row → AllByRecursion (FieldIsOf s.version s.geometry) row.fields
   pub contents : (name : Name) (content : List ℕ) → contents_of s name ≡ Some content → IsContent s.geometry.cells content
 
+-- the machine and the logs are within the limits of size
+pub record IsSmall (s : Recorded) : Type 0 where
+  pub extent : IsExtent s.geometry
+  pub few : (log : LogName) → log_length s log ≤ most_records
+
 -- a field names no record of a number beyond the limit
 abbrev pub NamesInReach : Field → Type 0
 NamesInReach field = IfSome (field_name field) (λ named. IsNumber named.1)
 
--- The limits of size: of the machine, of how many records a log has, and so of the numbers by which records are named.
+-- the limits of size: of the machine and the logs, and of the numbers by which records are named
 pub record IsWithinLimits (s : Recorded) : Type 0 where
-  pub extent : IsExtent s.geometry
-  pub few : (log : LogName) → log_length s log ≤ most_records
+  pub small : IsSmall s
   pub numbers : (name : Name) (row : Consists) → row_of s name ≡ Some row → AllByRecursion NamesInReach row.fields

@@ -1,5 +1,5 @@
 -- A session seen through a window: the records of some pages alone, with pages and receipts numbered anew.
-use Rattle.std.specs.Prelude.{◌≡◌, ℕ, zero, suc, ◌+◌, ◌-◌, Bool, true, false, ◌&&◌, nat_lt, nat_le, List, [], ◌∷◌, map, Option, Some, None, slice_get, if◌then◌else◌}
+use Rattle.std.specs.Prelude.{◌≡◌, ℕ, zero, suc, ◌+◌, ◌-◌, ◌<◌, Bool, true, false, ◌&&◌, nat_lt, nat_le, List, [], ◌∷◌, map, Option, Some, None, slice_get, if◌then◌else◌}
 use Rattle.migration_types.specs.declared.pages.InitPage.{InitPage}
 use Rattle.migration_types.specs.declared.records.LogName.{LogName}
 use Rattle.migration_types.specs.declared.records.LogName.TheVariants.{Guest, Source, Link, Lane, Pager}
@@ -28,6 +28,11 @@ numbers_from first count page = if nat_le first page && nat_lt page (first + cou
 -- no two pages have one number
 abbrev pub IsNumbering : Numbers → Type 0
 IsNumbering number = (p r q : ℕ) → number p ≡ Some q → number r ≡ Some q → p ≡ r
+
+-- so many pages, in their order: the numbers rise with the pages, and are below the count
+pub record IsWindow (number : Numbers) (count : ℕ) : Type 0 where
+  pub rising : (p r q t : ℕ) → number p ≡ Some q → number r ≡ Some t → p < r → q < t
+  pub below : (p q : ℕ) → number p ≡ Some q → q < count
 
 -- a page of the window
 abbrev pub is_seen : Option ℕ → Bool

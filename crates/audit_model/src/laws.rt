@@ -12,9 +12,9 @@ ghost use Rattle.audit_model.specs.FoundOrder.{IsKnot};
 ghost use Rattle.audit_model.specs.World.{IsSafe};
 ghost use Rattle.audit_model.specs.Worlds.{FollowsCursors, TargetIsFlat};
 ghost use Rattle.audit_model.specs.Shape.{IsRightShape};
-ghost use Rattle.audit_model.specs.Fitting.{Fits, IsWithinLimits};
+ghost use Rattle.audit_model.specs.Fitting.{Fits, IsSmall, IsWithinLimits};
 ghost use Rattle.audit_model.specs.Faults.{HasNoPageFault};
-ghost use Rattle.audit_model.specs.Windows.{Numbers, IsNumbering, window};
+ghost use Rattle.audit_model.specs.Windows.{Numbers, numbers_from, IsNumbering, IsWindow, window};
 ghost use Rattle.audit_model.specs.WindowLaws.{KeepsPageFaults, MergesThrough, IsCleanThroughWindows};
 ghost use Rattle.audit_model.specs.Laws.{IsCertified, FindsResident, ReadsFlat, PlacedOnce, PlacedUntouched, ReleasedAsZeros, IsMigrated, IsFaultless, FaultsBreak, DelayedBreaks, DelayedUnplaced, HasDelayedOrders, UnplacedBreaks, DelayedOver, SafeExactlyIfClean, HasCertificate, FirstVersionIsPlain, CertifiedFromSource, CertifiedOverLane, CertifiedBalloon, CertifiedFresh};
 
@@ -108,4 +108,14 @@ pub fn windows_keep_faults()
     ensures cover { (s : Recorded) → Fits s → IsCleanThroughWindows s → HasNoPageFault s }
     ensures safe { (s : Recorded) → Fits s → IsRightShape s → IsCleanThroughWindows s → IsSafe s }
     ensures exactly { (s : Recorded) → Fits s → IsRightShape s → HasMerging s → IsSafe s ↔ IsCleanThroughWindows s }
+{}
+
+/// A window of so many pages in their order, as of pages that follow one another, numbers no two alike. Through one a
+/// session of any size that fits its machine fits the window's; and one of the right shape is, through it, a session
+/// within all limits, where the window's pages and what is kept of each log are no more than these.
+pub fn windows_are_sessions()
+    ensures contiguous { (first count : ℕ) → IsWindow (numbers_from first count) count }
+    ensures numbering { (number : Numbers) (count : ℕ) → IsWindow number count → IsNumbering number }
+    ensures fits { (s : Recorded) (number : Numbers) (count : ℕ) → IsWindow number count → Fits s → Fits (window number count s) }
+    ensures session { (s : Recorded) (number : Numbers) (count : ℕ) → IsWindow number count → Fits s → IsRightShape s → IsSmall (window number count s) → IsSession (window number count s) }
 {}

@@ -17,8 +17,8 @@ mod reasons;
 pub use home::Home;
 pub use laws::{
     any_size_is_judged_alike, certified_is_safe, clean_is_certified, faults_are_unsafe,
-    first_version_is_plain, mergings_are_walks, premises_can_be_met, windows_keep_faults,
-    worlds_follow_cursors,
+    first_version_is_plain, mergings_are_walks, premises_can_be_met, windows_are_sessions,
+    windows_keep_faults, worlds_follow_cursors,
 };
 use migration_types::{GuestRec, LaneRec, LinkRec, PageNo, PagerRec, Session, SourceRec, Version};
 pub use reasons::{PageReason, ShapeReason};
