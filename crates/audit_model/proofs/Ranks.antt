@@ -112,8 +112,3 @@ rank_down marks m n mark le = go (cases_lt n m)
     go : (n < m) ⊎ (m ≤ n) → m ≤ n
     go (inr l) = l
     go (inl l) = let a = rank_less marks n m mark l in absurd (omega (arith, a))
-
--- a log's first record, before the others
-pub before_cons : {A V : Type 0} (change : A → V → V) (start : V) (x : A) (log : List A) (n : ℕ) → before change start (x ∷ log) (suc n) ≡ before change (change x start) log n
-before_cons change start x log zero = refl
-before_cons change start x log (suc n) = ap (changed change (slice_get log n)) (before_cons change start x log n)

@@ -1,5 +1,5 @@
 -- What a session's logs say of a page of a window, through the window.
-use Rattle.std.proofs.Common.{◌≡◌, ℕ, zero, suc, ◌==◌, ◌&&◌, Bool, true, false, cond, List, [], ◌∷◌, map, Option, Some, None, refl, sym, ap, ◌∙◌, eqb-true, eq-eqb}
+use Rattle.std.proofs.Common.{◌≡◌, ℕ, zero, suc, ◌+◌, ◌==◌, ◌&&◌, Bool, true, false, cond, List, [], ◌∷◌, length, map, Option, Some, None, refl, sym, ap, ◌∙◌, arith, eqb-true, eq-eqb}
 use Rattle.std.specs.Prelude.{slice_get, slice_index}
 use Rattle.std.specs.List.{range_with_len}
 use Rattle.migration_types.specs.declared.pages.InitPage.{InitPage}
@@ -9,23 +9,32 @@ use Rattle.migration_types.specs.declared.records.GuestRec.TheVariants.{Read, Wr
 use Rattle.migration_types.specs.Memory.{initial, page_of}
 use Rattle.migration_types.specs.Sessions.{Recorded}
 use Rattle.audit_model.specs.Flat.{before, cell_after, released_after, flat, in_ledger, halt_place, at_halt}
-use Rattle.audit_model.specs.Windows.{Numbers, IsNumbering, is_seen, new_page, kept_in, rank, keeps_guest, reached_after, guest_marks_from, marks, moved_to, new_guest, keeps_init, new_init, window}
+use Rattle.audit_model.specs.Shape.{passes}
+use Rattle.audit_model.specs.Windows.{Numbers, IsNumbering, is_seen, new_page, kept_in, rank, keeps_guest, marks, moved_to, new_guest, keeps_init, new_init, window}
 use Rattle.audit_model.proofs.Ranks.{rank_cons, Aligned, fold_kept}
 
--- the mark of a guest's record
-pub guest_mark : (s : Recorded) (number : Numbers) (reached : ℕ) (log : List GuestRec) (n : ℕ) (x : GuestRec) → slice_get log n ≡ Some x → (k : ℕ) × (slice_get (guest_marks_from s number reached log) n ≡ Some (keeps_guest s number k x))
-guest_mark s number reached [] n x is = absurd (cc)
-guest_mark s number reached (y ∷ log) zero x is = let same : y ≡ x = cc in (reached, ap (λ z. Some (keeps_guest s number reached z)) same)
-guest_mark s number reached (y ∷ log) (suc n) x is = guest_mark s number (reached_after s number reached y) log n x is
+-- the mark of a record of the guest
+place_mark : {A : Type 0} (f : ℕ → Bool) (log : List A) (a n : ℕ) (x : A) → slice_get log n ≡ Some x → slice_get (map f (range_with_len a (length log))) n ≡ Some (f (a + n))
+place_mark f [] a n x is = absurd (cc)
+place_mark f (y ∷ log) a zero x is = let e : a ≡ a + 0 = omega arith in ap (λ k. Some (f k)) e
+place_mark f (y ∷ log) a (suc n) x is = let e : a + 1 + n ≡ a + suc n = omega arith in place_mark f log (a + 1) n x is ∙ ap (λ k. Some (f k)) e
 
-pub guest_aligned : (s : Recorded) (number : Numbers) (reached : ℕ) (log : List GuestRec) → Aligned (guest_marks_from s number reached log) log
-guest_aligned s number reached [] n = refl
-guest_aligned s number reached (x ∷ log) zero = refl
-guest_aligned s number reached (x ∷ log) (suc n) = guest_aligned s number (reached_after s number reached x) log n
+place_aligned : {A : Type 0} (f : ℕ → Bool) (log : List A) (a : ℕ) → Aligned (map f (range_with_len a (length log))) log
+place_aligned f [] a n = refl
+place_aligned f (x ∷ log) a zero = refl
+place_aligned f (x ∷ log) a (suc n) = place_aligned f log (a + 1) n
 
--- so a mark is that of the record, by how far looks had reached
-pub guest_marked : (s : Recorded) (number : Numbers) (n : ℕ) (x : GuestRec) (b : Bool) → slice_get s.guest n ≡ Some x → slice_get (marks s number Guest) n ≡ Some b → (k : ℕ) × (keeps_guest s number k x ≡ b)
-guest_marked s number n x b is mark = let r = guest_mark s number 0 s.guest n x is in let e : Some (keeps_guest s number r.0 x) ≡ Some b = sym r.1 ∙ mark in (r.0, cc)
+pub guest_mark : (s : Recorded) (number : Numbers) (n : ℕ) (x : GuestRec) → slice_get s.guest n ≡ Some x → slice_get (marks s number Guest) n ≡ Some (keeps_guest s number n x)
+guest_mark s number n x is =
+    let e : 0 + n ≡ n = omega arith in
+    let at = place_mark (λ k. passes (keeps_guest s number k) (slice_get s.guest k)) s.guest 0 n x is in
+    at ∙ ap (λ k. Some (passes (keeps_guest s number k) (slice_get s.guest k))) e ∙ ap (λ o. Some (passes (keeps_guest s number n) o)) is
+
+pub guest_aligned : (s : Recorded) (number : Numbers) → Aligned (marks s number Guest) s.guest
+guest_aligned s number = place_aligned (λ k. passes (keeps_guest s number k) (slice_get s.guest k)) s.guest 0
+
+pub guest_marked : (s : Recorded) (number : Numbers) (n : ℕ) (x : GuestRec) (b : Bool) → slice_get s.guest n ≡ Some x → slice_get (marks s number Guest) n ≡ Some b → keeps_guest s number n x ≡ b
+guest_marked s number n x b is mark = let e : Some (keeps_guest s number n x) ≡ Some b = sym (guest_mark s number n x is) ∙ mark in cc
 
 module _ (number : Numbers) (ours : IsNumbering number) (p q : ℕ) (at : number p ≡ Some q) where
   -- a page of the window is this one, where its number is
@@ -93,9 +102,9 @@ module _ (number : Numbers) (ours : IsNumbering number) (p q : ℕ) (at : number
     pub same_flat : (n cell : ℕ) → flat (window number count s) (moved_to s number Guest n) q cell ≡ flat s n p cell
     same_flat n cell =
         ap (λ v. before (cell_after q cell) v (window number count s).guest (moved_to s number Guest n)) (same_start s.init cell)
-        ∙ fold_kept (new_guest s number) (marks s number Guest) s.guest (cell_after p cell) (cell_after q cell) (initial s.init p cell) (guest_aligned s number 0 s.guest)
-        (λ m x v is mark. let r = guest_marked s number m x true is mark in kept_cell cell r.0 x v r.1)
-        (λ m x v is mark. let r = guest_marked s number m x false is mark in gone_cell cell r.0 x v r.1)
+        ∙ fold_kept (new_guest s number) (marks s number Guest) s.guest (cell_after p cell) (cell_after q cell) (initial s.init p cell) (guest_aligned s number)
+        (λ m x v is mark. let r = guest_marked s number m x true is mark in kept_cell cell m x v r)
+        (λ m x v is mark. let r = guest_marked s number m x false is mark in gone_cell cell m x v r)
         n
 
     kept_release : (k : ℕ) (x : GuestRec) (v : Bool) → keeps_guest s number k x ≡ true → released_after q (new_guest s number x) v ≡ released_after p x v
@@ -119,36 +128,49 @@ module _ (number : Numbers) (ours : IsNumbering number) (p q : ℕ) (at : number
     -- and the ledger has it through the window
     pub same_ledger : (n : ℕ) → in_ledger (window number count s) (moved_to s number Guest n) q ≡ in_ledger s n p
     same_ledger n =
-        fold_kept (new_guest s number) (marks s number Guest) s.guest (released_after p) (released_after q) false (guest_aligned s number 0 s.guest)
-        (λ m x v is mark. let r = guest_marked s number m x true is mark in kept_release r.0 x v r.1)
-        (λ m x v is mark. let r = guest_marked s number m x false is mark in gone_release r.0 x v r.1)
+        fold_kept (new_guest s number) (marks s number Guest) s.guest (released_after p) (released_after q) false (guest_aligned s number)
+        (λ m x v is mark. let r = guest_marked s number m x true is mark in kept_release m x v r)
+        (λ m x v is mark. let r = guest_marked s number m x false is mark in gone_release m x v r)
         n
 
--- the halt's place through the window
-pub halt_place_kept : (s : Recorded) (number : Numbers) (reached : ℕ) (log : List GuestRec) → halt_place (map (new_guest s number) (kept_in (guest_marks_from s number reached log) log)) ≡ rank (guest_marks_from s number reached log) (halt_place log)
-halt_place_kept s number reached [] = refl
-halt_place_kept s number reached (Halt ∷ log) = refl
-halt_place_kept s number reached (x ∷ log) = go x (halt_place_kept s number (reached_after s number reached x) log)
+-- the halt's place, where the halt is kept
+halt_place_kept : (new : GuestRec → GuestRec) → ((x : GuestRec) (rest : List GuestRec) → halt_place (new x ∷ rest) ≡ halt_place (x ∷ rest)) → (marks : List Bool) (log : List GuestRec) → Aligned marks log →
+    ((n : ℕ) → slice_get log n ≡ Some Halt → slice_get marks n ≡ Some true) → halt_place (map new (kept_in marks log)) ≡ rank marks (halt_place log)
+halt_place_kept new same [] [] aligned kept = refl
+halt_place_kept new same [] (x ∷ log) aligned kept = let e = aligned 0 in absurd (cc)
+halt_place_kept new same (m ∷ marks) [] aligned kept = refl
+halt_place_kept new same (m ∷ marks) (x ∷ log) aligned kept =
+    at x m (kept 0) (halt_place_kept new same marks log (λ n. aligned (suc n)) (λ n. kept (suc n)))
   where
-    past : (ms : List Bool) (x : GuestRec) → ((rest : List GuestRec) → halt_place (new_guest s number x ∷ rest) ≡ suc (halt_place rest)) → (m : Bool) →
-        halt_place (map (new_guest s number) (kept_in ms log)) ≡ rank ms (halt_place log) →
-        halt_place (map (new_guest s number) (kept_in (m ∷ ms) (x ∷ log))) ≡ rank (m ∷ ms) (suc (halt_place log))
-    past ms x one true e = one (map (new_guest s number) (kept_in ms log)) ∙ ap suc e ∙ sym (rank_cons true ms (halt_place log))
-    past ms x one false e = e ∙ sym (rank_cons false ms (halt_place log))
+    past : (x : GuestRec) → ((rest : List GuestRec) → halt_place (x ∷ rest) ≡ suc (halt_place rest)) → (m : Bool) →
+        halt_place (map new (kept_in marks log)) ≡ rank marks (halt_place log) →
+        halt_place (map new (kept_in (m ∷ marks) (x ∷ log))) ≡ rank (m ∷ marks) (suc (halt_place log))
+    past x one true e = same x (map new (kept_in marks log)) ∙ one (map new (kept_in marks log)) ∙ ap suc e ∙ sym (rank_cons true marks (halt_place log))
+    past x one false e = e ∙ sym (rank_cons false marks (halt_place log))
 
-    go : (x : GuestRec) →
-        halt_place (map (new_guest s number) (kept_in (guest_marks_from s number (reached_after s number reached x) log) log)) ≡ rank (guest_marks_from s number (reached_after s number reached x) log) (halt_place log) →
-        halt_place (map (new_guest s number) (kept_in (guest_marks_from s number reached (x ∷ log)) (x ∷ log))) ≡ rank (guest_marks_from s number reached (x ∷ log)) (halt_place (x ∷ log))
-    go Halt e = refl
-    go (Read v p c y) e = past (guest_marks_from s number reached log) (Read v p c y) (λ rest. refl) (is_seen (number p)) e
-    go (Write v p c y) e = past (guest_marks_from s number reached log) (Write v p c y) (λ rest. refl) (is_seen (number p)) e
-    go (Release v p) e = past (guest_marks_from s number reached log) (Release v p) (λ rest. refl) (is_seen (number p)) e
-    go (Miss v p) e = past (guest_marks_from s number reached log) (Miss v p) (λ rest. refl) (is_seen (number p)) e
-    go (Resume i) e = past (guest_marks_from s number reached log) (Resume i) (λ rest. refl) true e
-    go (See i) e = past (guest_marks_from s number (reached_after s number reached (See i)) log) (See i) (λ rest. refl) (keeps_guest s number reached (See i)) e
+    at : (x : GuestRec) (m : Bool) → (Some x ≡ Some Halt → Some m ≡ Some true) →
+        halt_place (map new (kept_in marks log)) ≡ rank marks (halt_place log) →
+        halt_place (map new (kept_in (m ∷ marks) (x ∷ log))) ≡ rank (m ∷ marks) (halt_place (x ∷ log))
+    at Halt true kept e = same Halt (map new (kept_in marks log))
+    at Halt false kept e = let f = kept refl in absurd (cc)
+    at (Read v p c y) m kept e = past (Read v p c y) (λ rest. refl) m e
+    at (Write v p c y) m kept e = past (Write v p c y) (λ rest. refl) m e
+    at (Release v p) m kept e = past (Release v p) (λ rest. refl) m e
+    at (Miss v p) m kept e = past (Miss v p) (λ rest. refl) m e
+    at (Resume i) m kept e = past (Resume i) (λ rest. refl) m e
+    at (See i) m kept e = past (See i) (λ rest. refl) m e
 
 pub same_halt : (s : Recorded) (number : Numbers) (count : ℕ) → at_halt (window number count s) ≡ moved_to s number Guest (at_halt s)
-same_halt s number count = halt_place_kept s number 0 s.guest
+same_halt s number count = halt_place_kept (new_guest s number) same (marks s number Guest) s.guest (guest_aligned s number) (λ n is. guest_mark s number n Halt is)
+  where
+    same : (x : GuestRec) (rest : List GuestRec) → halt_place (new_guest s number x ∷ rest) ≡ halt_place (x ∷ rest)
+    same Halt rest = refl
+    same (Read v p c y) rest = refl
+    same (Write v p c y) rest = refl
+    same (Release v p) rest = refl
+    same (Miss v p) rest = refl
+    same (Resume i) rest = refl
+    same (See i) rest = refl
 
 module _ (number : Numbers) (ours : IsNumbering number) (p q : ℕ) (at : number p ≡ Some q) (s : Recorded) (count : ℕ) where
   -- the page at the halt

@@ -39,7 +39,7 @@ module _ (s : Recorded) (fits : Fits s) where
   guest_fault_page reason n x is h = at reason x is h
     where
       kept : (x : GuestRec) (page : ℕ) → slice_get s.guest n ≡ Some x → ((number : Numbers) (k : ℕ) → is_seen (number page) ≡ true → keeps_guest s number k x ≡ true) → (number : Numbers) → is_seen (number page) ≡ true → IsInWindow s number (Guest, n)
-      kept x page is keeps number seen = let r = guest_mark s number 0 s.guest n x is in ap is_marked r.1 ∙ keeps number r.0 seen
+      kept x page is keeps number seen = ap is_marked (guest_mark s number n x is) ∙ keeps number n seen
 
       access : (x : GuestRec) → slice_get s.guest n ≡ Some x → (page : ℕ) → is_access_of page x ≡ true → (page : ℕ) × IsOfPage s (Guest, n) page
       access (Read c p d y) is page e = (p, ((guest_fits s fits n (Read c p d y) is).1.0, kept (Read c p d y) p is (λ number k seen. seen)))

@@ -73,7 +73,7 @@ module _ (number : Numbers) (ours : IsNumbering number) (p q : ℕ) (at : number
   touch_is_kept k (See i) e = absurd (cc)
 
   touch_mark : (n : ℕ) (x : GuestRec) → slice_get s.guest n ≡ Some x → is_touch_of p x ≡ true → slice_get (marks s number Guest) n ≡ Some true
-  touch_mark n x is e = let r = guest_mark s number 0 s.guest n x is in r.1 ∙ ap Some (touch_is_kept r.0 x e)
+  touch_mark n x is e = guest_mark s number n x is ∙ ap Some (touch_is_kept n x e)
 
   -- late touches are the same
   late_to : (n : ℕ) → IsLateTouch s p n → IsLateTouch (window number count s) q (moved_to s number Guest n)
@@ -83,7 +83,7 @@ module _ (number : Numbers) (ours : IsNumbering number) (p q : ℕ) (at : number
       record {
         by = new_guest s number late.by;
         stands = new_at (new_guest s number) (marks s number Guest) s.guest n late.by late.stands mark;
-        is_touch = kept_touch r.0 late.by r.1 ∙ late.is_touch;
+        is_touch = kept_touch n late.by r ∙ late.is_touch;
         is_late = same_home s number count n ∙ late.is_late;
       }
 
@@ -95,7 +95,7 @@ module _ (number : Numbers) (ours : IsNumbering number) (p q : ℕ) (at : number
         record {
           by = f.1;
           stands = f.2;
-          is_touch = sym (kept_touch r.0 f.1 r.1) ∙ ap (is_touch_of q) f.5 ∙ late.is_touch;
+          is_touch = sym (kept_touch f.0 f.1 r) ∙ ap (is_touch_of q) f.5 ∙ late.is_touch;
           is_late = sym (same_home s number count f.0) ∙ ap (home (window number count s)) f.4 ∙ late.is_late;
         },
         f.3,
@@ -132,7 +132,7 @@ module _ (number : Numbers) (ours : IsNumbering number) (p q : ℕ) (at : number
   over_from o =
       let f = came_from (new_guest s number) (marks s number Guest) s.guest o.release (Release o.vcpu q) o.stands in
       let r = guest_marked s number f.0 f.1 true f.2 f.3 in
-      let same = release_from r.0 o.vcpu f.1 r.1 f.5 in
+      let same = release_from f.0 o.vcpu f.1 r f.5 in
       record {
         release = f.0;
         vcpu = o.vcpu;
@@ -221,8 +221,8 @@ module _ (number : Numbers) (ours : IsNumbering number) (s : Recorded) (count : 
   keeps_page_faults reason (Guest, n) kept =
       let mark = marked_true (slice_get (marks s number Guest) n) kept in
       fault_through (GuestFault s reason n) (GuestFault (window number count s) reason (moved_to s number Guest n)) (slice_get s.guest n) (slice_get (window number count s).guest (moved_to s number Guest n)) (new_guest s number)
-      (λ x is. let r = guest_marked s number n x true is mark in (new_at (new_guest s number) (marks s number Guest) s.guest n x is mark, guest_fault reason n r.0 x r.1))
-      (is_there (marks s number Guest) s.guest (guest_aligned s number 0 s.guest) n mark)
+      (λ x is. let r = guest_marked s number n x true is mark in (new_at (new_guest s number) (marks s number Guest) s.guest n x is mark, guest_fault reason n n x r))
+      (is_there (marks s number Guest) s.guest (guest_aligned s number) n mark)
   keeps_page_faults reason (Source, n) kept =
       let mark = marked_true (slice_get (marks s number Source) n) kept in
       fault_through (SourceFault s reason) (SourceFault (window number count s) reason) (slice_get s.source n) (slice_get (window number count s).source (moved_to s number Source n)) (new_source s number)

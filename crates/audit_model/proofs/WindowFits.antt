@@ -211,7 +211,7 @@ module _ (number : Numbers) (count : ℕ) (is : IsWindow number count) (s : Reco
   fields_new (Guest, m) row at =
       let f = row_came guest_row (new_guest s number) (marks s number Guest) s.guest m row at in
       let r = guest_marked s number f.0 f.1 true f.2 f.3 in
-      subst New f.4 (guest_new r.0 f.1 r.1 (guest_fits s fits f.0 f.1 f.2))
+      subst New f.4 (guest_new f.0 f.1 r (guest_fits s fits f.0 f.1 f.2))
   fields_new (Source, m) row at =
       let f = row_came source_row (new_source s number) (marks s number Source) s.source m row at in
       subst New f.4 (source_new f.1 (mark_of (keeps_source s number) s.source f.0 f.1 true f.2 f.3) (source_fits s fits f.0 f.1 f.2))

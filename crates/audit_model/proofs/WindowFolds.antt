@@ -35,9 +35,9 @@ module _ (s : Recorded) (number : Numbers) (count : ℕ) where
   -- where the guest is
   pub same_home : (n : ℕ) → home (window number count s) (moved_to s number Guest n) ≡ home s n
   same_home n =
-      fold_kept (new_guest s number) (marks s number Guest) s.guest home_after home_after AtSource (guest_aligned s number 0 s.guest)
-      (λ m x v is mark. let r = guest_marked s number m x true is mark in kept_home r.0 x v r.1)
-      (λ m x v is mark. let r = guest_marked s number m x false is mark in gone_home r.0 x v r.1)
+      fold_kept (new_guest s number) (marks s number Guest) s.guest home_after home_after AtSource (guest_aligned s number)
+      (λ m x v is mark. let r = guest_marked s number m x true is mark in kept_home m x v r)
+      (λ m x v is mark. let r = guest_marked s number m x false is mark in gone_home m x v r)
       n
 
 module _ (number : Numbers) (ours : IsNumbering number) (p q : ℕ) (at : number p ≡ Some q) (s : Recorded) (count : ℕ) where
@@ -73,15 +73,15 @@ module _ (number : Numbers) (ours : IsNumbering number) (p q : ℕ) (at : number
           freed (window number count s) (moved_to s number Guest n) q ≡ freed s n p →
           freed (window number count s) (tallied m (moved_to s number Guest n)) q ≡ changed (freed_after (home s n) p) o (freed s n p)
       go None a None b e = e
-      go None a (Some x) b e = let f : false ≡ true = sym (ap is_some a) ∙ guest_aligned s number 0 s.guest n ∙ ap is_some b in absurd (cc)
-      go (Some m) a None b e = let f : true ≡ false = sym (ap is_some a) ∙ guest_aligned s number 0 s.guest n ∙ ap is_some b in absurd (cc)
+      go None a (Some x) b e = let f : false ≡ true = sym (ap is_some a) ∙ guest_aligned s number n ∙ ap is_some b in absurd (cc)
+      go (Some m) a None b e = let f : true ≡ false = sym (ap is_some a) ∙ guest_aligned s number n ∙ ap is_some b in absurd (cc)
       go (Some true) a (Some x) b e =
           let r = guest_marked s number n x true b a in
           ap (λ o. changed (freed_after (home (window number count s) (moved_to s number Guest n)) q) o (freed (window number count s) (moved_to s number Guest n) q)) (new_at (new_guest s number) (marks s number Guest) s.guest n x b a)
           ∙ ap (λ h. freed_after h q (new_guest s number x) (freed (window number count s) (moved_to s number Guest n) q)) (same_home s number count n)
           ∙ ap (freed_after (home s n) q (new_guest s number x)) e
-          ∙ kept_freed (home s n) r.0 x (freed s n p) r.1
-      go (Some false) a (Some x) b e = let r = guest_marked s number n x false b a in e ∙ gone_freed (home s n) r.0 x (freed s n p) r.1
+          ∙ kept_freed (home s n) n x (freed s n p) r
+      go (Some false) a (Some x) b e = let r = guest_marked s number n x false b a in e ∙ gone_freed (home s n) n x (freed s n p) r
 
   pub kept_placement : (x : PagerRec) → keeps_pager s number x ≡ true → is_placement_of q (new_pager s number x) ≡ is_placement_of p x
   kept_placement (Place r got content) e = same_page number ours p q at r e

@@ -1,22 +1,23 @@
 -- Looks at placements, through a window.
-use Rattle.std.proofs.Common.{◌≡◌, ℕ, zero, suc, ◌-◌, ◌<◌, ◌≤◌, ◌||◌, Bool, true, false, cond, List, [], ◌∷◌, Option, Some, None, refl, sym, ap, ◌∙◌, subst, arith}
-use Rattle.std.specs.Prelude.{slice_get, nat_lt}
+use Rattle.std.proofs.Common.{◌≡◌, ℕ, zero, suc, ◌-◌, ◌<◌, ◌≤◌, ◌||◌, ◌⊎◌, inl, inr, max, Bool, true, false, cond, List, Option, Some, None, refl, sym, ap, ◌∙◌, subst, arith}
+use Rattle.std.specs.Prelude.{slice_get}
 use Rattle.std.specs.Option.{option_map}
 use Rattle.std.proofs.lemmas.Option.{slice_get-map}
-use Rattle.std.proofs.lemmas.Bool.{ltb-true, ltb-false}
+use Rattle.std.proofs.lemmas.Bool.{cases_lt, ltb-true, ltb-false}
+use Rattle.std.proofs.Math.Nat.{max-eq_left, max-eq_right}
 use Rattle.migration_types.specs.declared.records.LogName.TheVariants.{Guest, Pager}
 use Rattle.migration_types.specs.declared.records.GuestRec.{GuestRec}
 use Rattle.migration_types.specs.declared.records.GuestRec.TheVariants.{Read, Write, Release, Miss, Halt, Resume, See}
 use Rattle.migration_types.specs.declared.records.PagerRec.{PagerRec}
 use Rattle.migration_types.specs.declared.records.PagerRec.TheVariants.{Got, Pull, Ready, Fault, Join, Want, Place, Zero, Skip, All}
 use Rattle.migration_types.specs.Sessions.{Recorded}
-use Rattle.audit_model.specs.Flat.{changed, before}
+use Rattle.audit_model.specs.Flat.{changed}
 use Rattle.audit_model.specs.Shape.{passes, is_placement_of, earlier}
 use Rattle.audit_model.specs.Faults.{looks_at, has_looked}
-use Rattle.audit_model.specs.Windows.{Numbers, IsNumbering, newest, keeps_placement, keeps_pager, reach, keeps_guest, reached_after, guest_marks_from, marks, moved_to, new_guest, window}
+use Rattle.audit_model.specs.Windows.{Numbers, IsNumbering, newest, keeps_placement, keeps_pager, reach, keeps_guest, further, furthest, marks, moved_to, new_guest, window}
 use Rattle.audit_model.proofs.History.{earlier_true, earlier_witness}
-use Rattle.audit_model.proofs.Ranks.{rank_next, fold_kept_at, before_cons}
-use Rattle.audit_model.proofs.WindowCells.{guest_aligned, other_page}
+use Rattle.audit_model.proofs.Ranks.{rank_next, fold_kept_at}
+use Rattle.audit_model.proofs.WindowCells.{guest_aligned, guest_marked, other_page}
 use Rattle.audit_model.proofs.WindowFolds.{same_placed}
 
 -- past the newest that passes one test, none passes a test that says less
@@ -54,21 +55,6 @@ or_flip true true = refl
 or_flip true false = refl
 or_flip false true = refl
 or_flip false false = refl
-
--- the mark of a record, by how far looks had reached
-mark_at : (s : Recorded) (number : Numbers) (reached : ℕ) (log : List GuestRec) (n : ℕ) (x : GuestRec) → slice_get log n ≡ Some x → slice_get (guest_marks_from s number reached log) n ≡ Some (keeps_guest s number (before (λ r k. reached_after s number k r) reached log n) x)
-mark_at s number reached [] n x is = absurd (cc)
-mark_at s number reached (y ∷ log) zero x is = let same : y ≡ x = cc in ap (λ z. Some (keeps_guest s number reached z)) same
-mark_at s number reached (y ∷ log) (suc n) x is =
-    mark_at s number (reached_after s number reached y) log n x is
-    ∙ ap (λ k. Some (keeps_guest s number k x)) (sym (before_cons (λ r k. reached_after s number k r) reached y log n))
-
--- how far looks reach in the window before guest record n
-abbrev pub reached_at : Recorded → Numbers → ℕ → ℕ
-reached_at s number n = before (λ r k. reached_after s number k r) 0 s.guest n
-
-guest_mark_is : (s : Recorded) (number : Numbers) (n : ℕ) (x : GuestRec) (b : Bool) → slice_get s.guest n ≡ Some x → slice_get (marks s number Guest) n ≡ Some b → keeps_guest s number (reached_at s number n) x ≡ b
-guest_mark_is s number n x b is mark = let e : Some (keeps_guest s number (reached_at s number n) x) ≡ Some b = sym (mark_at s number 0 s.guest n x is) ∙ mark in cc
 
 -- a placement of the window is kept
 placement_is_kept : (s : Recorded) (number : Numbers) (x : PagerRec) → keeps_placement number x ≡ true → keeps_pager s number x ≡ true
@@ -109,21 +95,24 @@ module _ (number : Numbers) (ours : IsNumbering number) (p q : ℕ) (at : number
   reach_same : (k : ℕ) → placed (suc k) ≡ placed (reach s number k)
   reach_same k = newest_same (is_placement_of p) (keeps_placement number) s.pager narrow (suc k)
 
-  looked : (k r : ℕ) → (placed (suc k) || placed r) ≡ placed (reached_after s number r (See k))
-  looked k r = ap (λ b. b || placed r) (reach_same k) ∙ go (nat_lt r (reach s number k)) refl
+  looked : (k r : ℕ) → (placed (suc k) || placed r) ≡ placed (further s number (See k) r)
+  looked k r = ap (λ b. b || placed r) (reach_same k) ∙ go (cases_lt r (reach s number k))
     where
-      go : (b : Bool) → nat_lt r (reach s number k) ≡ b → (placed (reach s number k) || placed r) ≡ placed (cond b (reach s number k) r)
-      go true e = let lt = ltb-true r (reach s number k) e in or_flip (placed (reach s number k)) (placed r) ∙ or_later (is_placement_of p) s.pager r (reach s number k) (omega (arith, lt))
-      go false e = or_later (is_placement_of p) s.pager (reach s number k) r (ltb-false r (reach s number k) e)
+      go : (r < reach s number k) ⊎ (reach s number k ≤ r) → (placed (reach s number k) || placed r) ≡ placed (max r (reach s number k))
+      go (inl lt) =
+          or_flip (placed (reach s number k)) (placed r)
+          ∙ or_later (is_placement_of p) s.pager r (reach s number k) (omega (arith, lt))
+          ∙ ap placed (sym (max-eq_right {n = r} {m = reach s number k} (omega (arith, lt))))
+      go (inr le) = or_later (is_placement_of p) s.pager (reach s number k) r le ∙ ap placed (sym (max-eq_left {n = r} {m = reach s number k} le))
 
   -- a page was looked at where it was placed as far as looks had reached
-  covered : (n : ℕ) → has_looked s p n ≡ placed (reached_at s number n)
+  covered : (n : ℕ) → has_looked s p n ≡ placed (furthest s number n)
   covered zero = refl
   covered (suc n) = go (slice_get s.guest n) (covered n)
     where
-      go : (o : Option GuestRec) → has_looked s p n ≡ placed (reached_at s number n) → changed (λ x found. looks_at s p x || found) o (has_looked s p n) ≡ placed (changed (λ r k. reached_after s number k r) o (reached_at s number n))
+      go : (o : Option GuestRec) → has_looked s p n ≡ placed (furthest s number n) → changed (λ x found. looks_at s p x || found) o (has_looked s p n) ≡ placed (changed (further s number) o (furthest s number n))
       go None e = e
-      go (Some (See k)) e = ap (λ b. placed (suc k) || b) e ∙ looked k (reached_at s number n)
+      go (Some (See k)) e = ap (λ b. placed (suc k) || b) e ∙ looked k (furthest s number n)
       go (Some (Read v c d y)) e = e
       go (Some (Write v c d y)) e = e
       go (Some (Release v c)) e = e
@@ -145,7 +134,7 @@ module _ (number : Numbers) (ours : IsNumbering number) (p q : ℕ) (at : number
           ∙ same_placed number ours p q at s count (suc j)
 
   kept_look : (r : ℕ) (x : GuestRec) (v : Bool) → keeps_guest s number r x ≡ true → (looks_at (window number count s) q (new_guest s number x) || v) ≡ (looks_at s p x || v)
-  kept_look r (See k) v e = ap (λ b. b || v) (same_look r k (ltb-true r (reach s number k) e))
+  kept_look r (See k) v e = ap (λ b. b || v) (same_look (furthest s number r) k (ltb-true (furthest s number r) (reach s number k) e))
   kept_look r (Read c d y z) v e = refl
   kept_look r (Write c d y z) v e = refl
   kept_look r (Release c d) v e = refl
@@ -153,12 +142,12 @@ module _ (number : Numbers) (ours : IsNumbering number) (p q : ℕ) (at : number
   kept_look r Halt v e = refl
   kept_look r (Resume i) v e = refl
 
-  gone_look : (n : ℕ) (x : GuestRec) → keeps_guest s number (reached_at s number n) x ≡ false → has_looked s p n ≡ (looks_at s p x || has_looked s p n)
+  gone_look : (n : ℕ) (x : GuestRec) → keeps_guest s number n x ≡ false → has_looked s p n ≡ (looks_at s p x || has_looked s p n)
   gone_look n (See k) e =
-      let le = ltb-false (reached_at s number n) (reach s number k) e in
+      let le = ltb-false (furthest s number n) (reach s number k) e in
       covered n
-      ∙ sym (or_later (is_placement_of p) s.pager (reach s number k) (reached_at s number n) le)
-      ∙ sym (ap (λ b. b || placed (reached_at s number n)) (reach_same k))
+      ∙ sym (or_later (is_placement_of p) s.pager (reach s number k) (furthest s number n) le)
+      ∙ sym (ap (λ b. b || placed (furthest s number n)) (reach_same k))
       ∙ sym (ap (λ b. placed (suc k) || b) (covered n))
   gone_look n (Read c d y z) e = refl
   gone_look n (Write c d y z) e = refl
@@ -170,7 +159,7 @@ module _ (number : Numbers) (ours : IsNumbering number) (p q : ℕ) (at : number
   -- whether the page was looked at
   pub same_looked : (n : ℕ) → has_looked (window number count s) q (moved_to s number Guest n) ≡ has_looked s p n
   same_looked n =
-      fold_kept_at (new_guest s number) (marks s number Guest) s.guest (λ x found. looks_at s p x || found) (λ x found. looks_at (window number count s) q x || found) false (guest_aligned s number 0 s.guest)
-      (λ m x is mark. kept_look (reached_at s number m) x (has_looked s p m) (guest_mark_is s number m x true is mark))
-      (λ m x is mark. gone_look m x (guest_mark_is s number m x false is mark))
+      fold_kept_at (new_guest s number) (marks s number Guest) s.guest (λ x found. looks_at s p x || found) (λ x found. looks_at (window number count s) q x || found) false (guest_aligned s number)
+      (λ m x is mark. kept_look m x (has_looked s p m) (guest_marked s number m x true is mark))
+      (λ m x is mark. gone_look m x (guest_marked s number m x false is mark))
       n

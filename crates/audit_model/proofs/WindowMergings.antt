@@ -23,7 +23,7 @@ use Rattle.audit_model.specs.Mergings.{Cursors, at_start}
 use Rattle.audit_model.specs.Walks.{next, cursors_from, MayFollow, Walks}
 use Rattle.audit_model.specs.Shape.{passes, is_or_repeats, is_halt, is_ready, keeps, guest_named, source_named, IsRightShape}
 use Rattle.audit_model.specs.declared.reasons.ShapeReason.TheVariants.{Named}
-use Rattle.audit_model.specs.Windows.{Numbers, kept_in, rank, tallied, newest, reach, keeps_sending, keeps_asking, keeps_miss, keeps_placement, keeps_source, keeps_guest, keeps_link, keeps_lane, keeps_pager, marks, moved_to, new_guest, new_source, new_link, new_lane, new_pager, new_name, is_marked, window}
+use Rattle.audit_model.specs.Windows.{Numbers, kept_in, rank, tallied, newest, reach, furthest, keeps_sending, keeps_asking, keeps_miss, keeps_placement, keeps_source, keeps_guest, keeps_link, keeps_lane, keeps_pager, marks, moved_to, new_guest, new_source, new_link, new_lane, new_pager, new_name, is_marked, window}
 use Rattle.audit_model.specs.WindowLaws.{order_through, MergesThrough}
 use Rattle.audit_model.proofs.Ranks.{Aligned, aligned_map, rank_cons, rank_next, rank_less, new_at, mark_of}
 use Rattle.audit_model.proofs.WindowCells.{guest_aligned, guest_mark, guest_marked}
@@ -64,7 +64,7 @@ guest_mark_by s number test h j e = go (slice_get s.guest j) refl e
   where
     go : (o : Option GuestRec) → slice_get s.guest j ≡ o → passes test o ≡ true → slice_get (marks s number Guest) j ≡ Some true
     go None is e = absurd (cc)
-    go (Some x) is e = let r = guest_mark s number 0 s.guest j x is in r.1 ∙ ap Some (h x r.0 e)
+    go (Some x) is e = guest_mark s number j x is ∙ ap Some (h x j e)
 
 pub halt_kept : (s : Recorded) (number : Numbers) (x : GuestRec) (k : ℕ) → is_halt x ≡ true → keeps_guest s number k x ≡ true
 halt_kept s number Halt k e = refl
@@ -120,20 +120,20 @@ module _ (number : Numbers) (s : Recorded) (count : ℕ) (shape : IsRightShape s
       let same : (l, moved_to s number l j) ≡ sent = cc in
       subst (λ (m : Name). m.1 < ranked c m.0) same (rank_less (marks s number l) j (c l) mark (omega arith))
 
-  guest_sent : (c : Cursors) (n r : ℕ) (x : GuestRec) → slice_get s.guest n ≡ Some x → keeps_guest s number r x ≡ true → ((sent : Name) → guest_receipt x ≡ Some sent → sent.1 < c sent.0) → (sent : Name) → guest_receipt (new_guest s number x) ≡ Some sent → sent.1 < ranked c sent.0
-  guest_sent c n r (Resume i) is kept bound =
+  guest_sent : (c : Cursors) (n : ℕ) (x : GuestRec) → slice_get s.guest n ≡ Some x → keeps_guest s number n x ≡ true → ((sent : Name) → guest_receipt x ≡ Some sent → sent.1 < c sent.0) → (sent : Name) → guest_receipt (new_guest s number x) ≡ Some sent → sent.1 < ranked c sent.0
+  guest_sent c n (Resume i) is kept bound =
       let named : passes is_ready (slice_get s.pager i) ≡ true = sym (ap (keeps (guest_named s)) is) ∙ shape Named (Guest, n) in
       sent_before c Pager i i (omega arith) (bound (Pager, i) refl) (mark_by is_ready (keeps_pager s number) s.pager (ready_kept s number) i named)
-  guest_sent c n r (See k) is kept bound = go (reach s number k) refl (ltb-true r (reach s number k) kept)
+  guest_sent c n (See k) is kept bound = go (reach s number k) refl (ltb-true (furthest s number n) (reach s number k) kept)
     where
-      go : (far : ℕ) → reach s number k ≡ far → r < far → (sent : Name) → Some (Pager, moved_to s number Pager (far - 1)) ≡ Some sent → sent.1 < ranked c sent.0
+      go : (far : ℕ) → reach s number k ≡ far → furthest s number n < far → (sent : Name) → Some (Pager, moved_to s number Pager (far - 1)) ≡ Some sent → sent.1 < ranked c sent.0
       go zero e l = absurd (omega arith)
       go (suc j) e l =
           let one : suc j - 1 ≡ j = omega arith in
           let low = newest_below (keeps_placement number) s.pager (suc k) in
           let mark = placement_mark s number j (newest_at (keeps_placement number) s.pager (suc k) j e) in
           subst (λ i. (sent : Name) → Some (Pager, moved_to s number Pager i) ≡ Some sent → sent.1 < ranked c sent.0) (sym one) (sent_before c Pager j k (omega (arith, low, e)) (bound (Pager, k) refl) mark)
-  guest_sent c n r x is kept bound = λ sent e. absurd (cc)
+  guest_sent c n x is kept bound = λ sent e. absurd (cc)
 
   source_sent : (c : Cursors) (n : ℕ) (x : SourceRec) → slice_get s.source n ≡ Some x → keeps_source s number x ≡ true → ((sent : Name) → source_receipt x ≡ Some sent → sent.1 < c sent.0) → (sent : Name) → source_receipt (new_source s number x) ≡ Some sent → sent.1 < ranked c sent.0
   source_sent c n (Halted i) is kept bound =
@@ -172,7 +172,7 @@ module _ (number : Numbers) (s : Recorded) (count : ℕ) (shape : IsRightShape s
 
   named_step : (c : Cursors) (name : Name) → slice_get (marks s number name.0) name.1 ≡ Some true → ((sent : Name) → receipt s name ≡ Some sent → sent.1 < c sent.0) →
       (moved_to s number name.0 name.1 < log_length (window number count s) name.0) × ((sent : Name) → receipt (window number count s) (new_name s number name) ≡ Some sent → sent.1 < ranked c sent.0)
-  named_step c (Guest, n) mark bound = log_step Guest (new_guest s number) s.guest guest_receipt c n (guest_aligned s number 0 s.guest) mark bound (λ x is. let r = guest_marked s number n x true is mark in guest_sent c n r.0 x is r.1)
+  named_step c (Guest, n) mark bound = log_step Guest (new_guest s number) s.guest guest_receipt c n (guest_aligned s number) mark bound (λ x is. let r = guest_marked s number n x true is mark in guest_sent c n x is r)
   named_step c (Source, n) mark bound = log_step Source (new_source s number) s.source source_receipt c n (aligned_map (keeps_source s number) s.source) mark bound (λ x is. source_sent c n x is (mark_of (keeps_source s number) s.source n x true is mark))
   named_step c (Link, n) mark bound = log_step Link (new_link s number) s.link link_receipt c n (aligned_map (keeps_link s number) s.link) mark bound (λ x is. link_sent c x (mark_of (keeps_link s number) s.link n x true is mark))
   named_step c (Lane, n) mark bound = log_step Lane (new_lane s number) s.lane lane_receipt c n (aligned_map (keeps_lane s number) s.lane) mark bound (λ x is. lane_sent c x (mark_of (keeps_lane s number) s.lane n x true is mark))

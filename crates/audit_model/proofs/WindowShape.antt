@@ -17,7 +17,7 @@ use Rattle.migration_types.specs.declared.version.Version.{Version}
 use Rattle.migration_types.specs.Sessions.{Recorded}
 use Rattle.audit_model.specs.declared.reasons.ShapeReason.TheVariants.{Phases, Named, SecondSend}
 use Rattle.audit_model.specs.Shape.{passes, earlier, is_halt, is_resume, is_up, is_ready, is_sending, is_placement, is_send_of, goes_down, goes_up, is_or_repeats, in_phase_by, in_phase, guest_named, source_named, link_named, lane_named, keeps, is_first_send, is_right, IsRightShape}
-use Rattle.audit_model.specs.Windows.{Numbers, IsNumbering, new_page, kept_in, rank, reach, keeps_sending, keeps_asking, keeps_placement, keeps_source, keeps_guest, keeps_link, keeps_lane, keeps_pager, marks, moved_to, new_guest, new_source, new_link, new_lane, new_pager, window}
+use Rattle.audit_model.specs.Windows.{Numbers, IsNumbering, new_page, kept_in, rank, reach, furthest, keeps_sending, keeps_asking, keeps_placement, keeps_source, keeps_guest, keeps_link, keeps_lane, keeps_pager, marks, moved_to, new_guest, new_source, new_link, new_lane, new_pager, window}
 use Rattle.audit_model.proofs.Ranks.{aligned_map, rank_less, new_at, mark_of, came_from, fold_kept}
 use Rattle.audit_model.proofs.WindowCells.{guest_aligned, guest_marked, same_page, other_page}
 use Rattle.audit_model.proofs.WindowLooks.{newest_at, placement_mark}
@@ -84,9 +84,9 @@ module _ (number : Numbers) (s : Recorded) (count : ℕ) (shape : IsRightShape s
 
   same_earlier : (test : GuestRec → Bool) → ((x : GuestRec) → test (new_guest s number x) ≡ test x) → ((k : ℕ) (x : GuestRec) → keeps_guest s number k x ≡ false → test x ≡ false) → (n : ℕ) → earlier test (window number count s).guest (moved_to s number Guest n) ≡ earlier test s.guest n
   same_earlier test same gone n =
-      fold_kept (new_guest s number) (marks s number Guest) s.guest (λ x found. test x || found) (λ x found. test x || found) false (guest_aligned s number 0 s.guest)
+      fold_kept (new_guest s number) (marks s number Guest) s.guest (λ x found. test x || found) (λ x found. test x || found) false (guest_aligned s number)
       (λ m x v is mark. ap (λ b. b || v) (same x))
-      (λ m x v is mark. let r = guest_marked s number m x false is mark in sym (ap (λ b. b || v) (gone r.0 x r.1)))
+      (λ m x v is mark. let r = guest_marked s number m x false is mark in sym (ap (λ b. b || v) (gone m x r)))
       n
 
   same_phase : (v : Version) (halted resumed : Bool) (x : GuestRec) → in_phase_by v halted resumed (new_guest s number x) ≡ in_phase_by v halted resumed x
@@ -116,26 +116,26 @@ module _ (number : Numbers) (s : Recorded) (count : ℕ) (shape : IsRightShape s
   placement_new (Zero p) e = refl
   placement_new x e = absurd (cc)
 
-  guest_right : (n k : ℕ) (x : GuestRec) → keeps_guest s number k x ≡ true → guest_named s x ≡ true → guest_named (window number count s) (new_guest s number x) ≡ true
-  guest_right n k (Resume i) kept e = passes_through (new_pager s number) (marks s number Pager) s.pager is_ready is_ready ready_new i (mark_by is_ready (keeps_pager s number) s.pager (ready_kept s number) i e) e
-  guest_right n r (See k) kept e = go (reach s number k) refl (ltb-true r (reach s number k) kept)
+  guest_right : (n : ℕ) (x : GuestRec) → keeps_guest s number n x ≡ true → guest_named s x ≡ true → guest_named (window number count s) (new_guest s number x) ≡ true
+  guest_right n (Resume i) kept e = passes_through (new_pager s number) (marks s number Pager) s.pager is_ready is_ready ready_new i (mark_by is_ready (keeps_pager s number) s.pager (ready_kept s number) i e) e
+  guest_right n (See k) kept e = go (reach s number k) refl (ltb-true (furthest s number n) (reach s number k) kept)
     where
-      go : (far : ℕ) → reach s number k ≡ far → r < far → passes is_placement (slice_get (window number count s).pager (moved_to s number Pager (far - 1))) ≡ true
+      go : (far : ℕ) → reach s number k ≡ far → furthest s number n < far → passes is_placement (slice_get (window number count s).pager (moved_to s number Pager (far - 1))) ≡ true
       go zero e l = absurd (omega arith)
       go (suc j) e l =
           let one : suc j - 1 ≡ j = omega arith in
           let there = newest_at (keeps_placement number) s.pager (suc k) j e in
           subst (λ i. passes is_placement (slice_get (window number count s).pager (moved_to s number Pager i)) ≡ true) (sym one) (passes_through (new_pager s number) (marks s number Pager) s.pager (keeps_placement number) is_placement placement_new j (placement_mark s number j there) there)
-  guest_right n k Halt kept e = refl
-  guest_right n k (Read c r d y) kept e = refl
-  guest_right n k (Write c r d y) kept e = refl
-  guest_right n k (Release c r) kept e = refl
-  guest_right n k (Miss c r) kept e = refl
+  guest_right n Halt kept e = refl
+  guest_right n (Read c r d y) kept e = refl
+  guest_right n (Write c r d y) kept e = refl
+  guest_right n (Release c r) kept e = refl
+  guest_right n (Miss c r) kept e = refl
 
   pub guest_named_right : (n : ℕ) → is_right (window number count s) Named (Guest, n) ≡ true
   guest_named_right =
       keeps_through (new_guest s number) (marks s number Guest) s.guest (λ n. guest_named (window number count s))
-      (λ n x is mark. let r = guest_marked s number n x true is mark in guest_right n r.0 x r.1 (sym (ap (keeps (guest_named s)) is) ∙ shape Named (Guest, n)))
+      (λ n x is mark. let r = guest_marked s number n x true is mark in guest_right n x r (sym (ap (keeps (guest_named s)) is) ∙ shape Named (Guest, n)))
 
   pub up_new : (x : LinkRec) → is_up x ≡ true → is_up (new_link s number x) ≡ true
   up_new (Up i) e = refl

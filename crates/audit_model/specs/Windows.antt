@@ -1,5 +1,6 @@
 -- A session seen through a window: the records of some pages alone, with pages and receipts numbered anew.
-use Rattle.std.specs.Prelude.{◌≡◌, ℕ, zero, suc, ◌+◌, ◌-◌, ◌<◌, Bool, true, false, ◌&&◌, nat_lt, nat_le, List, [], ◌∷◌, map, Option, Some, None, slice_get, if◌then◌else◌}
+use Rattle.std.specs.Prelude.{◌≡◌, ℕ, zero, suc, ◌+◌, ◌-◌, ◌<◌, Bool, true, false, ◌&&◌, nat_lt, nat_le, max, List, [], ◌∷◌, length, map, Option, Some, None, slice_get, if◌then◌else◌}
+use Rattle.std.specs.List.{range_with_len}
 use Rattle.migration_types.specs.declared.pages.InitPage.{InitPage}
 use Rattle.migration_types.specs.declared.records.LogName.{LogName}
 use Rattle.migration_types.specs.declared.records.LogName.TheVariants.{Guest, Source, Link, Lane, Pager}
@@ -15,6 +16,7 @@ use Rattle.migration_types.specs.declared.records.PagerRec.{PagerRec}
 use Rattle.migration_types.specs.declared.records.PagerRec.TheVariants.{Got, Pull, Ready, Fault, Join, Want, Place, Zero, Skip, All}
 use Rattle.migration_types.specs.Receipts.{Name}
 use Rattle.migration_types.specs.Sessions.{Recorded}
+use Rattle.audit_model.specs.Flat.{before}
 use Rattle.audit_model.specs.Shape.{passes, is_or_repeats}
 
 -- the pages of a window, each by its number there
@@ -126,32 +128,32 @@ abbrev pub newest : {A : Type 0} → (A → Bool) → List A → ℕ → ℕ
 newest test log zero = 0
 newest test log (suc n) = if passes test (slice_get log n) then suc n else newest test log n
 
--- how far a look at a placement reaches in the window
+-- how far a look at a placement reaches in the window: past the newest placement there that is no later, or 0
 abbrev pub reach : Recorded → Numbers → ℕ → ℕ
 reach s number placement = newest (keeps_placement number) s.pager (suc placement)
 
--- whether a record of the guest is kept, and how far looks reach after it, by how far they reached before it
+-- how far looks reach after a record of the guest, by how far they reached before it
+abbrev pub further : Recorded → Numbers → GuestRec → ℕ → ℕ
+further s number (See placement) far = max far (reach s number placement)
+further s number _ far = far
+
+-- how far the furthest look before guest record n reaches
+abbrev pub furthest : Recorded → Numbers → ℕ → ℕ
+furthest s number n = before (further s number) 0 s.guest n
+
+-- whether guest record n is kept; a look is where it reaches further than each look before it
 abbrev pub keeps_guest : Recorded → Numbers → ℕ → GuestRec → Bool
-keeps_guest s number reached (Read vcpu p c value) = is_seen (number p)
-keeps_guest s number reached (Write vcpu p c value) = is_seen (number p)
-keeps_guest s number reached (Release vcpu p) = is_seen (number p)
-keeps_guest s number reached (Miss vcpu p) = is_seen (number p)
-keeps_guest s number reached Halt = true
-keeps_guest s number reached (Resume ready) = true
-keeps_guest s number reached (See placement) = nat_lt reached (reach s number placement)
-
-abbrev pub reached_after : Recorded → Numbers → ℕ → GuestRec → ℕ
-reached_after s number reached (See placement) = if nat_lt reached (reach s number placement) then reach s number placement else reached
-reached_after s number reached _ = reached
-
--- the marks of the guest's log from a place on
-abbrev pub guest_marks_from : Recorded → Numbers → ℕ → List GuestRec → List Bool
-guest_marks_from s number reached [] = []
-guest_marks_from s number reached (r ∷ log) = keeps_guest s number reached r ∷ guest_marks_from s number (reached_after s number reached r) log
+keeps_guest s number n (Read vcpu p c value) = is_seen (number p)
+keeps_guest s number n (Write vcpu p c value) = is_seen (number p)
+keeps_guest s number n (Release vcpu p) = is_seen (number p)
+keeps_guest s number n (Miss vcpu p) = is_seen (number p)
+keeps_guest s number n Halt = true
+keeps_guest s number n (Resume ready) = true
+keeps_guest s number n (See placement) = nat_lt (furthest s number n) (reach s number placement)
 
 -- which records of a log are kept
 abbrev pub marks : Recorded → Numbers → LogName → List Bool
-marks s number Guest = guest_marks_from s number 0 s.guest
+marks s number Guest = map (λ n. passes (keeps_guest s number n) (slice_get s.guest n)) (range_with_len 0 (length s.guest))
 marks s number Source = map (keeps_source s number) s.source
 marks s number Link = map (keeps_link s number) s.link
 marks s number Lane = map (keeps_lane s number) s.lane
