@@ -19,7 +19,7 @@ use Rattle.migration_types.specs.Sessions.{Recorded}
 use Rattle.audit_model.specs.Flat.{before}
 use Rattle.audit_model.specs.Shape.{passes, is_or_repeats}
 
--- the pages of a window, each by its number there
+-- the pages of a window, each by its number there; other pages have none
 abbrev pub Numbers : Type 0
 Numbers = ℕ → Option ℕ
 
@@ -36,12 +36,12 @@ pub record IsWindow (number : Numbers) (count : ℕ) : Type 0 where
   pub rising : (p r q t : ℕ) → number p ≡ Some q → number r ≡ Some t → p < r → q < t
   pub below : (p q : ℕ) → number p ≡ Some q → q < count
 
--- a page of the window
+-- whether a page with this number, or none, is of the window
 abbrev pub is_seen : Option ℕ → Bool
 is_seen None = false
 is_seen (Some q) = true
 
--- its number; of what is not seen nothing is asked
+-- the page's number; nothing rests on that of a page outside
 abbrev pub new_page : Option ℕ → ℕ
 new_page None = 0
 new_page (Some q) = q
@@ -53,7 +53,7 @@ kept_in (mark ∷ marks) [] = []
 kept_in (true ∷ marks) (x ∷ log) = x ∷ kept_in marks log
 kept_in (false ∷ marks) (x ∷ log) = kept_in marks log
 
--- one more, where there is a mark and it is to keep
+-- one more, where there is a mark and it says to keep
 abbrev pub tallied : Option Bool → ℕ → ℕ
 tallied None k = k
 tallied (Some true) k = suc k
@@ -63,6 +63,10 @@ tallied (Some false) k = k
 abbrev pub rank : List Bool → ℕ → ℕ
 rank marks zero = 0
 rank marks (suc n) = tallied (slice_get marks n) (rank marks n)
+
+-- What is kept: what is of no page, what tells a page of the window, and what names a record that is kept. It is said
+-- from the bottom up: what is sent and asked for, its delivery, the taking of that, and what names such a taking. Looks
+-- alone are kept by another rule.
 
 -- whether it sends the state or a page of the window
 abbrev pub keeps_sending : Numbers → SourceRec → Bool
@@ -87,7 +91,7 @@ keeps_placement number (Place p got content) = is_seen (number p)
 keeps_placement number (Zero p) = is_seen (number p)
 keeps_placement number _ = false
 
--- which deliveries are kept: those of what is kept
+-- whether a delivery is of what is kept
 abbrev pub keeps_link : Recorded → Numbers → LinkRec → Bool
 keeps_link s number (Down sending) = passes (is_or_repeats s (keeps_sending number)) (slice_get s.source sending)
 keeps_link s number (Up asking) = passes (keeps_asking number) (slice_get s.pager asking)
@@ -95,13 +99,13 @@ keeps_link s number (Up asking) = passes (keeps_asking number) (slice_get s.page
 abbrev pub keeps_lane : Recorded → Numbers → LaneRec → Bool
 keeps_lane s number (LaneDown sending) = passes (is_or_repeats s (keeps_sending number)) (slice_get s.source sending)
 
--- which takings are kept
+-- whether it takes a delivery that is kept
 abbrev pub keeps_taking : Recorded → Numbers → PagerRec → Bool
 keeps_taking s number (Got down) = passes (keeps_link s number) (slice_get s.link down)
 keeps_taking s number (Pull down) = passes (keeps_lane s number) (slice_get s.lane down)
 keeps_taking s number _ = false
 
--- which records of the source are kept
+-- whether a record of the source is kept
 abbrev pub keeps_source : Recorded → Numbers → SourceRec → Bool
 keeps_source s number (Halted halt) = true
 keeps_source s number State = true
@@ -110,7 +114,7 @@ keeps_source s number (Again sending) = passes (keeps_sending number) (slice_get
 keeps_source s number (Ask up) = passes (keeps_link s number) (slice_get s.link up)
 keeps_source s number Done = true
 
--- which records of the pager are kept
+-- whether a record of the pager is kept
 abbrev pub keeps_pager : Recorded → Numbers → PagerRec → Bool
 keeps_pager s number (Got down) = passes (keeps_link s number) (slice_get s.link down)
 keeps_pager s number (Pull down) = passes (keeps_lane s number) (slice_get s.lane down)
@@ -151,7 +155,7 @@ keeps_guest s number n Halt = true
 keeps_guest s number n (Resume ready) = true
 keeps_guest s number n (See placement) = nat_lt (furthest s number n) (reach s number placement)
 
--- which records of a log are kept
+-- the marks of a log: for each record, whether it is kept
 abbrev pub marks : Recorded → Numbers → LogName → List Bool
 marks s number Guest = map (λ n. passes (keeps_guest s number n) (slice_get s.guest n)) (range_with_len 0 (length s.guest))
 marks s number Source = map (keeps_source s number) s.source
@@ -159,11 +163,11 @@ marks s number Link = map (keeps_link s number) s.link
 marks s number Lane = map (keeps_lane s number) s.lane
 marks s number Pager = map (keeps_pager s number) s.pager
 
--- the number that a record of a log has in the window
+-- the number that a record of a log has in the window: how many before it are kept
 abbrev pub moved_to : Recorded → Numbers → LogName → ℕ → ℕ
 moved_to s number log n = rank (marks s number log) n
 
--- a record with its page and its receipt numbered anew
+-- a record with its page and what it names numbered anew; a look names the newest placement of the window that it saw
 abbrev pub new_guest : Recorded → Numbers → GuestRec → GuestRec
 new_guest s number (Read vcpu p c value) = Read vcpu (new_page (number p)) c value
 new_guest s number (Write vcpu p c value) = Write vcpu (new_page (number p)) c value
@@ -207,7 +211,7 @@ keeps_init number given = is_seen (number given.page)
 abbrev pub new_init : Numbers → InitPage → InitPage
 new_init number given = record { page = new_page (number given.page); cells = given.cells }
 
--- a session through a window of so many pages
+-- a session through a window of so many pages: what is kept, numbered anew
 abbrev pub window : Numbers → ℕ → Recorded → Recorded
 window number count s = record {
   version = s.version;
