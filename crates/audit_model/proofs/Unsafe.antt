@@ -5,7 +5,7 @@ use Rattle.migration_types.specs.declared.records.GuestRec.{GuestRec}
 use Rattle.migration_types.specs.declared.records.GuestRec.TheVariants.{Release}
 use Rattle.migration_types.specs.declared.records.PagerRec.{PagerRec}
 use Rattle.migration_types.specs.declared.records.PagerRec.TheVariants.{Got, Pull, Ready, Fault, Join, Want, Place, Zero, Skip, All}
-use Rattle.migration_types.specs.Sessions.{Recorded}
+use Rattle.migration_types.specs.Sessions.{Recorded, IsSession}
 use Rattle.migration_types.specs.declared.records.LogName.TheVariants.{Guest, Pager}
 use Rattle.audit_model.specs.World.{world_after, pager_demand, if_record, IsSafe}
 use Rattle.audit_model.specs.Shape.{IsRightShape, is_placement_of, earlier}
@@ -179,9 +179,9 @@ module _ (s : Recorded) (shape : IsRightShape s) (given : HasMerging s) (safe : 
   safe_is_clean Unfit name f = other_fault Unfit (λ e. cc) (λ e. cc) name f
   safe_is_clean Over name f = over_fault_at name f
 
--- so a session of any size that fits, and has a merging, is safe exactly where no page has a fault
-pub fitting_exactly : (s : Recorded) → Fits s → IsRightShape s → HasMerging s → IsSafe s ↔ HasNoPageFault s
+pub fitting_exactly : (s : Recorded) → SafeExactlyIfClean s
 fitting_exactly s fits shape given = (λ safe. safe_is_clean s shape given safe, λ clean. fitting_safe s clean fits shape)
 
-pub safe_exactly_if_clean : (s : Recorded) → SafeExactlyIfClean s
+-- so of a session in its limits
+pub safe_exactly_if_clean : (s : Recorded) → IsSession s → IsRightShape s → HasMerging s → IsSafe s ↔ HasNoPageFault s
 safe_exactly_if_clean s limits = fitting_exactly s (session_fits s limits)

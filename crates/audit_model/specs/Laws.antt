@@ -138,9 +138,10 @@ UnplacedBreaks s =
     IsEarly s n r page → ((m : ℕ) (t : PagerRec) → slice_get s.pager m ≡ Some t → is_placement_of page t ≡ false) →
     BreaksAt s order (Guest, n)
 
--- where there is a merging, a session of the right shape is safe exactly where it has no page fault
+-- where there is a merging, a session of any size that fits and has the right shape is safe exactly where it has no page
+-- fault
 abbrev pub SafeExactlyIfClean : Recorded → Type 0
-SafeExactlyIfClean s = IsSession s → IsRightShape s → HasMerging s → IsSafe s ↔ HasNoPageFault s
+SafeExactlyIfClean s = Fits s → IsRightShape s → HasMerging s → IsSafe s ↔ HasNoPageFault s
 
 -- over runs that spell a merging a session with no page fault has a right certificate
 abbrev pub HasCertificate : Recorded → Type 0

@@ -55,7 +55,8 @@ pub fn certified_is_safe()
 /// A session of the right shape with no fault of a page is safe, and a fault of a page breaks the demand at its record:
 /// an early access where its page's placement is delayed, so that none of the page's placements stands before it, or in
 /// each merging where there is none; a placement over a release where it is delayed; and any other fault in each
-/// merging. So where there is a merging, the session is safe exactly where no page has a fault.
+/// merging. So where there is a merging, a session of any size that fits its machine is safe exactly where no page has
+/// a fault.
 pub fn faults_are_unsafe()
     ensures clean { (s : Recorded) → IsFaultless s → IsSafe s }
     ensures faults { (s : Recorded) → IsRightShape s → FaultsBreak s }
@@ -88,12 +89,11 @@ pub fn premises_can_be_met()
 {}
 
 /// A session is one whose records fit its machine, within the limits of size. These limits are not what makes it safe: a
-/// session of any size that fits and has the right shape is safe where no page has a fault, and, where it has a merging,
-/// only there.
+/// session of any size that fits, of the right shape, is safe where no page has a fault. The other laws on faults of pages
+/// ask for no limits either.
 pub fn any_size_is_judged_alike()
     ensures session { (s : Recorded) → IsSession s ↔ (Fits s × IsWithinLimits s) }
     ensures clean { (s : Recorded) → Fits s → IsRightShape s → HasNoPageFault s → IsSafe s }
-    ensures exactly { (s : Recorded) → Fits s → IsRightShape s → HasMerging s → IsSafe s ↔ HasNoPageFault s }
 {}
 
 /// Through a window, which has the records of some pages alone, a record that is kept has the faults of its page that it

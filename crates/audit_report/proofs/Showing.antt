@@ -24,6 +24,7 @@ use Rattle.audit_model.specs.Certificates.{is_access_of}
 use Rattle.audit_model.specs.Faults.{IsEarly, GuestFault, SourceFault, PagerFault, if_fault, IsPageFault}
 use Rattle.audit_model.specs.Delayed.{rearranged, IsFirstPlacement, IsDelayedOrder}
 use Rattle.audit_model.specs.Laws.{IsFaultless, FaultsBreak, DelayedBreaks, DelayedOver, UnplacedBreaks, BreaksAt, SafeExactlyIfClean}
+use Rattle.audit_model.proofs.Fits.{session_fits}
 use Rattle.audit_model.proofs.History.{earlier_true}
 use Rattle.audit_model.proofs.Clean.{false_if_not_true, clash}
 use Rattle.cert_maker.proofs.Fitting.{in_second}
@@ -193,7 +194,7 @@ module _ (s : Recorded) where
   clean_if_safe law fits (Clean cert) is shape has safe = tt
   clean_if_safe law fits (Shape fault) is shape has safe = absurd (clash _ (shape fault.reason (fault.log, fault.place)) is.is_first.is_wrong)
   clean_if_safe law fits (Knot left found) is shape has safe = absurd (is.1.has_no_merging has)
-  clean_if_safe law fits (Faulty line fault order) is shape has safe = absurd ((law fits shape has).0 safe fault.reason (fault.log, fault.place) is.1.is_first.is_fault)
+  clean_if_safe law fits (Faulty line fault order) is shape has safe = absurd ((law (session_fits s fits) shape has).0 safe fault.reason (fault.log, fault.place) is.1.is_first.is_fault)
 
   safe_exactly : ((t : Recorded) → IsFaultless t → IsSafe t) → SafeExactlyIfClean s → IsSession s → (report : Report) → IsReport s report → IsRightShape s → HasMerging s → IsSafe s ↔ IsClean report
   safe_exactly clean law fits report is shape has = (clean_if_safe law fits report is shape has, safe_if_clean clean fits report is)
