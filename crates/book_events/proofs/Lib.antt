@@ -1,2 +1,5 @@
+mod Branches
+mod Offers
+mod Done
 mod Machines
 mod Rooms

@@ -21,6 +21,7 @@ use Rattle.migration_model.specs.Books.{BooksAfter, session_after}
 use Rattle.migration_model.specs.Events.{has_room, offered, served, popped, pulled, paged, sent_up}
 use Rattle.migration_model.proofs.Limits.{HasRoom}
 use Rattle.migration_model.proofs.Whole.{room_there}
+use Rattle.book_events.proofs.Branches.{faults_log}
 use Rattle.book_events.specs.Parts.{pushing, sending, receiving, placing, IsMade, IsFull, Fits, ComesTo}
 
 -- each log is within its limit
@@ -115,23 +116,8 @@ pub pager_tick_fits : (l : LinkPart) (b : PagerPart) → length (pager_tick b).b
 pager_tick_fits l b few = record { fits = λ a. still _ _ (λ h. sent_fits (pager_tick b) (receiving l b a) few h) }
 
 -- a miss is taken without a record of the guest
-either : (c : Bool) (x y : Paged) (t : TargetPart) → x.target.log ≡ t.log → y.target.log ≡ t.log → (cond c x y).target.log ≡ t.log
-either true x y t p q = p
-either false x y t p q = q
-
-faults_keep : (xs : List Missing) (b : PagerPart) (t : TargetPart) → (faults xs b t).target.log ≡ t.log
-faults_keep [] b t = refl
-faults_keep (x ∷ rest) b t =
-    let asked = either (is_asked x.page b.waiting) _ _ t refl refl in
-    let absent = either (is_waiting x.vcpu b.waiting) _ _ t refl (either (is_released b.released x.page) _ _ t refl asked) in
-    either (is_resident (t.placed x.page) (t.freed x.page)) _ _ t refl absent
-
-faults_by_keep : (o : Option (List ℕ)) (xs : List Missing) (b : PagerPart) (t : TargetPart) → (faults_by o xs b t).target.log ≡ t.log
-faults_by_keep None xs b t = refl
-faults_by_keep (Some released) xs b t = faults_keep xs b t
-
 pub fault_fits : (b : PagerPart) (t : TargetPart) → length (next_fault b t).pager.log ≤ 1048576 → Fits PagerFault (placing b t)
-fault_fits b t few = record { fits = λ a. still (session_after (placing b t a)) (session_after (paged (next_fault b t) (placing b t a))) (λ h. record { guest = subst (λ xs. length xs ≤ 1048576) (sym (faults_by_keep b.released t.misses (settles t.unsettled b) (with_settled t))) h.guest; source = h.source; link = h.link; lane = h.lane; pager = few }) }
+fault_fits b t few = record { fits = λ a. still (session_after (placing b t a)) (session_after (paged (next_fault b t) (placing b t a))) (λ h. record { guest = subst (λ xs. length xs ≤ 1048576) (sym (faults_log b.released t.misses (settles t.unsettled b) (with_settled t))) h.guest; source = h.source; link = h.link; lane = h.lane; pager = few }) }
 
 and_none : (c : Bool) → (c && false) ≡ false
 and_none true = refl

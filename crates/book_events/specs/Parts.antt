@@ -1,5 +1,5 @@
 -- An event as a change of the one or two books that it names.
-use Rattle.std.specs.Prelude.{◌≡◌, ℕ, ◌⊎◌, Bool, true, false, List, [], ◌∷◌, ◌++◌, length, Result, IfOk, OnOk, OnErr, IsErrOf}
+use Rattle.std.specs.Prelude.{◌≡◌, ◌≢◌, ℕ, ◌⊎◌, Bool, true, false, List, [], ◌∷◌, ◌++◌, length, Result, IfOk, OnOk, OnErr, IsErrOf}
 use Rattle.source_book.specs.SourcePart.{SourcePart, halted_source, state_packet}
 use Rattle.guest_book.specs.GuestPart.{GuestPart}
 use Rattle.link_book.specs.LinkPart.{LinkPart, with_back}
@@ -50,14 +50,24 @@ pub record HasGained (page : ℕ) (old new : List Packet) : Type 0 where
   pub contents : List ℕ
   pub gained : (new ≡ old ++ PagePacket number page contents ∷ []) ⊎ (new ≡ PagePacket number page contents ∷ old)
 
-pub record IsOffered (page : ℕ) (old new : BooksAfter → BooksAfter) : Type 0 where
-  pub offered : (a : BooksAfter) → HasGained page (old a).link.down (new a).link.down ⊎ HasGained page (old a).link.lane (new a).link.lane
+-- the line down or the lane's has gained a packet of this page
+abbrev pub Gains : ℕ → LinkPart → LinkPart → Type 0
+Gains page old new = HasGained page old.down new.down ⊎ HasGained page old.lane new.lane
 
--- what is told of an event: that there was nothing to do only where nothing has changed, and a page where the line down
--- or the lane's has gained a packet of it
+-- a page was offered
+pub record IsOffered (page : ℕ) (old new : BooksAfter → BooksAfter) : Type 0 where
+  pub offered : (a : BooksAfter) → Gains page (old a).link (new a).link
+
+-- something has changed, and no page was offered
+pub record IsDone (old new : BooksAfter → BooksAfter) : Type 0 where
+  pub changed : (a : BooksAfter) → new a ≢ old a
+  pub no_page : (a : BooksAfter) (page : ℕ) → Gains page (old a).link (new a).link → ⊥
+
+-- what is told of an event: that there was nothing to do only where nothing has changed, a page only where it was offered,
+-- and that the event was made only where something has changed and no page was offered
 abbrev pub Tells : Came → (BooksAfter → BooksAfter) → (BooksAfter → BooksAfter) → Type 0
 Tells Nothing old new = IsSame old new
-Tells Made old new = Unit {0}
+Tells Made old new = IsDone old new
 Tells (Offered page) old new = IsOffered page old new
 
 -- what a call for an event comes to, of two books that stand in a migration so: the event is made, and what is told of it is

@@ -1,12 +1,13 @@
 //! The pager's events, on the link's and the pager's books, or on the pager's and the target's.
 
-ghost use Rattle.std.specs.Prelude.{◌≡◌, [], Some, slice_get, IsTrue};
+ghost use Rattle.std.specs.Prelude.{◌≡◌, ◌⊎◌, ◌<◌, true, false, [], length, Some, is_some, slice_get};
 ghost use Rattle.link_book.specs.declared.Arrival.{Arrival};
 ghost use Rattle.target_book.specs.Kept.{geometry_of, part_of as target_of};
-ghost use Rattle.pager_book.specs.PagerPart.{faults_by, delivers_by};
+ghost use Rattle.pager_book.specs.PagerPart.{faults_by, next_fault, delivers_by, deliver};
 ghost use Rattle.pager_book.specs.PagerLists.{part_of, IsPacketOf};
 ghost use Rattle.migration_events.specs.declared.events.Event.{Event};
 ghost use Rattle.book_events.specs.Parts.{receiving, placing, ComesTo};
+ghost use Rattle.book_events.specs.inner.Work.{HasFault, HasDelivery};
 
 use crate::came::Came;
 use link_book::LinkBook;
@@ -48,7 +49,7 @@ pub fn pager_pull(link: &mut LinkBook, pager: &mut PagerBook) -> Result<Came, Ev
 
 /// PagerFlush: the pager offers the oldest packet that it has not offered, if there is one. The only error is want of
 /// memory, and then nothing changes.
-#[tactic(auto, using(crate::proofs::Rooms::flush_fits))]
+#[tactic(auto, using(crate::proofs::Rooms::flush_fits, crate::proofs::Done::up_done))]
 pub fn pager_flush(link: &mut LinkBook, pager: &mut PagerBook) -> Result<Came, EventFault>
     ensures comes { ComesTo Event.PagerFlush result receiving link.old.part link.new.part (part_of pager.old) (part_of pager.new) }
     ensures machine { pager.new.geometry ≡ pager.old.geometry }
@@ -64,7 +65,7 @@ pub fn pager_flush(link: &mut LinkBook, pager: &mut PagerBook) -> Result<Came, E
 /// PagerTick: once the state has come, the pager asks once more for a page that is neither placed nor settled, or says
 /// that all are. `EventFault::LogFull` exactly where its log has no room for the record, which is looked at before memory
 /// is asked for. On an error nothing changes.
-#[tactic(auto, using(crate::proofs::Rooms::pager_tick_fits))]
+#[tactic(auto, using(crate::proofs::Rooms::pager_tick_fits, crate::proofs::Done::up_done))]
 pub fn pager_tick(link: &mut LinkBook, pager: &mut PagerBook) -> Result<Came, EventFault>
     ensures comes { ComesTo Event.PagerTick result receiving link.old.part link.new.part (part_of pager.old) (part_of pager.new) }
     ensures machine { pager.new.geometry ≡ pager.old.geometry }
@@ -82,13 +83,13 @@ pub fn pager_tick(link: &mut LinkBook, pager: &mut PagerBook) -> Result<Came, Ev
 /// oldest miss that it has not taken, if there is one and the state has come; where there is neither, there is nothing to
 /// do. The books are of one machine. `EventFault::LogFull` exactly where the pager's log has no room for the records. On
 /// an error nothing changes.
-#[tactic(auto, using(crate::proofs::Rooms::fault_fits, crate::proofs::Rooms::fault_full))]
+#[tactic(auto, using(crate::proofs::Rooms::fault_fits, crate::proofs::Rooms::fault_full, crate::proofs::Rooms::fault_nothing))]
 pub fn pager_fault(pager: &mut PagerBook, target: &mut TargetBook) -> Result<Came, EventFault>
     requires machine { geometry_of target.old ≡ pager.old.geometry }
     ensures comes { ComesTo Event.PagerFault result placing (part_of pager.old) (part_of pager.new) (target_of target.old) (target_of target.new) }
     ensures machine { (pager.new.geometry ≡ pager.old.geometry) × (geometry_of target.new ≡ geometry_of target.old) }
 {
-    if target.unsettled().is_empty() && learns_nothing(pager, target) {
+    if !has_fault(pager, target) {
         return Ok(Came::Nothing);
     }
     pager.next_fault(target)?;
@@ -99,29 +100,49 @@ pub fn pager_fault(pager: &mut PagerBook, target: &mut TargetBook) -> Result<Cam
 /// come it lets the guest resume, and from then on takes the oldest page that has come, if there is one, which it
 /// places, or drops where it is resident already. Where there is nothing of this, there is nothing to do. The books are
 /// of one machine. `EventFault::LogFull` exactly where a log has no room for the record. On an error nothing changes.
-#[tactic(auto, using(crate::proofs::Rooms::deliver_fits))]
+#[tactic(auto, using(crate::proofs::Rooms::deliver_fits, crate::proofs::Rooms::deliver_nothing))]
 pub fn pager_deliver(pager: &mut PagerBook, target: &mut TargetBook) -> Result<Came, EventFault>
     requires machine { geometry_of target.old ≡ pager.old.geometry }
     ensures comes { ComesTo Event.PagerDeliver result placing (part_of pager.old) (part_of pager.new) (target_of target.old) (target_of target.new) }
     ensures machine { (pager.new.geometry ≡ pager.old.geometry) × (geometry_of target.new ≡ geometry_of target.old) }
 {
-    if target.unsettled().is_empty() && brings_nothing(pager, target) {
+    if !has_delivery(pager, target) {
         return Ok(Came::Nothing);
     }
     pager.deliver(target)?;
     Ok(Came::Made)
 }
 
-/// Whether there is no miss that the pager may take.
-fn learns_nothing(pager: &PagerBook, target: &TargetBook) -> bool
-    ensures { IsTrue result → faults_by pager.now.released (target_of target.now).misses (part_of pager.now) (target_of target.now) ≡ record { pager = part_of pager.now; target = target_of target.now; woken = [] } }
+/// Whether there is a page to settle, or a miss that the pager may take.
+#[tactic(auto, using(crate::proofs::Branches::fault_none))]
+fn has_fault(pager: &PagerBook, target: &TargetBook) -> bool
+    ensures some { result ≡ true → HasFault (part_of pager.now) (target_of target.now) }
+    ensures none { result ≡ false → next_fault (part_of pager.now) (target_of target.now) ≡ record { pager = part_of pager.now; target = target_of target.now; woken = [] } }
 {
-    !pager.is_ready() || target.next_miss().is_none()
+    !target.unsettled().is_empty() || learns(pager, target)
 }
 
-/// Whether the pager has nothing to bring to the target: neither the state nor a page.
-fn brings_nothing(pager: &PagerBook, target: &TargetBook) -> bool
-    ensures { IsTrue result → delivers_by pager.now.released (part_of pager.now) (target_of target.now) ≡ record { pager = part_of pager.now; target = target_of target.now; woken = [] } }
+/// Whether there is a miss that the pager may take.
+fn learns(pager: &PagerBook, target: &TargetBook) -> bool
+    ensures some { result ≡ true → (is_some pager.now.released ≡ true) × (0 < length (target_of target.now).misses) }
+    ensures none { result ≡ false → faults_by pager.now.released (target_of target.now).misses (part_of pager.now) (target_of target.now) ≡ record { pager = part_of pager.now; target = target_of target.now; woken = [] } }
 {
-    !pager.is_ready() || (target.is_resumed() && pager.next_page().is_none())
+    pager.is_ready() && target.next_miss().is_some()
+}
+
+/// Whether there is a page to settle, or the pager has the state or a page to bring to the target.
+#[tactic(auto, using(crate::proofs::Branches::delivery_none))]
+fn has_delivery(pager: &PagerBook, target: &TargetBook) -> bool
+    ensures some { result ≡ true → HasDelivery (part_of pager.now) (target_of target.now) }
+    ensures none { result ≡ false → deliver (part_of pager.now) (target_of target.now) ≡ record { pager = part_of pager.now; target = target_of target.now; woken = [] } }
+{
+    !target.unsettled().is_empty() || brings(pager, target)
+}
+
+/// Whether the pager has the state or a page to bring to the target.
+fn brings(pager: &PagerBook, target: &TargetBook) -> bool
+    ensures some { result ≡ true → (is_some pager.now.released ≡ true) × (((target_of target.now).is_resumed ≡ false) ⊎ (0 < length pager.now.inbox)) }
+    ensures none { result ≡ false → delivers_by pager.now.released (part_of pager.now) (target_of target.now) ≡ record { pager = part_of pager.now; target = target_of target.now; woken = [] } }
+{
+    pager.is_ready() && (!target.is_resumed() || pager.next_page().is_some())
 }

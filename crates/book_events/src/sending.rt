@@ -3,12 +3,12 @@
 ghost use Rattle.std.specs.Prelude.{◌≡◌, ◌≤◌, Some, length, slice_get, IsTrue, if◌then◌else◌, OnOk, OnErr, IsErrOf};
 ghost use Rattle.migration_types.specs.Limits.{most_records};
 ghost use Rattle.source_book.specs.Books.{part_of};
-ghost use Rattle.link_book.specs.LinkPart.{with_back, with_front};
+ghost use Rattle.link_book.specs.LinkPart.{with_back, with_front, with_pushed};
 ghost use Rattle.migration_events.specs.declared.events.Event.{Event};
 ghost use Rattle.link_book.specs.declared.Arrival.{Arrival};
 ghost use Rattle.source_book.specs.SourcePart.{source_serve};
 ghost use Rattle.book_events.specs.Parts.{pushing, sending, ComesTo, IsFull};
-ghost use Rattle.book_events.specs.inner.Offers.{Carries};
+ghost use Rattle.book_events.specs.inner.Offers.{Carries, IsOffer};
 
 use crate::came::Came;
 use link_book::LinkBook;
@@ -42,13 +42,23 @@ pub fn push(
     let Some(packet) = source.push()? else {
         return Ok(Came::Nothing);
     };
+    Ok(offer_pushed(link, packet, has_lane))
+}
+
+/// Offers a packet behind the others of the lane, or behind those that are under way down.
+#[tactic(auto, using(crate::proofs::Offers::pushed_is_offer))]
+fn offer_pushed(link: &mut LinkBook, packet: Packet, over_lane: bool) -> Came
+    requires { IsTrue link.old.has_room }
+    ensures link { link.new.part ≡ with_pushed over_lane packet link.old.part }
+    ensures told { IsOffer result link.old.part link.new.part }
+{
     let came = carried(&packet);
-    if has_lane {
+    if over_lane {
         link.offer_lane(packet);
     } else {
         link.offer_down(packet, false);
     }
-    Ok(came)
+    came
 }
 
 /// Serve: the source takes the oldest packet that has arrived, if there is one, and sends the page that it wants ahead
@@ -101,10 +111,11 @@ pub fn source_tick(source: &mut SourceBook, link: &mut LinkBook) -> Result<Came,
 }
 
 /// Offers a packet before the others that are under way down, or behind them.
+#[tactic(auto, using(crate::proofs::Offers::down_is_offer))]
 fn offer(link: &mut LinkBook, packet: Packet, front: bool) -> Came
     requires { IsTrue link.old.has_room }
     ensures link { link.new.part ≡ if front then with_front packet link.old.part else with_back packet link.old.part }
-    ensures told { Carries result packet }
+    ensures told { IsOffer result link.old.part link.new.part }
 {
     let came = carried(&packet);
     link.offer_down(packet, front);
@@ -117,6 +128,6 @@ fn carried(packet: &Packet) -> Came
 {
     match packet {
         Packet::Page { page, .. } => Came::Offered(*page),
-        _ => Came::Made,
+        Packet::State { .. } | Packet::Want { .. } | Packet::All { .. } => Came::Made,
     }
 }

@@ -1,7 +1,8 @@
 -- What is told of a packet that is offered.
-use Rattle.std.specs.Prelude.{◌≡◌, ℕ, List}
+use Rattle.std.specs.Prelude.{◌≡◌, ℕ, ◌⊎◌, Bool, true, false, List, [], ◌∷◌, ◌++◌}
 use Rattle.page_stream.specs.declared.Packet.{Packet}
-use Rattle.page_stream.specs.declared.Packet.TheVariants.{Page as PagePacket}
+use Rattle.page_stream.specs.declared.Packet.TheVariants.{State as StatePacket, Page as PagePacket, Want as WantPacket, All as AllPacket}
+use Rattle.link_book.specs.LinkPart.{LinkPart}
 use Rattle.book_events.specs.declared.came.Came.{Came}
 use Rattle.book_events.specs.declared.came.Came.TheVariants.{Nothing, Made, Offered}
 
@@ -11,7 +12,23 @@ pub record IsOfPage (page : ℕ) (packet : Packet) : Type 0 where
   pub contents : List ℕ
   pub packet_is : packet ≡ PagePacket number page contents
 
+abbrev pub is_page : Packet → Bool
+is_page (StatePacket number released) = false
+is_page (PagePacket number page contents) = true
+is_page (WantPacket number page) = false
+is_page (AllPacket number) = false
+
 abbrev pub Carries : Came → Packet → Type 0
 Carries Nothing packet = ⊥
-Carries Made packet = Unit {0}
+Carries Made packet = is_page packet ≡ false
 Carries (Offered page) packet = IsOfPage page packet
+
+-- a line has gained a packet, behind the others or before them
+abbrev pub HasMore : Packet → List Packet → List Packet → Type 0
+HasMore packet old new = (new ≡ old ++ packet ∷ []) ⊎ (new ≡ packet ∷ old)
+
+-- one of the lines to the target has gained the packet that is told of, and the other none
+pub record IsOffer (came : Came) (old new : LinkPart) : Type 0 where
+  pub packet : Packet
+  pub carries : Carries came packet
+  pub line : (HasMore packet old.down new.down × (new.lane ≡ old.lane)) ⊎ ((new.down ≡ old.down) × HasMore packet old.lane new.lane)
