@@ -1,10 +1,10 @@
 -- What a thread tells of its turn under the locks.
-use Rattle.std.specs.Prelude.{Result, Ok, Err}
+use Rattle.std.specs.Prelude.{◌≡◌, Result, Ok, Err}
 use Rattle.migration_events.specs.declared.events.Event.{Event}
 use Rattle.migration_events.specs.declared.faults.EventFault.{EventFault}
 use Rattle.migration_events.specs.declared.faults.EventFault.TheVariants as refused
 use Rattle.migration_model.specs.Books.{BooksAfter}
-use Rattle.book_events.specs.Parts.{IsMade, IsSame, IsOffered}
+use Rattle.book_events.specs.Parts.{IsMade, IsSame, IsOffered, IsDone}
 use Rattle.book_events.specs.declared.came.Came.{Came}
 use Rattle.book_events.specs.declared.came.Came.TheVariants as came
 use Rattle.host_threads.specs.declared.bell.Fault.{Fault}
@@ -12,14 +12,18 @@ use Rattle.host_threads.specs.declared.bell.Fault.TheVariants.{LogFull, Memory}
 use Rattle.host_threads.specs.declared.shared.Turn.{Turn}
 use Rattle.host_threads.specs.declared.shared.Turn.TheVariants.{Did, Offered, Served, Idle, Stops}
 
--- The turn made the event of the books, and offered a packet of a page that it tells. Where it found nothing to do, and
--- where the run stops, nothing has changed.
+-- The turn made the event of the books: it has changed something, and offered a packet of a page just where it tells so.
+-- Where it found nothing to do, the event changes nothing, and nothing has changed; nor has it where the run stops.
 abbrev pub IsTurn : Turn → Event → (BooksAfter → BooksAfter) → (BooksAfter → BooksAfter) → Type 0
-IsTurn Did e old new = IsMade e old new
+IsTurn Did e old new = IsMade e old new × IsDone old new
 IsTurn (Offered page) e old new = IsMade e old new × IsOffered page old new
-IsTurn Served e old new = IsMade e old new
-IsTurn Idle e old new = IsSame old new
+IsTurn Served e old new = IsMade e old new × IsDone old new
+IsTurn Idle e old new = IsMade e old new × IsSame old new
 IsTurn (Stops fault) e old new = IsSame old new
+
+-- an event that the thread does not try: it tells that it found nothing to do, and nothing has changed
+abbrev pub IsUntried : Turn → (BooksAfter → BooksAfter) → (BooksAfter → BooksAfter) → Type 0
+IsUntried turn old new = (turn ≡ Idle) × IsSame old new
 
 -- the fault of a run in which an event was refused
 abbrev pub fault_by : EventFault → Fault

@@ -4,6 +4,7 @@ ghost use Rattle.std.specs.Prelude.{◌≡◌, ◌≢◌, ◌+◌, ◌≤◌, []
 ghost use Rattle.migration_types.specs.Extents.{IsExtent};
 ghost use Rattle.page_stream.specs.Bytes.{packet_bytes, Fits, IsShort};
 ghost use Rattle.page_stream.specs.Streams.{Takes};
+ghost use Rattle.host_threads.specs.Echoes.{Carries, HasCarried};
 
 use crate::bell::Fault;
 use crate::relay::Relay;
@@ -34,9 +35,11 @@ impl From<CarryFault> for Fault {
 const PIECE_BYTES: usize = 4096;
 
 /// Reads so many bytes from a relay, and puts them at the end of what came.
+#[tactic(auto, using(crate::proofs::Carrying::carried_none))]
 fn read_back<L: Relay>(relay: &mut L, count: usize, came: &mut Vec<u8>) -> Result<(), CarryFault>
     requires { count ≤ 4096 }
-    ensures { OnOk result (vec_len came.new ≡ vec_len came.old + count) }
+    ensures count { OnOk result (vec_len came.new ≡ vec_len came.old + count) }
+    ensures came { OnOk result (HasCarried (L.held relay.old) (L.held relay.new) [] came.old.items came.new.items) }
 {
     let mut buffer = [0u8; PIECE_BYTES];
     let mut left = count;
@@ -56,11 +59,13 @@ fn read_back<L: Relay>(relay: &mut L, count: usize, came: &mut Vec<u8>) -> Resul
 }
 
 /// Sends bytes through a relay in pieces, each of which is back before the next goes out, and puts what comes back at
-/// the end of what came. As many bytes come as were sent. What they are is not looked at.
+/// the end of what came. As many bytes come as were sent: those that the relay gave. What they are is not looked at.
 ///
 /// `Link` where a call of the relay fails, or answers 0 or more than it was asked for.
+#[tactic(auto, using(crate::proofs::Carrying::through_none, crate::proofs::Carrying::through_all))]
 fn carry<L: Relay>(relay: &mut L, bytes: &[u8], came: &mut Vec<u8>) -> Result<(), CarryFault>
-    ensures { OnOk result (vec_len came.new ≡ vec_len came.old + length bytes.now) }
+    ensures count { OnOk result (vec_len came.new ≡ vec_len came.old + length bytes.now) }
+    ensures came { OnOk result (HasCarried (L.held relay.old) (L.held relay.new) bytes.now came.old.items came.new.items) }
 {
     let mut rest = bytes;
     while !rest.is_empty() {
@@ -180,6 +185,7 @@ impl Echo {
     /// packet and no more.
     ///
     /// `Link` where the relay fails or something else comes back.
+    #[tactic(auto, using(crate::proofs::Carrying::carried_all))]
     pub(crate) fn pass<L: Relay>(
         &mut self,
         relay: &mut L,
@@ -188,6 +194,7 @@ impl Echo {
         requires fits { Fits self.old.geometry packet.now }
         requires short { IsShort packet.now }
         ensures ok { OnOk result (self.new ≡ record self.old { came = packet_bytes packet.now }) }
+        ensures came { OnOk result (Carries (L.held relay.old) (L.held relay.new) (packet_bytes packet.now) self.new.came) }
     {
         let Ok(bytes) = encode(self.alloc, packet) else {
             return Err(CarryFault::Memory);

@@ -4,7 +4,7 @@ ghost use Rattle.std.specs.Prelude.{◌≡◌, ◌↔◌, ℕ, ◌+◌, ◌<◌,
 ghost use Rattle.link_book.specs.LinkPart.{line_of, turned};
 ghost use Rattle.page_stream.specs.declared.Packet.{Packet as Sent};
 ghost use Rattle.host_threads.specs.Fates.{next_fate, fates_over, line, Meets, HaveMet, HaveTurned};
-ghost use Rattle.host_threads.specs.Passages.{HasPassed, arrives};
+ghost use Rattle.host_threads.specs.Passages.{HasPassed, IsCarried, arrives};
 
 use crate::bell::{Fault, Party};
 use crate::passage::Passage;
@@ -90,7 +90,7 @@ fn turn_head<L: Relay>(
 ) -> Result<bool, Fault>
     ensures head { IfOk result (λ met. MatchBool met ((packet : Sent) × (slice_get (line_of direction link.old.part) 0 ≡ Some packet)) (slice_get (line_of direction link.old.part) 0 ≡ None)) }
     ensures turned { IfOk result (λ met. MatchBool met (link.new ≡ record link.old { part = turned direction fate link.old.part }) (link.new ≡ link.old)) }
-    ensures passed { IfOk result (λ met. met ≡ true → arrives fate ≡ true → (packet : Sent) → slice_get (line_of direction link.old.part) 0 ≡ Some packet → HasPassed passage.new packet) }
+    ensures passed { IfOk result (λ met. met ≡ true → arrives fate ≡ true → (packet : Sent) → slice_get (line_of direction link.old.part) 0 ≡ Some packet → HasPassed passage.new packet × IsCarried L.held passage.old passage.new packet) }
     ensures err { OnErr result (link.new ≡ link.old) }
 {
     let Some(packet) = link.head(direction) else {

@@ -1,14 +1,14 @@
 //! The pager's thread.
 
-ghost use Rattle.std.specs.Prelude.{◌≡◌, ◌≢◌, true, Some};
+ghost use Rattle.std.specs.Prelude.{◌≡◌, true, false, Some, is_some};
 ghost use Rattle.std.specs.Option.{option_map};
 ghost use Rattle.link_book.specs.Links.{arrival, is_quiet};
 ghost use Rattle.link_book.specs.declared.Arrival.{Arrival as Arrived};
 ghost use Rattle.target_book.specs.Kept.{part_of as target_of};
 ghost use Rattle.pager_book.specs.PagerLists.{part_of, IsPacketOf};
 ghost use Rattle.book_events.specs.Parts.{receiving, placing};
-ghost use Rattle.host_threads.specs.Tries.{exchange_tries, attend_tries};
-ghost use Rattle.host_threads.specs.Turns.{IsTurn};
+ghost use Rattle.host_threads.specs.Tries.{exchange_tries, attend_tries, exchange_makes, attend_makes};
+ghost use Rattle.host_threads.specs.Turns.{IsTurn, IsUntried};
 
 use crate::bell::{Bell, Fault, Party};
 use crate::gate::{Gate, most_at_once};
@@ -42,17 +42,34 @@ fn is_first_of(geometry: Geometry, oldest: Option<(u32, &Packet)>) -> bool
     }
 }
 
-/// An event on the link's and the pager's books: PagerPop, PagerPull, PagerFlush or PagerTick. A packet of another
-/// machine is not taken. The pager ticks only where nothing is under way.
-fn exchange(link: &mut LinkBook, pager: &mut PagerBook, event: Event) -> Turn
-    ensures turn { IsTurn result event (receiving link.old.part (part_of pager.old)) (receiving link.new.part (part_of pager.new)) }
-    ensures quiet { event ≡ Event.PagerTick → result ≢ Turn.Idle → is_quiet link.old.part ≡ true }
+/// Whether the pager makes such an event on the link's book and its own: it takes packets and offers them, and ticks where
+/// nothing is under way.
+#[tactic(auto, using(crate::proofs::Tried::exchange_no_other))]
+fn exchanges(link: &LinkBook, event: Event) -> bool
+    ensures { result ≡ exchange_makes event (is_quiet link.now.part) }
 {
+    match event {
+        Event::PagerPop | Event::PagerPull | Event::PagerFlush => true,
+        Event::PagerTick => link.quiet(),
+        _ => false,
+    }
+}
+
+/// An event on the link's and the pager's books, where the pager makes it: PagerPop, PagerPull, PagerFlush or PagerTick.
+/// A packet of another machine is not taken.
+#[tactic(auto, using(crate::proofs::Tried::exchange_no_other))]
+fn exchange(link: &mut LinkBook, pager: &mut PagerBook, event: Event) -> Turn
+    ensures turn { exchange_makes event (is_quiet link.old.part) ≡ true → IsTurn result event (receiving link.old.part (part_of pager.old)) (receiving link.new.part (part_of pager.new)) }
+    ensures untried { exchange_makes event (is_quiet link.old.part) ≡ false → IsUntried result (receiving link.old.part (part_of pager.old)) (receiving link.new.part (part_of pager.new)) }
+{
+    if !exchanges(link, event) {
+        return Turn::Idle;
+    }
     match event {
         Event::PagerPop => pop_next(link, pager),
         Event::PagerPull => pull_next(link, pager),
         Event::PagerFlush => told(pager_flush(link, pager)),
-        Event::PagerTick if link.quiet() => told(pager_tick(link, pager)),
+        Event::PagerTick => told(pager_tick(link, pager)),
         _ => Turn::Idle,
     }
 }
@@ -77,16 +94,34 @@ fn pull_next(link: &mut LinkBook, pager: &mut PagerBook) -> Turn
     told(pager_pull(link, pager))
 }
 
-/// An event on the pager's and the target's books: PagerFault or PagerDeliver. Both first settle the pages that the guest
-/// released at the target before they came.
-fn attend(pager: &mut PagerBook, target: &mut TargetBook, event: Event) -> Turn
-    ensures { IsTurn result event (placing (part_of pager.old) (target_of target.old)) (placing (part_of pager.new) (target_of target.new)) }
+/// Whether the pager makes such an event on its book and the target's: it delivers, and learns of misses where the state
+/// has come.
+#[tactic(auto, using(crate::proofs::Tried::attend_no_other))]
+fn attends(pager: &PagerBook, event: Event) -> bool
+    ensures { result ≡ attend_makes event (is_some pager.now.released) }
 {
+    match event {
+        Event::PagerDeliver => true,
+        Event::PagerFault => pager.is_ready(),
+        _ => false,
+    }
+}
+
+/// An event on the pager's and the target's books, where the pager makes it: PagerFault or PagerDeliver. Both first settle
+/// the pages that the guest released at the target before they came.
+#[tactic(auto, using(crate::proofs::Tried::attend_no_other))]
+fn attend(pager: &mut PagerBook, target: &mut TargetBook, event: Event) -> Turn
+    ensures turn { attend_makes event (is_some pager.old.released) ≡ true → IsTurn result event (placing (part_of pager.old) (target_of target.old)) (placing (part_of pager.new) (target_of target.new)) }
+    ensures untried { attend_makes event (is_some pager.old.released) ≡ false → IsUntried result (placing (part_of pager.old) (target_of target.old)) (placing (part_of pager.new) (target_of target.new)) }
+{
+    if !attends(pager, event) {
+        return Turn::Idle;
+    }
     if target.geometry() != pager.geometry() {
         return Turn::Stops(Fault::Astray);
     }
     match event {
-        Event::PagerFault if pager.is_ready() => told_to_all(pager_fault(pager, target)),
+        Event::PagerFault => told_to_all(pager_fault(pager, target)),
         Event::PagerDeliver => told_to_all(pager_deliver(pager, target)),
         _ => Turn::Idle,
     }

@@ -1,7 +1,7 @@
 //! What a packet passes before it is delivered.
 
 ghost use Rattle.std.specs.Prelude.{OnOk};
-ghost use Rattle.host_threads.specs.Passages.{HasPassed};
+ghost use Rattle.host_threads.specs.Passages.{HasPassed, IsCarried};
 
 use crate::bell::Fault;
 use crate::carry::Echo;
@@ -22,6 +22,7 @@ impl<L: Relay> Passage<L> {
     /// the relay fails, or anything but the packet comes back.
     pub(crate) fn pass(&mut self, packet: &Packet) -> Result<(), Fault>
         ensures ok { OnOk result (HasPassed self.new packet.now) }
+        ensures came { OnOk result (IsCarried L.held self.old self.new packet.now) }
     {
         match self {
             Passage::InMemory => Ok(()),

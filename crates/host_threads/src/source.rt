@@ -3,9 +3,9 @@
 ghost use Rattle.std.specs.Prelude.{◌≡◌, ◌≢◌, true, false, is_some};
 ghost use Rattle.source_book.specs.Books.{part_of};
 ghost use Rattle.link_book.specs.Links.{is_quiet};
-ghost use Rattle.book_events.specs.Parts.{pushing};
-ghost use Rattle.host_threads.specs.Tries.{source_tries};
-ghost use Rattle.host_threads.specs.Turns.{IsTurn};
+ghost use Rattle.book_events.specs.Parts.{pushing, sending};
+ghost use Rattle.host_threads.specs.Tries.{source_tries, source_makes};
+ghost use Rattle.host_threads.specs.Turns.{IsTurn, IsUntried};
 ghost use Rattle.host_threads.specs.Sides.{Halts};
 
 use crate::bell::{Fault, Party};
@@ -29,16 +29,32 @@ fn has_lane(script: &Script) -> bool
     script.lane().is_some()
 }
 
-/// An event on the source's and the link's books: Push, Serve or SourceTick. Pages are pushed within the script's window,
-/// and over its lane, if it has one. The source ticks only where nothing is under way and it is not done.
-fn act(book: &mut SourceBook, link: &mut LinkBook, event: Event, script: &Script) -> Turn
-    ensures turn { IsTurn result event (pushing script.now.window (is_some script.now.lane) (part_of book.old) link.old.part) (pushing script.now.window (is_some script.now.lane) (part_of book.new) link.new.part) }
-    ensures quiet { event ≡ Event.SourceTick → result ≢ Turn.Idle → (is_quiet link.old.part ≡ true) × (book.old.is_done ≡ false) }
+/// Whether the source makes such an event: it pushes and serves, and ticks where nothing is under way and it is not done.
+#[tactic(auto, using(crate::proofs::Tried::source_no_other))]
+fn makes(book: &SourceBook, link: &LinkBook, event: Event) -> bool
+    ensures { result ≡ source_makes event book.now.is_done (is_quiet link.now.part) }
 {
+    match event {
+        Event::Push | Event::Serve => true,
+        Event::SourceTick => !book.is_done() && link.quiet(),
+        _ => false,
+    }
+}
+
+/// An event on the source's and the link's books, where the source makes it: Push, Serve or SourceTick. Pages are pushed
+/// within the script's window, and over its lane, if it has one.
+#[tactic(auto, using(crate::proofs::Tried::source_no_other))]
+fn act(book: &mut SourceBook, link: &mut LinkBook, event: Event, script: &Script) -> Turn
+    ensures turn { source_makes event book.old.is_done (is_quiet link.old.part) ≡ true → IsTurn result event (pushing script.now.window (is_some script.now.lane) (part_of book.old) link.old.part) (pushing script.now.window (is_some script.now.lane) (part_of book.new) link.new.part) }
+    ensures untried { source_makes event book.old.is_done (is_quiet link.old.part) ≡ false → IsUntried result (sending (part_of book.old) link.old.part) (sending (part_of book.new) link.new.part) }
+{
+    if !makes(book, link, event) {
+        return Turn::Idle;
+    }
     match event {
         Event::Push => told(push(book, link, script.window(), has_lane(script))),
         Event::Serve => told(serve(book, link)),
-        Event::SourceTick if !book.is_done() && link.quiet() => told(source_tick(book, link)),
+        Event::SourceTick => told(source_tick(book, link)),
         _ => Turn::Idle,
     }
 }
