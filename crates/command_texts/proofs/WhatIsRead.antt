@@ -47,7 +47,7 @@ ok_then (Err e) P Q h f = tt
 -- what is told of a text that was read
 pub told_read : {V : Type 0} (Spells : V → List (List ℕ) → Type 0) (text : List ℕ) (read : Result V Refusal) (told : Result (Result V ℕ) AllocError)
     → MatchResult read (λ v. IsSpelling Spells v text) (λ why. Refused Spells text why.fault.line why.fault.kind)
-    → MatchResult read (λ v. told ≡ Ok (Ok v)) (λ why. IfOk told (λ found. (found ≡ Err why.fault.line) × (why.fault.kind ≢ Memory)))
+    → MatchResult read (λ v. told ≡ Ok (Ok v)) (λ why. MatchResult told (λ found. (found ≡ Err why.fault.line) × (why.fault.kind ≢ Memory)) (λ _. why.fault.kind ≡ Memory))
     → IfOk told (IsRead Spells text)
 told_read Spells text (Ok v) told is same = rw same is
 told_read Spells text (Err why) (Ok found) is same = rw same.0 (refused_at Spells text why.fault.line why.fault.kind is same.1)

@@ -128,12 +128,13 @@ impl<P: Stages> Taker for Gathered<P> {
     }
 }
 
-/// What was read of a text: its value, or the line at which it is refused. `why` tells the reason from now on.
+/// What was read of a text: its value, or the line at which it is refused. `why` tells the reason from now on. An error: memory
+/// ran out as it was read.
 fn told<V: Drop>(
     read: Result<V, Refusal>,
     why: &mut Option<Refusal>,
 ) -> Result<Result<V, u32>, AllocError>
-    ensures { MatchResult read (λ value. result ≡ Ok (Ok value)) (λ refusal. IfOk result (λ found. (found ≡ Err refusal.fault.line) × (refusal.fault.kind ≢ FaultKind.Memory))) }
+    ensures { MatchResult read (λ value. result ≡ Ok (Ok value)) (λ refusal. MatchResult result (λ found. (found ≡ Err refusal.fault.line) × (refusal.fault.kind ≢ FaultKind.Memory)) (λ _. refusal.fault.kind ≡ FaultKind.Memory)) }
 {
     match read {
         Ok(value) => Ok(Ok(value)),

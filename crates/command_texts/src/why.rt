@@ -15,17 +15,12 @@ pub struct Why<'a> {
 
 /// From now on `first` is there, where it was not, if `later` is.
 pub(crate) fn keep_first<W: Drop>(first: &mut Option<W>, later: Option<W>) {
-    if first.is_none() {
-        *first = later;
-    }
+    *first = first.take().or(later);
 }
 
 /// From now on `why` tells of the text under this name, where it is refused.
 pub(crate) fn keep_under<'a>(why: &mut Option<Why<'a>>, name: &'a str, refusal: Option<Refusal>) {
-    *why = match refusal {
-        Some(refusal) => Some(Why { name, refusal }),
-        None => None,
-    };
+    *why = refusal.map(|refusal| Why { name, refusal });
 }
 
 /// How much is told of a text that is refused.
