@@ -1,10 +1,13 @@
 -- What the command line takes of plain names.
-use Rattle.std.proofs.Common.{◌≡◌, ◌==◌, ◌≤◌, ℕ, Bool, true, false, List, [], ◌∷◌, length, inl, inr, Some, None, refl, ap, subst, arith, codes, cond, option_and_then}
+use Rattle.std.proofs.Common.{◌≡◌, ◌∙◌, ◌==◌, ◌≤◌, ℕ, Bool, true, false, List, [], ◌∷◌, ◌++◌, map, length, inl, inr, Some, None, refl, ap, subst, arith, codes, cond, option_and_then}
 use Rattle.std.specs.List.{AllByRecursion}
 use Rattle.std.specs.Str.{bytes_eq}
 use Rattle.std.proofs.lemmas.Bool.{ne_eqb}
 use Rattle.std.proofs.lemmas.Slice.Eq.{bytes_eq-Decides}
-use Rattle.clap.specs.Words.{Text, takes}
+use Rattle.clap.specs.Words.{Row, Text, subcommand_of, takes}
+use Rattle.clap.specs.declared.builder.value_parser.Reading.TheVariants.{AsWritten}
+use Rattle.clap.specs.declared.parser.matches.ValueSource.{ValueSource}
+use Rattle.clap.specs.declared.parser.matches.ValueSource.TheVariants.{CommandLine, DefaultValue}
 use Rattle.clap.proofs.OnLiterals.{clap_on_literals}
 use Rattle.command_words.specs.declared.asked.Asked.{Asked}
 use Rattle.command_words.specs.declared.asked.Asked.TheVariants.{One, Two, Migrate, Draw}
@@ -14,7 +17,8 @@ use Rattle.command_words.specs.declared.asked.OneText.{OneText}
 use Rattle.command_words.specs.declared.asked.OneText.TheVariants.{Certify, Audit, Explain}
 use Rattle.command_words.specs.declared.asked.TwoTexts.{TwoTexts}
 use Rattle.command_words.specs.declared.asked.TwoTexts.TheVariants.{Check, Replay, Steps}
-use Rattle.command_words.specs.Words.{IsPlain, IsPlainName, asked, asked_by, postcopy_words, with_names}
+use Rattle.command_words.specs.Table.{plain as asked_plainly}
+use Rattle.command_words.specs.Words.{IsPlain, IsPlainName, asked, asked_by, asked_in, postcopy_words, with_names}
 
 -- a name of one of three forms
 data Form : Text → Type 0 where
@@ -38,29 +42,53 @@ taken_certify program _ Dash = record { taken = refl; given = refl }
 taken_certify program _ Empty = record { taken = refl; given = refl }
 taken_certify program _ (Other b rest e) = record { taken = simp e; given = simp e }
 
-taken_audit : (program name : Text) → Form name → IsTaken (program ∷ codes "audit" ∷ name ∷ []) (One (Audit Safety) name)
+taken_audit : (program name : Text) → Form name → IsTaken (program ∷ codes "audit" ∷ name ∷ []) (One (Audit asked_plainly) name)
 unfolding clap_on_literals
 taken_audit program _ Dash = record { taken = refl; given = refl }
 taken_audit program _ Empty = record { taken = refl; given = refl }
 taken_audit program _ (Other b rest e) = record { taken = simp e; given = simp e }
 
-taken_explain : (program name : Text) → Form name → IsTaken (program ∷ codes "explain" ∷ name ∷ []) (One Explain name)
+taken_explain : (program name : Text) → Form name → IsTaken (program ∷ codes "explain" ∷ name ∷ []) (One (Explain Safety) name)
 unfolding clap_on_literals
 taken_explain program _ Dash = record { taken = refl; given = refl }
 taken_explain program _ Empty = record { taken = refl; given = refl }
 taken_explain program _ (Other b rest e) = record { taken = simp e; given = simp e }
 
-taken_check : (program first second : Text) → Form first → Form second → IsTaken (program ∷ codes "check" ∷ first ∷ second ∷ []) (Two (Check Safety) first second)
+-- what a word or an option is given, by the words or by default
+abbrev given_as : ValueSource → Text × Text → Row
+given_as source given = record { id = given.0; values = given.1 ∷ []; count = None; source = Some source; reading = AsWritten }
+
+-- what `check` is given with two plain names
+abbrev check_rows : Text → Text → List Row
+check_rows first second =
+    map (given_as CommandLine) ((codes "SESSION", first) ∷ (codes "CERT", second) ∷ [])
+    ++ map (given_as DefaultValue) ((codes "complete", codes "false") ∷ (codes "format", codes "text") ∷ [])
+
+-- the words are taken by `check`, and it is given this
+record IsCheck (words : List Text) (first second : Text) : Type 0 where
+  takes_them : takes postcopy_words words ≡ true
+  found : subcommand_of postcopy_words words ≡ Some (codes "check", check_rows first second)
+
+is_check : (program first second : Text) → Form first → Form second → IsCheck (program ∷ codes "check" ∷ first ∷ second ∷ []) first second
 unfolding clap_on_literals
-taken_check program _ _ Dash Dash = record { taken = refl; given = refl }
-taken_check program _ _ Dash Empty = record { taken = refl; given = refl }
-taken_check program _ _ Dash (Other b rest e) = record { taken = simp e; given = simp e }
-taken_check program _ _ Empty Dash = record { taken = refl; given = refl }
-taken_check program _ _ Empty Empty = record { taken = refl; given = refl }
-taken_check program _ _ Empty (Other b rest e) = record { taken = simp e; given = simp e }
-taken_check program _ _ (Other a front d) Dash = record { taken = simp d; given = simp d }
-taken_check program _ _ (Other a front d) Empty = record { taken = simp d; given = simp d }
-taken_check program _ _ (Other a front d) (Other b rest e) = record { taken = simp (d, e); given = simp (d, e) }
+is_check program _ _ Dash Dash = record { takes_them = refl; found = refl }
+is_check program _ _ Dash Empty = record { takes_them = refl; found = refl }
+is_check program _ _ Dash (Other b rest e) = record { takes_them = simp e; found = simp e }
+is_check program _ _ Empty Dash = record { takes_them = refl; found = refl }
+is_check program _ _ Empty Empty = record { takes_them = refl; found = refl }
+is_check program _ _ Empty (Other b rest e) = record { takes_them = simp e; found = simp e }
+is_check program _ _ (Other a front d) Dash = record { takes_them = simp d; found = simp d }
+is_check program _ _ (Other a front d) Empty = record { takes_them = simp d; found = simp d }
+is_check program _ _ (Other a front d) (Other b rest e) = record { takes_them = simp (d, e); found = simp (d, e) }
+
+check_asks : (first second : Text) → asked_in (codes "check", check_rows first second) ≡ Some (Two (Check asked_plainly) first second)
+unfolding clap_on_literals
+check_asks first second = refl
+
+taken_check : (program first second : Text) → Form first → Form second → IsTaken (program ∷ codes "check" ∷ first ∷ second ∷ []) (Two (Check asked_plainly) first second)
+taken_check program first second f g =
+    let is = is_check program first second f g in
+    record { taken = is.takes_them; given = ap (option_and_then asked_in) is.found ∙ check_asks first second }
 
 taken_replay : (program first second : Text) → Form first → Form second → IsTaken (program ∷ codes "replay" ∷ first ∷ second ∷ []) (Two Replay first second)
 unfolding clap_on_literals
@@ -149,12 +177,12 @@ draw_taken program word further (name ∷ other ∷ third ∷ rest) job plain e 
 row_taken : (program name : Text) (names : List Text) (job : Asked Text) → AllByRecursion IsPlainName names
     → (check certify audit explain replay steps migrate draw : Bool)
     → (check ≡ true → codes "check" ≡ name) → (certify ≡ true → codes "certify" ≡ name) → (audit ≡ true → codes "audit" ≡ name) → (explain ≡ true → codes "explain" ≡ name) → (replay ≡ true → codes "replay" ≡ name) → (steps ≡ true → codes "steps" ≡ name) → (migrate ≡ true → codes "migrate" ≡ name) → (draw ≡ true → codes "draw" ≡ name)
-    → option_and_then (λ (row : Text × Asked Text). with_names names row.1) (cond check (Some (codes "check", Two (Check Safety) (codes "SESSION") (codes "CERT"))) (cond certify (Some (codes "certify", One Certify (codes "SESSION"))) (cond audit (Some (codes "audit", One (Audit Safety) (codes "SESSION"))) (cond explain (Some (codes "explain", One Explain (codes "SESSION"))) (cond replay (Some (codes "replay", Two Replay (codes "SESSION") (codes "RUNS"))) (cond steps (Some (codes "steps", Two Steps (codes "SCRIPT") (codes "EVENTS"))) (cond migrate (Some (codes "migrate", Migrate Memory (codes "SCRIPT"))) (cond draw (Some (codes "draw", Draw (codes "SESSION") (Some (codes "RUNS")))) None)))))))) ≡ Some job
+    → option_and_then (λ (row : Text × Asked Text). with_names names row.1) (cond check (Some (codes "check", Two (Check asked_plainly) (codes "SESSION") (codes "CERT"))) (cond certify (Some (codes "certify", One Certify (codes "SESSION"))) (cond audit (Some (codes "audit", One (Audit asked_plainly) (codes "SESSION"))) (cond explain (Some (codes "explain", One (Explain Safety) (codes "SESSION"))) (cond replay (Some (codes "replay", Two Replay (codes "SESSION") (codes "RUNS"))) (cond steps (Some (codes "steps", Two Steps (codes "SCRIPT") (codes "EVENTS"))) (cond migrate (Some (codes "migrate", Migrate Memory (codes "SCRIPT"))) (cond draw (Some (codes "draw", Draw (codes "SESSION") (Some (codes "RUNS")))) None)))))))) ≡ Some job
     → IsTaken (program ∷ name ∷ names) job
-row_taken program name names job plain true certify audit explain replay steps migrate draw a b c d f g h i e = subst (λ (x : Text). IsTaken (program ∷ x ∷ names) job) (a refl) (two_taken (Check Safety) (codes "check") taken_check program _ _ names job plain e)
+row_taken program name names job plain true certify audit explain replay steps migrate draw a b c d f g h i e = subst (λ (x : Text). IsTaken (program ∷ x ∷ names) job) (a refl) (two_taken (Check asked_plainly) (codes "check") taken_check program _ _ names job plain e)
 row_taken program name names job plain false true audit explain replay steps migrate draw a b c d f g h i e = subst (λ (x : Text). IsTaken (program ∷ x ∷ names) job) (b refl) (one_taken Certify (codes "certify") taken_certify program _ names job plain e)
-row_taken program name names job plain false false true explain replay steps migrate draw a b c d f g h i e = subst (λ (x : Text). IsTaken (program ∷ x ∷ names) job) (c refl) (one_taken (Audit Safety) (codes "audit") taken_audit program _ names job plain e)
-row_taken program name names job plain false false false true replay steps migrate draw a b c d f g h i e = subst (λ (x : Text). IsTaken (program ∷ x ∷ names) job) (d refl) (one_taken Explain (codes "explain") taken_explain program _ names job plain e)
+row_taken program name names job plain false false true explain replay steps migrate draw a b c d f g h i e = subst (λ (x : Text). IsTaken (program ∷ x ∷ names) job) (c refl) (one_taken (Audit asked_plainly) (codes "audit") taken_audit program _ names job plain e)
+row_taken program name names job plain false false false true replay steps migrate draw a b c d f g h i e = subst (λ (x : Text). IsTaken (program ∷ x ∷ names) job) (d refl) (one_taken (Explain Safety) (codes "explain") taken_explain program _ names job plain e)
 row_taken program name names job plain false false false false true steps migrate draw a b c d f g h i e = subst (λ (x : Text). IsTaken (program ∷ x ∷ names) job) (f refl) (two_taken Replay (codes "replay") taken_replay program _ _ names job plain e)
 row_taken program name names job plain false false false false false true migrate draw a b c d f g h i e = subst (λ (x : Text). IsTaken (program ∷ x ∷ names) job) (g refl) (two_taken Steps (codes "steps") taken_steps program _ _ names job plain e)
 row_taken program name names job plain false false false false false false true draw a b c d f g h i e = subst (λ (x : Text). IsTaken (program ∷ x ∷ names) job) (h refl) (migrate_taken program _ names job plain e)

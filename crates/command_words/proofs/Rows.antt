@@ -2,7 +2,7 @@
 use Rattle.std.proofs.Common.{◌≡◌, true, false, List, [], ◌∷◌, None, Option, Some, refl, sym, ap, ◌∙◌, find, fold, option_map, option_and_then, cond}
 use Rattle.std.specs.Str.{bytes_eq}
 use Rattle.clap.specs.Words.{App, Row as Given, Text}
-use Rattle.clap.specs.declared.builder.value_parser.ValueParser.{ValueParser}
+use Rattle.command_words.specs.declared.building.Choices.{Choices}
 use Rattle.command_words.specs.declared.table.Row.{Row}
 use Rattle.command_words.specs.Table.{row_of, rows_of, table}
 use Rattle.command_words.specs.Words.{asked_in, given_in, with_command}
@@ -19,9 +19,9 @@ asked_by_row rows name given found is e =
     ∙ ap (option_and_then (λ row. given_in given row.1)) (find_rows rows name ∙ ap (option_map row_of) (sym e))
 
 -- the commands of the rows, added in turn
-pub fold_rows : (names : ValueParser) (app : App) (rows : List Row) → fold (λ app row. with_command names app (row_of row)) app rows ≡ fold (with_command names) app (rows_of rows)
-fold_rows names app [] = refl
-fold_rows names app (row ∷ rows) = fold_rows names (with_command names app (row_of row)) rows
+pub fold_rows : (choices : Choices) (app : App) (rows : List Row) → fold (λ app row. with_command choices app (row_of row)) app rows ≡ fold (with_command choices) app (rows_of rows)
+fold_rows choices app [] = refl
+fold_rows choices app (row ∷ rows) = fold_rows choices (with_command choices app (row_of row)) rows
 
 -- a name and rows that were told apart, together
 pub told_together : {B N R : Type 0} (name : B → N) (rows : B → R) (found : Option B) (n : N) (r : R)

@@ -16,7 +16,8 @@ use Rattle.clap.specs.declared.builder.action.ArgAction.TheVariants.{Set, Append
 use Rattle.clap.specs.declared.builder.action.ArgAction.TheVariants as action
 use Rattle.clap.specs.declared.builder.value_parser.ValueParser.{ValueParser}
 use Rattle.clap.specs.declared.builder.value_parser.ValueParser.TheVariants as parser
-use Rattle.command_words.specs.Table.{carrier_name, carriers}
+use Rattle.command_words.specs.declared.building.Choices.{Choices}
+use Rattle.command_words.specs.Table.{carrier_name, carriers as all_carriers, form_name, forms as all_forms}
 use Rattle.command_words.specs.Words.{line_words, one_of, placeless, postcopy_words}
 
 -- a parser, whose names lie at no place
@@ -384,20 +385,34 @@ entered_passes_alike a (Some p) = ap (λ o. option_map_or (λ s. level_passes s 
 stop_of : List Text → Option (Text × List Text)
 stop_of words = let a = built postcopy_words in stop_after a.top.rules (names_of a) (argument_words postcopy_words words)
 
-line_entered : (names : Bor (List (Bor Text))) (words : List Text) → subcommand_of (line_words (one_of (map (λ (name : Bor Text). name.now) names.now))) words ≡ subcommand_of (line_words (parser.Names names)) words
-unfolding stop_of
-line_entered names words = entered_alike (built (line_words (parser.Names names))) (stop_of words)
+-- parsers of these names
+abbrev parsers : Bor (List (Bor Text)) → Bor (List (Bor Text)) → Choices
+parsers carriers forms = record { carriers = parser.Names carriers; forms = parser.Names forms }
 
-line_takes : (names : Bor (List (Bor Text))) (words : List Text) → takes (line_words (one_of (map (λ (name : Bor Text). name.now) names.now))) words ≡ takes (line_words (parser.Names names)) words
+-- parsers of these texts, which lie at no place
+abbrev parsers_of : List Text → List Text → Choices
+parsers_of carriers forms = record { carriers = one_of carriers; forms = one_of forms }
+
+-- the names behind references
+abbrev texts : Bor (List (Bor Text)) → List Text
+texts names = map (λ (name : Bor Text). name.now) names.now
+
+line_entered : (carriers forms : Bor (List (Bor Text))) (words : List Text) → subcommand_of (line_words (parsers_of (texts carriers) (texts forms))) words ≡ subcommand_of (line_words (parsers carriers forms)) words
 unfolding stop_of
-line_takes names words =
-    let a = built (line_words (parser.Names names)) in
+line_entered carriers forms words = entered_alike (built (line_words (parsers carriers forms))) (stop_of words)
+
+line_takes : (carriers forms : Bor (List (Bor Text))) (words : List Text) → takes (line_words (parsers_of (texts carriers) (texts forms))) words ≡ takes (line_words (parsers carriers forms)) words
+unfolding stop_of
+line_takes carriers forms words =
+    let a = built (line_words (parsers carriers forms)) in
     ap₂ (λ b d. b && d) (entered_passes_alike a (stop_of words))
     (ap (λ found. level_passes a.top (names_of a) nothing_held (argument_words postcopy_words words) (is_some found)) (entered_alike a (stop_of words)))
 
--- the program takes these words, and finds this in them, wherever the names of the carriers lie
-pub takes_anywhere : (names : Bor (List (Bor Text))) (words : List Text) → map (λ (name : Bor Text). name.now) names.now ≡ map carrier_name carriers → takes postcopy_words words ≡ takes (line_words (parser.Names names)) words
-takes_anywhere names words e = ap (λ texts. takes (line_words (one_of texts)) words) (sym e) ∙ line_takes names words
+-- the program takes these words, and finds this in them, wherever the names of the carriers and of the forms lie
+pub takes_anywhere : (carriers forms : Bor (List (Bor Text))) (words : List Text) → texts carriers ≡ map carrier_name all_carriers → texts forms ≡ map form_name all_forms
+    → takes postcopy_words words ≡ takes (line_words (record { carriers = parser.Names carriers; forms = parser.Names forms })) words
+takes_anywhere carriers forms words e d = ap₂ (λ c f. takes (line_words (parsers_of c f)) words) (sym e) (sym d) ∙ line_takes carriers forms words
 
-pub found_anywhere : (names : Bor (List (Bor Text))) (words : List Text) → map (λ (name : Bor Text). name.now) names.now ≡ map carrier_name carriers → subcommand_of postcopy_words words ≡ subcommand_of (line_words (parser.Names names)) words
-found_anywhere names words e = ap (λ texts. subcommand_of (line_words (one_of texts)) words) (sym e) ∙ line_entered names words
+pub found_anywhere : (carriers forms : Bor (List (Bor Text))) (words : List Text) → texts carriers ≡ map carrier_name all_carriers → texts forms ≡ map form_name all_forms
+    → subcommand_of postcopy_words words ≡ subcommand_of (line_words (record { carriers = parser.Names carriers; forms = parser.Names forms })) words
+found_anywhere carriers forms words e d = ap₂ (λ c f. subcommand_of (line_words (parsers_of c f)) words) (sym e) (sym d) ∙ line_entered carriers forms words

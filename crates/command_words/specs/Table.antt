@@ -7,20 +7,27 @@ use Rattle.command_words.specs.declared.asked.Asked.{Asked}
 use Rattle.command_words.specs.declared.asked.Asked.TheVariants.{One, Two, Migrate, Draw}
 use Rattle.command_words.specs.declared.asked.Carrier.{Carrier}
 use Rattle.command_words.specs.declared.asked.Carrier.TheVariants.{Memory, Tcp}
+use Rattle.command_words.specs.declared.asked.Asking.{Asking}
 use Rattle.command_words.specs.declared.asked.Demand.TheVariants.{Safety}
+use Rattle.command_words.specs.declared.asked.Form.{Form}
+use Rattle.command_words.specs.declared.asked.Form.TheVariants as form
 use Rattle.command_words.specs.declared.asked.OneText.TheVariants.{Certify, Audit, Explain}
 use Rattle.command_words.specs.declared.asked.TwoTexts.TheVariants.{Check, Replay, Steps}
 use Rattle.command_words.specs.declared.table.Word.{Word}
 use Rattle.command_words.specs.declared.table.Row.{Row}
 
+-- what is asked where no option says more: a safe session, and an answer in lines of text
+abbrev pub plain : Asking
+plain = record { demand = Safety; form = form.Text }
+
 -- `check SESSION CERT`, `certify SESSION`, `audit SESSION`, `explain SESSION`, `replay SESSION RUNS`,
--- `steps SCRIPT EVENTS`, `migrate SCRIPT`, `draw SESSION`, `draw SESSION RUNS`; with no option, safety is asked for
+-- `steps SCRIPT EVENTS`, `migrate SCRIPT`, `draw SESSION`, `draw SESSION RUNS`; with no option, this is asked
 abbrev pub table : List (Text × Asked Text)
 table =
-    (codes "check", Two (Check Safety) (codes "SESSION") (codes "CERT")) ∷
+    (codes "check", Two (Check plain) (codes "SESSION") (codes "CERT")) ∷
     (codes "certify", One Certify (codes "SESSION")) ∷
-    (codes "audit", One (Audit Safety) (codes "SESSION")) ∷
-    (codes "explain", One Explain (codes "SESSION")) ∷
+    (codes "audit", One (Audit plain) (codes "SESSION")) ∷
+    (codes "explain", One (Explain Safety) (codes "SESSION")) ∷
     (codes "replay", Two Replay (codes "SESSION") (codes "RUNS")) ∷
     (codes "steps", Two Steps (codes "SCRIPT") (codes "EVENTS")) ∷
     (codes "migrate", Migrate Memory (codes "SCRIPT")) ∷
@@ -38,6 +45,20 @@ carriers = Memory ∷ Tcp ∷ []
 -- what has this name, of what may carry a migration
 abbrev pub carrier_named : Text → Option Carrier
 carrier_named name = find (λ carrier. bytes_eq (carrier_name carrier) name) carriers
+
+-- the name of the form of an answer
+abbrev pub form_name : Form → Text
+form_name form.Text = codes "text"
+form_name form.Line = codes "line"
+form_name form.Json = codes "json"
+
+-- the forms that an answer may have by the option `--format`
+abbrev pub forms : List Form
+forms = form.Text ∷ form.Json ∷ []
+
+-- what has this name, of these forms
+abbrev pub form_named : Text → Option Form
+form_named name = find (λ form. bytes_eq (form_name form) name) forms
 
 -- a command, with another word for each of its texts
 abbrev pub asked_map : {V W : Type 0} → (V → W) → Asked V → Asked W

@@ -10,69 +10,81 @@ use Rattle.command_words.specs.declared.asked.Asked.TheVariants.{One, Two, Migra
 use Rattle.clap.specs.declared.builder.value_parser.ValueParser.{ValueParser}
 use Rattle.clap.specs.declared.builder.value_parser.ValueParser.TheVariants as parser
 use Rattle.command_words.specs.declared.asked.Carrier.{Carrier}
+use Rattle.command_words.specs.declared.asked.Asking.{Asking}
 use Rattle.command_words.specs.declared.asked.Demand.{Demand}
 use Rattle.command_words.specs.declared.asked.Demand.TheVariants.{Completeness}
+use Rattle.command_words.specs.declared.asked.Form.{Form}
+use Rattle.command_words.specs.declared.asked.Form.TheVariants as form
 use Rattle.command_words.specs.declared.asked.OneText.{OneText}
 use Rattle.command_words.specs.declared.asked.OneText.TheVariants.{Certify, Audit, Explain}
 use Rattle.command_words.specs.declared.asked.TwoTexts.{TwoTexts}
 use Rattle.command_words.specs.declared.asked.TwoTexts.TheVariants.{Check, Replay, Steps}
 use Rattle.clap.specs.declared.builder.action.ArgAction.TheVariants.{SetTrue}
-use Rattle.command_words.specs.Table.{carriers, carrier_name, carrier_named, table}
+use Rattle.command_words.specs.declared.building.Choices.{Choices}
+use Rattle.command_words.specs.Table.{carriers, carrier_name, carrier_named, form_name, form_named, forms, table}
 
 -- a word that has to be there
 abbrev pub needed : Text → Rule
 needed id = record (new_rule id) { required = true }
 
--- the option that names a carrier by this parser; where it is not there, this carrier is meant
-abbrev pub link_rule : ValueParser → Carrier → Rule
-link_rule names carrier = record (new_rule (codes "link")) { long = Some (codes "link"); value_names = 1; parser = Some names; defaults = carrier_name carrier ∷ [] }
+-- an option that names one of what this parser reads; where it is not there, this one is meant
+abbrev pub choice_rule : Text → ValueParser → Text → Rule
+choice_rule option parser otherwise = record (new_rule option) { long = Some option; value_names = 1; parser = Some parser; defaults = otherwise ∷ [] }
 
--- the option that asks for a complete session
-abbrev pub complete_rule : Rule
-complete_rule = record (new_rule (codes "complete")) { long = Some (codes "complete"); action = Some SetTrue }
+-- an option that has no value
+abbrev pub flag_rule : Text → Rule
+flag_rule option = record (new_rule option) { long = Some option; action = Some SetTrue }
 
--- a command with that option
+-- a command with the option that asks for a complete session
 abbrev pub with_demand : App → App
-with_demand app = with_rule app complete_rule
+with_demand app = with_rule app (flag_rule (codes "complete"))
 
--- a command on one text, and one on two, with its option
-abbrev pub with_one : OneText → App → App
-with_one (Audit demand) app = with_demand app
-with_one Certify app = app
-with_one Explain app = app
+-- a command with the option that names the form of its answer; where it is not there, this one is meant
+abbrev pub with_format : ValueParser → Form → App → App
+with_format parser otherwise app = with_rule app (choice_rule (codes "format") parser (form_name otherwise))
 
-abbrev pub with_two : TwoTexts → App → App
-with_two (Check demand) app = with_demand app
-with_two Replay app = app
-with_two Steps app = app
+-- a command with the option that asks for the first line alone
+abbrev pub with_quiet : App → App
+with_quiet app = with_rule app (flag_rule (codes "quiet"))
+
+-- a command on one text, and one on two, with its options
+abbrev pub with_one : ValueParser → OneText → App → App
+with_one parser (Audit asking) app = with_format parser asking.form (with_quiet (with_demand app))
+with_one parser Certify app = app
+with_one parser (Explain demand) app = with_demand app
+
+abbrev pub with_two : ValueParser → TwoTexts → App → App
+with_two parser (Check asking) app = with_format parser asking.form (with_demand app)
+with_two parser Replay app = app
+with_two parser Steps app = app
 
 -- a command with a further word, which may be there
 abbrev pub with_further : App → Option Text → App
 with_further app None = app
 with_further app (Some word) = with_rule app (new_rule word)
 
--- a command with a word for each of its texts, and its option
-abbrev pub with_words : ValueParser → App → Asked Text → App
-with_words names app (One task word) = with_one task (with_rule app (needed word))
-with_words names app (Two task first second) = with_two task (with_rule (with_rule app (needed first)) (needed second))
-with_words names app (Migrate carrier word) = with_rule (with_rule app (needed word)) (link_rule names carrier)
-with_words names app (Draw word further) = with_further (with_rule app (needed word)) further
+-- a command with a word for each of its texts, and its options
+abbrev pub with_words : Choices → App → Asked Text → App
+with_words choices app (One task word) = with_one choices.forms task (with_rule app (needed word))
+with_words choices app (Two task first second) = with_two choices.forms task (with_rule (with_rule app (needed first)) (needed second))
+with_words choices app (Migrate carrier word) = with_rule (with_rule app (needed word)) (choice_rule (codes "link") choices.carriers (carrier_name carrier))
+with_words choices app (Draw word further) = with_further (with_rule app (needed word)) further
 
 -- the command of a row of the table
-abbrev pub command_words : ValueParser → Text × Asked Text → App
-command_words names row = with_words names (new_app row.0) row.1
+abbrev pub command_words : Choices → Text × Asked Text → App
+command_words choices row = with_words choices (new_app row.0) row.1
 
 -- `postcopy`, which has a version and wants a command
 abbrev pub program_words : App
 program_words = on_top (λ s. record s { has_version = true; subcommand_required = true }) (new_app (codes "postcopy"))
 
 -- with the command of one more row
-abbrev pub with_command : ValueParser → App → Text × Asked Text → App
-with_command names app row = with_subcommand app (command_words names row).top
+abbrev pub with_command : Choices → App → Text × Asked Text → App
+with_command choices app row = with_subcommand app (command_words choices row).top
 
--- `postcopy` with the commands of the table, and this parser of the names of carriers
-abbrev pub line_words : ValueParser → App
-line_words names = fold (with_command names) program_words table
+-- `postcopy` with the commands of the table, and these parsers of what options name
+abbrev pub line_words : Choices → App
+line_words choices = fold (with_command choices) program_words table
 
 -- what lies at no place in memory
 abbrev pub placeless : {X : Type 0} → X → Bor X
@@ -84,7 +96,7 @@ one_of texts = parser.Names (placeless (map placeless texts))
 
 -- `postcopy` with one of the commands of the table
 abbrev pub postcopy_words : App
-postcopy_words = line_words (one_of (map carrier_name carriers))
+postcopy_words = line_words (record { carriers = one_of (map carrier_name carriers); forms = one_of (map form_name forms) })
 
 -- the words behind references
 abbrev pub word_texts : List (Bor Text) → List Text
@@ -109,14 +121,32 @@ is_set (Some text) = bytes_eq text (codes "true")
 abbrev pub demand_in : List Row → Demand → Demand
 demand_in rows otherwise = if is_set (first_of (codes "complete") rows) then Completeness else otherwise
 
+-- the form that is named among what was given, or else this one
+abbrev pub format_in : List Row → Form → Form
+format_in rows otherwise = unwrap_or (option_and_then form_named (first_of (codes "format") rows)) otherwise
+
+-- of lines of text the first; an object is one line
+abbrev pub shortened : Form → Form
+shortened form.Text = form.Line
+shortened form.Line = form.Line
+shortened form.Json = form.Json
+
+-- the form of an answer: the one that is named, or else this, and its first line where that option is among what was given
+abbrev pub form_in : List Row → Form → Form
+form_in rows otherwise = if is_set (first_of (codes "quiet") rows) then shortened (format_in rows otherwise) else format_in rows otherwise
+
+-- what is asked, where no option says more than this
+abbrev pub asking_in : List Row → Asking → Asking
+asking_in rows otherwise = record { demand = demand_in rows otherwise.demand; form = form_in rows otherwise.form }
+
 -- a command on one text, and one on two, with what is asked of them
 abbrev pub one_in : List Row → OneText → OneText
-one_in rows (Audit demand) = Audit (demand_in rows demand)
+one_in rows (Audit asking) = Audit (asking_in rows asking)
 one_in rows Certify = Certify
-one_in rows Explain = Explain
+one_in rows (Explain demand) = Explain (demand_in rows demand)
 
 abbrev pub two_in : List Row → TwoTexts → TwoTexts
-two_in rows (Check demand) = Check (demand_in rows demand)
+two_in rows (Check asking) = Check (asking_in rows asking)
 two_in rows Replay = Replay
 two_in rows Steps = Steps
 

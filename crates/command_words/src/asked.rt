@@ -1,7 +1,7 @@
 //! What a command is asked with.
 
 ghost use Rattle.std.specs.Prelude.{◌≡◌};
-ghost use Rattle.command_words.specs.Table.{carrier_name};
+ghost use Rattle.command_words.specs.Table.{carrier_name, form_name};
 
 /// What is asked of a session before all is well.
 #[derive(Clone, Copy)]
@@ -12,22 +12,53 @@ pub enum Demand {
     Completeness,
 }
 
+/// How an answer is written.
+#[derive(Clone, Copy)]
+pub enum Form {
+    /// As lines of text.
+    Text,
+    /// The first of these lines alone.
+    Line,
+    /// As an object of JSON, on one line.
+    Json,
+}
+
+impl Form {
+    /// The name that the option `--format` gives it. (`--quiet` asks for the first line.)
+    pub fn name(self) -> &'static str
+        ensures { result.now ≡ form_name self }
+    {
+        match self {
+            Form::Text => "text",
+            Form::Line => "line",
+            Form::Json => "json",
+        }
+    }
+}
+
+/// What is asked of a session, and how the answer is written.
+#[derive(Clone, Copy)]
+pub struct Asking {
+    pub demand: Demand,
+    pub form: Form,
+}
+
 /// A command on one text.
 #[derive(Clone, Copy)]
 pub enum OneText {
     /// The certificate of a session, or the first line of the report on it.
     Certify,
-    /// The report on a session, of which this is asked.
-    Audit(Demand),
-    /// What happened in a session, in words.
-    Explain,
+    /// The report on a session, where this is asked.
+    Audit(Asking),
+    /// What happened in a session, of which this is asked, in words.
+    Explain(Demand),
 }
 
 /// A command on two texts.
 #[derive(Clone, Copy)]
 pub enum TwoTexts {
-    /// The verdict on a session and its certificate, where this is asked of the session.
-    Check(Demand),
+    /// The verdict on a session and its certificate, where this is asked.
+    Check(Asking),
     /// What becomes of a merging of a session along its runs.
     Replay,
     /// The session that events record of a script.

@@ -2,12 +2,12 @@
 
 ghost use Rattle.std.specs.Prelude.{◌≡◌, IfOk, false};
 ghost use Rattle.command_words.specs.Table.{further_name, row_of};
-ghost use Rattle.command_words.specs.Words.{command_words, complete_rule, line_words, link_rule, needed, program_words, with_demand, with_further, with_one, with_two};
+ghost use Rattle.command_words.specs.Words.{choice_rule, command_words, flag_rule, line_words, needed, program_words, with_demand, with_format, with_further, with_one, with_quiet, with_two};
 ghost use Rattle.clap.specs.Words.{app_of, rule_of, with_rule};
 ghost use Rattle.clap.specs.declared.builder.command.Command.TheViews.{out-Command as fields_of};
 
-use crate::asked::{Asked, Carrier, OneText, TwoTexts};
-use crate::table::{COMPLETE, LINK, Row, Word, commands};
+use crate::asked::{Asked, Form, OneText, TwoTexts};
+use crate::table::{COMPLETE, FORMAT, LINK, QUIET, Row, Word, commands};
 use clap::builder::ValueParser;
 use clap::{Arg, ArgAction, Command};
 use std::alloc::{AllocError, Global};
@@ -26,6 +26,42 @@ Status:
   2  words that are no command
   3  a file, a link or an output that failed
   4  out of memory";
+
+const COMPLETE_HELP: &str =
+    "All is well only where the session is of a whole migration, from the halt to the end";
+
+const QUIET_HELP: &str = "Writes the first line of the answer alone";
+
+/// An option that names one of several.
+#[derive(Clone, Copy)]
+pub struct Choice {
+    /// Its word, without dashes.
+    pub option: &'static str,
+    /// What the help calls its value.
+    pub value: &'static str,
+    pub help: &'static str,
+}
+
+const LINK_CHOICE: Choice = Choice {
+    option: LINK,
+    value: "CARRIER",
+    help: "What carries the packets of the migration",
+};
+
+const FORMAT_CHOICE: Choice = Choice {
+    option: FORMAT,
+    value: "FORM",
+    help: "How the answer is written: lines of text, or an object of JSON on one line",
+};
+
+/// The parsers of what options name.
+#[derive(Clone, Copy)]
+pub struct Choices<'a> {
+    /// Of what carries a migration.
+    pub carriers: ValueParser<'a>,
+    /// Of the forms that an answer may have.
+    pub forms: ValueParser<'a>,
+}
 
 // The command with one more word that has to be there.
 fn with_word<'a>(
@@ -57,96 +93,144 @@ fn with_further_word<'a>(
     }
 }
 
-// The command with the option that names a carrier by this parser; where it is not there, this carrier is meant.
-fn with_link<'a>(
+// The command with an option that names one of what this parser reads; where it is not there, this one is meant.
+fn with_choice<'a>(
     alloc: Global,
     command: Command<'a>,
-    names: ValueParser<'a>,
-    carrier: Carrier,
+    choice: &Choice,
+    parser: ValueParser<'a>,
+    otherwise: &'static str,
 ) -> Result<Command<'a>, AllocError>
     requires { (fields_of command).has_globals ≡ false }
-    ensures app { IfOk result (λ c. app_of c ≡ with_rule (app_of command.entry) (link_rule names.entry carrier)) }
+    ensures app { IfOk result (λ c. app_of c ≡ with_rule (app_of command.entry) (choice_rule choice.now.option.now parser.entry otherwise.now)) }
     ensures local { IfOk result (λ c. (fields_of c).has_globals ≡ false) }
 {
-    let arg = Arg::new(alloc, LINK)
-        .long(LINK)
-        .value_name("CARRIER")
-        .help("What carries the packets of the migration")
-        .value_parser(names)
-        .default_value(carrier.name());
+    let arg = Arg::new(alloc, choice.option)
+        .long(choice.option)
+        .value_name(choice.value)
+        .help(choice.help)
+        .value_parser(parser)
+        .default_value(otherwise);
+    command.arg(arg)
+}
+
+// The command with an option that has no value.
+fn with_flag<'a>(
+    alloc: Global,
+    command: Command<'a>,
+    option: &'static str,
+    help: &'static str,
+) -> Result<Command<'a>, AllocError>
+    requires { (fields_of command).has_globals ≡ false }
+    ensures app { IfOk result (λ c. app_of c ≡ with_rule (app_of command.entry) (flag_rule option.now)) }
+    ensures local { IfOk result (λ c. (fields_of c).has_globals ≡ false) }
+{
+    let arg = Arg::new(alloc, option)
+        .long(option)
+        .action(ArgAction::SetTrue)
+        .help(help);
     command.arg(arg)
 }
 
 // The command with the option that asks for a complete session.
-fn with_complete<'a>(alloc: Global, command: Command<'a>) -> Result<Command<'a>, AllocError>
+fn with_demand<'a>(alloc: Global, command: Command<'a>) -> Result<Command<'a>, AllocError>
     requires { (fields_of command).has_globals ≡ false }
     ensures app { IfOk result (λ c. app_of c ≡ with_demand (app_of command.entry)) }
     ensures local { IfOk result (λ c. (fields_of c).has_globals ≡ false) }
 {
-    let arg = Arg::new(alloc, COMPLETE)
-        .long(COMPLETE)
-        .action(ArgAction::SetTrue)
-        .help(
-            "All is well only where the session is of a whole migration, from the halt to the end",
-        );
-    command.arg(arg)
+    with_flag(alloc, command, COMPLETE, COMPLETE_HELP)
 }
 
-// The command on one text, with its option where it has one.
+// The command with the option that asks for the first line alone.
+fn with_quiet<'a>(alloc: Global, command: Command<'a>) -> Result<Command<'a>, AllocError>
+    requires { (fields_of command).has_globals ≡ false }
+    ensures app { IfOk result (λ c. app_of c ≡ with_quiet (app_of command.entry)) }
+    ensures local { IfOk result (λ c. (fields_of c).has_globals ≡ false) }
+{
+    with_flag(alloc, command, QUIET, QUIET_HELP)
+}
+
+// The command with the option that names the form of its answer; where it is not there, this one is meant.
+fn with_format<'a>(
+    alloc: Global,
+    command: Command<'a>,
+    forms: ValueParser<'a>,
+    otherwise: Form,
+) -> Result<Command<'a>, AllocError>
+    requires { (fields_of command).has_globals ≡ false }
+    ensures app { IfOk result (λ c. app_of c ≡ with_format forms.entry otherwise (app_of command.entry)) }
+    ensures local { IfOk result (λ c. (fields_of c).has_globals ≡ false) }
+{
+    with_choice(alloc, command, &FORMAT_CHOICE, forms, otherwise.name())
+}
+
+// The command on one text, with its options.
 fn with_one<'a>(
     alloc: Global,
     command: Command<'a>,
+    forms: ValueParser<'a>,
     task: OneText,
 ) -> Result<Command<'a>, AllocError>
     requires { (fields_of command).has_globals ≡ false }
-    ensures app { IfOk result (λ c. app_of c ≡ with_one task (app_of command.entry)) }
+    ensures app { IfOk result (λ c. app_of c ≡ with_one forms.entry task (app_of command.entry)) }
     ensures local { IfOk result (λ c. (fields_of c).has_globals ≡ false) }
 {
     match task {
-        OneText::Audit(_) => with_complete(alloc, command),
-        OneText::Certify | OneText::Explain => Ok(command),
+        OneText::Audit(asking) => {
+            let command = with_demand(alloc, command)?;
+            let command = with_quiet(alloc, command)?;
+            with_format(alloc, command, forms, asking.form)
+        }
+        OneText::Explain(_) => with_demand(alloc, command),
+        OneText::Certify => Ok(command),
     }
 }
 
-// The command on two texts, with its option where it has one.
+// The command on two texts, with its options.
 fn with_two<'a>(
     alloc: Global,
     command: Command<'a>,
+    forms: ValueParser<'a>,
     task: TwoTexts,
 ) -> Result<Command<'a>, AllocError>
     requires { (fields_of command).has_globals ≡ false }
-    ensures app { IfOk result (λ c. app_of c ≡ with_two task (app_of command.entry)) }
+    ensures app { IfOk result (λ c. app_of c ≡ with_two forms.entry task (app_of command.entry)) }
     ensures local { IfOk result (λ c. (fields_of c).has_globals ≡ false) }
 {
     match task {
-        TwoTexts::Check(_) => with_complete(alloc, command),
+        TwoTexts::Check(asking) => {
+            let command = with_demand(alloc, command)?;
+            with_format(alloc, command, forms, asking.form)
+        }
         TwoTexts::Replay | TwoTexts::Steps => Ok(command),
     }
 }
 
-// The command of a row, where this parser reads the name of a carrier.
-fn command_of<'a>(
-    alloc: Global,
-    names: ValueParser<'a>,
-    row: &Row,
-) -> Result<Command<'a>, AllocError>
-    ensures app { IfOk result (λ c. app_of c ≡ command_words names.entry (row_of row.now)) }
+// The command of a row, where these parsers read what options name.
+fn command_of<'a>(alloc: Global, choices: Choices<'a>, row: &Row) -> Result<Command<'a>, AllocError>
+    ensures app { IfOk result (λ c. app_of c ≡ command_words choices.entry (row_of row.now)) }
     ensures local { IfOk result (λ c. (fields_of c).has_globals ≡ false) }
 {
     let command = Command::new(alloc, row.name).about(row.about);
     match &row.asked {
         Asked::One(task, word) => {
             let command = with_word(alloc, command, word)?;
-            with_one(alloc, command, *task)
+            with_one(alloc, command, choices.forms, *task)
         }
         Asked::Two(task, first, second) => {
             let command = with_word(alloc, command, first)?;
             let command = with_word(alloc, command, second)?;
-            with_two(alloc, command, *task)
+            with_two(alloc, command, choices.forms, *task)
         }
         Asked::Migrate(carrier, word) => {
             let command = with_word(alloc, command, word)?;
-            with_link(alloc, command, names, *carrier)
+            with_choice(
+                alloc,
+                command,
+                &LINK_CHOICE,
+                choices.carriers,
+                carrier.name(),
+            )
         }
         Asked::Draw(word, further) => {
             let command = with_word(alloc, command, word)?;
@@ -167,16 +251,16 @@ fn program<'a>(alloc: Global) -> Command<'a>
         .subcommand_required(true)
 }
 
-/// The command line of the program, where this parser reads the name of a carrier.
+/// The command line of the program, where these parsers read what options name.
 pub(crate) fn command_line<'a>(
     alloc: Global,
-    names: ValueParser<'a>,
+    choices: Choices<'a>,
 ) -> Result<Command<'a>, AllocError>
-    ensures { IfOk result (λ c. app_of c ≡ line_words names.entry) }
+    ensures { IfOk result (λ c. app_of c ≡ line_words choices.entry) }
 {
     let mut line = program(alloc);
     for row in commands() {
-        let command = command_of(alloc, names, row)?;
+        let command = command_of(alloc, choices, row)?;
         line = line.subcommand(command)?;
     }
     Ok(line)

@@ -6,5 +6,5 @@ mod building;
 mod matching;
 mod table;
 
-pub use asked::{Asked, Carrier, Demand, Job, OneText, TwoTexts};
+pub use asked::{Asked, Asking, Carrier, Demand, Form, Job, OneText, TwoTexts};
 pub use matching::read_words;

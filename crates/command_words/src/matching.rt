@@ -3,12 +3,15 @@
 ghost use Rattle.std.specs.Prelude.{◌≡◌, IfOk, IfErr, option_and_then, option_map, true, find};
 ghost use Rattle.std.specs.Str.{bytes_eq};
 ghost use Rattle.command_words.specs.Table.{asked_names, further_name, word_names};
-ghost use Rattle.command_words.specs.Words.{asked, asked_in, carrier_in, demand_in, further_in, given_in, one_in, postcopy_words, two_in, word_texts};
+ghost use Rattle.command_words.specs.Words.{asked, asked_in, asking_in, carrier_in, demand_in, form_in, format_in, further_in, given_in, is_set, one_in, postcopy_words, shortened, two_in, word_texts};
 ghost use Rattle.clap.specs.Words.{first_of, found_of, kind_of, rows_of, takes, subcommand_rows_of};
 
-use crate::asked::{Asked, Carrier, Demand, Job, OneText, TwoTexts};
-use crate::building::command_line;
-use crate::table::{COMPLETE, LINK, Row, Word, carrier_named, carrier_names, commands};
+use crate::asked::{Asked, Asking, Carrier, Demand, Form, Job, OneText, TwoTexts};
+use crate::building::{Choices, command_line};
+use crate::table::{
+    COMPLETE, FORMAT, LINK, QUIET, Row, Word, carrier_named, carrier_names, commands, form_named,
+    form_names,
+};
 use clap::ArgMatches;
 use clap::builder::ValueParser;
 use clap::error::ErrorKind;
@@ -31,17 +34,66 @@ fn carrier_given(otherwise: Carrier, matches: &ArgMatches<'_>) -> Carrier
     }
 }
 
+// Whether an option without a value was given.
+fn is_given(option: &str, matches: &ArgMatches<'_>) -> bool
+    ensures { result ≡ is_set (first_of option.now (rows_of (found_of matches.now))) }
+{
+    match name_given(option, matches) {
+        Some(given) => given == "true",
+        None => false,
+    }
+}
+
 // What is asked of a session: that it is complete where the option was given, or else this.
 fn demand_given(otherwise: Demand, matches: &ArgMatches<'_>) -> Demand
     ensures { result ≡ demand_in (rows_of (found_of matches.now)) otherwise }
 {
-    match name_given(COMPLETE, matches) {
-        Some(given) => if given == "true" {
-            Demand::Completeness
-        } else {
-            otherwise
-        },
+    if is_given(COMPLETE, matches) {
+        Demand::Completeness
+    } else {
+        otherwise
+    }
+}
+
+// The form that was named, or else this.
+fn format_given(otherwise: Form, matches: &ArgMatches<'_>) -> Form
+    ensures { result ≡ format_in (rows_of (found_of matches.now)) otherwise }
+{
+    match name_given(FORMAT, matches) {
+        Some(name) => form_named(name).unwrap_or(otherwise),
         None => otherwise,
+    }
+}
+
+// Of lines of text the first; an object is one line.
+fn shortened(form: Form) -> Form
+    ensures { result ≡ shortened form }
+{
+    match form {
+        Form::Text | Form::Line => Form::Line,
+        Form::Json => Form::Json,
+    }
+}
+
+// The form of an answer: the one that was named, or else this, and its first line where that is asked for.
+fn form_given(otherwise: Form, matches: &ArgMatches<'_>) -> Form
+    ensures { result ≡ form_in (rows_of (found_of matches.now)) otherwise }
+{
+    let form = format_given(otherwise, matches);
+    if is_given(QUIET, matches) {
+        shortened(form)
+    } else {
+        form
+    }
+}
+
+// What is asked, where no option says more than this.
+fn asking_given(otherwise: Asking, matches: &ArgMatches<'_>) -> Asking
+    ensures { result ≡ asking_in (rows_of (found_of matches.now)) otherwise }
+{
+    Asking {
+        demand: demand_given(otherwise.demand, matches),
+        form: form_given(otherwise.form, matches),
     }
 }
 
@@ -50,8 +102,9 @@ fn one_given(task: OneText, matches: &ArgMatches<'_>) -> OneText
     ensures { result ≡ one_in (rows_of (found_of matches.now)) task }
 {
     match task {
-        OneText::Audit(demand) => OneText::Audit(demand_given(demand, matches)),
-        OneText::Certify | OneText::Explain => task,
+        OneText::Audit(asking) => OneText::Audit(asking_given(asking, matches)),
+        OneText::Explain(demand) => OneText::Explain(demand_given(demand, matches)),
+        OneText::Certify => task,
     }
 }
 
@@ -60,7 +113,7 @@ fn two_given(task: TwoTexts, matches: &ArgMatches<'_>) -> TwoTexts
     ensures { result ≡ two_in (rows_of (found_of matches.now)) task }
 {
     match task {
-        TwoTexts::Check(demand) => TwoTexts::Check(demand_given(demand, matches)),
+        TwoTexts::Check(asking) => TwoTexts::Check(asking_given(asking, matches)),
         TwoTexts::Replay | TwoTexts::Steps => task,
     }
 }
@@ -133,7 +186,11 @@ pub fn read_words<'a>(alloc: Global, words: &'a [&'a str]) -> Result<Option<Job<
     ensures ok { IfOk result (λ r. option_map asked_names r ≡ asked (word_texts words.entry.now)) }
     ensures err { IfErr result (λ e. takes postcopy_words (word_texts words.entry.now) ≡ true → kind_of e ≡ ErrorKind.OutOfMemory) }
 {
-    let line = command_line(alloc, ValueParser::Names(carrier_names()))?;
+    let choices = Choices {
+        carriers: ValueParser::Names(carrier_names()),
+        forms: ValueParser::Names(form_names()),
+    };
+    let line = command_line(alloc, choices)?;
     match line.try_get_matches_from(words) {
         Ok(matches) => Ok(job_in(&matches)),
         Err(error) => Err(error),

@@ -1,9 +1,9 @@
 //! The table of commands.
 
 ghost use Rattle.std.specs.Prelude.{◌≡◌, map};
-ghost use Rattle.command_words.specs.Table.{carriers, carrier_name, carrier_named, rows_of, table};
+ghost use Rattle.command_words.specs.Table.{carriers, carrier_name, carrier_named, form_name, form_named, forms, rows_of, table};
 
-use crate::asked::{Asked, Carrier, Demand, OneText, TwoTexts};
+use crate::asked::{Asked, Asking, Carrier, Demand, Form, OneText, TwoTexts};
 
 /// A word of the command line that names a text.
 #[derive(Clone, Copy)]
@@ -54,6 +54,36 @@ pub const LINK: &str = "link";
 /// The option that asks for a complete session.
 pub const COMPLETE: &str = "complete";
 
+/// The option that asks for the first line alone.
+pub const QUIET: &str = "quiet";
+
+/// The option that names the form of an answer.
+pub const FORMAT: &str = "format";
+
+/// What is asked where no option says more: a safe session, and an answer in lines of text.
+const PLAIN: Asking = Asking {
+    demand: Demand::Safety,
+    form: Form::Text,
+};
+
+static FORMS: [Form; 2] = [Form::Text, Form::Json];
+
+static FORM_NAMES: [&str; 2] = ["text", "json"];
+
+/// The names of the forms that an answer may have.
+pub fn form_names() -> &'static [&'static str]
+    ensures { map (λ name. name.now) result.now ≡ map form_name forms }
+{
+    &FORM_NAMES
+}
+
+/// What has this name, of the forms that an answer may have.
+pub fn form_named(name: &str) -> Option<Form>
+    ensures { result ≡ form_named name.now }
+{
+    FORMS.iter().find(|form| form.name() == name).copied()
+}
+
 static CARRIERS: [Carrier; 2] = [Carrier::Memory, Carrier::Tcp];
 
 static CARRIER_NAMES: [&str; 2] = ["memory", "tcp"];
@@ -79,7 +109,7 @@ static COMMANDS: [Row; 8] = [
     Row {
         name: "check",
         about: "Judges the certificate of a session, as in: postcopy check session cert",
-        asked: Asked::Two(TwoTexts::Check(Demand::Safety), SESSION, CERT),
+        asked: Asked::Two(TwoTexts::Check(PLAIN), SESSION, CERT),
     },
     Row {
         name: "certify",
@@ -89,12 +119,12 @@ static COMMANDS: [Row; 8] = [
     Row {
         name: "audit",
         about: "Writes the report on a session, as in: postcopy audit session",
-        asked: Asked::One(OneText::Audit(Demand::Safety), SESSION),
+        asked: Asked::One(OneText::Audit(PLAIN), SESSION),
     },
     Row {
         name: "explain",
         about: "Tells what happened in a session, with the records of its fault, as in: postcopy explain session",
-        asked: Asked::One(OneText::Explain, SESSION),
+        asked: Asked::One(OneText::Explain(Demand::Safety), SESSION),
     },
     Row {
         name: "replay",

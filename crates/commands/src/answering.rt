@@ -4,16 +4,20 @@ ghost use Rattle.std.specs.Prelude.{◌<◌, IfOk};
 ghost use Rattle.command_words.specs.Table.{asked_names};
 ghost use Rattle.command_texts.specs.Told.{AreNamed, IsNamed, Tells};
 ghost use Rattle.host_commands.specs.Migrations.{IsMigrateAnswer};
-ghost use Rattle.commands.specs.Told.{IsOneAnswer, IsTwoAnswer, TellsAsked};
+ghost use Rattle.commands.specs.Told.{answered, IsOneAnswer, IsTwoAnswer, TellsAsked};
 
 use crate::drawing::{DrawAlongCommand, DrawCommand};
 use crate::explaining::ExplainCommand;
 use command_texts::{
-    Fault, Gathered, Telling, TextSource, perform_one, perform_two, read_named, tell_why, written,
+    Fault, Gathered, OnOne, OnTwo, Telling, TextSource, perform_one, perform_two, read_named,
+    tell_why, written,
 };
-use command_words::{Asked, Carrier, Demand, Job, OneText, TwoTexts};
+use command_words::{Asked, Asking, Carrier, Demand, Form, Job, OneText, TwoTexts};
 use host_commands::{StepsCommand, migrate_read};
-use judge_commands::{AuditCommand, CheckCommand, Complete, ReplayCommand};
+use judge_commands::{
+    AuditCommand, AuditObjectCommand, CheckCommand, Complete, InLine, InObject, InWords,
+    ReplayCommand, TellsLack,
+};
 use judged_texts::Wanted;
 use script_text::ScriptParts;
 use std::alloc::Global;
@@ -22,8 +26,158 @@ use std::net::{Net, TcpListener, TcpStream};
 use std::sync::Wait;
 use std::thread::Threads;
 
-// Audits the session under a name, of which this is asked.
+// Does one of two commands on the text under a name: the second where a complete session is asked for.
+fn demanded_one<
+    'a,
+    A: OnOne,
+    B: OnOne,
+    R: Threads + Sync,
+    S: TextSource,
+    I: Read + Send,
+    O: Write,
+    E: Write,
+>(
+    rt: &R,
+    alloc: Global,
+    demand: Demand,
+    plain: &A,
+    whole: &B,
+    name: &'a str,
+    texts: &S,
+    input: &mut I,
+    output: &mut O,
+    errors: &mut E,
+) -> Result<u8, Fault<'a>>
+    requires ready_plain { A.ready }
+    requires ready_whole { B.ready }
+    ensures few { IfOk result (λ status. status < 2) }
+    ensures told { IfOk result (Tells (IsNamed name.entry.now (S.bytes_of texts.now) (I.remaining input.old)) (λ text. answered demand (A.is_answer plain.now text) (B.is_answer whole.now text)) (O.contents output.old) (O.contents output.new)) }
+{
+    match demand {
+        Demand::Safety => perform_one(rt, alloc, plain, name, texts, input, output, errors),
+        Demand::Completeness => perform_one(rt, alloc, whole, name, texts, input, output, errors),
+    }
+}
+
+// Does one of two commands on the texts under two names: the second where a complete session is asked for.
+fn demanded_two<
+    'a,
+    A: OnTwo,
+    B: OnTwo,
+    R: Threads + Sync,
+    S: TextSource,
+    I: Read + Send,
+    O: Write,
+    E: Write,
+>(
+    rt: &R,
+    alloc: Global,
+    demand: Demand,
+    plain: &A,
+    whole: &B,
+    first: &'a str,
+    second: &'a str,
+    texts: &S,
+    input: &mut I,
+    output: &mut O,
+    errors: &mut E,
+) -> Result<u8, Fault<'a>>
+    requires ready_plain { A.ready }
+    requires ready_whole { B.ready }
+    ensures few { IfOk result (λ status. status < 2) }
+    ensures told { IfOk result (Tells (AreNamed first.entry.now second.entry.now (S.bytes_of texts.now) (I.remaining input.old)) (λ read. answered demand (A.is_answer plain.now read) (B.is_answer whole.now read)) (O.contents output.old) (O.contents output.new)) }
+{
+    match demand {
+        Demand::Safety => perform_two(
+            rt, alloc, plain, first, second, texts, input, output, errors,
+        ),
+        Demand::Completeness => perform_two(
+            rt, alloc, whole, first, second, texts, input, output, errors,
+        ),
+    }
+}
+
+// Audits the session under a name, as this is asked.
 fn asked_audit<'a, R: Threads + Sync, S: TextSource, I: Read + Send, O: Write, E: Write>(
+    rt: &R,
+    alloc: Global,
+    asking: Asking,
+    name: &'a str,
+    texts: &S,
+    input: &mut I,
+    output: &mut O,
+    errors: &mut E,
+) -> Result<u8, Fault<'a>>
+    ensures few { IfOk result (λ status. status < 2) }
+    ensures told { IfOk result (Tells (IsNamed name.entry.now (S.bytes_of texts.now) (I.remaining input.old)) (IsOneAnswer (OneText.Audit asking)) (O.contents output.old) (O.contents output.new)) }
+{
+    let demand = asking.demand;
+    match asking.form {
+        Form::Text => {
+            let asked = Complete {
+                command: AuditCommand {
+                    rt,
+                    wanted: Wanted::Report,
+                },
+                form: InLine,
+            };
+            demanded_one(
+                rt,
+                alloc,
+                demand,
+                &asked.command,
+                &asked,
+                name,
+                texts,
+                input,
+                output,
+                errors,
+            )
+        }
+        Form::Line => {
+            let asked = Complete {
+                command: AuditCommand {
+                    rt,
+                    wanted: Wanted::FirstLine,
+                },
+                form: InLine,
+            };
+            demanded_one(
+                rt,
+                alloc,
+                demand,
+                &asked.command,
+                &asked,
+                name,
+                texts,
+                input,
+                output,
+                errors,
+            )
+        }
+        Form::Json => {
+            let asked = Complete {
+                command: AuditObjectCommand { rt },
+                form: InObject,
+            };
+            demanded_one(
+                rt,
+                alloc,
+                demand,
+                &asked.command,
+                &asked,
+                name,
+                texts,
+                input,
+                output,
+                errors,
+            )
+        }
+    }
+}
+
+// Explains the session under a name, of which this is asked.
+fn asked_explain<'a, R: Threads + Sync, S: TextSource, I: Read + Send, O: Write, E: Write>(
     rt: &R,
     alloc: Global,
     demand: Demand,
@@ -34,32 +188,31 @@ fn asked_audit<'a, R: Threads + Sync, S: TextSource, I: Read + Send, O: Write, E
     errors: &mut E,
 ) -> Result<u8, Fault<'a>>
     ensures few { IfOk result (λ status. status < 2) }
-    ensures told { IfOk result (Tells (IsNamed name.entry.now (S.bytes_of texts.now) (I.remaining input.old)) (IsOneAnswer (OneText.Audit demand)) (O.contents output.old) (O.contents output.new)) }
+    ensures told { IfOk result (Tells (IsNamed name.entry.now (S.bytes_of texts.now) (I.remaining input.old)) (IsOneAnswer (OneText.Explain demand)) (O.contents output.old) (O.contents output.new)) }
 {
-    let command = AuditCommand {
-        rt,
-        wanted: Wanted::Report,
+    let asked = Complete {
+        command: ExplainCommand { rt },
+        form: InWords,
     };
-    match demand {
-        Demand::Safety => perform_one(rt, alloc, &command, name, texts, input, output, errors),
-        Demand::Completeness => perform_one(
-            rt,
-            alloc,
-            &Complete { command },
-            name,
-            texts,
-            input,
-            output,
-            errors,
-        ),
-    }
+    demanded_one(
+        rt,
+        alloc,
+        demand,
+        &asked.command,
+        &asked,
+        name,
+        texts,
+        input,
+        output,
+        errors,
+    )
 }
 
-// Judges the session and the certificate under two names, where this is asked of the session.
+// Judges the session and the certificate under two names, as this is asked.
 fn asked_check<'a, R: Threads + Sync, S: TextSource, I: Read + Send, O: Write, E: Write>(
     rt: &R,
     alloc: Global,
-    demand: Demand,
+    asking: Asking,
     first: &'a str,
     second: &'a str,
     texts: &S,
@@ -68,17 +221,50 @@ fn asked_check<'a, R: Threads + Sync, S: TextSource, I: Read + Send, O: Write, E
     errors: &mut E,
 ) -> Result<u8, Fault<'a>>
     ensures few { IfOk result (λ status. status < 2) }
-    ensures told { IfOk result (Tells (AreNamed first.entry.now second.entry.now (S.bytes_of texts.now) (I.remaining input.old)) (IsTwoAnswer (TwoTexts.Check demand)) (O.contents output.old) (O.contents output.new)) }
+    ensures told { IfOk result (Tells (AreNamed first.entry.now second.entry.now (S.bytes_of texts.now) (I.remaining input.old)) (IsTwoAnswer (TwoTexts.Check asking)) (O.contents output.old) (O.contents output.new)) }
 {
-    let command = CheckCommand { rt };
-    match demand {
-        Demand::Safety => perform_two(
-            rt, alloc, &command, first, second, texts, input, output, errors,
-        ),
-        Demand::Completeness => perform_two(
+    let demand = asking.demand;
+    let line = Complete {
+        command: CheckCommand { rt, form: InLine },
+        form: InLine,
+    };
+    let object = Complete {
+        command: CheckCommand { rt, form: InObject },
+        form: InObject,
+    };
+    match asking.form {
+        Form::Text => demanded_two(
             rt,
             alloc,
-            &Complete { command },
+            demand,
+            &line.command,
+            &line,
+            first,
+            second,
+            texts,
+            input,
+            output,
+            errors,
+        ),
+        Form::Line => demanded_two(
+            rt,
+            alloc,
+            demand,
+            &line.command,
+            &line,
+            first,
+            second,
+            texts,
+            input,
+            output,
+            errors,
+        ),
+        Form::Json => demanded_two(
+            rt,
+            alloc,
+            demand,
+            &object.command,
+            &object,
             first,
             second,
             texts,
@@ -111,18 +297,11 @@ fn asked_one<'a, R: Threads + Sync, S: TextSource, I: Read + Send, O: Write, E: 
             };
             perform_one(rt, alloc, &command, name, texts, input, output, errors)
         }
-        OneText::Audit(demand) => asked_audit(
-            rt, alloc, demand, name, texts, input, output, errors,
+        OneText::Audit(asking) => asked_audit(
+            rt, alloc, asking, name, texts, input, output, errors,
         ),
-        OneText::Explain => perform_one(
-            rt,
-            alloc,
-            &ExplainCommand { rt },
-            name,
-            texts,
-            input,
-            output,
-            errors,
+        OneText::Explain(demand) => asked_explain(
+            rt, alloc, demand, name, texts, input, output, errors,
         ),
     }
 }
@@ -143,9 +322,9 @@ fn asked_two<'a, R: Threads + Sync, S: TextSource, I: Read + Send, O: Write, E: 
     ensures told { IfOk result (Tells (AreNamed first.entry.now second.entry.now (S.bytes_of texts.now) (I.remaining input.old)) (IsTwoAnswer task) (O.contents output.old) (O.contents output.new)) }
 {
     match task {
-        TwoTexts::Check(demand) => {
+        TwoTexts::Check(asking) => {
             asked_check(
-                rt, alloc, demand, first, second, texts, input, output, errors,
+                rt, alloc, asking, first, second, texts, input, output, errors,
             )
         }
         TwoTexts::Replay => perform_two(

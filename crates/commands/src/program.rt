@@ -5,13 +5,13 @@ ghost use Rattle.clap.specs.Words.{kind_of, takes};
 ghost use Rattle.command_words.specs.Words.{IsPlain, asked, asked_by, postcopy_words, word_texts};
 ghost use Rattle.command_texts.specs.Answers.{fault_status};
 ghost use Rattle.command_texts.specs.Told.{AreOfInput, Tells};
-ghost use Rattle.commands.specs.Told.{IsTwoAnswer, TellsAsked};
+ghost use Rattle.commands.specs.Told.{IsPlainCheck, TellsAsked};
 
 use crate::answering::perform;
 use clap::error::ErrorKind;
 use command_texts::{Fault, TextSource, USAGE, perform_two, tell};
-use command_words::{Demand, TwoTexts, read_words};
-use judge_commands::CheckCommand;
+use command_words::read_words;
+use judge_commands::{CheckCommand, InLine};
 use std::alloc::Global;
 use std::io::{Read, Write};
 use std::net::{Net, TcpListener, TcpStream};
@@ -28,12 +28,12 @@ fn check_input<R: Threads + Sync, S: TextSource, I: Read + Send, O: Write, E: Wr
     errors: &mut E,
 ) -> Result<u8, Fault<'static>>
     ensures few { IfOk result (λ status. status < 2) }
-    ensures told { IfOk result (Tells (AreOfInput (I.remaining input.old)) (IsTwoAnswer (TwoTexts.Check Demand.Safety)) (O.contents output.old) (O.contents output.new)) }
+    ensures told { IfOk result (Tells (AreOfInput (I.remaining input.old)) IsPlainCheck (O.contents output.old) (O.contents output.new)) }
 {
     perform_two(
         rt,
         alloc,
-        &CheckCommand { rt },
+        &CheckCommand { rt, form: InLine },
         "-",
         "-",
         texts,
@@ -77,8 +77,8 @@ fn refuse<O: Write, E: Write>(error: clap::Error, output: &mut O, errors: &mut E
 /// The first of the words is the program's own name; with no other it checks the two texts of the input. The status is
 /// 0 where all is well or help was asked for, 1 for another answer, 2 where the words are no command, 3 where a text was
 /// not read whole, has more than 268,435,456 bytes or takes too many reads, where a migration's link failed, or the output
-/// was not written, and 4 where memory ran out. At 2 to 4 the errors tell why, and where a text is refused. The texts are read in the order of the words,
-/// and both before an answer is sought.
+/// was not written, and 4 where memory ran out. At 2 to 4 the errors tell why. At 1 they tell why a text is refused, or what of
+/// a certificate does not fit its session. The texts are read in the order of the words, and both before an answer is sought.
 ///
 /// The handle starts and joins threads, and opens the connection of a migration over TCP. Nothing is promised of when a
 /// migration ends.
@@ -99,7 +99,7 @@ pub fn run<
 ) -> u8
     ensures known { result ≤ 4 }
     ensures bare_usage { length words.entry.now ≤ 1 → result ≢ 2 }
-    ensures bare { length words.entry.now ≤ 1 → result < 2 → Tells (AreOfInput (I.remaining input.old)) (IsTwoAnswer (TwoTexts.Check Demand.Safety)) (O.contents output.old) (O.contents output.new) result }
+    ensures bare { length words.entry.now ≤ 1 → result < 2 → Tells (AreOfInput (I.remaining input.old)) IsPlainCheck (O.contents output.old) (O.contents output.new) result }
     ensures usage { takes postcopy_words (word_texts words.entry.now) ≡ true → result ≢ 2 }
     ensures told { takes postcopy_words (word_texts words.entry.now) ≡ true → result < 2 → IfSome (asked (word_texts words.entry.now)) (λ job. TellsAsked job (S.bytes_of texts.now) (I.remaining input.old) (O.contents output.old) (O.contents output.new) result) }
     ensures plain { (name : List ℕ) (names : List (List ℕ)) → IsPlain (word_texts words.entry.now) name names → IfSome (asked_by name names) (λ job. (result ≢ 2) × (result < 2 → TellsAsked job (S.bytes_of texts.now) (I.remaining input.old) (O.contents output.old) (O.contents output.new) result)) }

@@ -1,34 +1,21 @@
 -- Answers that ask for a complete session.
-use Rattle.std.proofs.Common.{◌≡◌, ℕ, zero, suc, ◌<◌, ◌≤◌, ◌⊎◌, inl, inr, Bool, true, false, not, ◌&&◌, List, length, Option, Some, None, IfOk, Result, Ok, Err, refl, sym, ap, ◌∙◌, subst, arith}
-use Rattle.std.specs.Prelude.{slice_get}
-use Rattle.std.proofs.lemmas.Bool.{cases_lt}
-use Rattle.std.proofs.lemmas.Option.{slice_get_past}
+use Rattle.std.proofs.Common.{◌≡◌, ℕ, ◌<◌, inl, inr, List, IfOk, Result, Ok, Err, sym, ap, ◌∙◌, subst, arith}
 use Rattle.std.specs.declared.alloc.AllocError.{AllocError}
 use Rattle.text_lines.specs.Text.{IsUnambiguous}
 use Rattle.text_lines.specs.Answer.{IsRead}
-use Rattle.migration_types.specs.declared.records.PagerRec.{PagerRec}
 use Rattle.migration_types.specs.Sessions.{Recorded}
 use Rattle.session_text.specs.Grammar.{SpellsSession}
-use Rattle.audit_model.specs.Shape.{passes, is_taking}
-use Rattle.completeness.specs.Complete.{IsComplete, is_taken_left, settles}
+use Rattle.completeness.specs.Complete.{IsComplete}
+use Rattle.completeness.specs.declared.missing.Missing.{Missing}
 use Rattle.command_texts.specs.declared.answer.Answer.{Answer}
 use Rattle.command_texts.specs.declared.answer.Fault.{Fault}
 use Rattle.command_texts.proofs.Said.{given_few, given_holds}
 use Rattle.judge_commands.specs.Completed.{IsCompleteAnswer}
-use Rattle.judge_commands.specs.inner.Held.{IsHeld, Stays, Becomes}
+use Rattle.judge_commands.specs.inner.Held.{IsHeld}
 
--- a record that took something is one of the pager's
-pub taken_within : (s : Recorded) (n : ℕ) → is_taken_left s n ≡ true → n < length s.pager
-taken_within s zero e = absurd cc
-taken_within s (suc n) e = go (cases_lt (suc n) (length s.pager))
-  where
-    go : (suc n < length s.pager) ⊎ (length s.pager ≤ suc n) → suc n < length s.pager
-    go (inl lt) = lt
-    go (inr past) = let none = slice_get_past s.pager (suc n) past in absurd (cc)
-
-module _ (IsPlain : List ℕ → ℕ → Type 0) (one : IsUnambiguous SpellsSession) (text : List ℕ) where
+module _ (Tells : Recorded → Missing → List ℕ → Type 0) (IsPlain : List ℕ → ℕ → Type 0) (one : IsUnambiguous SpellsSession) (text : List ℕ) where
   -- an answer that is held to what was read answers a command that asks for a complete session
-  held_answer : (read : Result Recorded ℕ) (before after : Answer) → IsRead SpellsSession text read → IsPlain before.text.items before.status → IsHeld read before after → IsCompleteAnswer IsPlain text after.text.items after.status
+  held_answer : (read : Result Recorded ℕ) (before after : Answer) → IsRead SpellsSession text read → IsPlain before.text.items before.status → IsHeld Tells read before after → IsCompleteAnswer Tells IsPlain text after.text.items after.status
   held_answer (Err line) before after refused is same = inl (record {
     is_plain = subst (λ (a : Answer). IsPlain a.text.items a.status) (sym same) is;
     complete = λ zero other spelled. absurd (refused.spells_nothing other spelled);
@@ -42,25 +29,25 @@ module _ (IsPlain : List ℕ → ℕ → Type 0) (one : IsUnambiguous SpellsSess
     was_well = subst (λ (n : ℕ). IsPlain before.text.items n) becomes.was_well is;
     recorded = s;
     is_spelled = spelled;
-    lacking = becomes.lacking;
-    is_first = becomes.is_first;
-    says = becomes.says.0;
-    refused = becomes.says.1;
+    lacking = becomes.lack.lacking;
+    is_first = becomes.lack.is_first;
+    says = becomes.lack.says;
+    refused = becomes.refused;
   })
 
-  held_all : (read : Result Recorded ℕ) (before : Answer) (held : Result Answer AllocError) → IsRead SpellsSession text read → IsPlain before.text.items before.status → IfOk held (λ after. IsHeld read before after) → IfOk held (λ a. IsCompleteAnswer IsPlain text a.text.items a.status)
+  held_all : (read : Result Recorded ℕ) (before : Answer) (held : Result Answer AllocError) → IsRead SpellsSession text read → IsPlain before.text.items before.status → IfOk held (λ after. IsHeld Tells read before after) → IfOk held (λ a. IsCompleteAnswer Tells IsPlain text a.text.items a.status)
   held_all read before (Ok after) is_read is is_held = held_answer read before after is_read is is_held
   held_all read before (Err error) is_read is is_held = tt
 
   -- the same where memory may have run out
-  pub held_answers : (read : Result Recorded ℕ) (before : Answer) (held : Result Answer AllocError) (given : Result Answer Fault) → IsRead SpellsSession text read → IsPlain before.text.items before.status → IfOk held (λ after. IsHeld read before after) → IfOk given (λ g. held ≡ Ok g) → IfOk given (λ a. IsCompleteAnswer IsPlain text a.text.items a.status)
-  held_answers read before held given is_read is is_held same = given_holds (λ (a : Answer). IsCompleteAnswer IsPlain text a.text.items a.status) held given (held_all read before held is_read is is_held) same
+  pub held_answers : (read : Result Recorded ℕ) (before : Answer) (held : Result Answer AllocError) (given : Result Answer Fault) → IsRead SpellsSession text read → IsPlain before.text.items before.status → IfOk held (λ after. IsHeld Tells read before after) → IfOk given (λ g. held ≡ Ok g) → IfOk given (λ a. IsCompleteAnswer Tells IsPlain text a.text.items a.status)
+  held_answers read before held given is_read is is_held same = given_holds (λ (a : Answer). IsCompleteAnswer Tells IsPlain text a.text.items a.status) held given (held_all read before held is_read is is_held) same
 
 -- the status of an answer that is held stays 0 or 1
-held_few : (read : Result Recorded ℕ) (before after : Answer) → before.status < 2 → IsHeld read before after → after.status < 2
-held_few (Err line) before after few same = rw same few
-held_few (Ok s) before after few (inl stays) = rw stays.same few
-held_few (Ok s) before after few (inr becomes) = rw becomes.says.1 (omega arith)
+held_few : (Tells : Recorded → Missing → List ℕ → Type 0) (read : Result Recorded ℕ) (before after : Answer) → before.status < 2 → IsHeld Tells read before after → after.status < 2
+held_few Tells (Err line) before after few same = rw same few
+held_few Tells (Ok s) before after few (inl stays) = rw stays.same few
+held_few Tells (Ok s) before after few (inr becomes) = rw becomes.refused (omega arith)
 
-pub held_answers_few : (read : Result Recorded ℕ) (before : Answer) (held : Result Answer AllocError) (given : Result Answer Fault) → before.status < 2 → IfOk held (λ after. IsHeld read before after) → IfOk given (λ g. held ≡ Ok g) → IfOk given (λ a. a.status < 2)
-held_answers_few read before held given few is_held same = given_few (λ a. IsHeld read before a) held given (λ a is. held_few read before a few is) is_held same
+pub held_answers_few : (Tells : Recorded → Missing → List ℕ → Type 0) (read : Result Recorded ℕ) (before : Answer) (held : Result Answer AllocError) (given : Result Answer Fault) → before.status < 2 → IfOk held (λ after. IsHeld Tells read before after) → IfOk given (λ g. held ≡ Ok g) → IfOk given (λ a. a.status < 2)
+held_answers_few Tells read before held given few is_held same = given_few (λ a. IsHeld Tells read before a) held given (λ a is. held_few Tells read before a few is) is_held same

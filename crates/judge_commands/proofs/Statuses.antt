@@ -10,6 +10,8 @@ use Rattle.judged_texts.specs.declared.wanted.Wanted.{Wanted}
 use Rattle.judged_texts.specs.declared.replaying.Outcome.{Outcome}
 use Rattle.judged_texts.specs.declared.replaying.Outcome.TheVariants as outcome
 use Rattle.judge_commands.specs.Answers.{IsAuditAnswer, IsVerdictAnswer, audited_status, report_status, verdict_status}
+use Rattle.judge_commands.specs.Objects.{IsAuditObject, Judged, judged_status}
+use Rattle.judge_commands.specs.Objects as objects
 use Rattle.judge_commands.specs.Replayed.{IsReplayAnswer, outcome_status}
 
 pub verdict_few : (v : Verdict) → verdict_status v < 2
@@ -47,3 +49,10 @@ check_few texts text status h = rw h.is_status (verdict_few h.value)
 
 pub replay_few : (texts : List ℕ × List ℕ) (text : List ℕ) (status : ℕ) → IsReplayAnswer texts.0 texts.1 text status → status < 2
 replay_few texts text status h = rw h.is_status (outcome_few h.value)
+
+judged_few : (j : Judged) → judged_status j < 2
+judged_few (objects.Refused line) = omega arith
+judged_few (objects.Reported s r) = report_few r
+
+pub object_few : (session text : List ℕ) (status : ℕ) → IsAuditObject session text status → status < 2
+object_few session text status h = rw h.is_status (judged_few h.value)

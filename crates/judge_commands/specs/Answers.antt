@@ -29,9 +29,13 @@ abbrev pub verdict_status : Verdict → ℕ
 verdict_status Yes = 0
 verdict_status other = 1
 
+-- the verdict on two texts, in these words
+abbrev pub IsVerdictTold : (Verdict → List ℕ) → List ℕ × List ℕ → List ℕ → ℕ → Type 0
+IsVerdictTold words texts = IsAnswer (IsTextVerdict texts.0 texts.1) words verdict_status
+
 -- `check`: the verdict on the two texts
 abbrev pub IsVerdictAnswer : List ℕ → List ℕ → List ℕ → ℕ → Type 0
-IsVerdictAnswer session cert = IsAnswer (IsTextVerdict session cert) verdict_line verdict_status
+IsVerdictAnswer session cert = IsVerdictTold verdict_line (session, cert)
 
 -- 0 for clean, and 1 for every other report
 abbrev pub report_status : Report → ℕ

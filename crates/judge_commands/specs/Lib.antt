@@ -1,4 +1,5 @@
 pub mod Answers
 pub mod Replayed
 pub mod Completed
+pub mod Objects
 pub mod inner

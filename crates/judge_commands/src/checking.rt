@@ -7,8 +7,9 @@ ghost use Rattle.session_text.specs.Grammar.{SpellsSession};
 ghost use Rattle.cert_text.specs.Grammar.{SpellsCert};
 ghost use Rattle.judged_texts.specs.Checked.{IsTextVerdict};
 ghost use Rattle.command_texts.specs.Answers.{Says};
-ghost use Rattle.judge_commands.specs.Answers.{IsVerdictAnswer, verdict_line, verdict_status};
+ghost use Rattle.judge_commands.specs.Answers.{IsVerdictTold, verdict_line, verdict_status};
 
+use crate::forms::TellsVerdict;
 use cert_check::Verdict;
 use cert_text::CertReader;
 use command_texts::{Answer, Fault, OnTwo, given, status_where};
@@ -43,19 +44,19 @@ pub fn push_verdict(out: &mut Vec<u8>, verdict: Verdict) -> Result<(), AllocErro
     }
 }
 
-/// The verdict on a session and a certificate, by what was read of their texts, told and as it is.
-fn judge_read<R: Threads + Sync>(
+/// The verdict on a session and a certificate, by what was read of their texts: told in this form, and as it is.
+fn judge_read<R: Threads + Sync, T: TellsVerdict>(
     rt: &R,
+    form: &T,
     alloc: Global,
     session: &Result<Session, u32>,
     cert: &Result<Cert, u32>,
 ) -> Result<(Answer, Verdict), AllocError>
     ensures right { (first second : List ℕ) → IsRead SpellsSession first session.now → IsRead SpellsCert second cert.now → IfOk result (λ judged. IsTextVerdict first second judged.1) }
-    ensures told { IfOk result (λ judged. Says judged.0 (verdict_line judged.1) (verdict_status judged.1)) }
+    ensures told { IfOk result (λ judged. Says judged.0 (T.verdict_text judged.1) (verdict_status judged.1)) }
 {
     let verdict = check_read(rt, alloc, session, cert)?;
-    let mut text = Vec::new(alloc);
-    push_verdict(&mut text, verdict)?;
+    let text = form.tell_verdict(alloc, verdict)?;
     let answer = Answer {
         text,
         status: verdict_status(verdict),
@@ -63,13 +64,14 @@ fn judge_read<R: Threads + Sync>(
     Ok((answer, verdict))
 }
 
-/// `check`: the verdict on a session and its certificate.
+/// `check`: the verdict on a session and its certificate, told in this form.
 #[derive(Clone, Copy)]
-pub struct CheckCommand<'a, R> {
+pub struct CheckCommand<'a, R, T> {
     pub rt: &'a R,
+    pub form: T,
 }
 
-impl<R: Threads + Sync> OnTwo for CheckCommand<'_, R> {
+impl<R: Threads + Sync, T: TellsVerdict> OnTwo for CheckCommand<'_, R, T> {
     type First = SessionReader;
 
     type Second = CertReader;
@@ -78,7 +80,7 @@ impl<R: Threads + Sync> OnTwo for CheckCommand<'_, R> {
 
     ghost ready = { IsSync R.row };
 
-    ghost is_answer = { λ _ texts. IsVerdictAnswer texts.0 texts.1 };
+    ghost is_answer = { λ _ texts. IsVerdictTold T.verdict_text texts };
 
     fn answer(
         &self,
@@ -86,7 +88,7 @@ impl<R: Threads + Sync> OnTwo for CheckCommand<'_, R> {
         session: &Result<Session, u32>,
         cert: &Result<Cert, u32>,
     ) -> Result<(Answer, Verdict), Fault<'static>> {
-        given(judge_read(self.rt, alloc, session, cert))
+        given(judge_read(self.rt, &self.form, alloc, session, cert))
     }
 
     fn push_more(

@@ -1,59 +1,45 @@
 //! Commands that ask for a complete session: they answer as without asking, but for a session that lacks something.
 
-ghost use Rattle.std.specs.Prelude.{◌≡◌, ◌++◌, ℕ, List, IfOk, MatchOption, OnOk};
-ghost use Rattle.completeness.specs.Complete.{IsComplete, IsFirstMissing};
-ghost use Rattle.judge_commands.specs.Completed.{IsCompleteAnswer, missing_text};
-ghost use Rattle.judge_commands.specs.inner.Held.{IsHeld, IsLine};
+ghost use Rattle.std.specs.Prelude.{IfOk, MatchOption};
+ghost use Rattle.completeness.specs.Complete.{IsComplete};
+ghost use Rattle.judge_commands.specs.Completed.{IsCompleteAnswer};
+ghost use Rattle.judge_commands.specs.inner.Held.{IsHeld, IsLack};
 
+use crate::forms::TellsLack;
 use command_texts::{Answer, Fault, Given, OnOne, OnTwo, REFUSED, Taker, Telling, given};
-use completeness::{Missing, first_missing};
-use migration_types::{LogName, Session, line_of};
+use completeness::first_missing;
+use migration_types::Session;
 use session_text::{SessionReader, session_texts_are_unambiguous};
 use std::alloc::{AllocError, Global};
-use text_lines::{push_keyed, push_line};
 
-/// Adds the line that says what is missing from a session.
-pub fn push_missing(
-    out: &mut Vec<u8>,
+/// What tells that a session lacks something, if it does.
+fn lack_of<L: TellsLack>(
+    form: &L,
+    alloc: Global,
     session: &Session,
-    missing: Missing,
-) -> Result<(), AllocError>
-    requires { IsFirstMissing session.now missing }
-    ensures { OnOk result (out.new.items ≡ out.old.items ++ missing_text session.now missing) }
-{
-    match missing {
-        Missing::Halt => push_line(out, b"incomplete halt"),
-        Missing::Resume => push_line(out, b"incomplete resume"),
-        Missing::Page(page) => push_keyed(out, b"incomplete page ", page.number()),
-        Missing::All => push_line(out, b"incomplete all"),
-        Missing::Done => push_line(out, b"incomplete done"),
-        Missing::Taken(n) => {
-            let line = line_of(session, LogName::Pager, n);
-            push_keyed(out, b"incomplete line ", line)
-        }
-    }
-}
-
-/// The line that says what is missing from a session, if anything is.
-fn line_of_missing(alloc: Global, session: &Session) -> Result<Option<Vec<u8>>, AllocError>
-    ensures { IfOk result (λ line. MatchOption line (IsComplete session.now) (λ text. IsLine session.now text.items)) }
+) -> Result<Option<Vec<u8>>, AllocError>
+    ensures { IfOk result (λ lack. MatchOption lack (IsComplete session.now) (λ text. IsLack L.tells session.now text.items)) }
 {
     let Some(missing) = first_missing(alloc, session)? else {
         return Ok(None);
     };
-    let mut line = Vec::new(alloc);
-    push_missing(&mut line, session, missing)?;
-    Ok(Some(line))
+    let text = form.tell_lack(alloc, session, missing)?;
+    Ok(Some(text))
 }
 
 /// An answer, held to a session.
-fn held_to(alloc: Global, session: &Session, answer: Answer) -> Result<Answer, AllocError>
-    ensures { IfOk result (λ held. IsHeld (Ok session.now) answer held) }
+fn held_to<L: TellsLack>(
+    form: &L,
+    alloc: Global,
+    session: &Session,
+    answer: Answer,
+) -> Result<Answer, AllocError>
+    ensures { IfOk result (λ held. IsHeld L.tells (Ok session.now) answer held) }
 {
     if answer.status != 0 {
         return Ok(answer);
     }
-    match line_of_missing(alloc, session) {
+    match lack_of(form, alloc, session) {
         Ok(Some(text)) => Ok(Answer {
             text,
             status: REFUSED,
@@ -64,11 +50,16 @@ fn held_to(alloc: Global, session: &Session, answer: Answer) -> Result<Answer, A
 }
 
 /// An answer, held to what was read of a session's text.
-fn held(alloc: Global, session: &Result<Session, u32>, answer: Answer) -> Result<Answer, AllocError>
-    ensures { IfOk result (λ held. IsHeld session.now answer held) }
+fn held<L: TellsLack>(
+    form: &L,
+    alloc: Global,
+    session: &Result<Session, u32>,
+    answer: Answer,
+) -> Result<Answer, AllocError>
+    ensures { IfOk result (λ held. IsHeld L.tells session.now answer held) }
 {
     match session {
-        Ok(session) => held_to(alloc, session, answer),
+        Ok(session) => held_to(form, alloc, session, answer),
         Err(_) => Ok(answer),
     }
 }
@@ -76,16 +67,18 @@ fn held(alloc: Global, session: &Result<Session, u32>, answer: Answer) -> Result
 /// A command that judges a session, which has to be complete: as `audit --complete` is `audit`, and `check --complete` is
 /// `check`. It answers what the command does, or what a session lacks of which that would say that all is well.
 #[derive(Clone, Copy)]
-pub struct Complete<C> {
+pub struct Complete<C, L> {
     pub command: C,
+    /// How it is told what a session lacks.
+    pub form: L,
 }
 
-impl<C: OnOne<Text = SessionReader>> OnOne for Complete<C> {
+impl<C: OnOne<Text = SessionReader>, L: TellsLack> OnOne for Complete<C, L> {
     type Text = SessionReader;
 
     ghost ready = { C.ready };
 
-    ghost is_answer = { λ complete session. IsCompleteAnswer (C.is_answer complete.command session) session };
+    ghost is_answer = { λ complete session. IsCompleteAnswer L.tells (C.is_answer complete.command session) session };
 
     fn telling(&self) -> Telling {
         self.command.telling()
@@ -94,11 +87,11 @@ impl<C: OnOne<Text = SessionReader>> OnOne for Complete<C> {
     fn answer(&self, alloc: Global, session: &Result<Session, u32>) -> Given {
         session_texts_are_unambiguous();
         let answer = self.command.answer(alloc, session)?;
-        given(held(alloc, session, answer))
+        given(held(&self.form, alloc, session, answer))
     }
 }
 
-impl<C: OnTwo<First = SessionReader>> OnTwo for Complete<C> {
+impl<C: OnTwo<First = SessionReader>, L: TellsLack> OnTwo for Complete<C, L> {
     type First = SessionReader;
 
     type Second = C::Second;
@@ -107,7 +100,7 @@ impl<C: OnTwo<First = SessionReader>> OnTwo for Complete<C> {
 
     ghost ready = { C.ready };
 
-    ghost is_answer = { λ complete texts. IsCompleteAnswer (C.is_answer complete.command texts) texts.0 };
+    ghost is_answer = { λ complete texts. IsCompleteAnswer L.tells (C.is_answer complete.command texts) texts.0 };
 
     fn answer(
         &self,
@@ -117,7 +110,7 @@ impl<C: OnTwo<First = SessionReader>> OnTwo for Complete<C> {
     ) -> Result<(Answer, C::Said), Fault<'static>> {
         session_texts_are_unambiguous();
         let (answer, said) = self.command.answer(alloc, session, second)?;
-        let whole = given(held(alloc, session, answer))?;
+        let whole = given(held(&self.form, alloc, session, answer))?;
         Ok((whole, said))
     }
 

@@ -22,6 +22,7 @@ certificate_text (report.Faulty line fault order) = ended (first_line (report.Fa
 abbrev pub wanted_text : Wanted → Report → List ℕ
 wanted_text wanted.Report r = report_text r
 wanted_text wanted.Certificate r = certificate_text r
+wanted_text wanted.FirstLine r = ended (first_line r ∷ [])
 
 -- what is wanted of the audit of a text
 abbrev pub audited_text : Wanted → Audited → List ℕ

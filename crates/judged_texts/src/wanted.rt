@@ -18,6 +18,8 @@ pub enum Wanted {
     Report,
     /// The certificate of a clean session, and of another the first line of the report.
     Certificate,
+    /// The first line of the report.
+    FirstLine,
 }
 
 /// The certificate of a clean session, and of another the first line of the report.
@@ -40,6 +42,7 @@ fn wanted_of(alloc: Global, report: &Report, wanted: Wanted) -> Result<Vec<u8>, 
     match wanted {
         Wanted::Report => print_report(alloc, report),
         Wanted::Certificate => certificate(alloc, report),
+        Wanted::FirstLine => print_first_line(alloc, report),
     }
 }
 

@@ -1,12 +1,14 @@
 //! Records migrations, and audits recorded sessions.
 //!
-//! `postcopy check SESSION CERT` reads the two texts and writes one line, the verdict. `certify SESSION` writes the
-//! certificate of a session, `audit SESSION` the report on it, `explain SESSION` in words what the report's first line comes
-//! from, and `replay SESSION RUNS` what becomes of a merging. `steps SCRIPT EVENTS` writes the session that events record of a script, and `migrate SCRIPT` migrates the script's
-//! guest in threads and writes the session that was recorded, and its certificate after it. A file named `-` is standard
-//! input; where two are, the first text ends with the first line `end`. With no word it does `check - -`. The status is 0
-//! where all is well, 1 for another answer, 2 for words that are no command, 3 for a file, a link or an output that failed,
-//! and 4 where memory ran out. An output whose reader goes away, as `head` does, has not failed: the rest is dropped.
+//! `postcopy check SESSION CERT` reads the two texts and writes one line, the verdict. `certify SESSION` writes the certificate of
+//! a session, `audit SESSION` the report on it, `explain SESSION` in words what the report's first line comes from, and
+//! `replay SESSION RUNS` what becomes of a merging. `draw SESSION` draws a session's records. `steps SCRIPT EVENTS` writes the
+//! session that events record of a script, and `migrate SCRIPT` migrates the script's guest in threads and writes the session that
+//! was recorded, and its certificate after it. A file named `-` is standard input; where two are, the first text ends with the
+//! first line `end`. With no word it does `check - -`. The status is 0 where all is well, 1 for another answer, 2 for words that
+//! are no command, 3 for a file, a link or an output that failed, and 4 where memory ran out. Standard error tells what failed, why
+//! a text is refused, and what of a certificate does not fit. An output whose reader goes away, as `head` does, has not failed: the
+//! rest is dropped.
 #![tactic(auto)]
 
 ghost use Rattle.std.specs.Prelude.{◌≤◌};

@@ -1,2 +1,3 @@
 pub mod ReportText
 pub mod RefusalText
+pub mod MissingText

@@ -57,8 +57,9 @@ pub struct FaultStory {
     pub cause: Option<Cause>,
 }
 
-/// The page that a record is of.
-fn page_at(session: &Session, log: LogName, place: u32) -> Option<PageNo>
+/// The page that a record is of; none of the link's and the lane's records, which are of the page of what they deliver.
+/// Takes no memory.
+pub fn page_at(session: &Session, log: LogName, place: u32) -> Option<PageNo>
     ensures { result ≡ page_at session.now (log, place) }
 {
     let place = place as usize;

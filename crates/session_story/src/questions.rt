@@ -55,6 +55,7 @@ pub(crate) enum PagerQuestion {
     Gets(PageNo),
     Join,
     Skip,
+    All,
 }
 
 /// What is asked of an entry of a certificate.
@@ -227,6 +228,7 @@ impl Question for PagerQuestion {
             PagerQuestion::Gets(page) => delivers_send(session, page, n as u32),
             PagerQuestion::Join => matches!(rec, PagerRec::Join { .. }),
             PagerQuestion::Skip => matches!(rec, PagerRec::Skip { .. }),
+            PagerQuestion::All => matches!(rec, PagerRec::All),
         }
     }
 }

@@ -4,14 +4,17 @@ ghost use Rattle.std.specs.Prelude.{[], ◌∷◌, IfOk};
 ghost use Rattle.text_lines.specs.Text.{ended};
 ghost use Rattle.audit_report.specs.Reports.{IsReport};
 ghost use Rattle.report_text.specs.ReportText.{first_line};
+ghost use Rattle.completeness.specs.Complete.{IsFirstMissing};
+ghost use Rattle.report_text.specs.MissingText.{missing_text};
 ghost use Rattle.report_text.specs.RefusalText.{refusal_text};
 ghost use Rattle.session_story.specs.Told.{BeginsWith};
 
 use crate::explaining::explain;
-use crate::words::words_of;
+use crate::words::{words_of, words_of_missing};
 use audit_report::Report;
+use completeness::Missing;
 use migration_types::Session;
-use report_text::{print_first_line, print_refused_session};
+use report_text::{print_first_line, print_refused_session, push_missing};
 use std::alloc::{AllocError, Global};
 
 /// What happened in a session, in words, behind the first line of the report on it. Each line ends with LF. Takes a few
@@ -27,6 +30,23 @@ pub fn print_explained(
     let explanation = explain(alloc, session, report)?;
     let words = words_of(alloc, session, &explanation)?;
     let mut text = print_first_line(alloc, report)?;
+    text.extend_from_slice(words.as_bytes())?;
+    Ok(text)
+}
+
+/// What a clean session lacks, in words, after the line that says it. Each line ends with LF. Takes a few passes over each log,
+/// and as much memory as an audit does, which is the only error.
+pub fn print_missing(
+    alloc: Global,
+    session: &Session,
+    missing: Missing,
+) -> Result<Vec<u8>, AllocError>
+    requires { IsFirstMissing session.now missing }
+    ensures { IfOk result (λ text. BeginsWith (missing_text session.now missing) text.items) }
+{
+    let words = words_of_missing(alloc, session, &missing)?;
+    let mut text = Vec::new(alloc);
+    push_missing(&mut text, session, missing)?;
     text.extend_from_slice(words.as_bytes())?;
     Ok(text)
 }

@@ -2,6 +2,7 @@
 
 mod faults;
 mod knots;
+mod missing;
 mod reasons;
 mod records;
 mod shapes;
@@ -13,6 +14,7 @@ use crate::words::knots::{push_knot, push_no_order};
 use crate::words::shapes::push_shape_story;
 pub use knots::push_wait;
 use migration_types::{Session, Version};
+pub(crate) use missing::words_of_missing;
 pub use records::{log_word, push_place, push_record};
 use std::alloc::{AllocError, Global};
 

@@ -10,6 +10,7 @@ use Rattle.migration_types.specs.declared.records.PagerRec.{PagerRec}
 use Rattle.migration_types.specs.Sessions.{Recorded}
 use Rattle.audit_model.specs.Certificates.{is_fresh}
 use Rattle.audit_model.specs.Shape.{is_halt, is_resume, is_miss, is_send_of, delivers}
+use Rattle.completeness.specs.Complete.{is_all}
 use Rattle.session_story.specs.Pages.{changes, carries, lane_carries}
 use Rattle.session_story.specs.Values.{sets}
 use Rattle.session_story.specs.Counted.{is_unmoved, is_sent, is_zeroed, is_send, is_again, is_push, is_join, is_skip}
@@ -50,6 +51,7 @@ abbrev pub asks_pager : PagerQuestion → Recorded → ℕ → PagerRec → Bool
 asks_pager (pager.Gets page) s n = λ r. delivers s (is_send_of page) n
 asks_pager pager.Join s n = is_join
 asks_pager pager.Skip s n = is_skip
+asks_pager pager.All s n = is_all
 
 abbrev pub asks_entry : EntryQuestion → Recorded → ℕ → Entry → Bool
 asks_entry entry.Unmoved s n = is_unmoved

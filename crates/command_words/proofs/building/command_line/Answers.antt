@@ -22,12 +22,12 @@ pub loop-row-preserved : goal.loop-row-preserved
 loop-row-preserved c =
     c.in_ok-line.ensures.shape c.in_ok-command.ensures.local
     ∙ ap₂ (λ (app command : App). with_subcommand app command.top) c.loop-row.invariant c.in_ok-command.ensures.app
-    ∙ sym (fold_more (λ app row. with_command c.args.names app (row_of row)) program_words c.commands-row-items.result.now c.loop-row.row-index no_row c.loop-row-test.true)
+    ∙ sym (fold_more (λ app row. with_command c.args.choices app (row_of row)) program_words c.commands-row-items.result.now c.loop-row.row-index no_row c.loop-row-test.true)
 
 pub returns : goal.returns
 returns c =
     let rows = c.commands-row-items.result.now in
     c.loop-row.invariant
-    ∙ ap (fold (λ app row. with_command c.args.names app (row_of row)) program_words) (take_all c.loop-row.row-index rows c.loop-row-test.false)
-    ∙ fold_rows c.args.names program_words rows
-    ∙ ap (fold (with_command c.args.names) program_words) c.commands-row-items.ensures
+    ∙ ap (fold (λ app row. with_command c.args.choices app (row_of row)) program_words) (take_all c.loop-row.row-index rows c.loop-row-test.false)
+    ∙ fold_rows c.args.choices program_words rows
+    ∙ ap (fold (with_command c.args.choices) program_words) c.commands-row-items.ensures

@@ -1,7 +1,10 @@
 use Rattle.commands.proofs.answering.asked_check.Goals as goal
 
-pub returns-in-Safety-clause-told : goal.returns-in-Safety-clause-told
-returns-in-Safety-clause-told g c = rw c.in-Safety.is c.perform_two.ensures.told
+pub returns-in-Text-clause-told : goal.returns-in-Text-clause-told
+returns-in-Text-clause-told g c = rw c.in-Text.is c.demanded_two.ensures.told
 
-pub returns-in-Completeness-clause-told : goal.returns-in-Completeness-clause-told
-returns-in-Completeness-clause-told g c = rw c.in-Completeness.is c.perform_two-in-Completeness.ensures.told
+pub returns-in-Line-clause-told : goal.returns-in-Line-clause-told
+returns-in-Line-clause-told g c = rw c.in-Line.is c.demanded_two-in-Line.ensures.told
+
+pub returns-in-Json-clause-told : goal.returns-in-Json-clause-told
+returns-in-Json-clause-told g c = rw c.in-Json.is c.demanded_two-in-Json.ensures.told

@@ -7,4 +7,4 @@ pub returns-in-Audit-clause-told : goal.returns-in-Audit-clause-told
 returns-in-Audit-clause-told g c = rw c.in-Audit.is c.asked_audit.ensures.told
 
 pub returns-in-Explain-clause-told : goal.returns-in-Explain-clause-told
-returns-in-Explain-clause-told g c = rw c.in-Explain.is c.perform_one-in-Explain.ensures.told
+returns-in-Explain-clause-told g c = rw c.in-Explain.is c.asked_explain.ensures.told

@@ -1,9 +1,4 @@
-use Rattle.std.proofs.Common.{ℕ, List, ◌++◌, ap, ◌∙◌}
-use Rattle.judge_commands.specs.Answers.{verdict_line}
 use Rattle.judge_commands.proofs.checking.judge_read.Goals as goal
 
 pub returns-clause-told : goal.returns-clause-told
-returns-clause-told g c = (
-  c.in_ok-push_verdict.ensures ∙ ap (λ (t : List ℕ). t ++ verdict_line c.in_ok-verdict.verdict) c.new-text.ensures.items,
-  c.verdict_status.ensures,
-)
+returns-clause-told g c = (c.in_ok-text.ensures, c.verdict_status.ensures)

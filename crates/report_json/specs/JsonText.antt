@@ -1,0 +1,111 @@
+-- The object of JSON that tells what an audit or a check answers: one line, with no space in it, of which "verdict" comes
+-- first. Its words are those of the report's first line, so none has a letter that JSON escapes.
+use Rattle.std.specs.Prelude.{ℕ, List, [], ◌∷◌, ◌++◌, Option, Some, None, codes}
+use Rattle.std.specs.Fmt.{decimal}
+use Rattle.migration_types.specs.declared.cert.Run.{Run}
+use Rattle.migration_types.specs.declared.records.LogName.{LogName}
+use Rattle.migration_types.specs.declared.records.LogName.TheVariants.{Pager}
+use Rattle.migration_types.specs.Receipts.{log_word}
+use Rattle.migration_types.specs.Sessions.{Recorded, line_of}
+use Rattle.audit_model.specs.Reasons.{page_word, shape_word}
+use Rattle.page_facts.specs.declared.page_fault.PageFault.{PageFault}
+use Rattle.page_facts.specs.PageFaults.{page_at}
+use Rattle.cert_check.specs.declared.verdict.ShapeFault.{ShapeFault}
+use Rattle.cert_check.specs.declared.verdict.Verdict.{Verdict}
+use Rattle.cert_check.specs.declared.verdict.Verdict.TheVariants as verdict
+use Rattle.completeness.specs.declared.missing.Missing.{Missing}
+use Rattle.completeness.specs.declared.missing.Missing.TheVariants as missing
+use Rattle.audit_report.specs.declared.report.Report.{Report}
+use Rattle.audit_report.specs.declared.report.Report.TheVariants as report
+
+-- a number under a name, as in ,"line":13
+unfoldable pub number : List ℕ → ℕ → List ℕ
+number name n = codes ",\"" ++ name ++ codes "\":" ++ decimal n
+
+-- a word under a name, as in ,"reason":"early"
+unfoldable pub word : List ℕ → List ℕ → List ℕ
+word name w = codes ",\"" ++ name ++ codes "\":\"" ++ w ++ codes "\""
+
+-- a run, as in ["guest",3]
+abbrev pub run : Run → List ℕ
+run r = codes "[\"" ++ log_word r.log ++ codes "\"," ++ decimal r.count ++ codes "]"
+
+-- more runs, each after a comma
+abbrev pub more_runs : List Run → List ℕ
+more_runs [] = []
+more_runs (r ∷ rs) = codes "," ++ run r ++ more_runs rs
+
+-- runs, with commas between them
+abbrev pub all_runs : List Run → List ℕ
+all_runs [] = []
+all_runs (r ∷ rs) = run r ++ more_runs rs
+
+-- what stands before the runs of an order
+unfoldable pub before_runs : List ℕ
+before_runs = codes ",\"runs\":["
+
+-- the runs of an order, as in ,"runs":[["guest",3],["link",1]]
+unfoldable pub runs : List Run → List ℕ
+runs rs = before_runs ++ all_runs rs ++ codes "]"
+
+-- what stands before a verdict
+unfoldable pub opening : List ℕ
+opening = codes "{\"verdict\":\""
+
+-- the beginning of the object of a verdict, as in {"verdict":"clean"
+unfoldable pub begun : List ℕ → List ℕ
+begun name = opening ++ name ++ codes "\""
+
+-- the object of a verdict, with what else is told
+abbrev pub object : List ℕ → List ℕ → List ℕ
+object name told = begun name ++ told ++ codes "}\n"
+
+-- a verdict at a line of a text
+abbrev pub at_line : List ℕ → ℕ → List ℕ
+at_line name line = object name (number (codes "line") line)
+
+-- a record: its line in the session's text, its log and its number there
+unfoldable pub record_at : ℕ → LogName → ℕ → List ℕ
+record_at line log place = number (codes "line") line ++ word (codes "log") (log_word log) ++ number (codes "record") place
+
+-- a page, where there is one
+unfoldable pub page_of : Option ℕ → List ℕ
+page_of None = []
+page_of (Some page) = number (codes "page") page
+
+abbrev pub shape_object : ShapeFault → List ℕ
+shape_object fault = object (codes "shape") (record_at fault.line fault.log fault.place ++ word (codes "reason") (shape_word fault.reason))
+
+-- what is told of the fault of a record, with the runs of an order in which it shows
+unfoldable pub fault_told : Recorded → ℕ → PageFault → List Run → List ℕ
+fault_told s line fault order = record_at line fault.log fault.place ++ word (codes "reason") (page_word fault.reason) ++ page_of (page_at s (fault.log, fault.place)) ++ runs order
+
+-- The object of a report. A knot has the found order up to it, and a clean session the order of its certificate.
+abbrev pub report_object : Recorded → Report → List ℕ
+report_object s (report.Clean cert) = object (codes "clean") (runs cert.runs)
+report_object s (report.Shape fault) = shape_object fault
+report_object s (report.Knot left found) = object (codes "knot") (record_at left.line left.log left.place ++ runs found.runs)
+report_object s (report.Faulty line fault order) = object (codes "faulty") (fault_told s line fault order)
+
+-- the object of a verdict on a certificate
+abbrev pub verdict_object : Verdict → List ℕ
+verdict_object (verdict.SessionText line) = at_line (codes "session-text") line
+verdict_object (verdict.CertText line) = at_line (codes "certificate-text") line
+verdict_object (verdict.Shape fault) = shape_object fault
+verdict_object verdict.Pages = object (codes "pages") []
+verdict_object (verdict.Runs line) = at_line (codes "runs") line
+verdict_object (verdict.Page line) = at_line (codes "page") line
+verdict_object verdict.Yes = object (codes "yes") []
+
+-- what is told of what is missing from a session
+unfoldable pub missing_told : Recorded → Missing → List ℕ
+missing_told s missing.Halt = word (codes "missing") (codes "halt")
+missing_told s missing.Resume = word (codes "missing") (codes "resume")
+missing_told s (missing.Page page) = word (codes "missing") (codes "page") ++ number (codes "page") page
+missing_told s missing.All = word (codes "missing") (codes "all")
+missing_told s missing.Done = word (codes "missing") (codes "done")
+missing_told s (missing.Taken n) = word (codes "missing") (codes "placement") ++ record_at (line_of s (Pager, n)) Pager n
+
+-- the object where this is missing from a session
+abbrev pub missing_object : Recorded → Missing → List ℕ
+missing_object s m = object (codes "incomplete") (missing_told s m)

@@ -1,0 +1,2 @@
+-- What an audit or a check answers, as an object of JSON.
+pub mod JsonText

@@ -1,0 +1,150 @@
+//! Objects and their fields. Each field begins with its comma, as the verdict stands before it.
+
+ghost use Rattle.std.specs.Prelude.{◌≡◌, [], ◌++◌, codes, OnOk};
+ghost use Rattle.report_json.specs.JsonText.{all_runs, before_runs, begun, more_runs, number, object, opening, page_of, record_at, run, runs, word};
+
+use migration_types::{LogName, PageNo, Run};
+use std::alloc::AllocError;
+use text_lines::push_number;
+
+/// Adds what stands before a verdict.
+#[tactic(auto, unfolding(crate::specs::JsonText::opening))]
+fn push_opening(out: &mut Vec<u8>) -> Result<(), AllocError>
+    ensures { OnOk result (out.new.items ≡ out.old.items ++ opening) }
+{
+    out.extend_from_slice(b"{\"verdict\":\"")
+}
+
+/// Begins the object of a verdict.
+#[tactic(auto, unfolding(crate::specs::JsonText::begun))]
+pub(crate) fn begin(out: &mut Vec<u8>, verdict: &[u8]) -> Result<(), AllocError>
+    ensures { OnOk result (out.new.items ≡ out.old.items ++ begun verdict.now) }
+{
+    push_opening(out)?;
+    out.extend_from_slice(verdict)?;
+    out.extend_from_slice(b"\"")
+}
+
+/// Ends an object, and its line.
+pub(crate) fn end(out: &mut Vec<u8>) -> Result<(), AllocError>
+    ensures { OnOk result (out.new.items ≡ out.old.items ++ codes "}\n") }
+{
+    out.extend_from_slice(b"}\n")
+}
+
+/// Adds the object of a verdict of which nothing else is told.
+pub(crate) fn push_bare(out: &mut Vec<u8>, verdict: &[u8]) -> Result<(), AllocError>
+    ensures { OnOk result (out.new.items ≡ out.old.items ++ object verdict.now []) }
+{
+    begin(out, verdict)?;
+    end(out)
+}
+
+/// Adds a number under a name.
+#[tactic(auto, unfolding(crate::specs::JsonText::number))]
+pub(crate) fn push_number_under(out: &mut Vec<u8>, name: &[u8], n: u32) -> Result<(), AllocError>
+    ensures { OnOk result (out.new.items ≡ out.old.items ++ number name.now n) }
+{
+    out.extend_from_slice(b",\"")?;
+    out.extend_from_slice(name)?;
+    out.extend_from_slice(b"\":")?;
+    push_number(out, n)
+}
+
+/// Adds a word under a name.
+#[tactic(auto, unfolding(crate::specs::JsonText::word))]
+pub(crate) fn push_word_under(out: &mut Vec<u8>, name: &[u8], w: &[u8]) -> Result<(), AllocError>
+    ensures { OnOk result (out.new.items ≡ out.old.items ++ word name.now w.now) }
+{
+    out.extend_from_slice(b",\"")?;
+    out.extend_from_slice(name)?;
+    out.extend_from_slice(b"\":\"")?;
+    out.extend_from_slice(w)?;
+    out.extend_from_slice(b"\"")
+}
+
+/// Adds a record: its line, its log and its number.
+#[tactic(auto, unfolding(crate::specs::JsonText::record_at))]
+pub(crate) fn push_record(
+    out: &mut Vec<u8>,
+    line: u32,
+    log: LogName,
+    place: u32,
+) -> Result<(), AllocError>
+    ensures { OnOk result (out.new.items ≡ out.old.items ++ record_at line log place) }
+{
+    push_number_under(out, b"line", line)?;
+    push_word_under(out, b"log", log.word().as_bytes())?;
+    push_number_under(out, b"record", place)
+}
+
+/// Adds a page, where there is one.
+#[tactic(auto, unfolding(crate::specs::JsonText::page_of))]
+pub(crate) fn push_page(out: &mut Vec<u8>, page: Option<PageNo>) -> Result<(), AllocError>
+    ensures { OnOk result (out.new.items ≡ out.old.items ++ page_of page) }
+{
+    match page {
+        Some(page) => push_number_under(out, b"page", u32::from(page.number())),
+        None => Ok(()),
+    }
+}
+
+/// Adds a run.
+fn push_run(out: &mut Vec<u8>, one: &Run) -> Result<(), AllocError>
+    ensures { OnOk result (out.new.items ≡ out.old.items ++ run one.now) }
+{
+    out.extend_from_slice(b"[\"")?;
+    out.extend_from_slice(one.log.word().as_bytes())?;
+    out.extend_from_slice(b"\",")?;
+    push_number(out, one.count)?;
+    out.extend_from_slice(b"]")
+}
+
+/// Adds a run after a comma.
+fn push_next_run(out: &mut Vec<u8>, one: &Run) -> Result<(), AllocError>
+    ensures { OnOk result (out.new.items ≡ out.old.items ++ (codes "," ++ run one.now)) }
+{
+    out.extend_from_slice(b",")?;
+    push_run(out, one)
+}
+
+/// Adds more runs, each after a comma.
+fn push_more_runs(out: &mut Vec<u8>, more: &[Run]) -> Result<(), AllocError>
+    ensures { OnOk result (out.new.items ≡ out.old.items ++ more_runs more.now) }
+{
+    for one in more {
+        push_next_run(out, one)?;
+    }
+    Ok(())
+}
+
+/// Adds runs, with commas between them.
+fn push_all_runs(out: &mut Vec<u8>, order: &[Run]) -> Result<(), AllocError>
+    ensures { OnOk result (out.new.items ≡ out.old.items ++ all_runs order.now) }
+{
+    match order.split_first() {
+        Some((first, more)) => {
+            push_run(out, first)?;
+            push_more_runs(out, more)
+        }
+        None => Ok(()),
+    }
+}
+
+/// Adds what stands before the runs of an order.
+#[tactic(auto, unfolding(crate::specs::JsonText::before_runs))]
+fn push_before_runs(out: &mut Vec<u8>) -> Result<(), AllocError>
+    ensures { OnOk result (out.new.items ≡ out.old.items ++ before_runs) }
+{
+    out.extend_from_slice(b",\"runs\":[")
+}
+
+/// Adds the runs of an order.
+#[tactic(auto, unfolding(crate::specs::JsonText::runs))]
+pub(crate) fn push_runs(out: &mut Vec<u8>, order: &[Run]) -> Result<(), AllocError>
+    ensures { OnOk result (out.new.items ≡ out.old.items ++ runs order.now) }
+{
+    push_before_runs(out)?;
+    push_all_runs(out, order)?;
+    out.extend_from_slice(b"]")
+}

@@ -1,0 +1,7 @@
+//! What an audit or a check answers, as an object of JSON on one line: for programs, where the words of a report are for people.
+#![tactic(auto)]
+
+mod fields;
+mod objects;
+
+pub use objects::{push_missing, push_refused, push_report, push_verdict};

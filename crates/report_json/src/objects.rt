@@ -1,0 +1,146 @@
+//! The object of each answer.
+
+ghost use Rattle.std.specs.Prelude.{◌≡◌, ◌++◌, codes, OnOk};
+ghost use Rattle.completeness.specs.Complete.{IsFirstMissing};
+ghost use Rattle.report_json.specs.JsonText.{at_line, fault_told, missing_object, missing_told, number, record_at, report_object, shape_object, verdict_object, word};
+
+use crate::fields::{
+    begin, end, push_bare, push_number_under, push_page, push_record, push_runs, push_word_under,
+};
+use audit_report::Report;
+use cert_check::{ShapeFault, Verdict};
+use completeness::Missing;
+use migration_types::{LogName, PageNo, Run, Session};
+use page_facts::PageFault;
+use report_text::line_of_taken;
+use session_story::page_at;
+use std::alloc::AllocError;
+
+/// Adds the object of a verdict at a line of a text.
+fn push_at_line(out: &mut Vec<u8>, verdict: &[u8], line: u32) -> Result<(), AllocError>
+    ensures { OnOk result (out.new.items ≡ out.old.items ++ at_line verdict.now line) }
+{
+    begin(out, verdict)?;
+    push_number_under(out, b"line", line)?;
+    end(out)
+}
+
+/// Adds the object of a session's text that is refused at this line.
+pub fn push_refused(out: &mut Vec<u8>, line: u32) -> Result<(), AllocError>
+    ensures { OnOk result (out.new.items ≡ out.old.items ++ at_line (codes "session-text") line) }
+{
+    push_at_line(out, b"session-text", line)
+}
+
+/// Adds the object of a fault of shape.
+fn push_shape(out: &mut Vec<u8>, fault: &ShapeFault) -> Result<(), AllocError>
+    ensures { OnOk result (out.new.items ≡ out.old.items ++ shape_object fault.now) }
+{
+    begin(out, b"shape")?;
+    push_record(out, fault.line, fault.log, fault.place)?;
+    push_word_under(out, b"reason", fault.reason.word())?;
+    end(out)
+}
+
+/// Adds what is told of the fault of a record, with the runs of an order in which it shows.
+#[tactic(auto, unfolding(crate::specs::JsonText::fault_told))]
+fn push_fault(
+    out: &mut Vec<u8>,
+    session: &Session,
+    line: u32,
+    fault: &PageFault,
+    order: &[Run],
+) -> Result<(), AllocError>
+    ensures { OnOk result (out.new.items ≡ out.old.items ++ fault_told session.now line fault.now order.now) }
+{
+    push_record(out, line, fault.log, fault.place)?;
+    push_word_under(out, b"reason", fault.reason.word())?;
+    push_page(out, page_at(session, fault.log, fault.place))?;
+    push_runs(out, order)
+}
+
+/// Adds the object of the report on a session. An error: there is no memory for it.
+pub fn push_report(out: &mut Vec<u8>, session: &Session, report: &Report) -> Result<(), AllocError>
+    ensures { OnOk result (out.new.items ≡ out.old.items ++ report_object session.now report.now) }
+{
+    match report {
+        Report::Clean(cert) => {
+            begin(out, b"clean")?;
+            push_runs(out, cert.runs())?;
+            end(out)
+        }
+        Report::Shape(fault) => push_shape(out, fault),
+        Report::Knot { left, found } => {
+            begin(out, b"knot")?;
+            push_record(out, left.line, left.log, left.place)?;
+            push_runs(out, found.runs.as_slice())?;
+            end(out)
+        }
+        Report::Faulty { line, fault, order } => {
+            begin(out, b"faulty")?;
+            push_fault(out, session, *line, fault, order.as_slice())?;
+            end(out)
+        }
+    }
+}
+
+/// Adds the object of a verdict on a certificate. An error: there is no memory for it.
+pub fn push_verdict(out: &mut Vec<u8>, verdict: Verdict) -> Result<(), AllocError>
+    ensures { OnOk result (out.new.items ≡ out.old.items ++ verdict_object verdict) }
+{
+    match verdict {
+        Verdict::SessionText(line) => push_at_line(out, b"session-text", line),
+        Verdict::CertText(line) => push_at_line(out, b"certificate-text", line),
+        Verdict::Shape(fault) => push_shape(out, &fault),
+        Verdict::Pages => push_bare(out, b"pages"),
+        Verdict::Runs(line) => push_at_line(out, b"runs", line),
+        Verdict::Page(line) => push_at_line(out, b"page", line),
+        Verdict::Yes => push_bare(out, b"yes"),
+    }
+}
+
+/// Adds that a page is missing.
+fn push_missing_page(out: &mut Vec<u8>, page: PageNo) -> Result<(), AllocError>
+    ensures { OnOk result (out.new.items ≡ out.old.items ++ (word (codes "missing") (codes "page") ++ number (codes "page") page)) }
+{
+    push_word_under(out, b"missing", b"page")?;
+    push_number_under(out, b"page", u32::from(page.number()))
+}
+
+/// Adds that the placement of what the pager took by this record of it is missing.
+fn push_missing_placement(out: &mut Vec<u8>, line: u32, n: u32) -> Result<(), AllocError>
+    ensures { OnOk result (out.new.items ≡ out.old.items ++ (word (codes "missing") (codes "placement") ++ record_at line LogName.Pager n)) }
+{
+    push_word_under(out, b"missing", b"placement")?;
+    push_record(out, line, LogName::Pager, n)
+}
+
+/// Adds what is told of what is missing from a session.
+#[tactic(auto, unfolding(crate::specs::JsonText::missing_told))]
+fn push_lack(out: &mut Vec<u8>, session: &Session, missing: Missing) -> Result<(), AllocError>
+    requires { IsFirstMissing session.now missing }
+    ensures { OnOk result (out.new.items ≡ out.old.items ++ missing_told session.now missing) }
+{
+    match missing {
+        Missing::Halt => push_word_under(out, b"missing", b"halt"),
+        Missing::Resume => push_word_under(out, b"missing", b"resume"),
+        Missing::Page(page) => push_missing_page(out, page),
+        Missing::All => push_word_under(out, b"missing", b"all"),
+        Missing::Done => push_word_under(out, b"missing", b"done"),
+        Missing::Taken(n) => push_missing_placement(out, line_of_taken(session, n), n),
+    }
+}
+
+/// Adds the object where this is missing from a session. An error: there is no memory for it.
+pub fn push_missing(
+    out: &mut Vec<u8>,
+    session: &Session,
+    missing: Missing,
+) -> Result<(), AllocError>
+    requires { IsFirstMissing session.now missing }
+    ensures { OnOk result (out.new.items ≡ out.old.items ++ missing_object session.now missing) }
+{
+    begin(out, b"incomplete")?;
+    push_lack(out, session, missing)?;
+    end(out)
+}

@@ -1,0 +1,20 @@
+-- The line that says what is missing from a session.
+use Rattle.std.specs.Prelude.{ℕ, List, [], ◌∷◌, ◌++◌, codes}
+use Rattle.std.specs.Fmt.{decimal}
+use Rattle.text_lines.specs.Text.{ended}
+use Rattle.migration_types.specs.declared.records.LogName.TheVariants.{Pager}
+use Rattle.migration_types.specs.Sessions.{Recorded, line_of}
+use Rattle.completeness.specs.declared.missing.Missing.{Missing}
+use Rattle.completeness.specs.declared.missing.Missing.TheVariants as missing
+
+-- as in "incomplete page 7"; of what was taken, the line at which the session's text has the record that took it
+abbrev pub missing_line : Recorded → Missing → List ℕ
+missing_line s missing.Halt = codes "incomplete halt"
+missing_line s missing.Resume = codes "incomplete resume"
+missing_line s (missing.Page page) = codes "incomplete page " ++ decimal page
+missing_line s missing.All = codes "incomplete all"
+missing_line s missing.Done = codes "incomplete done"
+missing_line s (missing.Taken n) = codes "incomplete line " ++ decimal (line_of s (Pager, n))
+
+abbrev pub missing_text : Recorded → Missing → List ℕ
+missing_text s m = ended (missing_line s m ∷ [])
