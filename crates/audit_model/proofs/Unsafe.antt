@@ -20,7 +20,6 @@ use Rattle.migration_types.specs.declared.records.SourceRec.{SourceRec}
 use Rattle.migration_types.specs.declared.records.LogName.TheVariants.{Source, Link, Lane}
 use Rattle.audit_model.specs.Laws.{IsFaultless, FaultsBreak, DelayedBreaks, DelayedUnplaced, DelayedOver, UnplacedBreaks, BreaksAt, SafeExactlyIfClean}
 use Rattle.std.proofs.lemmas.Option.{slice_get_within}
-use Rattle.audit_model.specs.Fitting.{Fits}
 use Rattle.audit_model.proofs.Fits.{session_fits}
 use Rattle.audit_model.proofs.Delays.{delayed_order}
 use Rattle.audit_model.proofs.History.{earlier_witness, earlier_true}

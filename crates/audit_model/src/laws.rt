@@ -89,8 +89,7 @@ pub fn premises_can_be_met()
 {}
 
 /// A session is one whose records fit its machine, within the limits of size. These limits are not what makes it safe: a
-/// session of any size that fits, of the right shape, is safe where no page has a fault. The other laws on faults of pages
-/// ask for no limits either.
+/// session of any size that fits, of the right shape, is safe where no page has a fault.
 pub fn any_size_is_judged_alike()
     ensures session { (s : Recorded) → IsSession s ↔ (Fits s × IsWithinLimits s) }
     ensures clean { (s : Recorded) → Fits s → IsRightShape s → HasNoPageFault s → IsSafe s }
