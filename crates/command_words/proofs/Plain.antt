@@ -12,12 +12,12 @@ use Rattle.clap.proofs.OnLiterals.{clap_on_literals}
 use Rattle.command_words.specs.declared.asked.Asked.{Asked}
 use Rattle.command_words.specs.declared.asked.Asked.TheVariants.{One, Two, Migrate, Draw}
 use Rattle.command_words.specs.declared.asked.Carrier.TheVariants.{Memory}
-use Rattle.command_words.specs.declared.asked.Demand.TheVariants.{Safety}
 use Rattle.command_words.specs.declared.asked.OneText.{OneText}
 use Rattle.command_words.specs.declared.asked.OneText.TheVariants.{Certify, Audit, Explain}
 use Rattle.command_words.specs.declared.asked.TwoTexts.{TwoTexts}
 use Rattle.command_words.specs.declared.asked.TwoTexts.TheVariants.{Check, Replay, Steps}
-use Rattle.command_words.specs.Table.{plain as asked_plainly}
+use Rattle.command_words.specs.declared.asked.Topic.TheVariants.{Report}
+use Rattle.command_words.specs.Table.{plain as asked_plainly, plain_audit, plain_explanation}
 use Rattle.command_words.specs.Words.{IsPlain, IsPlainName, asked, asked_by, asked_in, postcopy_words, with_names}
 
 -- a name of one of three forms
@@ -42,13 +42,13 @@ taken_certify program _ Dash = record { taken = refl; given = refl }
 taken_certify program _ Empty = record { taken = refl; given = refl }
 taken_certify program _ (Other b rest e) = record { taken = simp e; given = simp e }
 
-taken_audit : (program name : Text) → Form name → IsTaken (program ∷ codes "audit" ∷ name ∷ []) (One (Audit asked_plainly) name)
+taken_audit : (program name : Text) → Form name → IsTaken (program ∷ codes "audit" ∷ name ∷ []) (One (Audit plain_audit) name)
 unfolding clap_on_literals
 taken_audit program _ Dash = record { taken = refl; given = refl }
 taken_audit program _ Empty = record { taken = refl; given = refl }
 taken_audit program _ (Other b rest e) = record { taken = simp e; given = simp e }
 
-taken_explain : (program name : Text) → Form name → IsTaken (program ∷ codes "explain" ∷ name ∷ []) (One (Explain Safety) name)
+taken_explain : (program name : Text) → Form name → IsTaken (program ∷ codes "explain" ∷ name ∷ []) (One (Explain plain_explanation) name)
 unfolding clap_on_literals
 taken_explain program _ Dash = record { taken = refl; given = refl }
 taken_explain program _ Empty = record { taken = refl; given = refl }
@@ -120,13 +120,13 @@ taken_migrate program _ Dash = record { taken = refl; given = refl }
 taken_migrate program _ Empty = record { taken = refl; given = refl }
 taken_migrate program _ (Other b rest e) = record { taken = simp e; given = simp e }
 
-taken_draw : (program name : Text) → Form name → IsTaken (program ∷ codes "draw" ∷ name ∷ []) (Draw name None)
+taken_draw : (program name : Text) → Form name → IsTaken (program ∷ codes "draw" ∷ name ∷ []) (Draw Report name None)
 unfolding clap_on_literals
 taken_draw program _ Dash = record { taken = refl; given = refl }
 taken_draw program _ Empty = record { taken = refl; given = refl }
 taken_draw program _ (Other b rest e) = record { taken = simp e; given = simp e }
 
-taken_draw_along : (program first second : Text) → Form first → Form second → IsTaken (program ∷ codes "draw" ∷ first ∷ second ∷ []) (Draw first (Some second))
+taken_draw_along : (program first second : Text) → Form first → Form second → IsTaken (program ∷ codes "draw" ∷ first ∷ second ∷ []) (Draw Report first (Some second))
 unfolding clap_on_literals
 taken_draw_along program _ _ Dash Dash = record { taken = refl; given = refl }
 taken_draw_along program _ _ Dash Empty = record { taken = refl; given = refl }
@@ -163,13 +163,13 @@ migrate_taken program word (name ∷ []) job plain e =
 migrate_taken program word (name ∷ other ∷ []) job plain e = let none : None ≡ Some job = e in absurd cc
 migrate_taken program word (name ∷ other ∷ third ∷ rest) job plain e = let none : None ≡ Some job = e in absurd cc
 
-draw_taken : (program word further : Text) (names : List Text) (job : Asked Text) → AllByRecursion IsPlainName names → with_names names (Draw word (Some further)) ≡ Some job → IsTaken (program ∷ codes "draw" ∷ names) job
+draw_taken : (program word further : Text) (names : List Text) (job : Asked Text) → AllByRecursion IsPlainName names → with_names names (Draw Report word (Some further)) ≡ Some job → IsTaken (program ∷ codes "draw" ∷ names) job
 draw_taken program word further [] job plain e = let none : None ≡ Some job = e in absurd cc
 draw_taken program word further (name ∷ []) job plain e =
-    let same : Draw name None ≡ job = cc in
+    let same : Draw Report name None ≡ job = cc in
     subst (IsTaken (program ∷ codes "draw" ∷ name ∷ [])) same (taken_draw program name (form_of name plain.0))
 draw_taken program word further (first ∷ second ∷ []) job plain e =
-    let same : Draw first (Some second) ≡ job = cc in
+    let same : Draw Report first (Some second) ≡ job = cc in
     subst (IsTaken (program ∷ codes "draw" ∷ first ∷ second ∷ [])) same (taken_draw_along program first second (form_of first plain.0) (form_of second plain.1.0))
 draw_taken program word further (name ∷ other ∷ third ∷ rest) job plain e = let none : None ≡ Some job = e in absurd cc
 
@@ -177,12 +177,12 @@ draw_taken program word further (name ∷ other ∷ third ∷ rest) job plain e 
 row_taken : (program name : Text) (names : List Text) (job : Asked Text) → AllByRecursion IsPlainName names
     → (check certify audit explain replay steps migrate draw : Bool)
     → (check ≡ true → codes "check" ≡ name) → (certify ≡ true → codes "certify" ≡ name) → (audit ≡ true → codes "audit" ≡ name) → (explain ≡ true → codes "explain" ≡ name) → (replay ≡ true → codes "replay" ≡ name) → (steps ≡ true → codes "steps" ≡ name) → (migrate ≡ true → codes "migrate" ≡ name) → (draw ≡ true → codes "draw" ≡ name)
-    → option_and_then (λ (row : Text × Asked Text). with_names names row.1) (cond check (Some (codes "check", Two (Check asked_plainly) (codes "SESSION") (codes "CERT"))) (cond certify (Some (codes "certify", One Certify (codes "SESSION"))) (cond audit (Some (codes "audit", One (Audit asked_plainly) (codes "SESSION"))) (cond explain (Some (codes "explain", One (Explain Safety) (codes "SESSION"))) (cond replay (Some (codes "replay", Two Replay (codes "SESSION") (codes "RUNS"))) (cond steps (Some (codes "steps", Two Steps (codes "SCRIPT") (codes "EVENTS"))) (cond migrate (Some (codes "migrate", Migrate Memory (codes "SCRIPT"))) (cond draw (Some (codes "draw", Draw (codes "SESSION") (Some (codes "RUNS")))) None)))))))) ≡ Some job
+    → option_and_then (λ (row : Text × Asked Text). with_names names row.1) (cond check (Some (codes "check", Two (Check asked_plainly) (codes "SESSION") (codes "CERT"))) (cond certify (Some (codes "certify", One Certify (codes "SESSION"))) (cond audit (Some (codes "audit", One (Audit plain_audit) (codes "SESSION"))) (cond explain (Some (codes "explain", One (Explain plain_explanation) (codes "SESSION"))) (cond replay (Some (codes "replay", Two Replay (codes "SESSION") (codes "RUNS"))) (cond steps (Some (codes "steps", Two Steps (codes "SCRIPT") (codes "EVENTS"))) (cond migrate (Some (codes "migrate", Migrate Memory (codes "SCRIPT"))) (cond draw (Some (codes "draw", Draw Report (codes "SESSION") (Some (codes "RUNS")))) None)))))))) ≡ Some job
     → IsTaken (program ∷ name ∷ names) job
 row_taken program name names job plain true certify audit explain replay steps migrate draw a b c d f g h i e = subst (λ (x : Text). IsTaken (program ∷ x ∷ names) job) (a refl) (two_taken (Check asked_plainly) (codes "check") taken_check program _ _ names job plain e)
 row_taken program name names job plain false true audit explain replay steps migrate draw a b c d f g h i e = subst (λ (x : Text). IsTaken (program ∷ x ∷ names) job) (b refl) (one_taken Certify (codes "certify") taken_certify program _ names job plain e)
-row_taken program name names job plain false false true explain replay steps migrate draw a b c d f g h i e = subst (λ (x : Text). IsTaken (program ∷ x ∷ names) job) (c refl) (one_taken (Audit asked_plainly) (codes "audit") taken_audit program _ names job plain e)
-row_taken program name names job plain false false false true replay steps migrate draw a b c d f g h i e = subst (λ (x : Text). IsTaken (program ∷ x ∷ names) job) (d refl) (one_taken (Explain Safety) (codes "explain") taken_explain program _ names job plain e)
+row_taken program name names job plain false false true explain replay steps migrate draw a b c d f g h i e = subst (λ (x : Text). IsTaken (program ∷ x ∷ names) job) (c refl) (one_taken (Audit plain_audit) (codes "audit") taken_audit program _ names job plain e)
+row_taken program name names job plain false false false true replay steps migrate draw a b c d f g h i e = subst (λ (x : Text). IsTaken (program ∷ x ∷ names) job) (d refl) (one_taken (Explain plain_explanation) (codes "explain") taken_explain program _ names job plain e)
 row_taken program name names job plain false false false false true steps migrate draw a b c d f g h i e = subst (λ (x : Text). IsTaken (program ∷ x ∷ names) job) (f refl) (two_taken Replay (codes "replay") taken_replay program _ _ names job plain e)
 row_taken program name names job plain false false false false false true migrate draw a b c d f g h i e = subst (λ (x : Text). IsTaken (program ∷ x ∷ names) job) (g refl) (two_taken Steps (codes "steps") taken_steps program _ _ names job plain e)
 row_taken program name names job plain false false false false false false true draw a b c d f g h i e = subst (λ (x : Text). IsTaken (program ∷ x ∷ names) job) (h refl) (migrate_taken program _ names job plain e)

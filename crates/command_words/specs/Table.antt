@@ -8,6 +8,10 @@ use Rattle.command_words.specs.declared.asked.Asked.TheVariants.{One, Two, Migra
 use Rattle.command_words.specs.declared.asked.Carrier.{Carrier}
 use Rattle.command_words.specs.declared.asked.Carrier.TheVariants.{Memory, Tcp}
 use Rattle.command_words.specs.declared.asked.Asking.{Asking}
+use Rattle.command_words.specs.declared.asked.Audits.{Audits}
+use Rattle.command_words.specs.declared.asked.Explains.{Explains}
+use Rattle.command_words.specs.declared.asked.Faults.TheVariants as faults
+use Rattle.command_words.specs.declared.asked.Topic.TheVariants as topic
 use Rattle.command_words.specs.declared.asked.Demand.TheVariants.{Safety}
 use Rattle.command_words.specs.declared.asked.Form.{Form}
 use Rattle.command_words.specs.declared.asked.Form.TheVariants as form
@@ -20,18 +24,26 @@ use Rattle.command_words.specs.declared.table.Row.{Row}
 abbrev pub plain : Asking
 plain = record { demand = Safety; form = form.Text }
 
+-- and of an audit: the first fault alone
+abbrev pub plain_audit : Audits
+plain_audit = record { asking = plain; faults = faults.First }
+
+-- and of an explanation: what the report names
+abbrev pub plain_explanation : Explains
+plain_explanation = record { demand = Safety; topic = topic.Report }
+
 -- `check SESSION CERT`, `certify SESSION`, `audit SESSION`, `explain SESSION`, `replay SESSION RUNS`,
 -- `steps SCRIPT EVENTS`, `migrate SCRIPT`, `draw SESSION`, `draw SESSION RUNS`; with no option, this is asked
 abbrev pub table : List (Text × Asked Text)
 table =
     (codes "check", Two (Check plain) (codes "SESSION") (codes "CERT")) ∷
     (codes "certify", One Certify (codes "SESSION")) ∷
-    (codes "audit", One (Audit plain) (codes "SESSION")) ∷
-    (codes "explain", One (Explain Safety) (codes "SESSION")) ∷
+    (codes "audit", One (Audit plain_audit) (codes "SESSION")) ∷
+    (codes "explain", One (Explain plain_explanation) (codes "SESSION")) ∷
     (codes "replay", Two Replay (codes "SESSION") (codes "RUNS")) ∷
     (codes "steps", Two Steps (codes "SCRIPT") (codes "EVENTS")) ∷
     (codes "migrate", Migrate Memory (codes "SCRIPT")) ∷
-    (codes "draw", Draw (codes "SESSION") (Some (codes "RUNS"))) ∷ []
+    (codes "draw", Draw topic.Report (codes "SESSION") (Some (codes "RUNS"))) ∷ []
 
 -- the name of what carries a migration
 abbrev pub carrier_name : Carrier → Text
@@ -65,7 +77,7 @@ abbrev pub asked_map : {V W : Type 0} → (V → W) → Asked V → Asked W
 asked_map f (One task word) = One task (f word)
 asked_map f (Two task first second) = Two task (f first) (f second)
 asked_map f (Migrate carrier word) = Migrate carrier (f word)
-asked_map f (Draw word further) = Draw (f word) (option_map f further)
+asked_map f (Draw topic word further) = Draw topic (f word) (option_map f further)
 
 -- what is asked for, with the names of its texts
 abbrev pub asked_names : Asked (Bor Text) → Asked Text

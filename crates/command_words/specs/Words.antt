@@ -1,9 +1,11 @@
 -- The words of the command line.
-use Rattle.std.specs.Prelude.{◌≡◌, ◌≢◌, [], ◌∷◌, ◌++◌, ◌⊎◌, Bool, List, Option, Some, None, true, codes, fold, find, map, option_and_then, option_map, unwrap_or, if◌then◌else◌, false}
+use Rattle.std.specs.Prelude.{◌≡◌, ◌≢◌, ℕ, [], ◌∷◌, ◌++◌, ◌⊎◌, Bool, List, Option, Some, None, true, codes, fold, find, map, option_and_then, option_map, unwrap_or, if◌then◌else◌, false}
 use Rattle.std.specs.List.{AllByRecursion}
 use Rattle.std.specs.Str.{bytes_eq}
 use Rattle.std.specs.Borrow.{Bor}
+use Rattle.std.specs.Str.Parse.{digits_value, without_leading_plus}
 use Rattle.clap.specs.Simple.{on_top}
+use Rattle.clap.specs.ValueTests.{is_unsigned_in}
 use Rattle.clap.specs.Words.{App, Row, Rule, Text, first_of, new_app, new_rule, subcommand_of, with_rule, with_subcommand}
 use Rattle.command_words.specs.declared.asked.Asked.{Asked}
 use Rattle.command_words.specs.declared.asked.Asked.TheVariants.{One, Two, Migrate, Draw}
@@ -11,6 +13,12 @@ use Rattle.clap.specs.declared.builder.value_parser.ValueParser.{ValueParser}
 use Rattle.clap.specs.declared.builder.value_parser.ValueParser.TheVariants as parser
 use Rattle.command_words.specs.declared.asked.Carrier.{Carrier}
 use Rattle.command_words.specs.declared.asked.Asking.{Asking}
+use Rattle.command_words.specs.declared.asked.Audits.{Audits}
+use Rattle.command_words.specs.declared.asked.Explains.{Explains}
+use Rattle.command_words.specs.declared.asked.Faults.{Faults}
+use Rattle.command_words.specs.declared.asked.Faults.TheVariants.{All}
+use Rattle.command_words.specs.declared.asked.Topic.{Topic}
+use Rattle.command_words.specs.declared.asked.Topic.TheVariants.{Page, Line}
 use Rattle.command_words.specs.declared.asked.Demand.{Demand}
 use Rattle.command_words.specs.declared.asked.Demand.TheVariants.{Completeness}
 use Rattle.command_words.specs.declared.asked.Form.{Form}
@@ -35,6 +43,26 @@ choice_rule option parser otherwise = record (new_rule option) { long = Some opt
 abbrev pub flag_rule : Text → Rule
 flag_rule option = record (new_rule option) { long = Some option; action = Some SetTrue }
 
+-- an option that has a number
+abbrev pub number_rule : Text → Rule
+number_rule option = record (new_rule option) { long = Some option; value_names = 1; parser = Some (parser.Unsigned 0 4294967295) }
+
+-- a command with the option that asks for the faults of all pages
+abbrev pub with_all : App → App
+with_all app = with_rule app (flag_rule (codes "all"))
+
+-- a command with the option that names a page
+abbrev pub with_page : App → App
+with_page app = with_rule app (number_rule (codes "page"))
+
+-- a command with the option that names a line of a session
+abbrev pub with_line : App → App
+with_line app = with_rule app (number_rule (codes "line"))
+
+-- a command with the option that names the file of its answer, as `-o FILE` or `--output FILE`
+abbrev pub with_output : App → App
+with_output app = with_rule app (record (new_rule (codes "output")) { short = Some 111; long = Some (codes "output"); value_names = 1 })
+
 -- a command with the option that asks for a complete session
 abbrev pub with_demand : App → App
 with_demand app = with_rule app (flag_rule (codes "complete"))
@@ -49,14 +77,14 @@ with_quiet app = with_rule app (flag_rule (codes "quiet"))
 
 -- a command on one text, and one on two, with its options
 abbrev pub with_one : ValueParser → OneText → App → App
-with_one parser (Audit asking) app = with_format parser asking.form (with_quiet (with_demand app))
+with_one parser (Audit audits) app = with_format parser audits.asking.form (with_quiet (with_all (with_demand app)))
 with_one parser Certify app = app
-with_one parser (Explain demand) app = with_demand app
+with_one parser (Explain explains) app = with_line (with_page (with_demand app))
 
 abbrev pub with_two : ValueParser → TwoTexts → App → App
 with_two parser (Check asking) app = with_format parser asking.form (with_demand app)
 with_two parser Replay app = app
-with_two parser Steps app = app
+with_two parser Steps app = with_output app
 
 -- a command with a further word, which may be there
 abbrev pub with_further : App → Option Text → App
@@ -67,8 +95,8 @@ with_further app (Some word) = with_rule app (new_rule word)
 abbrev pub with_words : Choices → App → Asked Text → App
 with_words choices app (One task word) = with_one choices.forms task (with_rule app (needed word))
 with_words choices app (Two task first second) = with_two choices.forms task (with_rule (with_rule app (needed first)) (needed second))
-with_words choices app (Migrate carrier word) = with_rule (with_rule app (needed word)) (choice_rule (codes "link") choices.carriers (carrier_name carrier))
-with_words choices app (Draw word further) = with_further (with_rule app (needed word)) further
+with_words choices app (Migrate carrier word) = with_output (with_rule (with_rule app (needed word)) (choice_rule (codes "link") choices.carriers (carrier_name carrier)))
+with_words choices app (Draw topic word further) = with_page (with_further (with_rule app (needed word)) further)
 
 -- the command of a row of the table
 abbrev pub command_words : Choices → Text × Asked Text → App
@@ -139,11 +167,39 @@ form_in rows otherwise = if is_set (first_of (codes "quiet") rows) then shortene
 abbrev pub asking_in : List Row → Asking → Asking
 asking_in rows otherwise = record { demand = demand_in rows otherwise.demand; form = form_in rows otherwise.form }
 
+-- which faults are told: those of all pages where the option is among what was given, or else these
+abbrev pub faults_in : List Row → Faults → Faults
+faults_in rows otherwise = if is_set (first_of (codes "all") rows) then All else otherwise
+
+-- what is asked of an audit, where no option says more than this
+abbrev pub audits_in : List Row → Audits → Audits
+audits_in rows otherwise = record { asking = asking_in rows otherwise.asking; faults = faults_in rows otherwise.faults }
+
+-- the number of 32 bits that a text tells, if it does
+abbrev pub number_of : Text → Option ℕ
+number_of text = if is_unsigned_in 0 4294967295 text then Some (digits_value 10 (without_leading_plus text)) else None
+
+-- the number among what was given for an option
+abbrev pub number_in : Text → List Row → Option ℕ
+number_in option rows = option_and_then number_of (first_of option rows)
+
+-- what is told: the page that is named among what was given, or else this
+abbrev pub page_in : List Row → Topic → Topic
+page_in rows otherwise = unwrap_or (option_map Page (number_in (codes "page") rows)) otherwise
+
+-- what is told: the line that is named among what was given, or the page, or else this
+abbrev pub topic_in : List Row → Topic → Topic
+topic_in rows otherwise = unwrap_or (option_map Line (number_in (codes "line") rows)) (page_in rows otherwise)
+
+-- what is asked of an explanation, where no option says more than this
+abbrev pub explains_in : List Row → Explains → Explains
+explains_in rows otherwise = record { demand = demand_in rows otherwise.demand; topic = topic_in rows otherwise.topic }
+
 -- a command on one text, and one on two, with what is asked of them
 abbrev pub one_in : List Row → OneText → OneText
-one_in rows (Audit asking) = Audit (asking_in rows asking)
+one_in rows (Audit audits) = Audit (audits_in rows audits)
 one_in rows Certify = Certify
-one_in rows (Explain demand) = Explain (demand_in rows demand)
+one_in rows (Explain explains) = Explain (explains_in rows explains)
 
 abbrev pub two_in : List Row → TwoTexts → TwoTexts
 two_in rows (Check asking) = Check (asking_in rows asking)
@@ -159,7 +215,7 @@ abbrev pub given_in : List Row → Asked Text → Option (Asked Text)
 given_in rows (One task word) = option_map (λ name. One (one_in rows task) name) (first_of word rows)
 given_in rows (Two task first second) = both_names (two_in rows task) (first_of first rows) (first_of second rows)
 given_in rows (Migrate carrier word) = option_map (λ name. Migrate (carrier_in rows carrier) name) (first_of word rows)
-given_in rows (Draw word further) = option_map (λ name. Draw name (further_in rows further)) (first_of word rows)
+given_in rows (Draw topic word further) = option_map (λ name. Draw (page_in rows topic) name (further_in rows further)) (first_of word rows)
 
 -- what a command and what it was given ask for, by the table
 abbrev pub asked_in : Text × List Row → Option (Asked Text)
@@ -168,6 +224,10 @@ asked_in given = option_and_then (λ row. given_in given.1 row.1) (find (λ row.
 -- what the words ask for
 abbrev pub asked : List Text → Option (Asked Text)
 asked words = option_and_then asked_in (subcommand_of postcopy_words words)
+
+-- the file that the words name for the answer
+abbrev pub output_named : List Text → Option Text
+output_named words = option_and_then (λ given. first_of (codes "output") given.1) (subcommand_of postcopy_words words)
 
 -- a name that is no option: it is `-`, or does not begin with `-`
 abbrev pub IsPlainName : Text → Type 0
@@ -178,8 +238,8 @@ abbrev pub with_names : List Text → Asked Text → Option (Asked Text)
 with_names (name ∷ []) (One task word) = Some (One task name)
 with_names (first ∷ second ∷ []) (Two task word other) = Some (Two task first second)
 with_names (name ∷ []) (Migrate carrier word) = Some (Migrate carrier name)
-with_names (name ∷ []) (Draw word further) = Some (Draw name None)
-with_names (first ∷ second ∷ []) (Draw word (Some further)) = Some (Draw first (Some second))
+with_names (name ∷ []) (Draw topic word further) = Some (Draw topic name None)
+with_names (first ∷ second ∷ []) (Draw topic word (Some further)) = Some (Draw topic first (Some second))
 with_names names asked = None
 
 -- what the name of a command and the names of its texts ask for

@@ -43,15 +43,49 @@ pub struct Asking {
     pub form: Form,
 }
 
+/// Which faults of a session are told.
+#[derive(Clone, Copy)]
+pub enum Faults {
+    /// The first of all.
+    First,
+    /// The first of each page.
+    All,
+}
+
+/// What is asked of an audit.
+#[derive(Clone, Copy)]
+pub struct Audits {
+    pub asking: Asking,
+    pub faults: Faults,
+}
+
+/// What of a session is told, or drawn.
+#[derive(Clone, Copy)]
+pub enum Topic {
+    /// What the report on it names.
+    Report,
+    /// The page of this number.
+    Page(u32),
+    /// The record at this line of the session's text, counted from 1.
+    Line(u32),
+}
+
+/// What is asked of an explanation.
+#[derive(Clone, Copy)]
+pub struct Explains {
+    pub demand: Demand,
+    pub topic: Topic,
+}
+
 /// A command on one text.
 #[derive(Clone, Copy)]
 pub enum OneText {
     /// The certificate of a session, or the first line of the report on it.
     Certify,
     /// The report on a session, where this is asked.
-    Audit(Asking),
-    /// What happened in a session, of which this is asked, in words.
-    Explain(Demand),
+    Audit(Audits),
+    /// What happened in a session, where this is asked, in words.
+    Explain(Explains),
 }
 
 /// A command on two texts.
@@ -93,8 +127,8 @@ pub enum Asked<W> {
     Two(TwoTexts, W, W),
     /// The migration of a script's guest, over what carries its packets.
     Migrate(Carrier, W),
-    /// The picture of a session, along runs where these are named.
-    Draw(W, Option<W>),
+    /// The picture of a session, of this topic, along runs where these are named.
+    Draw(Topic, W, Option<W>),
 }
 
 /// What the words ask for, with the names of its texts.

@@ -2,15 +2,18 @@
 
 ghost use Rattle.std.specs.Prelude.{◌≡◌, IfOk, false};
 ghost use Rattle.command_words.specs.Table.{further_name, row_of};
-ghost use Rattle.command_words.specs.Words.{choice_rule, command_words, flag_rule, line_words, needed, program_words, with_demand, with_format, with_further, with_one, with_quiet, with_two};
+ghost use Rattle.command_words.specs.Words.{choice_rule, command_words, flag_rule, line_words, needed, number_rule, program_words, with_all, with_demand, with_format, with_further, with_line, with_one, with_output, with_page, with_quiet, with_two};
 ghost use Rattle.clap.specs.Words.{app_of, rule_of, with_rule};
 ghost use Rattle.clap.specs.declared.builder.command.Command.TheViews.{out-Command as fields_of};
 
 use crate::asked::{Asked, Form, OneText, TwoTexts};
-use crate::table::{COMPLETE, FORMAT, LINK, QUIET, Row, Word, commands};
+use crate::table::{ALL, COMPLETE, FORMAT, LINE, LINK, OUTPUT, PAGE, QUIET, Row, Word, commands};
 use clap::builder::ValueParser;
 use clap::{Arg, ArgAction, Command};
 use std::alloc::{AllocError, Global};
+
+/// The greatest number that an option may have.
+const MOST_NUMBER: u64 = 4_294_967_295;
 
 const VERSION: &str = "1.0.0";
 
@@ -31,6 +34,16 @@ const COMPLETE_HELP: &str =
     "All is well only where the session is of a whole migration, from the halt to the end";
 
 const QUIET_HELP: &str = "Writes the first line of the answer alone";
+
+const ALL_HELP: &str =
+    "Tells each page that has a fault, with its first one, and not only the first of all";
+
+const PAGE_HELP: &str = "Tells of this page, whether it has a fault or not";
+
+const LINE_HELP: &str = "Tells of the record at this line of the session, and of its page";
+
+const OUTPUT_HELP: &str =
+    "Writes the answer to this file, which is there complete or not at all; else to standard output";
 
 /// An option that names one of several.
 #[derive(Clone, Copy)]
@@ -141,6 +154,66 @@ fn with_demand<'a>(alloc: Global, command: Command<'a>) -> Result<Command<'a>, A
     with_flag(alloc, command, COMPLETE, COMPLETE_HELP)
 }
 
+// The command with an option that has a number.
+fn with_number<'a>(
+    alloc: Global,
+    command: Command<'a>,
+    option: &'static str,
+    help: &'static str,
+) -> Result<Command<'a>, AllocError>
+    requires { (fields_of command).has_globals ≡ false }
+    ensures app { IfOk result (λ c. app_of c ≡ with_rule (app_of command.entry) (number_rule option.now)) }
+    ensures local { IfOk result (λ c. (fields_of c).has_globals ≡ false) }
+{
+    let arg = Arg::new(alloc, option)
+        .long(option)
+        .value_name("NUMBER")
+        .help(help)
+        .value_parser(ValueParser::Unsigned(0, MOST_NUMBER));
+    command.arg(arg)
+}
+
+// The command with the option that asks for the faults of all pages.
+fn with_all<'a>(alloc: Global, command: Command<'a>) -> Result<Command<'a>, AllocError>
+    requires { (fields_of command).has_globals ≡ false }
+    ensures app { IfOk result (λ c. app_of c ≡ with_all (app_of command.entry)) }
+    ensures local { IfOk result (λ c. (fields_of c).has_globals ≡ false) }
+{
+    with_flag(alloc, command, ALL, ALL_HELP)
+}
+
+// The command with the option that names a page.
+fn with_page<'a>(alloc: Global, command: Command<'a>) -> Result<Command<'a>, AllocError>
+    requires { (fields_of command).has_globals ≡ false }
+    ensures app { IfOk result (λ c. app_of c ≡ with_page (app_of command.entry)) }
+    ensures local { IfOk result (λ c. (fields_of c).has_globals ≡ false) }
+{
+    with_number(alloc, command, PAGE, PAGE_HELP)
+}
+
+// The command with the option that names a line of a session.
+fn with_line<'a>(alloc: Global, command: Command<'a>) -> Result<Command<'a>, AllocError>
+    requires { (fields_of command).has_globals ≡ false }
+    ensures app { IfOk result (λ c. app_of c ≡ with_line (app_of command.entry)) }
+    ensures local { IfOk result (λ c. (fields_of c).has_globals ≡ false) }
+{
+    with_number(alloc, command, LINE, LINE_HELP)
+}
+
+// The command with the option that names the file of its answer.
+fn with_output<'a>(alloc: Global, command: Command<'a>) -> Result<Command<'a>, AllocError>
+    requires { (fields_of command).has_globals ≡ false }
+    ensures app { IfOk result (λ c. app_of c ≡ with_output (app_of command.entry)) }
+    ensures local { IfOk result (λ c. (fields_of c).has_globals ≡ false) }
+{
+    let arg = Arg::new(alloc, OUTPUT)
+        .short('o')
+        .long(OUTPUT)
+        .value_name("FILE")
+        .help(OUTPUT_HELP);
+    command.arg(arg)
+}
+
 // The command with the option that asks for the first line alone.
 fn with_quiet<'a>(alloc: Global, command: Command<'a>) -> Result<Command<'a>, AllocError>
     requires { (fields_of command).has_globals ≡ false }
@@ -176,12 +249,17 @@ fn with_one<'a>(
     ensures local { IfOk result (λ c. (fields_of c).has_globals ≡ false) }
 {
     match task {
-        OneText::Audit(asking) => {
+        OneText::Audit(audits) => {
             let command = with_demand(alloc, command)?;
+            let command = with_all(alloc, command)?;
             let command = with_quiet(alloc, command)?;
-            with_format(alloc, command, forms, asking.form)
+            with_format(alloc, command, forms, audits.asking.form)
         }
-        OneText::Explain(_) => with_demand(alloc, command),
+        OneText::Explain(_) => {
+            let command = with_demand(alloc, command)?;
+            let command = with_page(alloc, command)?;
+            with_line(alloc, command)
+        }
         OneText::Certify => Ok(command),
     }
 }
@@ -202,7 +280,8 @@ fn with_two<'a>(
             let command = with_demand(alloc, command)?;
             with_format(alloc, command, forms, asking.form)
         }
-        TwoTexts::Replay | TwoTexts::Steps => Ok(command),
+        TwoTexts::Steps => with_output(alloc, command),
+        TwoTexts::Replay => Ok(command),
     }
 }
 
@@ -224,17 +303,19 @@ fn command_of<'a>(alloc: Global, choices: Choices<'a>, row: &Row) -> Result<Comm
         }
         Asked::Migrate(carrier, word) => {
             let command = with_word(alloc, command, word)?;
-            with_choice(
+            let command = with_choice(
                 alloc,
                 command,
                 &LINK_CHOICE,
                 choices.carriers,
                 carrier.name(),
-            )
+            )?;
+            with_output(alloc, command)
         }
-        Asked::Draw(word, further) => {
+        Asked::Draw(_, word, further) => {
             let command = with_word(alloc, command, word)?;
-            with_further_word(alloc, command, further)
+            let command = with_further_word(alloc, command, further)?;
+            with_page(alloc, command)
         }
     }
 }

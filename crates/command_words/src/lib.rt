@@ -6,5 +6,7 @@ mod building;
 mod matching;
 mod table;
 
-pub use asked::{Asked, Asking, Carrier, Demand, Form, Job, OneText, TwoTexts};
-pub use matching::read_words;
+pub use asked::{
+    Asked, Asking, Audits, Carrier, Demand, Explains, Faults, Form, Job, OneText, Topic, TwoTexts,
+};
+pub use matching::{read_output, read_words};

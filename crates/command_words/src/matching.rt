@@ -1,16 +1,18 @@
 //! What words ask for.
 
-ghost use Rattle.std.specs.Prelude.{◌≡◌, IfOk, IfErr, option_and_then, option_map, true, find};
+ghost use Rattle.std.specs.Prelude.{◌≡◌, IfOk, IfErr, codes, option_and_then, option_map, true, find};
 ghost use Rattle.std.specs.Str.{bytes_eq};
 ghost use Rattle.command_words.specs.Table.{asked_names, further_name, word_names};
-ghost use Rattle.command_words.specs.Words.{asked, asked_in, asking_in, carrier_in, demand_in, form_in, format_in, further_in, given_in, is_set, one_in, postcopy_words, shortened, two_in, word_texts};
-ghost use Rattle.clap.specs.Words.{first_of, found_of, kind_of, rows_of, takes, subcommand_rows_of};
+ghost use Rattle.command_words.specs.Words.{asked, asked_in, asking_in, audits_in, carrier_in, demand_in, explains_in, faults_in, form_in, format_in, further_in, given_in, is_set, number_in, number_of, one_in, output_named, page_in, postcopy_words, shortened, topic_in, two_in, word_texts};
+ghost use Rattle.clap.specs.Words.{first_of, found_of, kind_of, rows_of, subcommand_of, subcommand_rows_of, takes};
 
-use crate::asked::{Asked, Asking, Carrier, Demand, Form, Job, OneText, TwoTexts};
+use crate::asked::{
+    Asked, Asking, Audits, Carrier, Demand, Explains, Faults, Form, Job, OneText, Topic, TwoTexts,
+};
 use crate::building::{Choices, command_line};
 use crate::table::{
-    COMPLETE, FORMAT, LINK, QUIET, Row, Word, carrier_named, carrier_names, commands, form_named,
-    form_names,
+    ALL, COMPLETE, FORMAT, LINE, LINK, OUTPUT, PAGE, QUIET, Row, Word, carrier_named,
+    carrier_names, commands, form_named, form_names,
 };
 use clap::ArgMatches;
 use clap::builder::ValueParser;
@@ -97,13 +99,81 @@ fn asking_given(otherwise: Asking, matches: &ArgMatches<'_>) -> Asking
     }
 }
 
+// Which faults are told: those of all pages where the option was given, or else these.
+fn faults_given(otherwise: Faults, matches: &ArgMatches<'_>) -> Faults
+    ensures { result ≡ faults_in (rows_of (found_of matches.now)) otherwise }
+{
+    if is_given(ALL, matches) {
+        Faults::All
+    } else {
+        otherwise
+    }
+}
+
+// What is asked of an audit, where no option says more than this.
+fn audits_given(otherwise: Audits, matches: &ArgMatches<'_>) -> Audits
+    ensures { result ≡ audits_in (rows_of (found_of matches.now)) otherwise }
+{
+    Audits {
+        asking: asking_given(otherwise.asking, matches),
+        faults: faults_given(otherwise.faults, matches),
+    }
+}
+
+// The number that a text tells, if it does.
+fn number_of(text: &str) -> Option<u32>
+    ensures { result ≡ number_of text.now }
+{
+    text.parse::<u32>().ok()
+}
+
+// The number that was given for an option.
+fn number_given(option: &str, matches: &ArgMatches<'_>) -> Option<u32>
+    ensures { result ≡ number_in option.now (rows_of (found_of matches.now)) }
+{
+    match name_given(option, matches) {
+        Some(text) => number_of(text),
+        None => None,
+    }
+}
+
+// What is told: the page that an option names, or else this.
+fn page_given(otherwise: Topic, matches: &ArgMatches<'_>) -> Topic
+    ensures { result ≡ page_in (rows_of (found_of matches.now)) otherwise }
+{
+    match number_given(PAGE, matches) {
+        Some(page) => Topic::Page(page),
+        None => otherwise,
+    }
+}
+
+// What is told: the line that an option names, or the page, or else this.
+fn topic_given(otherwise: Topic, matches: &ArgMatches<'_>) -> Topic
+    ensures { result ≡ topic_in (rows_of (found_of matches.now)) otherwise }
+{
+    match number_given(LINE, matches) {
+        Some(line) => Topic::Line(line),
+        None => page_given(otherwise, matches),
+    }
+}
+
+// What is asked of an explanation, where no option says more than this.
+fn explains_given(otherwise: Explains, matches: &ArgMatches<'_>) -> Explains
+    ensures { result ≡ explains_in (rows_of (found_of matches.now)) otherwise }
+{
+    Explains {
+        demand: demand_given(otherwise.demand, matches),
+        topic: topic_given(otherwise.topic, matches),
+    }
+}
+
 // A command on one text, with what is asked of it.
 fn one_given(task: OneText, matches: &ArgMatches<'_>) -> OneText
     ensures { result ≡ one_in (rows_of (found_of matches.now)) task }
 {
     match task {
-        OneText::Audit(asking) => OneText::Audit(asking_given(asking, matches)),
-        OneText::Explain(demand) => OneText::Explain(demand_given(demand, matches)),
+        OneText::Audit(audits) => OneText::Audit(audits_given(audits, matches)),
+        OneText::Explain(explains) => OneText::Explain(explains_given(explains, matches)),
         OneText::Certify => task,
     }
 }
@@ -146,9 +216,10 @@ fn given<'a>(asks: &Asked<Word>, matches: &ArgMatches<'a>) -> Option<Job<'a>>
             let name = name_given(word.name, matches)?;
             Some(Asked::Migrate(carrier_given(*carrier, matches), name))
         }
-        Asked::Draw(word, further) => {
+        Asked::Draw(topic, word, further) => {
             let name = name_given(word.name, matches)?;
-            Some(Asked::Draw(name, further_given(further, matches)))
+            let further = further_given(further, matches);
+            Some(Asked::Draw(page_given(*topic, matches), name, further))
         }
     }
 }
@@ -180,10 +251,9 @@ fn job_in<'a>(matches: &ArgMatches<'a>) -> Option<Job<'a>>
     }
 }
 
-/// What the words ask for, of which the first is the program's own name. The error is clap's: it tells why the words are
-/// no command, or is the help or the version that was asked for, or that memory ran out.
-pub fn read_words<'a>(alloc: Global, words: &'a [&'a str]) -> Result<Option<Job<'a>>, clap::Error>
-    ensures ok { IfOk result (λ r. option_map asked_names r ≡ asked (word_texts words.entry.now)) }
+// What the command line finds in the words.
+fn matches_in<'a>(alloc: Global, words: &'a [&'a str]) -> Result<ArgMatches<'a>, clap::Error>
+    ensures ok { IfOk result (λ m. subcommand_rows_of m ≡ subcommand_of postcopy_words (word_texts words.entry.now)) }
     ensures err { IfErr result (λ e. takes postcopy_words (word_texts words.entry.now) ≡ true → kind_of e ≡ ErrorKind.OutOfMemory) }
 {
     let choices = Choices {
@@ -192,7 +262,35 @@ pub fn read_words<'a>(alloc: Global, words: &'a [&'a str]) -> Result<Option<Job<
     };
     let line = command_line(alloc, choices)?;
     match line.try_get_matches_from(words) {
-        Ok(matches) => Ok(job_in(&matches)),
+        Ok(matches) => Ok(matches),
         Err(error) => Err(error),
     }
+}
+
+/// What the words ask for, of which the first is the program's own name. The error is clap's: it tells why the words are
+/// no command, or is the help or the version that was asked for, or that memory ran out.
+pub fn read_words<'a>(alloc: Global, words: &'a [&'a str]) -> Result<Option<Job<'a>>, clap::Error>
+    ensures ok { IfOk result (λ r. option_map asked_names r ≡ asked (word_texts words.entry.now)) }
+    ensures err { IfErr result (λ e. takes postcopy_words (word_texts words.entry.now) ≡ true → kind_of e ≡ ErrorKind.OutOfMemory) }
+{
+    let matches = matches_in(alloc, words)?;
+    Ok(job_in(&matches))
+}
+
+// The file that the matches name for the answer.
+fn output_in<'a>(matches: &ArgMatches<'a>) -> Option<&'a str>
+    ensures { option_map (λ name. name.now) result ≡ option_and_then (λ given. first_of (codes "output") given.1) (subcommand_rows_of matches.now) }
+{
+    match matches.subcommand() {
+        Some((_, inner)) => name_given(OUTPUT, inner),
+        None => None,
+    }
+}
+
+/// The file that the words name for the answer, as in `-o FILE`. The error as for [`read_words`].
+pub fn read_output<'a>(alloc: Global, words: &'a [&'a str]) -> Result<Option<&'a str>, clap::Error>
+    ensures ok { IfOk result (λ r. option_map (λ name. name.now) r ≡ output_named (word_texts words.entry.now)) }
+{
+    let matches = matches_in(alloc, words)?;
+    Ok(output_in(&matches))
 }

@@ -3,7 +3,9 @@
 ghost use Rattle.std.specs.Prelude.{◌≡◌, map};
 ghost use Rattle.command_words.specs.Table.{carriers, carrier_name, carrier_named, form_name, form_named, forms, rows_of, table};
 
-use crate::asked::{Asked, Asking, Carrier, Demand, Form, OneText, TwoTexts};
+use crate::asked::{
+    Asked, Asking, Audits, Carrier, Demand, Explains, Faults, Form, OneText, Topic, TwoTexts,
+};
 
 /// A word of the command line that names a text.
 #[derive(Clone, Copy)]
@@ -59,6 +61,18 @@ pub const QUIET: &str = "quiet";
 
 /// The option that names the form of an answer.
 pub const FORMAT: &str = "format";
+
+/// The option that asks for the faults of all pages.
+pub const ALL: &str = "all";
+
+/// The option that names a page.
+pub const PAGE: &str = "page";
+
+/// The option that names a line of a session's text.
+pub const LINE: &str = "line";
+
+/// The option that names the file that an answer goes to.
+pub const OUTPUT: &str = "output";
 
 /// What is asked where no option says more: a safe session, and an answer in lines of text.
 const PLAIN: Asking = Asking {
@@ -119,12 +133,24 @@ static COMMANDS: [Row; 8] = [
     Row {
         name: "audit",
         about: "Writes the report on a session, as in: postcopy audit session",
-        asked: Asked::One(OneText::Audit(PLAIN), SESSION),
+        asked: Asked::One(
+            OneText::Audit(Audits {
+                asking: PLAIN,
+                faults: Faults::First,
+            }),
+            SESSION,
+        ),
     },
     Row {
         name: "explain",
         about: "Tells what happened in a session, with the records of its fault, as in: postcopy explain session",
-        asked: Asked::One(OneText::Explain(Demand::Safety), SESSION),
+        asked: Asked::One(
+            OneText::Explain(Explains {
+                demand: Demand::Safety,
+                topic: Topic::Report,
+            }),
+            SESSION,
+        ),
     },
     Row {
         name: "replay",
@@ -144,7 +170,7 @@ static COMMANDS: [Row; 8] = [
     Row {
         name: "draw",
         about: "Writes a picture of a session's records, in the order of its report or along runs, as in: postcopy draw session > picture.svg",
-        asked: Asked::Draw(SESSION, Some(RUNS)),
+        asked: Asked::Draw(Topic::Report, SESSION, Some(RUNS)),
     },
 ];
 

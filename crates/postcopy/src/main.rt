@@ -13,8 +13,11 @@
 
 ghost use Rattle.std.specs.Prelude.{◌≤◌};
 
-use command_texts::{Closable, Fault, TextSource, USAGE, tell};
-use commands::run;
+mod saving;
+
+use crate::saving::save;
+use command_texts::{ACCEPTED, Closable, Fault, TextSource, USAGE, tell};
+use commands::{output_named, run};
 use std::alloc::{AllocError, Global};
 use std::io::{ErrorKind, Write};
 use std::process::ExitCode;
@@ -67,16 +70,38 @@ fn main(rt: HostRuntime) -> ExitCode {
     let Ok(words) = slices(alloc, words.as_slice()) else {
         return ExitCode::from(tell(Fault::Memory, &mut errors));
     };
+    let words = words.as_slice();
     let files = Disk { rt: &rt };
     let mut output = Closable::new(rt.stdout());
+    let Some(name) = output_named(alloc, words) else {
+        let status = run(
+            &rt,
+            alloc,
+            words,
+            &files,
+            &mut rt.reader(),
+            &mut output,
+            &mut errors,
+        );
+        return ExitCode::from(status);
+    };
+    let mut answer = Vec::new(alloc);
     let status = run(
         &rt,
         alloc,
-        words.as_slice(),
+        words,
         &files,
         &mut rt.reader(),
-        &mut output,
+        &mut answer,
         &mut errors,
     );
-    ExitCode::from(status)
+    let put = if status == ACCEPTED {
+        save(&rt, alloc, name, answer.as_slice())
+    } else {
+        output.write_all(answer.as_slice())
+    };
+    match put {
+        Ok(()) => ExitCode::from(status),
+        Err(_) => ExitCode::from(tell(Fault::Output, &mut errors)),
+    }
 }

@@ -1,14 +1,6 @@
-use Rattle.std.proofs.Common.{◌∙◌, ap, sym, option_and_then}
-use Rattle.clap.specs.Words.{App, is_simple, subcommand_of, takes}
-use Rattle.command_words.specs.Words.{asked_in, word_texts}
-use Rattle.command_words.proofs.Unplaced.{found_anywhere, takes_anywhere}
+use Rattle.std.proofs.Common.{◌∙◌, ap, option_and_then}
+use Rattle.command_words.specs.Words.{asked_in}
 use Rattle.command_words.proofs.matching.read_words.Goals as goal
 
-pub returns-in-Ok-clause-ok : goal.returns-in-Ok-clause-ok
-returns-in-Ok-clause-ok c =
-    let words = word_texts c.args.words.now in
-    let found = (c.in-Ok.ensures.matches (ap is_simple c.in_ok-line.ensures)).1 in
-    c.job_in.ensures ∙ ap (option_and_then asked_in) (found ∙ ap (λ (a : App). subcommand_of a words) c.in_ok-line.ensures ∙ sym (found_anywhere c.carrier_names.result c.form_names.result words c.carrier_names.ensures c.form_names.ensures))
-
-pub returns-in-Err-clause-err : goal.returns-in-Err-clause-err
-returns-in-Err-clause-err c = λ t. c.in-Err.ensures.passes (ap (λ (a : App). takes a (word_texts c.args.words.now)) c.in_ok-line.ensures ∙ (sym (takes_anywhere c.carrier_names.result c.form_names.result (word_texts c.args.words.now) c.carrier_names.ensures c.form_names.ensures) ∙ t))
+pub returns-clause-ok : goal.returns-clause-ok
+returns-clause-ok c = c.job_in.ensures ∙ ap (option_and_then asked_in) c.in_ok-matches.ensures.ok
