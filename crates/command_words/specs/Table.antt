@@ -1,5 +1,5 @@
 -- The table of commands: the name of each, and the words that name its texts.
-use Rattle.std.specs.Prelude.{List, Option, Some, map, find, codes, option_map, [], ◌∷◌}
+use Rattle.std.specs.Prelude.{List, Option, Some, None, map, find, codes, option_map, [], ◌∷◌}
 use Rattle.std.specs.Str.{bytes_eq}
 use Rattle.std.specs.Borrow.{Bor}
 use Rattle.clap.specs.Words.{Text}
@@ -11,7 +11,11 @@ use Rattle.command_words.specs.declared.asked.Asking.{Asking}
 use Rattle.command_words.specs.declared.asked.Audits.{Audits}
 use Rattle.command_words.specs.declared.asked.Explains.{Explains}
 use Rattle.command_words.specs.declared.asked.Faults.TheVariants as faults
+use Rattle.command_words.specs.declared.asked.Several.{Several}
 use Rattle.command_words.specs.declared.asked.Topic.TheVariants as topic
+use Rattle.command_words.specs.declared.asked.Wish.{Wish}
+use Rattle.command_words.specs.declared.asked.Wish.TheVariants.{Job}
+use Rattle.command_words.specs.declared.asked.Wish.TheVariants as wish
 use Rattle.command_words.specs.declared.asked.Demand.TheVariants.{Safety}
 use Rattle.command_words.specs.declared.asked.Form.{Form}
 use Rattle.command_words.specs.declared.asked.Form.TheVariants as form
@@ -82,6 +86,20 @@ asked_map f (Draw topic word further) = Draw topic (f word) (option_map f furthe
 -- what is asked for, with the names of its texts
 abbrev pub asked_names : Asked (Bor Text) → Asked Text
 asked_names asked = asked_map (λ name. name.now) asked
+
+-- the sessions that are to be audited, by their names, with what is asked of them
+abbrev pub several_names : Several → Audits × List Text
+several_names several = (several.audits, map (λ name. name.now) several.names.items)
+
+-- the command that is wished
+abbrev pub job_of : Wish → Option (Asked Text)
+job_of (Job job) = Some (asked_names job)
+job_of (wish.Several several) = None
+
+-- the sessions that are wished to be audited
+abbrev pub several_of : Wish → Option (Audits × List Text)
+several_of (Job job) = None
+several_of (wish.Several several) = Some (several_names several)
 
 -- what a row of the program's table asks with
 abbrev pub word_names : Asked Word → Asked Text

@@ -1,12 +1,12 @@
 -- The words of the command line.
-use Rattle.std.specs.Prelude.{◌≡◌, ◌≢◌, ℕ, [], ◌∷◌, ◌++◌, ◌⊎◌, Bool, List, Option, Some, None, true, codes, fold, find, map, option_and_then, option_map, unwrap_or, if◌then◌else◌, false}
+use Rattle.std.specs.Prelude.{◌≡◌, ◌≢◌, ℕ, [], ◌∷◌, ◌++◌, ◌⊎◌, Bool, List, Option, Some, None, true, codes, fold, find, map, option_and_then, option_map, unwrap_or, if◌then◌else◌, false, is_some}
 use Rattle.std.specs.List.{AllByRecursion}
 use Rattle.std.specs.Str.{bytes_eq}
 use Rattle.std.specs.Borrow.{Bor}
 use Rattle.std.specs.Str.Parse.{digits_value, without_leading_plus}
 use Rattle.clap.specs.Simple.{on_top}
 use Rattle.clap.specs.ValueTests.{is_unsigned_in}
-use Rattle.clap.specs.Words.{App, Row, Rule, Text, first_of, new_app, new_rule, subcommand_of, with_rule, with_subcommand}
+use Rattle.clap.specs.Words.{App, Row, Rule, Text, all_of, first_of, new_app, new_rule, subcommand_of, with_rule, with_subcommand}
 use Rattle.command_words.specs.declared.asked.Asked.{Asked}
 use Rattle.command_words.specs.declared.asked.Asked.TheVariants.{One, Two, Migrate, Draw}
 use Rattle.clap.specs.declared.builder.value_parser.ValueParser.{ValueParser}
@@ -27,13 +27,23 @@ use Rattle.command_words.specs.declared.asked.OneText.{OneText}
 use Rattle.command_words.specs.declared.asked.OneText.TheVariants.{Certify, Audit, Explain}
 use Rattle.command_words.specs.declared.asked.TwoTexts.{TwoTexts}
 use Rattle.command_words.specs.declared.asked.TwoTexts.TheVariants.{Check, Replay, Steps}
-use Rattle.clap.specs.declared.builder.action.ArgAction.TheVariants.{SetTrue}
+use Rattle.clap.specs.declared.builder.action.ArgAction.TheVariants.{Append, SetTrue}
 use Rattle.command_words.specs.declared.building.Choices.{Choices}
-use Rattle.command_words.specs.Table.{carriers, carrier_name, carrier_named, form_name, form_named, forms, table}
+use Rattle.command_words.specs.Table.{carriers, carrier_name, carrier_named, form_name, form_named, forms, plain_audit, table}
 
 -- a word that has to be there
 abbrev pub needed : Text → Rule
 needed id = record (new_rule id) { required = true }
+
+-- a word that has to be there, and may be there more than once
+abbrev pub repeated : Text → Rule
+repeated id = record (needed id) { action = Some Append }
+
+-- the word that names the text of a command; more than one session may be audited
+abbrev pub text_word : OneText → Text → Rule
+text_word (Audit audits) id = repeated id
+text_word Certify id = needed id
+text_word (Explain explains) id = needed id
 
 -- an option that names one of what this parser reads; where it is not there, this one is meant
 abbrev pub choice_rule : Text → ValueParser → Text → Rule
@@ -93,7 +103,7 @@ with_further app (Some word) = with_rule app (new_rule word)
 
 -- a command with a word for each of its texts, and its options
 abbrev pub with_words : Choices → App → Asked Text → App
-with_words choices app (One task word) = with_one choices.forms task (with_rule app (needed word))
+with_words choices app (One task word) = with_one choices.forms task (with_rule app (text_word task word))
 with_words choices app (Two task first second) = with_two choices.forms task (with_rule (with_rule app (needed first)) (needed second))
 with_words choices app (Migrate carrier word) = with_output (with_rule (with_rule app (needed word)) (choice_rule (codes "link") choices.carriers (carrier_name carrier)))
 with_words choices app (Draw topic word further) = with_page (with_further (with_rule app (needed word)) further)
@@ -129,6 +139,15 @@ postcopy_words = line_words (record { carriers = one_of (map carrier_name carrie
 -- the words behind references
 abbrev pub word_texts : List (Bor Text) → List Text
 word_texts words = map (λ w. w.now) words
+
+-- the only one of some texts
+abbrev pub only : List Text → Option Text
+only (text ∷ []) = Some text
+only texts = None
+
+-- the only text that was given for a word
+abbrev pub only_of : Text → List Row → Option Text
+only_of id rows = option_and_then only (all_of id rows)
 
 -- two names, where both are there
 abbrev pub both_names : TwoTexts → Option Text → Option Text → Option (Asked Text)
@@ -212,7 +231,7 @@ further_in rows word = option_and_then (λ id. first_of id rows) word
 
 -- what a command asks for with the names among what it was given
 abbrev pub given_in : List Row → Asked Text → Option (Asked Text)
-given_in rows (One task word) = option_map (λ name. One (one_in rows task) name) (first_of word rows)
+given_in rows (One task word) = option_map (λ name. One (one_in rows task) name) (only_of word rows)
 given_in rows (Two task first second) = both_names (two_in rows task) (first_of first rows) (first_of second rows)
 given_in rows (Migrate carrier word) = option_map (λ name. Migrate (carrier_in rows carrier) name) (first_of word rows)
 given_in rows (Draw topic word further) = option_map (λ name. Draw (page_in rows topic) name (further_in rows further)) (first_of word rows)
@@ -224,6 +243,25 @@ asked_in given = option_and_then (λ row. given_in given.1 row.1) (find (λ row.
 -- what the words ask for
 abbrev pub asked : List Text → Option (Asked Text)
 asked words = option_and_then asked_in (subcommand_of postcopy_words words)
+
+-- some texts, if there are two or more
+abbrev pub several : List Text → Option (List Text)
+several (first ∷ second ∷ more) = Some (first ∷ second ∷ more)
+several texts = None
+
+-- the sessions that `audit` was given, if they are several, with what is asked of them
+abbrev pub several_among : List Row → Option (Audits × List Text)
+several_among rows = option_map (λ names. (audits_in rows plain_audit, names)) (option_and_then several (all_of (codes "SESSION") rows))
+
+abbrev pub several_in : Text × List Row → Option (Audits × List Text)
+several_in given = if bytes_eq given.0 (codes "audit") then several_among given.1 else None
+
+-- the sessions that are asked to be audited, where nothing else is asked for
+abbrev pub several_found : Option (Text × List Row) → Option (Audits × List Text)
+several_found given = if is_some (option_and_then asked_in given) then None else option_and_then several_in given
+
+abbrev pub several_asked : List Text → Option (Audits × List Text)
+several_asked words = several_found (subcommand_of postcopy_words words)
 
 -- the file that the words name for the answer
 abbrev pub output_named : List Text → Option Text

@@ -133,3 +133,20 @@ pub enum Asked<W> {
 
 /// What the words ask for, with the names of its texts.
 pub type Job<'a> = Asked<&'a str>;
+
+/// Several sessions that are to be audited.
+#[derive(Drop)]
+pub struct Several<'a> {
+    pub audits: Audits,
+    /// Their names: two or more.
+    pub names: Vec<&'a str>,
+}
+
+/// What the words ask for.
+#[derive(Drop)]
+pub enum Wish<'a> {
+    /// A command, with a name for each of its texts.
+    Job(Job<'a>),
+    /// The audit of several sessions.
+    Several(Several<'a>),
+}

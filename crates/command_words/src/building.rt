@@ -2,7 +2,7 @@
 
 ghost use Rattle.std.specs.Prelude.{◌≡◌, IfOk, false};
 ghost use Rattle.command_words.specs.Table.{further_name, row_of};
-ghost use Rattle.command_words.specs.Words.{choice_rule, command_words, flag_rule, line_words, needed, number_rule, program_words, with_all, with_demand, with_format, with_further, with_line, with_one, with_output, with_page, with_quiet, with_two};
+ghost use Rattle.command_words.specs.Words.{choice_rule, command_words, flag_rule, line_words, needed, number_rule, program_words, with_all, with_demand, with_format, with_further, with_line, with_one, with_output, with_page, with_quiet, with_two, text_word};
 ghost use Rattle.clap.specs.Words.{app_of, rule_of, with_rule};
 ghost use Rattle.clap.specs.declared.builder.command.Command.TheViews.{out-Command as fields_of};
 
@@ -237,6 +237,29 @@ fn with_format<'a>(
     with_choice(alloc, command, &FORMAT_CHOICE, forms, otherwise.name())
 }
 
+// The command with the word that names its text; more than one session may be audited.
+fn with_text<'a>(
+    alloc: Global,
+    command: Command<'a>,
+    task: OneText,
+    word: &Word,
+) -> Result<Command<'a>, AllocError>
+    requires { (fields_of command).has_globals ≡ false }
+    ensures app { IfOk result (λ c. app_of c ≡ with_rule (app_of command.entry) (text_word task word.now.name.now)) }
+    ensures local { IfOk result (λ c. (fields_of c).has_globals ≡ false) }
+{
+    match task {
+        OneText::Audit(_) => {
+            let arg = Arg::new(alloc, word.name)
+                .required(true)
+                .action(ArgAction::Append)
+                .help(word.help);
+            command.arg(arg)
+        }
+        OneText::Certify | OneText::Explain(_) => with_word(alloc, command, word),
+    }
+}
+
 // The command on one text, with its options.
 fn with_one<'a>(
     alloc: Global,
@@ -293,7 +316,7 @@ fn command_of<'a>(alloc: Global, choices: Choices<'a>, row: &Row) -> Result<Comm
     let command = Command::new(alloc, row.name).about(row.about);
     match &row.asked {
         Asked::One(task, word) => {
-            let command = with_word(alloc, command, word)?;
+            let command = with_text(alloc, command, *task, word)?;
             with_one(alloc, command, choices.forms, *task)
         }
         Asked::Two(task, first, second) => {

@@ -7,6 +7,7 @@ mod matching;
 mod table;
 
 pub use asked::{
-    Asked, Asking, Audits, Carrier, Demand, Explains, Faults, Form, Job, OneText, Topic, TwoTexts,
+    Asked, Asking, Audits, Carrier, Demand, Explains, Faults, Form, Job, OneText, Several, Topic,
+    TwoTexts, Wish,
 };
 pub use matching::{read_output, read_words};

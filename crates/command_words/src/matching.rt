@@ -2,28 +2,46 @@
 
 ghost use Rattle.std.specs.Prelude.{◌≡◌, IfOk, IfErr, codes, option_and_then, option_map, true, find};
 ghost use Rattle.std.specs.Str.{bytes_eq};
-ghost use Rattle.command_words.specs.Table.{asked_names, further_name, word_names};
-ghost use Rattle.command_words.specs.Words.{asked, asked_in, asking_in, audits_in, carrier_in, demand_in, explains_in, faults_in, form_in, format_in, further_in, given_in, is_set, number_in, number_of, one_in, output_named, page_in, postcopy_words, shortened, topic_in, two_in, word_texts};
-ghost use Rattle.clap.specs.Words.{first_of, found_of, kind_of, rows_of, subcommand_of, subcommand_rows_of, takes};
+ghost use Rattle.command_words.specs.Table.{asked_names, further_name, job_of, several_names, several_of, word_names};
+ghost use Rattle.command_words.specs.Words.{asked, asked_in, asking_in, audits_in, carrier_in, demand_in, explains_in, faults_in, form_in, format_in, further_in, given_in, is_set, number_in, number_of, one_in, only_of, output_named, page_in, postcopy_words, several_among, several_asked, several_found, several_in, shortened, topic_in, two_in, word_texts};
+ghost use Rattle.clap.specs.Words.{all_of, first_of, found_of, kind_of, rows_of, subcommand_of, subcommand_rows_of, takes};
 
 use crate::asked::{
-    Asked, Asking, Audits, Carrier, Demand, Explains, Faults, Form, Job, OneText, Topic, TwoTexts,
+    Asked, Asking, Audits, Carrier, Demand, Explains, Faults, Form, Job, OneText, Several, Topic,
+    TwoTexts, Wish,
 };
 use crate::building::{Choices, command_line};
 use crate::table::{
-    ALL, COMPLETE, FORMAT, LINE, LINK, OUTPUT, PAGE, QUIET, Row, Word, carrier_named,
-    carrier_names, commands, form_named, form_names,
+    ALL, COMPLETE, FORMAT, LINE, LINK, OUTPUT, PAGE, PLAIN_AUDIT, QUIET, Row, SESSION, Word,
+    carrier_named, carrier_names, commands, form_named, form_names,
 };
 use clap::ArgMatches;
 use clap::builder::ValueParser;
 use clap::error::ErrorKind;
-use std::alloc::Global;
+use std::alloc::{AllocError, Global};
 
 // What was given for a word or an option.
 fn name_given<'a>(id: &str, matches: &ArgMatches<'a>) -> Option<&'a str>
     ensures { option_map (λ name. name.now) result ≡ first_of id.now (rows_of (found_of matches.now)) }
 {
     matches.get_str(id)
+}
+
+// All that was given for a word.
+fn names_given<'m, 'a>(id: &str, matches: &'m ArgMatches<'a>) -> Option<&'m [&'a str]>
+    ensures { option_map (λ names. word_texts names.now) result ≡ all_of id.now (rows_of (found_of matches.now)) }
+{
+    matches.get_strs(id)
+}
+
+// The only name that was given for a word.
+fn only_given<'a>(id: &str, matches: &ArgMatches<'a>) -> Option<&'a str>
+    ensures { option_map (λ name. name.now) result ≡ only_of id.now (rows_of (found_of matches.now)) }
+{
+    match names_given(id, matches) {
+        Some(&[name]) => Some(name),
+        _ => None,
+    }
 }
 
 // What carries a migration: what was named, or else this.
@@ -204,7 +222,7 @@ fn given<'a>(asks: &Asked<Word>, matches: &ArgMatches<'a>) -> Option<Job<'a>>
 {
     match asks {
         Asked::One(task, word) => {
-            let name = name_given(word.name, matches)?;
+            let name = only_given(word.name, matches)?;
             Some(Asked::One(one_given(*task, matches), name))
         }
         Asked::Two(task, first, second) => {
@@ -267,14 +285,62 @@ fn matches_in<'a>(alloc: Global, words: &'a [&'a str]) -> Result<ArgMatches<'a>,
     }
 }
 
+// What is asked of the sessions of an audit, if they are several.
+fn several_given<'a>(
+    alloc: Global,
+    matches: &ArgMatches<'a>,
+) -> Result<Option<Several<'a>>, AllocError>
+    ensures { IfOk result (λ r. option_map several_names r ≡ several_among (rows_of (found_of matches.now))) }
+{
+    let names = match names_given(SESSION.name, matches) {
+        Some(names) if names.len() > 1 => names,
+        _ => return Ok(None),
+    };
+    let mut kept = Vec::new(alloc);
+    kept.extend_from_slice(names)?;
+    Ok(Some(Several {
+        audits: audits_given(PLAIN_AUDIT, matches),
+        names: kept,
+    }))
+}
+
+// The sessions that the matches ask to audit, if they are several.
+fn several_in<'a>(
+    alloc: Global,
+    matches: &ArgMatches<'a>,
+) -> Result<Option<Several<'a>>, AllocError>
+    ensures { IfOk result (λ r. option_map several_names r ≡ option_and_then several_in (subcommand_rows_of matches.now)) }
+{
+    match matches.subcommand() {
+        Some(("audit", inner)) => several_given(alloc, inner),
+        _ => Ok(None),
+    }
+}
+
+// What the matches ask for: a command, or else the audit of several sessions.
+fn wish_in<'a>(alloc: Global, matches: &ArgMatches<'a>) -> Result<Option<Wish<'a>>, AllocError>
+    ensures job { IfOk result (λ r. option_and_then job_of r ≡ option_and_then asked_in (subcommand_rows_of matches.now)) }
+    ensures several { IfOk result (λ r. option_and_then several_of r ≡ several_found (subcommand_rows_of matches.now)) }
+{
+    match job_in(matches) {
+        Some(job) => Ok(Some(Wish::Job(job))),
+        None => match several_in(alloc, matches)? {
+            Some(several) => Ok(Some(Wish::Several(several))),
+            None => Ok(None),
+        },
+    }
+}
+
 /// What the words ask for, of which the first is the program's own name. The error is clap's: it tells why the words are
 /// no command, or is the help or the version that was asked for, or that memory ran out.
-pub fn read_words<'a>(alloc: Global, words: &'a [&'a str]) -> Result<Option<Job<'a>>, clap::Error>
-    ensures ok { IfOk result (λ r. option_map asked_names r ≡ asked (word_texts words.entry.now)) }
+pub fn read_words<'a>(alloc: Global, words: &'a [&'a str]) -> Result<Option<Wish<'a>>, clap::Error>
+    ensures job { IfOk result (λ r. option_and_then job_of r ≡ asked (word_texts words.entry.now)) }
+    ensures several { IfOk result (λ r. option_and_then several_of r ≡ several_asked (word_texts words.entry.now)) }
     ensures err { IfErr result (λ e. takes postcopy_words (word_texts words.entry.now) ≡ true → kind_of e ≡ ErrorKind.OutOfMemory) }
 {
     let matches = matches_in(alloc, words)?;
-    Ok(job_in(&matches))
+    let wish = wish_in(alloc, &matches)?;
+    Ok(wish)
 }
 
 // The file that the matches name for the answer.

@@ -25,7 +25,8 @@ pub struct Row {
     pub asked: Asked<Word>,
 }
 
-const SESSION: Word = Word {
+/// The word for a session.
+pub const SESSION: Word = Word {
     name: "SESSION",
     help: "The session's file; - is standard input",
 };
@@ -80,6 +81,12 @@ const PLAIN: Asking = Asking {
     form: Form::Text,
 };
 
+/// What is asked of an audit where no option says more: the first fault alone.
+pub const PLAIN_AUDIT: Audits = Audits {
+    asking: PLAIN,
+    faults: Faults::First,
+};
+
 static FORMS: [Form; 2] = [Form::Text, Form::Json];
 
 static FORM_NAMES: [&str; 2] = ["text", "json"];
@@ -132,14 +139,8 @@ static COMMANDS: [Row; 8] = [
     },
     Row {
         name: "audit",
-        about: "Writes the report on a session, as in: postcopy audit session",
-        asked: Asked::One(
-            OneText::Audit(Audits {
-                asking: PLAIN,
-                faults: Faults::First,
-            }),
-            SESSION,
-        ),
+        about: "Writes the report on a session, or a line on each of several, as in: postcopy audit session",
+        asked: Asked::One(OneText::Audit(PLAIN_AUDIT), SESSION),
     },
     Row {
         name: "explain",
