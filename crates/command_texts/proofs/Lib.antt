@@ -5,3 +5,4 @@ pub mod PiecesTaken
 pub mod Said
 pub mod WhatIsRead
 pub mod Names
+pub mod Listed

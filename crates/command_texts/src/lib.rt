@@ -9,6 +9,7 @@ mod cutting;
 mod naming;
 mod performing;
 mod reading;
+mod several;
 mod taking;
 mod why;
 
@@ -20,5 +21,6 @@ pub use closing::Closable;
 pub use naming::read_named;
 pub use performing::{OnOne, OnTwo, perform_one, perform_two};
 pub use reading::TextSource;
+pub use several::{Listing, perform_several};
 pub use taking::{Gathered, Taker};
 pub use why::{Telling, Why, tell_why};

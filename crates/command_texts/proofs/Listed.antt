@@ -1,0 +1,64 @@
+-- Answers that are added to a list, one after the other.
+use Rattle.std.proofs.Common.{◌≡◌, ◌∙◌, ℕ, ◌+◌, Bool, true, false, List, [], ◌∷◌, ◌++◌, length, map, Option, None, refl, sym, ap, ap₂, subst, arith, cond, ◌==◌, ◌<◌, take, get_or}
+use Rattle.std.specs.Prelude.{◌≤◌}
+use Rattle.std.specs.List.{AllByRecursion, concat}
+use Rattle.std.specs.Borrow.{Bor}
+use Rattle.std.proofs.lemmas.List.{append_assoc, append-nil, take_all, take_more}
+use Rattle.command_texts.specs.Told.{AreRead, IsNamed, is_dash}
+use Rattle.command_texts.specs.declared.several.Listing.{Listing}
+use Rattle.command_texts.specs.Several.{AreGathered, Entry, IsGathered, IsRight, listed, names_of, well}
+
+-- what is read under a name is read where nothing is known of the input
+input_unknown : (dash : Bool) (file input : Option (List ℕ)) (text : List ℕ) → AreRead (cond dash input file) text → AreRead (cond dash None file) text
+input_unknown true file input text h = record { few = h.few; whole = tt }
+input_unknown false file input text h = h
+
+pub named_anyhow : (name : List ℕ) (files : List ℕ → Option (List ℕ)) (input : Option (List ℕ)) (text : List ℕ) → IsNamed name files input text → IsNamed name files None text
+named_anyhow name files input text h = input_unknown (is_dash name) (files name) input text h
+
+-- ---- lists with one more at the end
+
+all_more : {A : Type 0} (P : A → Type 0) (xs : List A) (x : A) → AllByRecursion P xs → P x → AllByRecursion P (xs ++ x ∷ [])
+all_more P [] x h p = (p, tt)
+all_more P (y ∷ ys) x h p = (h.0, all_more P ys x h.1 p)
+
+map_more : {A B : Type 0} (f : A → B) (xs : List A) (x : A) → map f (xs ++ x ∷ []) ≡ map f xs ++ f x ∷ []
+map_more f [] x = refl
+map_more f (y ∷ ys) x = ap (λ (zs : List _). f y ∷ zs) (map_more f ys x)
+
+concat_more : (xs : List (List ℕ)) (x : List ℕ) → concat (xs ++ x ∷ []) ≡ concat xs ++ x
+concat_more [] x = append-nil x
+concat_more (y ∷ ys) x = ap (λ zs. y ++ zs) (concat_more ys x) ∙ sym (append_assoc y (concat ys) x)
+
+well_more : (es : List Entry) (e : Entry) → well (es ++ e ∷ []) ≡ well es + cond (e.status == 0) 1 0
+well_more [] e = omega arith
+well_more (y ∷ ys) e = ap (λ (n : ℕ). cond (y.status == 0) 1 0 + n) (well_more ys e) ∙ omega arith
+
+module _ (files : List ℕ → Option (List ℕ)) (IsAnswer : List ℕ → List ℕ → ℕ → Type 0) (listing : Listing) where
+  -- nothing was added yet
+  pub none_gathered : (out : List ℕ) → AreGathered files IsAnswer listing [] out out 0
+  none_gathered out = record { entries = []; are_names = refl; are_right = tt; added = sym (append-nil out); tells = refl }
+
+  -- one more was added
+  pub one_gathered : (names : List (List ℕ)) (name old mid new : List ℕ) (count : ℕ) (is_well : Bool) → AreGathered files IsAnswer listing names old mid count → IsGathered files IsAnswer listing name mid new is_well → AreGathered files IsAnswer listing (names ++ name ∷ []) old new (count + cond is_well 1 0)
+  one_gathered names name old mid new count is_well h k =
+      let es = h.entries in
+      let e = k.entry in
+      record {
+        entries = es ++ e ∷ [];
+        are_names = map_more (λ (x : Entry). x.name) es e ∙ ap₂ (λ (xs : List (List ℕ)) (x : List ℕ). xs ++ x ∷ []) h.are_names k.is_name;
+        are_right = all_more (IsRight files IsAnswer) es e h.are_right k.is_right;
+        added = k.added ∙ ap (λ xs. xs ++ listed listing e) h.added ∙ append_assoc old (concat (map (listed listing) es)) (listed listing e)
+          ∙ ap (λ xs. old ++ xs) (sym (ap concat (map_more (listed listing) es e) ∙ concat_more (map (listed listing) es) (listed listing e)));
+        tells = ap₂ (λ (n : ℕ) (b : Bool). n + cond b 1 0) h.tells k.tells ∙ sym (well_more es e);
+      }
+
+  -- the next of the names was added
+  pub next_gathered : (names : List (Bor (List ℕ))) (k : ℕ) (d : Bor (List ℕ)) (old mid new : List ℕ) (count : ℕ) (is_well : Bool) → k < length names → AreGathered files IsAnswer listing (names_of (take k names)) old mid count → IsGathered files IsAnswer listing (get_or names k d).now mid new is_well → AreGathered files IsAnswer listing (names_of (take (k + 1) names)) old new (count + cond is_well 1 0)
+  next_gathered names k d old mid new count is_well lt h next =
+      let more : names_of (take (k + 1) names) ≡ names_of (take k names) ++ (get_or names k d).now ∷ [] = ap names_of (take_more names k d lt) ∙ map_more (λ (name : Bor (List ℕ)). name.now) (take k names) (get_or names k d) in
+      subst (λ ns. AreGathered files IsAnswer listing ns old new (count + cond is_well 1 0)) (sym more) (one_gathered (names_of (take k names)) (get_or names k d).now old mid new count is_well h next)
+
+  -- all names were added
+  pub all_gathered : (names : List (Bor (List ℕ))) (k : ℕ) (old new : List ℕ) (count : ℕ) → length names ≤ k → AreGathered files IsAnswer listing (names_of (take k names)) old new count → AreGathered files IsAnswer listing (names_of names) old new count
+  all_gathered names k old new count le h = subst (λ ns. AreGathered files IsAnswer listing (names_of ns) old new count) (take_all k names le) h

@@ -1,0 +1,145 @@
+//! A command on several texts, one after the other: an answer for each, and how many say that all is well.
+
+ghost use Rattle.std.specs.Prelude.{◌≡◌, ◌<◌, ◌++◌, ℕ, IfOk, OnOk, map};
+ghost use Rattle.command_texts.specs.Several.{AreGathered, IsGathered, TellsSeveral, list_end, listed_as, names_of};
+
+use crate::answer::{ACCEPTED, Answer, Fault, status_where, written};
+use crate::naming::read_named;
+use crate::performing::OnOne;
+use crate::reading::TextSource;
+use crate::why::{Telling, tell_why};
+use std::alloc::{AllocError, Global};
+use std::io::{Read, Write};
+use std::thread::Threads;
+use text_lines::push_number;
+
+/// How answers are listed.
+#[derive(Clone, Copy)]
+pub enum Listing<'a> {
+    /// Each after the name of its text, as in `a: clean`. At the end stands how many of how many are well, and this after it,
+    /// as in ` sessions are clean`.
+    Named(&'a [u8]),
+    /// As they are.
+    Bare,
+}
+
+impl Listing<'_> {
+    // Adds an answer.
+    fn push_answer(self, out: &mut Vec<u8>, name: &str, answer: &Answer) -> Result<(), AllocError>
+        ensures { OnOk result (out.new.items ≡ out.old.items ++ listed_as self.entry name.now answer.now.text.items) }
+    {
+        if let Listing::Named(_) = self {
+            out.extend_from_slice(name.as_bytes())?;
+            out.extend_from_slice(b": ")?;
+        }
+        out.extend_from_slice(answer.text.as_slice())
+    }
+
+    // Adds what ends the list, where so many answers of so many say that all is well.
+    fn push_end(self, out: &mut Vec<u8>, well: usize, all: usize) -> Result<(), AllocError>
+        ensures { OnOk result (out.new.items ≡ out.old.items ++ list_end self.entry well all) }
+    {
+        let Listing::Named(sum) = self else {
+            return Ok(());
+        };
+        push_number(out, well)?;
+        out.extend_from_slice(b" of ")?;
+        push_number(out, all)?;
+        out.extend_from_slice(sum)
+    }
+}
+
+// Adds the answer to the text under a name, and tells whether it says that all is well.
+fn push_one<'a, C: OnOne, R: Threads + Sync, S: TextSource, I: Read + Send, E: Write>(
+    rt: &R,
+    alloc: Global,
+    command: &C,
+    listing: Listing<'_>,
+    name: &'a str,
+    texts: &S,
+    input: &mut I,
+    out: &mut Vec<u8>,
+    errors: &mut E,
+) -> Result<bool, Fault<'a>>
+    requires ready { C.ready }
+    ensures { IfOk result (IsGathered (S.bytes_of texts.now) (C.is_answer command.now) listing.entry name.entry.now out.old.items out.new.items) }
+{
+    let mut why = None;
+    let found = read_named::<C::Text, R, S, I>(rt, alloc, name, texts, input, &mut why)?;
+    let answer = command.answer(alloc, &found)?;
+    tell_why(alloc, &why, Telling::Short, &Ok(answer.status), errors);
+    match listing.push_answer(out, name, &answer) {
+        Ok(()) => Ok(answer.status == ACCEPTED),
+        Err(_) => Err(Fault::Memory),
+    }
+}
+
+// Adds the answers to the texts under these names, and tells how many say that all is well.
+fn push_each<'a, C: OnOne, R: Threads + Sync, S: TextSource, I: Read + Send, E: Write>(
+    rt: &R,
+    alloc: Global,
+    command: &C,
+    listing: Listing<'_>,
+    names: &[&'a str],
+    texts: &S,
+    input: &mut I,
+    out: &mut Vec<u8>,
+    errors: &mut E,
+) -> Result<usize, Fault<'a>>
+    requires ready { C.ready }
+    ensures { IfOk result (AreGathered (S.bytes_of texts.now) (C.is_answer command.now) listing.entry (names_of names.now) out.old.items out.new.items) }
+{
+    let mut well = 0;
+    for name in names {
+        if push_one(rt, alloc, command, listing, name, texts, input, out, errors)? {
+            well += 1;
+        }
+    }
+    Ok(well)
+}
+
+/// Does a command on each of the texts under these names, one after the other, and lists the answers. The status is 0 where each
+/// answer says that all is well, and else 1. Where a text is refused, the errors tell why. A fault ends the list: what was
+/// answered before it is written.
+///
+/// Memory is taken for one text at a time, and for the answers.
+pub fn perform_several<
+    'a,
+    C: OnOne,
+    R: Threads + Sync,
+    S: TextSource,
+    I: Read + Send,
+    O: Write,
+    E: Write,
+>(
+    rt: &R,
+    alloc: Global,
+    command: &C,
+    listing: Listing<'_>,
+    names: &[&'a str],
+    texts: &S,
+    input: &mut I,
+    output: &mut O,
+    errors: &mut E,
+) -> Result<u8, Fault<'a>>
+    requires ready { C.ready }
+    ensures few { IfOk result (λ status. status < 2) }
+    ensures told { IfOk result (TellsSeveral (S.bytes_of texts.now) (C.is_answer command.now) listing.entry (names_of names.now) (O.contents output.old) (O.contents output.new)) }
+{
+    let mut text = Vec::new(alloc);
+    let well = match push_each(
+        rt, alloc, command, listing, names, texts, input, &mut text, errors,
+    ) {
+        Ok(well) => well,
+        Err(fault) => {
+            let _ = output.write_all(text.as_slice());
+            return Err(fault);
+        }
+    };
+    let all = names.len();
+    if listing.push_end(&mut text, well, all).is_err() {
+        return Err(Fault::Memory);
+    }
+    let status = status_where(well == all);
+    written(&Answer { text, status }, output)
+}
