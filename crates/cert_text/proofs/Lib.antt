@@ -7,3 +7,4 @@ pub mod Goes
 pub mod Written
 pub mod Taken
 pub mod Back
+pub mod CertRuns

@@ -2,6 +2,7 @@
 use Rattle.std.specs.Prelude.{◌≡◌, ℕ, ◌+◌, List, [], ◌∷◌, ◌++◌, length, Option, Some, None, codes}
 use Rattle.std.specs.Fmt.{decimal}
 use Rattle.migration_types.specs.declared.cert.First.{First}
+use Rattle.migration_types.specs.declared.cert.Run.{Run}
 use Rattle.migration_types.specs.declared.cert.Entry.{Entry}
 use Rattle.migration_types.specs.declared.cert.Entry.TheVariants.{Nothing, Fresh, Source, Balloon}
 use Rattle.migration_types.specs.declared.version.Version.{Version}
@@ -65,3 +66,7 @@ cert_lines c = header c.version ∷ (pages_key ++ decimal (length c.entries)) �
 -- these lines are the text of this certificate, which is within all limits
 abbrev pub SpellsCert : Certified → List (List ℕ) → Type 0
 SpellsCert c lines = IsCert c × (lines ≡ cert_lines c)
+
+-- these lines are the text of a certificate with these runs
+abbrev pub SpellsCertRuns : List Run → List (List ℕ) → Type 0
+SpellsCertRuns runs lines = (c : Certified) × SpellsCert c lines × (runs ≡ c.runs)

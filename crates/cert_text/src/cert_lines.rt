@@ -1,7 +1,8 @@
 //! What came of a certificate, line by line.
 
-ghost use Rattle.std.specs.Prelude.{◌≡◌, ◌≢◌, ℕ, [], MatchOption};
+ghost use Rattle.std.specs.Prelude.{◌≡◌, ◌≢◌, ℕ, [], MatchOption, IfSome, IfNone};
 ghost use Rattle.migration_types.specs.declared.version.Version.{Version as Told};
+ghost use Rattle.migration_types.specs.Certs.{Certified};
 ghost use Rattle.text_lines.specs.Text.{TakesLines};
 ghost use Rattle.cert_text.specs.Grammar.{header, SpellsCert};
 ghost use Rattle.cert_text.specs.inner.CertDraft.{held_at, LiveAt};
@@ -9,7 +10,7 @@ ghost use Rattle.cert_text.specs.inner.CertDraft.{held_at, LiveAt};
 use crate::entry_lines::{drop_entry, take_entries, take_entry, wanted_entry};
 use crate::run_lines::RunLines;
 use crate::runs::RunForm;
-use migration_types::{Cert, Entry, MOST_PAGES, Seq, Version};
+use migration_types::{Cert, Entry, MOST_PAGES, Run, Seq, Version};
 use std::alloc::Global;
 use std::thread::Threads;
 use text_lines::{
@@ -59,6 +60,24 @@ impl CertParts {
                 take_entries(&mut self.entries, self.runs.version(), self.pages, bytes)
             }
             _ => (bytes, 0),
+        }
+    }
+
+    /// The version, the entries and the runs, where the lines so far are a certificate's.
+    pub fn whole(self, stage: Stage) -> Option<(Version, Vec<Entry>, Seq<Run>)>
+        requires { LiveAt stage self }
+        ensures found { IfSome result (λ parts. SpellsCert (record { version = parts.0; entries = parts.1.items; runs = parts.2 }) (held_at stage self)) }
+        ensures none { IfNone result ((c : Certified) → SpellsCert c (held_at stage self) → ⊥) }
+    {
+        match stage {
+            Stage::Entries => {
+                let version = self.runs.version();
+                match self.runs.text() {
+                    Some(runs) => Some((version, self.entries, runs)),
+                    None => None,
+                }
+            }
+            _ => None,
         }
     }
 
@@ -142,15 +161,11 @@ impl Stages for CertParts {
     }
 
     fn text(self, stage: Stage) -> Option<Cert> {
-        match stage {
-            Stage::Entries => {
-                let version = self.runs.version();
-                match self.runs.text() {
-                    Some(runs) => Some(Cert::new(version, Seq::from_vec(self.entries), runs)),
-                    None => None,
-                }
+        match self.whole(stage) {
+            Some((version, entries, runs)) => {
+                Some(Cert::new(version, Seq::from_vec(entries), runs))
             }
-            _ => None,
+            None => None,
         }
     }
 

@@ -14,22 +14,29 @@ use std::alloc::{AllocError, Global};
 use text_lines::{Staged, TextFault, TextReader, push_keyed, push_line, read_whole};
 
 mod cert_lines;
+mod cert_runs;
 mod entry_lines;
 mod run_lines;
 mod runs;
 mod runs_text;
 
-use cert_lines::{CertParts, PAGES_KEY, cert_header};
+pub use cert_lines::cert_header;
+use cert_lines::{CertParts, PAGES_KEY};
+use cert_runs::CertRunsParts;
 use entry_lines::push_entries;
 pub use entry_lines::push_entry_line;
 use runs::push_runs;
-use runs_text::{RUNS_HEADER, RunsParts};
+pub use runs_text::RUNS_HEADER;
+use runs_text::RunsParts;
 
 /// Reads a certificate line by line.
 pub type CertLines = Staged<CertParts>;
 
 /// Reads the text of a certificate that comes in pieces.
 pub type CertReader = TextReader<CertLines>;
+
+/// Reads the runs of a certificate line by line.
+pub type CertRuns = Staged<CertRunsParts>;
 
 /// Reads a text of runs line by line.
 pub type RunsText = Staged<RunsParts>;

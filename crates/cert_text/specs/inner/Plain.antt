@@ -17,7 +17,7 @@ use Rattle.migration_types.specs.Limits.{most_runs}
 use Rattle.migration_types.specs.Sessions.{IsNumber}
 use Rattle.migration_types.specs.Certs.{Certified, FirstFits, EntryFits, RunFits, AreRuns}
 use Rattle.cert_text.specs.Runs.{runs_text_header, runs_key, closing, log_word, run_text, run_line, runs_lines, SpellsRuns}
-use Rattle.cert_text.specs.Grammar.{header, pages_key, page_key, first_text, placed_text, source_text, entry_text, entry_line, entry_lines, SpellsCert}
+use Rattle.cert_text.specs.Grammar.{header, pages_key, page_key, first_text, placed_text, source_text, entry_text, entry_line, entry_lines, SpellsCert, SpellsCertRuns}
 
 plain_keyed : (key : List ℕ) (n : ℕ) → IsLine key → n < 2 ^ 64 → IsLine (key ++ decimal n)
 plain_keyed key n h lt = plain_append key (decimal n) h (plain_decimal n lt)
@@ -91,3 +91,6 @@ plain_cert c lines s =
     let few = s.0.few_pages in
     let entries = plain_entries c.version 0 c.entries (runs_lines c.runs) (omega arith) s.0.entries (plain_runs c.version c.runs s.0.runs) in
     subst (AllByRecursion IsLine) (sym s.1) (plain_header c.version, (plain_keyed pages_key (length c.entries) (plain_codes pages_key refl) (omega arith), entries))
+
+pub plain_cert_runs : (runs : List Run) (lines : List (List ℕ)) → SpellsCertRuns runs lines → AllByRecursion IsLine lines
+plain_cert_runs runs lines s = plain_cert s.0 lines s.1
