@@ -9,6 +9,8 @@ mod kinds;
 #[cfg(test)]
 mod lines;
 #[cfg(test)]
+mod orders;
+#[cfg(test)]
 mod parts;
 #[cfg(test)]
 mod pieces;
