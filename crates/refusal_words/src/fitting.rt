@@ -62,7 +62,7 @@ impl<'a> Fit<'a> {
 }
 
 /// The first word, and what follows the space after it, if one does.
-fn first_word(text: &[u8]) -> (&[u8], Option<&[u8]>) {
+pub(crate) fn first_word(text: &[u8]) -> (&[u8], Option<&[u8]>) {
     match memchr(SPACE, text) {
         None => (text, None),
         Some(at) => (&text[..at], Some(&text[at + 1..])),

@@ -1,5 +1,6 @@
 //! Files that are no text of this kind at all, and line ends of another kind.
 
+use crate::fitting::first_word;
 use text_lines::{Refusal, Wanted};
 
 /// What a file is, or what ends its lines, where that is the reason why it is refused.
@@ -133,8 +134,20 @@ fn report(line: &[u8], wanted: Kind) -> Option<Special> {
     Some(Special::Report { behind, wanted })
 }
 
-/// A text of another kind, by its first line.
+/// Whether a line begins with the first word of a form that may stand there.
+fn begins_as_wanted(line: &[u8], wanted: &Wanted) -> bool {
+    let (word, _) = first_word(line);
+    wanted
+        .forms
+        .iter()
+        .any(|form| first_word(form.as_bytes()).0 == word)
+}
+
+/// A text of another kind than all that may stand there, by its first line.
 fn of_another_kind(line: &[u8], wanted: &Wanted) -> Option<Special> {
+    if begins_as_wanted(line, wanted) {
+        return None;
+    }
     let wanted = Kind::wanted(wanted)?;
     match Kind::of(line) {
         None => report(line, wanted),
