@@ -15,7 +15,7 @@ extern "C" {
 #define POSTCOPY_VERSION 10000
 
 /* Which answer it is. No answer has the number 0. Those of check are of postcopy_check alone, those of replay of
-   postcopy_replay alone, and those of a report of the others. */
+   postcopy_replay alone, that of why of postcopy_why alone, and those of a report of the others. */
 enum postcopy_kind {
     POSTCOPY_YES = 1,          /* check: the certificate is right, and every merging of the session is safe */
     POSTCOPY_CLEAN = 2,        /* a report: every merging of the session is safe */
@@ -29,9 +29,10 @@ enum postcopy_kind {
     POSTCOPY_FAULTY = 10,      /* a report: the session is not safe: the fault at `line`, and its `reason` */
     POSTCOPY_NO_MEMORY = 11,   /* there was no memory, and nothing is said of the texts */
     POSTCOPY_SAFE = 12,        /* replay: in this one order each record finds what it demands; other orders may go wrong */
-    POSTCOPY_RUNS_TEXT = 13,   /* replay: the text of the runs is refused at `line` */
+    POSTCOPY_RUNS_TEXT = 13,   /* replay: the text of the order is refused at `line` */
     POSTCOPY_NO_MERGING = 14,  /* replay: the runs spell no merging of the session */
-    POSTCOPY_BROKEN = 15       /* replay: in this order the record at `line` is the first that does not find what it demands */
+    POSTCOPY_BROKEN = 15,      /* replay: in this order the record at `line` is the first that does not find what it demands */
+    POSTCOPY_READ = 16         /* why: the text is read, and no line of it is refused */
 };
 
 /* Why, of POSTCOPY_SHAPE the first four, and of POSTCOPY_FAULTY the others. 0 is no reason. */
@@ -57,6 +58,14 @@ typedef struct {
     size_t text_len; /* how many bytes the answer's text has, whether or not there was room for it; of check and replay 0 */
 } postcopy_answer;
 
+/* Why a text is refused. */
+typedef struct {
+    uint32_t kind;   /* what postcopy_why was asked for, where the text is refused; POSTCOPY_READ; POSTCOPY_NO_MEMORY; or 0 */
+    uint32_t line;   /* the line at which the text is refused, from 1 on, or 0 */
+    uint32_t column; /* where in that line it is wrong, in bytes from 1 on, or 0 */
+    size_t text_len; /* how many bytes the words have, whether or not there was room for them */
+} postcopy_refusal;
+
 /* What the caller promises of each call, and nothing checks:
    - a pointer is not null, even where its length is 0, and a length is less than 2^63;
    - the texts have so many readable bytes, which nobody writes until the call returns;
@@ -69,7 +78,8 @@ typedef struct {
 /* Judges the certificate of a session. */
 postcopy_answer postcopy_check(const uint8_t *session, size_t session_len, const uint8_t *cert, size_t cert_len);
 
-/* Replays a session in the one order that runs spell. Of the other orders it says nothing. */
+/* Replays a session in the one order that a text of runs, a certificate or a report tells. Of the other orders it says
+   nothing. */
 postcopy_answer postcopy_replay(const uint8_t *session, size_t session_len, const uint8_t *runs, size_t runs_len);
 
 /* Writes the certificate of a session that is clean, and of another the first line of its report.
@@ -85,6 +95,13 @@ postcopy_answer postcopy_explain(const uint8_t *session, size_t session_len, uin
 
 /* Writes the picture of a session in the order of its report, as SVG, in the same way; and of a text that is refused its line. */
 postcopy_answer postcopy_draw(const uint8_t *session, size_t session_len, uint8_t *room, size_t room_len);
+
+/* Why a text is refused: the line, the column, and words on what was found there and what may stand there, in one line without
+   a line feed, which are written as the text of postcopy_certify is. `kind` is that of the answer which refuses the text:
+   POSTCOPY_SESSION_TEXT asks of a session, POSTCOPY_CERT_TEXT of a certificate, POSTCOPY_RUNS_TEXT of what postcopy_replay
+   takes as an order. Of another number nothing is said, and the kind that is answered is 0. The words may change with a
+   version, and no program should read them. */
+postcopy_refusal postcopy_why(const uint8_t *text, size_t text_len, uint32_t kind, uint8_t *room, size_t room_len);
 
 /* The version of the library that is linked, as POSTCOPY_VERSION tells that of this header. */
 uint32_t postcopy_version(void);

@@ -1,5 +1,5 @@
 // Calls the module of the page, in node: web_calls.js MODULE. Each line of the input is a call and the files of its texts, as
-// JSON; each line of the output is the answer, with its text in base64.
+// JSON; each line of the output is the answer, with its text in base64, and why a text is refused.
 "use strict";
 const fs = require("fs");
 const { Postcopy } = require("../web/postcopy.js");
@@ -12,7 +12,8 @@ function answered([call, ...names]) {
   const it = new Postcopy(compiled);
   const [session, certificate] = names.map((name) => it.put(fs.readFileSync(name)));
   const { bytes, ...answer } = certificate ? it.check(session, certificate) : it.text(call, session, 0);
-  return { ...answer, text: Buffer.from(bytes ?? []).toString("base64") };
+  const refused = { SESSION_TEXT: session, CERT_TEXT: certificate }[answer.kind];
+  return { ...answer, ...(refused && it.why(answer.kind, refused, 0)), text: Buffer.from(bytes ?? []).toString("base64") };
 }
 
 console.log(JSON.stringify(WebAssembly.Module.exports(compiled).map(({ name }) => name).sort()));

@@ -108,10 +108,14 @@ function showFailure(failure, session) {
   }
 }
 
-function verdictWords({ kind, line, reason }) {
+// Why a text is refused, as a sentence.
+const whyRefused = ({ column, why }) => (why ? `At column ${column}: ${why}.` : "");
+
+function verdictWords({ kind, line, reason, ...refusal }) {
   const [colour, head, sentence] = VERDICTS[kind];
   const why = REASONS[reason];
-  if (kind === "SESSION_TEXT") return [colour, head, `No text of a session goes on as this file does at line ${line}, or it ends there too early.`];
+  if (kind === "SESSION_TEXT") return [colour, head, `No text of a session goes on as this file does at line ${line}, or it ends there too early.`,
+    whyRefused(refusal)];
   return [colour, head, sentence, why ? `${why[0].toUpperCase()}${why.slice(1)}: line ${line}.` : line ? `The first of them: line ${line}.` : ""];
 }
 
@@ -297,7 +301,8 @@ async function sorted(files) {
 async function certificateWords(session, certificate) {
   const answer = await ask("check", session, certificate);
   if (answer.failure) return `The certificate could not be judged: ${answer.failure.words}.`;
-  return CERTIFICATES[answer.kind]?.replace("@", () => `line ${answer.line} of ${certificate.name}`);
+  const words = CERTIFICATES[answer.kind]?.replace("@", () => `line ${answer.line} of ${certificate.name}`);
+  return answer.why ? `${words} ${whyRefused(answer)}` : words;
 }
 
 async function judged(files) {

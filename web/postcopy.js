@@ -2,7 +2,7 @@
 "use strict";
 
 const KINDS = ["", "YES", "CLEAN", "SESSION_TEXT", "CERT_TEXT", "SHAPE", "PAGES", "RUNS", "PAGE", "KNOT", "FAULTY", "NO_MEMORY", "SAFE", "RUNS_TEXT",
-  "NO_MERGING", "BROKEN"];
+  "NO_MERGING", "BROKEN", "READ"];
 
 // There was no memory for a question.
 class OutOfMemory extends Error {}
@@ -47,6 +47,19 @@ class Postcopy {
       const room = this.room(length);
       const answer = this.answer(call, session.at, BigInt(session.length), room.at, BigInt(length));
       if (answer.length <= length) return { ...answer, bytes: this.view({ at: room.at, length: answer.length }).slice() };
+      this.calls.free(room.at);
+      length = answer.length;
+    }
+  }
+
+  // Why a text is refused, where the answer of this kind refuses it: the column in its line, and words on it.
+  why(kind, text, first = 4096) {
+    for (let length = first; ; ) {
+      const room = this.room(length);
+      const answer = this.answer("why", text.at, BigInt(text.length), KINDS.indexOf(kind), room.at, BigInt(length));
+      const bytes = { at: room.at, length: answer.length };
+      // (where an answer has its reason, a refusal has its column)
+      if (answer.length <= length) return { line: answer.line, column: answer.reason, why: new TextDecoder().decode(this.view(bytes).slice()) };
       this.calls.free(room.at);
       length = answer.length;
     }

@@ -39,7 +39,9 @@ async function answered({ call, session, certificate, bytes }, say) {
   say(1, 0);
   const began = performance.now();
   const answer = second ? it.check(first, second) : it.text(call, first);
-  return { ...answer, ms: performance.now() - began, memory: it.memory() };
+  const ms = performance.now() - began;
+  const refused = { SESSION_TEXT: first, CERT_TEXT: second }[answer.kind];
+  return { ...answer, ...(refused && it.why(answer.kind, refused)), ms, memory: it.memory() };
 }
 
 onmessage = async ({ data }) => {

@@ -1,6 +1,7 @@
 /* Calls the library as hostile surroundings do. Each line of the input is 'check SESSION CERT', 'replay SESSION RUNS', or
-   'certify', 'audit', 'explain' or 'draw' with a SESSION, where a file named - is empty. The texts and the room end where
-   memory ends that may be touched.
+   'certify', 'audit', 'explain' or 'draw' with a SESSION, where a file named - is empty; or 'session', 'certificate' or
+   'order' with a FILE, which asks why this is refused as such a text. The texts and the room end where memory ends that may be
+   touched.
 
    Each call is made with each allocation failing in turn, with rooms of each length up to the text's own, and by four threads at
    once on small stacks. For each line it writes the answer's numbers on a line, and then the answer's text. The first call that
@@ -20,6 +21,9 @@
 _Static_assert(offsetof(postcopy_answer, kind) == 0 && offsetof(postcopy_answer, line) == 4, "layout");
 _Static_assert(offsetof(postcopy_answer, reason) == 8 && offsetof(postcopy_answer, text_len) == 16, "layout");
 _Static_assert(sizeof(postcopy_answer) == 24, "layout");
+_Static_assert(offsetof(postcopy_refusal, kind) == 0 && offsetof(postcopy_refusal, line) == 4, "layout");
+_Static_assert(offsetof(postcopy_refusal, column) == 8 && offsetof(postcopy_refusal, text_len) == 16, "layout");
+_Static_assert(sizeof(postcopy_refusal) == 24, "layout");
 
 enum { PATTERN = 0xa5, MARGIN = 64, THREADS = 4, ROUNDS = 8, STACK = 65536, ALL_LENGTHS = 4096 };
 
@@ -105,11 +109,26 @@ static const struct {
     postcopy_answer (*call)(const uint8_t *session, size_t session_len, uint8_t *room, size_t room_len);
 } writers[] = {{"certify", postcopy_certify}, {"audit", postcopy_audit}, {"explain", postcopy_explain}, {"draw", postcopy_draw}};
 
+/* The kinds of texts of which it is asked why one is refused. */
+static const struct {
+    const char *command;
+    uint32_t kind;
+} refusals[] = {{"session", POSTCOPY_SESSION_TEXT}, {"certificate", POSTCOPY_CERT_TEXT}, {"order", POSTCOPY_RUNS_TEXT}};
+
+/* Why a text is refused, as an answer that has the column in place of a reason. */
+static postcopy_answer why(const job *it, uint32_t kind, uint8_t *room, size_t room_len) {
+    postcopy_refusal refusal = postcopy_why(it->session, it->session_len, kind, room, room_len);
+    return (postcopy_answer){.kind = refusal.kind, .line = refusal.line, .reason = refusal.column, .text_len = refusal.text_len};
+}
+
 static postcopy_answer call(const job *it, uint8_t *room, size_t room_len) {
     if (!strcmp(it->command, "check")) return postcopy_check(it->session, it->session_len, it->other, it->other_len);
     if (!strcmp(it->command, "replay")) return postcopy_replay(it->session, it->session_len, it->other, it->other_len);
     for (size_t i = 0; i < sizeof writers / sizeof *writers; i++) {
         if (!strcmp(it->command, writers[i].command)) return writers[i].call(it->session, it->session_len, room, room_len);
+    }
+    for (size_t i = 0; i < sizeof refusals / sizeof *refusals; i++) {
+        if (!strcmp(it->command, refusals[i].command)) return why(it, refusals[i].kind, room, room_len);
     }
     fail("no command", it->line);
     abort();
@@ -214,6 +233,8 @@ static void do_job(const char *line) {
 
 int main(void) {
     if (postcopy_version() != POSTCOPY_VERSION) fail("the library is of another version than the header", "version");
+    postcopy_refusal none = postcopy_why((const uint8_t *)"", 0, POSTCOPY_YES, (uint8_t[1]){0}, 1);
+    if (none.kind || none.line || none.column || none.text_len) fail("something is said of no kind of text", "why");
     char line[4096];
     while (fgets(line, sizeof line, stdin)) {
         line[strcspn(line, "\n")] = 0;

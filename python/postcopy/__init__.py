@@ -25,14 +25,14 @@ import itertools
 import mmap
 import os
 import subprocess
-from dataclasses import dataclass, field
+from dataclasses import dataclass, field, replace
 from pathlib import Path
-from typing import Optional, Union
+from typing import Callable, Optional, TypeVar, Union
 
 from .records import page_in
 
 __all__ = ["Answer", "Kind", "OutOfMemory", "Reason", "Refused", "Report", "Text", "audit", "certify", "check", "draw", "explain",
-           "replay", "version"]
+           "replay", "version", "why"]
 
 __version__ = "1.0.0"
 
@@ -45,11 +45,13 @@ class OutOfMemory(MemoryError):
 
 
 class Refused(ValueError):
-    """A text is refused: `kind` tells which, SESSION_TEXT, CERT_TEXT or RUNS_TEXT, and `line` at which of its lines."""
+    """A text is refused: `kind` tells which, SESSION_TEXT, CERT_TEXT or RUNS_TEXT, `line` and `column` where, both counted from 1
+    and the column in bytes, and `why` in words what was found there and what may stand there. The words may change with a version,
+    and no program should read them."""
 
-    def __init__(self, kind: "Kind", line: int) -> None:
-        super().__init__(kind, line)
-        self.kind, self.line = kind, line
+    def __init__(self, kind: "Kind", line: int, column: int = 0, why: str = "") -> None:
+        super().__init__(kind, line, column, why)
+        self.kind, self.line, self.column, self.why = kind, line, column, why
 
     def __str__(self) -> str:
         return f"{self.kind.word} line {self.line}"
@@ -62,6 +64,8 @@ class Kind(enum.IntEnum):
     RUNS_TEXT: the text is refused at the line. SHAPE: the session has not the right shape. PAGES: session and certificate are of
     machines of different sizes. RUNS, PAGE: the run, or the entry, at the line of the certificate is not right. KNOT: the session's
     records wait for one another in a cycle. FAULTY: the session is not safe, because of the record at the line.
+
+    READ: a text is read, and no line of it is refused; `why` answers None then.
 
     Of a replay, and so of one order alone: SAFE: each record finds what it demands; other orders may go wrong. NO_MERGING: the runs
     spell no merging of the session. BROKEN: the record at the line is the first that does not find what it demands.
@@ -82,6 +86,7 @@ class Kind(enum.IntEnum):
     RUNS_TEXT = 13
     NO_MERGING = 14
     BROKEN = 15
+    READ = 16
 
     @property
     def word(self) -> str:
@@ -117,19 +122,25 @@ class Reason(enum.IntEnum):
         return self.name.lower().replace("_", "-")
 
 
+#: The kinds of answers that refuse a text, in the order in which the texts are given.
+_REFUSED = (Kind.SESSION_TEXT, Kind.CERT_TEXT, Kind.RUNS_TEXT)
+
+
 @dataclass(frozen=True)
 class Answer:
     """An answer: its kind, the line of a text that it names, its reason, and its text.
 
     The text is that which the program's command writes: of `certify` the certificate, or the first line of the report, of
     `audit` the report, of `explain` what happened in words, and of `draw` a picture as SVG. `check` and `replay` have none. A
-    notebook shows a picture.
+    notebook shows a picture. Where a text is refused, `column` and `why` tell more of it, as Refused has them.
     """
 
     kind: Kind
     line: Optional[int] = None
     reason: Optional[Reason] = None
     text: bytes = field(default=b"", repr=False)
+    column: Optional[int] = None
+    why: Optional[str] = field(default=None, repr=False)
 
     @property
     def is_safe(self) -> bool:
@@ -143,8 +154,8 @@ class Answer:
 
     def raise_if_refused(self) -> None:
         """Raises Refused where the answer is that a text is refused."""
-        if self.kind in (Kind.SESSION_TEXT, Kind.CERT_TEXT, Kind.RUNS_TEXT):
-            raise Refused(self.kind, self.line or 0)
+        if self.kind in _REFUSED:
+            raise Refused(self.kind, self.line or 0, self.column or 0, self.why or "")
 
     def __str__(self) -> str:
         """The first line of what the program writes."""
@@ -206,6 +217,18 @@ class _Answer(ctypes.Structure):
         ("reason", ctypes.c_uint32),
         ("text_len", ctypes.c_size_t),
     ]
+
+
+class _Refusal(ctypes.Structure):
+    _fields_ = [
+        ("kind", ctypes.c_uint32),
+        ("line", ctypes.c_uint32),
+        ("column", ctypes.c_uint32),
+        ("text_len", ctypes.c_size_t),
+    ]
+
+
+_Numbers = TypeVar("_Numbers", _Answer, _Refusal)
 
 
 class _Bytes:
@@ -280,34 +303,55 @@ def _library() -> ctypes.CDLL:
     for name in ("check", "replay", "certify", "audit", "explain", "draw"):
         call = getattr(library, f"postcopy_{name}")
         call.argtypes, call.restype = text + text, _Answer
+    library.postcopy_why.argtypes, library.postcopy_why.restype = [*text, ctypes.c_uint32, *text], _Refusal
     library.postcopy_version.argtypes, library.postcopy_version.restype = [], ctypes.c_uint32
     return library
 
 
-def _told(numbers: _Answer, text: bytes = b"") -> Answer:
+def _kind(numbers: Union[_Answer, _Refusal]) -> Kind:
     kind = Kind(numbers.kind)
     if kind is Kind.NO_MEMORY:
         raise OutOfMemory("memory was refused")
-    return Answer(kind, numbers.line or None, Reason(numbers.reason) if numbers.reason else None, text)
+    return kind
+
+
+def _told(numbers: _Answer, text: bytes, *given: _Bytes) -> Answer:
+    """The answer to the texts that were given, with why one of them is refused."""
+    kind = _kind(numbers)
+    answer = Answer(kind, numbers.line or None, Reason(numbers.reason) if numbers.reason else None, text)
+    refused = _why(given[0 if kind is Kind.SESSION_TEXT else -1], kind) if kind in _REFUSED else None
+    return answer if refused is None else replace(answer, column=refused.column, why=refused.why)
+
+
+def _in_room(length: int, call: "Callable[[object, int], _Numbers]") -> "tuple[_Numbers, bytes]":
+    """What a call answers that writes a text into the room that it is handed, and this text. The room has so many bytes at first."""
+    while True:
+        # (memory that is mapped and not touched takes none)
+        with mmap.mmap(-1, length) as room:
+            held = (ctypes.c_char * length).from_buffer(room)
+            numbers = call(held, length)
+            del held
+            if numbers.text_len <= length:
+                return numbers, room[: numbers.text_len]
+        length = numbers.text_len
 
 
 def _with_text(call: "ctypes._FuncPointer", session: Text) -> Answer:
     with _Bytes(session) as given:
-        length = given.length + mmap.PAGESIZE
-        while True:
-            # (memory that is mapped and not touched takes none)
-            with mmap.mmap(-1, length) as room:
-                held = (ctypes.c_char * length).from_buffer(room)
-                numbers = call(given.at, given.length, held, length)
-                del held
-                if numbers.text_len <= length:
-                    return _told(numbers, room[: numbers.text_len])
-            length = numbers.text_len
+        numbers, text = _in_room(given.length + mmap.PAGESIZE, lambda room, length: call(given.at, given.length, room, length))
+        return _told(numbers, text, given)
 
 
 def _on_two(call: "ctypes._FuncPointer", session: Text, other: Text) -> Answer:
     with _Bytes(session) as first, _Bytes(other) as second:
-        return _told(call(first.at, first.length, second.at, second.length))
+        return _told(call(first.at, first.length, second.at, second.length), b"", first, second)
+
+
+def _why(given: _Bytes, kind: Kind) -> Optional[Refused]:
+    """Why bytes are refused as a text of a kind, or None where they are read."""
+    call = _library().postcopy_why
+    numbers, words = _in_room(mmap.PAGESIZE, lambda room, length: call(given.at, given.length, kind, room, length))
+    return None if _kind(numbers) is Kind.READ else Refused(kind, numbers.line, numbers.column, words.decode("utf-8", "replace"))
 
 
 def check(session: Text, certificate: Text) -> Answer:
@@ -316,8 +360,8 @@ def check(session: Text, certificate: Text) -> Answer:
 
 
 def replay(session: Text, runs: Text) -> Answer:
-    """Replays a session in the one order that runs spell, as the command `replay` does. SAFE is said of this order alone. Raises
-    OutOfMemory where memory is refused."""
+    """Replays a session in the one order that a text of runs, a certificate or a report tells, as the command `replay` does. SAFE is
+    said of this order alone. Raises OutOfMemory where memory is refused."""
     return _on_two(_library().postcopy_replay, session, runs)
 
 
@@ -330,7 +374,7 @@ def certify(session: Text) -> Answer:
 def audit(session: Text) -> Report:
     """The report on a session, as the command `audit` writes it. Raises OutOfMemory where memory is refused."""
     answer = _with_text(_library().postcopy_audit, session)
-    return Report(answer.kind, answer.line, answer.reason, answer.text, session)
+    return Report(answer.kind, answer.line, answer.reason, answer.text, answer.column, answer.why, session)
 
 
 def explain(session: Text) -> Answer:
@@ -343,6 +387,15 @@ def draw(session: Text) -> Answer:
     """The picture of a session in the order of its report, as the command `draw` writes it. The answer is of the kind of the
     report. Raises OutOfMemory where memory is refused."""
     return _with_text(_library().postcopy_draw, session)
+
+
+def why(text: Text, kind: Kind = Kind.SESSION_TEXT) -> Optional[Refused]:
+    """Why a text is refused as a session, or with CERT_TEXT as a certificate, or with RUNS_TEXT as what `replay` takes as an order;
+    None where it is read. Raises OutOfMemory where memory is refused."""
+    if kind not in _REFUSED:
+        raise ValueError(f"no text is of the kind {kind!r}")
+    with _Bytes(text) as given:
+        return _why(given, Kind(kind))
 
 
 def version() -> str:

@@ -11,7 +11,7 @@ use Rattle.text_lines.specs.Answer.{IsRead}
 use Rattle.migration_types.specs.declared.cert.Run.{Run}
 use Rattle.migration_types.specs.Sessions.{Recorded}
 use Rattle.session_text.specs.Grammar.{SpellsSession}
-use Rattle.cert_text.specs.Runs.{SpellsRuns}
+use Rattle.order_text.specs.Order.{SpellsOrder}
 use Rattle.order_picture.specs.Svg.{IsSvg}
 use Rattle.command_texts.specs.declared.answer.Answer.{Answer}
 use Rattle.command_texts.specs.Answers.{Says, numbered}
@@ -46,9 +46,9 @@ module _ (session : List ℕ) (read : Result Recorded ℕ) (is_read : IsRead Spe
   pub refused_along : (runs : List ℕ) (line : ℕ) (found : Result Answer AllocError) → read ≡ Err line → IfOk found (λ a. Says a (numbered (codes "session-text line ") line) 1) → IfOk found (λ a. IsDrawAlongAnswer (session, runs) a.text.items a.status)
   refused_along runs line found is says = says_right (IsDrawingAlong session runs) drawing_text drawing_status (SessionText line) found (subst (IsRead SpellsSession session) is is_read) says
 
-  module _ (runs : List ℕ) (other : Result (List Run) ℕ) (other_read : IsRead SpellsRuns runs other) where
+  module _ (runs : List ℕ) (other : Result (List Run) ℕ) (other_read : IsRead SpellsOrder runs other) where
     pub drawn_along : (s : Recorded) (order : List Run) (text : List ℕ) → read ≡ Ok s → other ≡ Ok order → IsSvg text → IsDrawAlongAnswer (session, runs) text 0
-    drawn_along s order text is same svg = record { value = Drawn text; is_right = (s, order, subst (IsRead SpellsSession session) is is_read, subst (IsRead SpellsRuns runs) same other_read, svg); is_text = refl; is_status = refl }
+    drawn_along s order text is same svg = record { value = Drawn text; is_right = (s, order, subst (IsRead SpellsSession session) is is_read, subst (IsRead SpellsOrder runs) same other_read, svg); is_text = refl; is_status = refl }
 
     pub refused_runs : (s : Recorded) (line : ℕ) (found : Result Answer AllocError) → read ≡ Ok s → other ≡ Err line → IfOk found (λ a. Says a (numbered (codes "runs-text line ") line) 1) → IfOk found (λ a. IsDrawAlongAnswer (session, runs) a.text.items a.status)
-    refused_runs s line found is same says = says_right (IsDrawingAlong session runs) drawing_text drawing_status (RunsText line) found (s, subst (IsRead SpellsSession session) is is_read, subst (IsRead SpellsRuns runs) same other_read) says
+    refused_runs s line found is same says = says_right (IsDrawingAlong session runs) drawing_text drawing_status (RunsText line) found (s, subst (IsRead SpellsSession session) is is_read, subst (IsRead SpellsOrder runs) same other_read) says

@@ -4,7 +4,7 @@ use Rattle.text_lines.specs.Text.{IsSpelling, IsRefusalLine}
 use Rattle.migration_types.specs.declared.cert.Run.{Run}
 use Rattle.migration_types.specs.Sessions.{Recorded}
 use Rattle.session_text.specs.Grammar.{SpellsSession}
-use Rattle.cert_text.specs.Runs.{SpellsRuns}
+use Rattle.order_text.specs.Order.{SpellsOrder}
 use Rattle.order_picture.specs.Svg.{IsSvg}
 use Rattle.command_texts.specs.Answers.{IsAnswer, numbered}
 
@@ -20,11 +20,11 @@ IsDrawing session (SessionText line) = IsRefusalLine SpellsSession session line
 IsDrawing session (RunsText line) = ⊥
 IsDrawing session (Drawn text) = (s : Recorded) × IsSpelling SpellsSession s session × IsSvg text
 
--- what becomes of the texts of a session and of runs, of which the session is judged first
+-- what becomes of the texts of a session and of an order, of which the session is judged first
 abbrev pub IsDrawingAlong : List ℕ → List ℕ → Drawing → Type 0
 IsDrawingAlong session runs (SessionText line) = IsRefusalLine SpellsSession session line
-IsDrawingAlong session runs (RunsText line) = (s : Recorded) × IsSpelling SpellsSession s session × IsRefusalLine SpellsRuns runs line
-IsDrawingAlong session runs (Drawn text) = (s : Recorded) × (order : List Run) × IsSpelling SpellsSession s session × IsSpelling SpellsRuns order runs × IsSvg text
+IsDrawingAlong session runs (RunsText line) = (s : Recorded) × IsSpelling SpellsSession s session × IsRefusalLine SpellsOrder runs line
+IsDrawingAlong session runs (Drawn text) = (s : Recorded) × (order : List Run) × IsSpelling SpellsSession s session × IsSpelling SpellsOrder order runs × IsSvg text
 
 abbrev pub drawing_text : Drawing → List ℕ
 drawing_text (SessionText line) = numbered (codes "session-text line ") line

@@ -4,19 +4,19 @@ ghost use Rattle.std.specs.Prelude.{ℕ, List, IfOk};
 ghost use Rattle.std.specs.Thread.{IsSync};
 ghost use Rattle.text_lines.specs.Answer.{IsRead};
 ghost use Rattle.session_text.specs.Grammar.{SpellsSession};
-ghost use Rattle.cert_text.specs.Runs.{SpellsRuns};
+ghost use Rattle.order_text.specs.Order.{SpellsOrder};
 ghost use Rattle.order_picture.specs.Svg.{IsSvg};
 ghost use Rattle.report_text.specs.RefusalText.{refusal_text};
 ghost use Rattle.command_texts.specs.Answers.{Says};
 ghost use Rattle.commands.specs.Drawings.{IsDrawAnswer, IsDrawAlongAnswer};
 
 use audit_report::audit;
-use cert_text::RunsReader;
 use command_texts::{
     ACCEPTED, Answer, Fault, Given, OnOne, OnTwo, REFUSED, given, given_alone, refused,
 };
 use migration_types::{Run, Seq, Session};
 use order_picture::{print_picture, print_picture_along};
+use order_text::OrderReader;
 use report_text::print_refused_session;
 use session_text::SessionReader;
 use std::alloc::{AllocError, Global};
@@ -80,7 +80,7 @@ fn draw_along_read<R: Threads + Sync>(
     session: &Result<Session, u32>,
     runs: &Result<Seq<Run>, u32>,
 ) -> Result<Answer, AllocError>
-    ensures { (first second : List ℕ) → IsRead SpellsSession first session.now → IsRead SpellsRuns second runs.now → IfOk result (λ answer. IsDrawAlongAnswer (first, second) answer.text.items answer.status) }
+    ensures { (first second : List ℕ) → IsRead SpellsSession first session.now → IsRead SpellsOrder second runs.now → IfOk result (λ answer. IsDrawAlongAnswer (first, second) answer.text.items answer.status) }
 {
     match session {
         Ok(session) => match runs {
@@ -124,7 +124,7 @@ pub struct DrawAlongCommand<'a, R> {
 impl<R: Threads + Sync> OnTwo for DrawAlongCommand<'_, R> {
     type First = SessionReader;
 
-    type Second = RunsReader;
+    type Second = OrderReader;
 
     type Said = ();
 

@@ -3,13 +3,13 @@
 ghost use Rattle.std.specs.Prelude.{◌≡◌, ◌++◌, ℕ, List, IfOk, OnOk};
 ghost use Rattle.text_lines.specs.Answer.{IsRead};
 ghost use Rattle.session_text.specs.Grammar.{SpellsSession};
-ghost use Rattle.cert_text.specs.Runs.{SpellsRuns};
+ghost use Rattle.order_text.specs.Order.{SpellsOrder};
 ghost use Rattle.judge_commands.specs.Replayed.{IsReplayAnswer, outcome_line, outcome_status};
 
-use cert_text::RunsReader;
 use command_texts::{Answer, Fault, OnTwo, given_alone, status_where};
 use judged_texts::{Outcome, find_outcome};
 use migration_types::{Run, Seq, Session};
+use order_text::OrderReader;
 use report_text::{push_refused_session, push_shape};
 use session_text::SessionReader;
 use std::alloc::{AllocError, Global};
@@ -42,7 +42,7 @@ fn replay_read(
     session: &Result<Session, u32>,
     runs: &Result<Seq<Run>, u32>,
 ) -> Result<Answer, AllocError>
-    ensures { (first second : List ℕ) → IsRead SpellsSession first session.now → IsRead SpellsRuns second runs.now → IfOk result (λ answer. IsReplayAnswer first second answer.text.items answer.status) }
+    ensures { (first second : List ℕ) → IsRead SpellsSession first session.now → IsRead SpellsOrder second runs.now → IfOk result (λ answer. IsReplayAnswer first second answer.text.items answer.status) }
 {
     let outcome = find_outcome(alloc, session, runs)?;
     let mut text = Vec::new(alloc);
@@ -60,7 +60,7 @@ pub struct ReplayCommand;
 impl OnTwo for ReplayCommand {
     type First = SessionReader;
 
-    type Second = RunsReader;
+    type Second = OrderReader;
 
     type Said = ();
 

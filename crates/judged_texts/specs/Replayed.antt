@@ -5,7 +5,7 @@ use Rattle.migration_types.specs.declared.cert.Run.{Run}
 use Rattle.migration_types.specs.Receipts.{Name}
 use Rattle.migration_types.specs.Sessions.{Recorded, line_of}
 use Rattle.session_text.specs.Grammar.{SpellsSession}
-use Rattle.cert_text.specs.Runs.{SpellsRuns}
+use Rattle.order_text.specs.Order.{SpellsOrder}
 use Rattle.audit_model.specs.Mergings.{IsMerging, spelled}
 use Rattle.audit_model.specs.Shape.{IsRightShape}
 use Rattle.merge_runs.specs.Replays.{IsReplay}
@@ -28,10 +28,10 @@ IsReplayed s runs NoMerging = IsRightShape s × (IsMerging s (spelled runs) → 
 IsReplayed s runs (Broken line) = IsRightShape s × (name : Name) × Replays s runs (Some name) × (line ≡ line_of s name)
 IsReplayed s runs Safe = IsRightShape s × Replays s runs None
 
--- the text of the runs is refused, or what becomes of the runs that it spells
+-- the text of the order is refused, or what becomes of the runs that it tells
 abbrev pub IsAlong : Recorded → List ℕ → Outcome → Type 0
-IsAlong s runs (RunsText line) = IsRefusalLine SpellsRuns runs line
-IsAlong s runs outcome = (order : List Run) × IsSpelling SpellsRuns order runs × IsReplayed s order outcome
+IsAlong s runs (RunsText line) = IsRefusalLine SpellsOrder runs line
+IsAlong s runs outcome = (order : List Run) × IsSpelling SpellsOrder order runs × IsReplayed s order outcome
 
 -- the session's text is refused, or what becomes of the session that it spells
 abbrev pub IsOutcome : List ℕ → List ℕ → Outcome → Type 0

@@ -3,14 +3,14 @@
 ghost use Rattle.std.specs.Prelude.{ℕ, List, IfOk};
 ghost use Rattle.text_lines.specs.Answer.{IsRead};
 ghost use Rattle.session_text.specs.Grammar.{SpellsSession};
-ghost use Rattle.cert_text.specs.Runs.{SpellsRuns};
+ghost use Rattle.order_text.specs.Order.{SpellsOrder};
 ghost use Rattle.judged_texts.specs.Replayed.{IsAlong, IsOutcome, IsReplayed};
 ghost use Rattle.audit_model.specs.Shape.{IsRightShape};
 
 use cert_check::{ShapeFault, shape};
-use cert_text::read_runs;
 use merge_runs::{MergeFault, replay};
 use migration_types::{Run, Seq, Session, line_of};
+use order_text::read_order;
 use session_text::read_session;
 use std::alloc::{AllocError, Global};
 
@@ -19,7 +19,7 @@ use std::alloc::{AllocError, Global};
 pub enum Outcome {
     /// The session's text is refused at this line.
     SessionText(u32),
-    /// The text of the runs is refused at this line.
+    /// The text of the order is refused at this line.
     RunsText(u32),
     /// The session has not the right shape.
     Shape(ShapeFault),
@@ -62,7 +62,7 @@ fn along_read(
     session: &Session,
     runs: &Result<Seq<Run>, u32>,
 ) -> Result<Outcome, AllocError>
-    ensures { (text : List ℕ) → IsRead SpellsRuns text runs.now → IfOk result (IsAlong session.now text) }
+    ensures { (text : List ℕ) → IsRead SpellsOrder text runs.now → IfOk result (IsAlong session.now text) }
 {
     match runs {
         Ok(runs) => shaped(alloc, session, runs.as_slice()),
@@ -76,7 +76,7 @@ pub fn find_outcome(
     session: &Result<Session, u32>,
     runs: &Result<Seq<Run>, u32>,
 ) -> Result<Outcome, AllocError>
-    ensures { (first second : List ℕ) → IsRead SpellsSession first session.now → IsRead SpellsRuns second runs.now → IfOk result (IsOutcome first second) }
+    ensures { (first second : List ℕ) → IsRead SpellsSession first session.now → IsRead SpellsOrder second runs.now → IfOk result (IsOutcome first second) }
 {
     match session {
         Ok(session) => along_read(alloc, session, runs),
@@ -84,11 +84,11 @@ pub fn find_outcome(
     }
 }
 
-/// What becomes of the replay of a session along the runs that a text spells.
+/// What becomes of the replay of a session along the order that a text tells.
 fn along_text(alloc: Global, session: &Session, runs: &[u8]) -> Result<Outcome, AllocError>
     ensures { IfOk result (IsAlong session.now runs.now) }
 {
-    match read_runs(alloc, runs) {
+    match read_order(alloc, runs) {
         Ok(runs) => shaped(alloc, session, runs.as_slice()),
         Err(fault) => Ok(Outcome::RunsText(fault.refused_line()?)),
     }
@@ -96,8 +96,10 @@ fn along_text(alloc: Global, session: &Session, runs: &[u8]) -> Result<Outcome, 
 
 /// What becomes of the replay of a session along runs, by their texts: the first that applies, of all that [`Outcome`] has.
 ///
-/// On `Safe` the second text spells a merging of the session that the first text spells, and in it the demand of each record
-/// holds. Nothing is said of the session's other mergings.
+/// The second text tells an order: a text of runs, a certificate, or a report of an audit that has one of these.
+///
+/// On `Safe` it tells a merging of the session that the first text spells, and in it the demand of each record holds. Nothing
+/// is said of the session's other mergings.
 ///
 /// The calling thread replays alone, and waits for nobody. Nothing is assumed of who wrote the texts. The only error is want
 /// of memory, which may come before a text is judged.

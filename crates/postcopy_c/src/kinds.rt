@@ -44,3 +44,6 @@ pub const NO_MERGING: u32 = 14;
 
 /// The record at this line of the session's text is the first in the order of the runs whose demand fails.
 pub const BROKEN: u32 = 15;
+
+/// The text is read, and no line of it is refused.
+pub const READ: u32 = 16;

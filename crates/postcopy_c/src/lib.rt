@@ -9,15 +9,18 @@ ghost use Rattle.judged_texts.specs.Checked.{SpellsOneSession, OfSpelled, Replay
 ghost use Rattle.judged_texts.specs.Audited.{IsSafeExactlyIf, IsUnsafe};
 ghost use Rattle.postcopy_c.specs.Answers.{IsVerdictAnswer, IsReplayAnswer, IsAuditAnswer};
 ghost use Rattle.postcopy_c.specs.Showings.{IsShownAnswer};
+ghost use Rattle.postcopy_c.specs.Refusals.{IsWhy};
 
 mod answer;
 mod kinds;
 mod reasons;
+mod refusals;
 mod showing;
 mod telling;
 
 use crate::answer::{PostcopyAnswer, replay_answer, verdict_answer};
 use crate::kinds::{CLEAN, FAULTY, NO_MEMORY, SESSION_TEXT, YES};
+use crate::refusals::{PostcopyRefusal, tell_why};
 use crate::showing::{ShownAs, tell_shown};
 use crate::telling::tell_audit;
 use judged_texts::{Wanted, check_texts_alone, replay_texts};
@@ -43,7 +46,7 @@ pub extern "C" fn postcopy_check(alloc: Global, session: &[u8], cert: &[u8]) -> 
     verdict_answer(check_texts_alone(alloc, session, cert))
 }
 
-/// What becomes of the bytes of a session along those of runs, as `judged_texts::replay_texts` has it.
+/// What becomes of the bytes of a session along the order that others tell, as `judged_texts::replay_texts` has it.
 #[unsafe(no_mangle)]
 pub extern "C" fn postcopy_replay(alloc: Global, session: &[u8], runs: &[u8]) -> PostcopyAnswer
     ensures answer { IsReplayAnswer session.now runs.now result }
@@ -100,6 +103,16 @@ pub extern "C" fn postcopy_draw(alloc: Global, session: &[u8], room: &mut [u8]) 
     ensures faulty { result.kind ≡ FAULTY → OfSpelled session.now IsUnsafe }
 {
     tell_shown(alloc, session, ShownAs::Picture, room)
+}
+
+/// Why a text is refused as one of a kind: the line, the column, and words on it in one line, which are handed over as the text
+/// of `postcopy_certify` is. The kind has the number of the answer that refuses such a text: of a session, of a certificate, or
+/// of what tells an order, as `postcopy_replay` takes it.
+#[unsafe(no_mangle)]
+pub extern "C" fn postcopy_why(alloc: Global, text: &[u8], kind: u32, room: &mut [u8]) -> PostcopyRefusal
+    ensures { IsWhy kind text.now room.old room.new result }
+{
+    tell_why(alloc, text, kind, room)
 }
 
 /// The version of the library.

@@ -2,11 +2,11 @@
 use Rattle.std.specs.Prelude.{ℕ, List, [], ◌∷◌, ◌++◌, codes}
 use Rattle.std.specs.Fmt.{decimal}
 use Rattle.text_lines.specs.Text.{ended}
-use Rattle.audit_model.specs.declared.reasons.PageReason.{PageReason}
-use Rattle.audit_model.specs.Reasons.{page_word, shape_word}
+use Rattle.audit_model.specs.Reasons.{shape_word}
 use Rattle.cert_check.specs.declared.verdict.ShapeFault.{ShapeFault}
 use Rattle.cert_text.specs.Runs.{runs_text_header, runs_lines}
 use Rattle.cert_text.specs.Grammar.{cert_lines}
+pub use Rattle.order_text.specs.Order.{clean_line, faulty_line}
 use Rattle.audit_report.specs.declared.report.Report.{Report}
 use Rattle.audit_report.specs.declared.report.Report.TheVariants.{Clean, Shape, Knot, Faulty}
 
@@ -22,16 +22,12 @@ shape_line fault = at_line (codes "shape line ") fault.line ++ 32 ∷ shape_word
 abbrev pub knot_line : ℕ → List ℕ
 knot_line line = at_line (codes "knot line ") line
 
--- as in "faulty line 13 early"
-abbrev pub faulty_line : ℕ → PageReason → List ℕ
-faulty_line line reason = at_line (codes "faulty line ") line ++ 32 ∷ page_word reason
-
 -- the first line of a report
 abbrev pub first_line : Report → List ℕ
 first_line (Shape fault) = shape_line fault
 first_line (Knot left found) = knot_line left.line
 first_line (Faulty line fault order) = faulty_line line fault.reason
-first_line (Clean cert) = codes "clean"
+first_line (Clean cert) = clean_line
 
 -- what stands behind it: the text of the order's runs, or of the certificate
 abbrev pub lines_behind : Report → List (List ℕ)

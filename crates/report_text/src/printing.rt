@@ -9,6 +9,7 @@ ghost use Rattle.report_text.specs.ReportText.{shape_line, first_line, lines_beh
 use audit_report::Report;
 use cert_check::ShapeFault;
 use cert_text::{write_cert, write_runs};
+use order_text::{CLEAN, FAULTY};
 use std::alloc::{AllocError, Global};
 use text_lines::{push_keyed, push_keyed_word, push_line};
 
@@ -19,10 +20,6 @@ const CERT_TEXT: &[u8] = b"certificate-text line ";
 const SHAPE: &[u8] = b"shape line ";
 
 const KNOT: &[u8] = b"knot line ";
-
-const CLEAN: &[u8] = b"clean";
-
-const FAULTY: &[u8] = b"faulty line ";
 
 /// Adds the line that says where the text of a session is refused.
 pub fn push_refused_session(out: &mut Vec<u8>, line: u32) -> Result<(), AllocError>
