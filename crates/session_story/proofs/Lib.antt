@@ -2,4 +2,5 @@ pub mod Scanning
 pub mod Looking
 pub mod Paged
 pub mod Causing
+pub mod Firsts
 pub mod Circling

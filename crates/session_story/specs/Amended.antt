@@ -18,7 +18,10 @@ use Rattle.session_story.specs.declared.faults.Detail.TheVariants.{Instead, Othe
 use Rattle.session_story.specs.declared.faults.FaultStory.{FaultStory}
 use Rattle.session_story.specs.declared.explaining.Explanation.{Explanation}
 use Rattle.session_story.specs.declared.explaining.Explanation.TheVariants as told
+use Rattle.session_story.specs.declared.topics.PageTold.{PageTold}
+use Rattle.session_story.specs.declared.topics.Told.{Told}
 use Rattle.session_story.specs.Concerned.{given_in}
+use Rattle.session_story.specs.Topics.{fault_in, page_in}
 
 -- the value of a cell in contents, if there are some
 abbrev pub cell_in : Option (List ℕ) → ℕ → Option ℕ
@@ -50,10 +53,13 @@ abbrev pub amended_in : Recorded → FaultStory → Option Held → Option Amend
 amended_in s story None = None
 amended_in s story (Some held) = amended_with story.page.page held (value_at s (story.fault.log, story.fault.place) held.cell)
 
+abbrev pub amended_for : Recorded → Option FaultStory → Option Amended
+amended_for s None = None
+amended_for s (Some story) = amended_in s story (held_in story.detail)
+
 -- the value that is wrong in the faulty record, and the right one
-abbrev pub amended_by : Recorded → Explanation → Option Amended
-amended_by s (told.Faulty story) = amended_in s story (held_in story.detail)
-amended_by s other = None
+abbrev pub amended_by : Recorded → Told → Option Amended
+amended_by s told = amended_for s (fault_in told)
 
 abbrev pub cause_in : Option Cause → Option ℕ
 cause_in (Some (Sent wrong)) = wrong.held.by
@@ -74,9 +80,17 @@ tells_in story n =
     || (is_number (given_in story.detail) n
     || is_number (cause_in story.cause) n)))
 
-abbrev pub tells_of : Explanation → ℕ → Bool
-tells_of (told.Faulty story) n = tells_in story n
-tells_of other n = false
+abbrev pub tells_for : Option FaultStory → ℕ → Bool
+tells_for None n = false
+tells_for (Some story) n = tells_in story n
+
+-- the same of what became of a page
+abbrev pub tells_on : Option PageTold → ℕ → Bool
+tells_on None n = false
+tells_on (Some t) n = is_number t.story.changed n || is_number t.story.found.touch n
+
+abbrev pub tells_of : Told → ℕ → Bool
+tells_of told n = tells_for (fault_in told) n || tells_on (page_in told) n
 
 -- whether a fault with this reason is there in every order, by its page's first placement
 abbrev pub is_always : PageReason → Option ℕ → Bool

@@ -18,8 +18,10 @@ use Rattle.session_story.specs.declared.faults.Detail.{Detail}
 use Rattle.session_story.specs.declared.faults.Detail.TheVariants.{Instead, Other}
 use Rattle.session_story.specs.declared.faults.FaultStory.{FaultStory}
 use Rattle.session_story.specs.declared.faults.ShapeStory.{ShapeStory}
-use Rattle.session_story.specs.declared.explaining.Explanation.{Explanation}
-use Rattle.session_story.specs.declared.explaining.Explanation.TheVariants as told
+use Rattle.session_story.specs.declared.explaining.Explanation.TheVariants as explained
+use Rattle.session_story.specs.declared.topics.Told.{Told}
+use Rattle.session_story.specs.declared.topics.Told.TheVariants as told
+use Rattle.session_story.specs.Topics.{fault_in}
 
 -- the record of this number in a log, if there is a number
 abbrev pub named_in : LogName → Option ℕ → Option Name
@@ -87,9 +89,11 @@ shape_concerned_for s shape.SecondSend story = named_in Source story.sent
 abbrev pub shape_concerned_by : Recorded → ShapeStory → Option Name
 shape_concerned_by s story = shape_concerned_for s story.fault.reason story
 
+abbrev pub concerned_in : Option FaultStory → Option Name
+concerned_in None = None
+concerned_in (Some story) = concerned_by story
+
 -- the record that is told besides the faulty one, as the one that its fault concerns
-abbrev pub concerned_of : Recorded → Explanation → Option Name
-concerned_of s (told.Shape story) = shape_concerned_by s story
-concerned_of s (told.Knot knot) = None
-concerned_of s (told.Faulty story) = concerned_by story
-concerned_of s (told.Clean counts) = None
+abbrev pub concerned_of : Recorded → Told → Option Name
+concerned_of s (told.Report (explained.Shape story)) = shape_concerned_by s story
+concerned_of s t = concerned_in (fault_in t)

@@ -120,16 +120,20 @@ pub record IsCause (s : Recorded) (reason : PageReason) (n page : ℕ) (c : Caus
 abbrev pub IsToldCause : Recorded → PageReason → ℕ → ℕ → Option Cause → Type 0
 IsToldCause s reason n page cause = MatchOption cause ((c : Cause) → IsCause s reason n page c → ⊥) (IsCause s reason n page)
 
--- the report's fault, which is the session's first of a page and stands at this line, with its page's story
-pub record IsFaultStory (s : Recorded) (line : ℕ) (fault : PageFault) (f : FaultStory) : Type 0 where
+-- the story of a fault of a page: what became of the page, and what is told of the fault
+pub record IsFaultStory (s : Recorded) (f : FaultStory) : Type 0 where
+  pub is_of : page_at s (f.fault.log, f.fault.place) ≡ Some f.page.page
+  pub page : IsPageStory s f.page.page f.page
+  pub handover : IsHandover s f.handover
+  pub detail : IsDetail s f.fault.reason f.fault.log f.fault.place f.page.page f.detail
+  pub cause : IsToldCause s f.fault.reason f.fault.place f.page.page f.cause
+
+-- the story of the report's fault, which is the session's first of a page and stands at this line
+pub record IsReportedStory (s : Recorded) (line : ℕ) (fault : PageFault) (f : FaultStory) : Type 0 where
   pub is_line : line ≡ line_of s (fault.log, fault.place)
   pub is_fault : f.fault ≡ fault
   pub is_first : IsFirstPageFault s fault.reason (fault.log, fault.place)
-  pub is_of : page_at s (fault.log, fault.place) ≡ Some f.page.page
-  pub page : IsPageStory s f.page.page f.page
-  pub handover : IsHandover s f.handover
-  pub detail : IsDetail s fault.reason fault.log fault.place f.page.page f.detail
-  pub cause : IsToldCause s fault.reason fault.place f.page.page f.cause
+  pub story : IsFaultStory s f
 
 -- the first record that has not the right shape, and what was of its kind before
 pub record IsShapeStory (s : Recorded) (fault : ShapeFault) (t : ShapeStory) : Type 0 where
@@ -143,6 +147,6 @@ pub record IsShapeStory (s : Recorded) (fault : ShapeFault) (t : ShapeStory) : T
 abbrev pub IsExplanation : Recorded → Report → Explanation → Type 0
 IsExplanation s (report.Shape fault) (told.Shape story) = IsShapeStory s fault story
 IsExplanation s (report.Knot left found) (told.Knot knot) = IsCircle s knot
-IsExplanation s (report.Faulty line fault order) (told.Faulty story) = IsFaultStory s line fault story
+IsExplanation s (report.Faulty line fault order) (told.Faulty story) = IsReportedStory s line fault story
 IsExplanation s (report.Clean cert) (told.Clean counts) = IsCounts s cert.entries counts
 IsExplanation s _ _ = ⊥

@@ -7,3 +7,10 @@ use Rattle.migration_types.specs.Sessions.{Recorded, line_of, log_length}
 pub record IsAtLineOf (s : Recorded) (log : LogName) (line place : ℕ) : Type 0 where
   pub is_there : place < log_length s log
   pub is_line : line ≡ line_of s (log, place)
+
+-- no record of a log stands at this line, and of no log
+abbrev pub HasNoneOf : Recorded → ℕ → LogName → Type 0
+HasNoneOf s line log = (place : ℕ) → IsAtLineOf s log line place → ⊥
+
+abbrev pub HasNoRecord : Recorded → ℕ → Type 0
+HasNoRecord s line = (log : LogName) → HasNoneOf s line log

@@ -3,12 +3,13 @@
 
 ghost use Rattle.std.specs.Prelude.{◌≡◌, slice_get};
 ghost use Rattle.audit_model.specs.Names.{if_there};
-ghost use Rattle.session_story.specs.Amended.{amended_by, amended_with, cause_in, cell_in, held_in, is_always, is_always_wrong, is_number, read_value, tells_in, tells_of, value_at};
+ghost use Rattle.session_story.specs.Amended.{amended_by, amended_for, amended_with, cause_in, cell_in, held_in, is_always, is_always_wrong, is_number, read_value, tells_for, tells_in, tells_of, tells_on, value_at};
 
 use crate::concerns::Name;
 use crate::explaining::Explanation;
 use crate::faults::{Cause, Detail, FaultStory};
 use crate::reasons::given_in;
+use crate::topics::{PageTold, Told};
 use crate::values::Held;
 use audit_model::PageReason;
 use migration_types::{GuestRec, LogName, PageNo, Record, Session};
@@ -68,12 +69,11 @@ fn held_in(detail: &Detail) -> Option<Held>
     }
 }
 
-/// The value that is wrong in the faulty record, and the right one; none where its fault is no wrong value. Takes no
-/// memory.
-pub fn amended_by(session: &Session, told: &Explanation) -> Option<Amended>
-    ensures { result ≡ amended_by session.now told.now }
+/// The value that is wrong in a faulty record, and the right one.
+fn amended_for(session: &Session, fault: &Option<FaultStory>) -> Option<Amended>
+    ensures { result ≡ amended_for session.now fault.now }
 {
-    let Explanation::Faulty(story) = told else {
+    let Some(story) = fault else {
         return None;
     };
     match held_in(&story.detail) {
@@ -83,6 +83,14 @@ pub fn amended_by(session: &Session, told: &Explanation) -> Option<Amended>
         }
         None => None,
     }
+}
+
+/// The value that is wrong in the faulty record that is told of, and the right one; none where its fault is no wrong
+/// value. Takes no memory.
+pub fn amended_by(session: &Session, told: &Told) -> Option<Amended>
+    ensures { result ≡ amended_by session.now told.now }
+{
+    amended_for(session, &told.fault())
 }
 
 /// A wrong value, if there is one, beside what a cell should have.
@@ -131,15 +139,34 @@ fn tells_in(story: &FaultStory, place: u32) -> bool
                     || is_number(cause_in(&story.cause), place))))
 }
 
+/// Whether the guest's record of this number is told of in the story of a fault.
+fn tells_for(fault: &Option<FaultStory>, place: u32) -> bool
+    ensures { result ≡ tells_for fault.now place }
+{
+    match fault {
+        Some(story) => tells_in(story, place),
+        None => false,
+    }
+}
+
+/// Whether the guest's record of this number is told of in what became of a page.
+fn tells_on(page: &Option<PageTold>, place: u32) -> bool
+    ensures { result ≡ tells_on page.now place }
+{
+    match page {
+        Some(told) => {
+            is_number(told.story.changed, place) || is_number(told.story.found.touch, place)
+        }
+        None => false,
+    }
+}
+
 /// Whether the guest's record of this number is told of: the page's last change before the halt, its first use at the
 /// target, what gave a cell the value that is told of, or the faulty record itself. Takes no memory.
-pub fn tells_of(told: &Explanation, place: u32) -> bool
+pub fn tells_of(told: &Told, place: u32) -> bool
     ensures { result ≡ tells_of told.now place }
 {
-    match told {
-        Explanation::Faulty(story) => tells_in(story, place),
-        _ => false,
-    }
+    tells_for(&told.fault(), place) || tells_on(&told.page(), place)
 }
 
 /// Whether a fault is there in every order of the records: but for an early use of a page that is placed, and for a

@@ -1,12 +1,13 @@
 //! The other record that is told of a fault: the one that it concerns.
 
 ghost use Rattle.std.specs.Prelude.{◌≡◌, slice_get};
-ghost use Rattle.session_story.specs.Concerned.{concerned_of, heeded, named_among, named_by, named_in, shape_concerned_by};
+ghost use Rattle.session_story.specs.Concerned.{concerned_in, concerned_of, heeded, named_among, named_by, named_in, shape_concerned_by};
 
 use crate::explaining::Explanation;
-use crate::faults::ShapeStory;
+use crate::faults::{FaultStory, ShapeStory};
 use crate::pages::Handover;
 use crate::reasons::concerned_by;
+use crate::topics::Told;
 use audit_model::ShapeReason;
 use migration_types::{Field, GuestRec, LogName, Session};
 
@@ -74,14 +75,23 @@ fn shape_concerned_by(session: &Session, story: &ShapeStory) -> Option<Name>
     }
 }
 
+/// The record that a fault of a page concerns, if one is told.
+fn concerned_in(fault: &Option<FaultStory>) -> Option<Name>
+    ensures { result ≡ concerned_in fault.now }
+{
+    match fault {
+        Some(story) => concerned_by(story),
+        None => None,
+    }
+}
+
 /// The record that is told besides the faulty one, as the one that its fault concerns, by log and number; none where
 /// there is no fault, or none is told. Takes no memory.
-pub fn concerned_of(session: &Session, told: &Explanation) -> Option<(LogName, u32)>
+pub fn concerned_of(session: &Session, told: &Told) -> Option<(LogName, u32)>
     ensures { result ≡ concerned_of session.now told.now }
 {
-    match told {
-        Explanation::Shape(story) => shape_concerned_by(session, story),
-        Explanation::Faulty(story) => concerned_by(story),
-        Explanation::Knot(_) | Explanation::Clean(_) => None,
+    if let Told::Report(Explanation::Shape(story)) = told {
+        return shape_concerned_by(session, story);
     }
+    concerned_in(&told.fault())
 }

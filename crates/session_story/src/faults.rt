@@ -1,12 +1,13 @@
 //! The story of a faulty record: of one with a fault of its page, and of one that has not the right shape.
 
-ghost use Rattle.std.specs.Prelude.{◌≡◌, ◌<◌, ℕ, IfOk};
+ghost use Rattle.std.specs.Prelude.{◌≡◌, ◌<◌, ℕ, IfOk, Some};
 ghost use Rattle.migration_types.specs.Sessions.{log_length, line_of};
+ghost use Rattle.audit_model.specs.Faults.{IsPageFault};
 ghost use Rattle.audit_model.specs.FirstFault.{IsFirstPageFault};
 ghost use Rattle.page_facts.specs.PageFaults.{page_at};
 ghost use Rattle.cert_check.specs.Verdicts.{IsShapeFault};
 ghost use Rattle.session_story.specs.Pages.{IsPageStory, first_send};
-ghost use Rattle.session_story.specs.Explained.{IsDetail, IsFaultStory, IsLookBeforeTouch, IsShapeStory, IsToldCause, is_read, is_unplaced, is_used_by};
+ghost use Rattle.session_story.specs.Explained.{IsDetail, IsFaultStory, IsLookBeforeTouch, IsReportedStory, IsShapeStory, IsToldCause, is_read, is_unplaced, is_used_by};
 
 use crate::contents::{Wrong, wrong_at};
 use crate::looks::{Look, greatest_look};
@@ -45,7 +46,7 @@ pub enum Cause {
     Unplaced,
 }
 
-/// The first fault of a session, and the story of its page.
+/// A fault of a page, and the story of this page.
 #[derive(Clone, Copy, Debug, PartialEq, Eq)]
 pub struct FaultStory {
     /// The faulty record, and why it is one.
@@ -136,6 +137,32 @@ fn cause_of(
     }
 }
 
+/// The story of a fault of a page, of which this became.
+pub(crate) fn story_of_fault(
+    alloc: Global,
+    session: &Session,
+    fault: &PageFault,
+    page: &PageStory,
+) -> Result<FaultStory, AllocError>
+    requires fault { IsPageFault session.now fault.now.reason (fault.now.log, fault.now.place) }
+    requires of { page_at session.now (fault.now.log, fault.now.place) ≡ Some page.now.page }
+    requires story { IsPageStory session.now page.now.page page.now }
+    ensures fault { IfOk result (λ story. story.fault ≡ fault.now) }
+    ensures story { IfOk result (IsFaultStory session.now) }
+{
+    session.keeps_limits();
+    let PageFault { log, place, reason } = *fault;
+    let detail = detail_of(alloc, session, reason, log, place, page)?;
+    let cause = cause_of(alloc, session, reason, place, page)?;
+    Ok(FaultStory {
+        fault: *fault,
+        page: *page,
+        handover: handover_of(session),
+        detail,
+        cause,
+    })
+}
+
 /// The first fault of a session, with the story of its page. Takes a few passes over each log, and as much memory as
 /// judging does and one machine more, which is the only error.
 pub(crate) fn fault_at(
@@ -144,23 +171,14 @@ pub(crate) fn fault_at(
     fault: &PageFault,
 ) -> Result<FaultStory, AllocError>
     requires { IsFirstPageFault session.now fault.now.reason (fault.now.log, fault.now.place) }
-    ensures { IfOk result (λ story. (line : ℕ) → line ≡ line_of session.now (fault.now.log, fault.now.place) → IsFaultStory session.now line fault.now story) }
+    ensures { IfOk result (λ story. (line : ℕ) → line ≡ line_of session.now (fault.now.log, fault.now.place) → IsReportedStory session.now line fault.now story) }
 {
     session.keeps_limits();
-    let PageFault { log, place, reason } = *fault;
-    let Some(page) = page_at(session, log, place) else {
+    let Some(page) = page_at(session, fault.log, fault.place) else {
         unreachable!()
     };
     let story = story_of(alloc, session, page)?;
-    let detail = detail_of(alloc, session, reason, log, place, &story)?;
-    let cause = cause_of(alloc, session, reason, place, &story)?;
-    Ok(FaultStory {
-        fault: *fault,
-        page: story,
-        handover: handover_of(session),
-        detail,
-        cause,
-    })
+    story_of_fault(alloc, session, fault, &story)
 }
 
 /// The first record that has not the right shape.

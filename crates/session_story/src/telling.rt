@@ -9,7 +9,7 @@ ghost use Rattle.report_text.specs.MissingText.{missing_text};
 ghost use Rattle.report_text.specs.RefusalText.{refusal_text};
 ghost use Rattle.session_story.specs.Told.{BeginsWith};
 
-use crate::explaining::explain;
+use crate::topics::{Topic, tell};
 use crate::words::{words_of, words_of_missing};
 use audit_report::Report;
 use completeness::Missing;
@@ -17,8 +17,25 @@ use migration_types::Session;
 use report_text::{print_first_line, print_refused_session, push_missing};
 use std::alloc::{AllocError, Global};
 
-/// What happened in a session, in words, behind the first line of the report on it. Each line ends with LF. Takes a few
-/// passes over each log, and as much memory as an audit does and one machine more, which is the only error.
+/// What is told of a session on a topic, in words, after the first line of the report on it. Each line ends with LF. Takes
+/// a few passes over each log, and as much memory as an audit does and one machine more, which is the only error.
+pub fn print_topic(
+    alloc: Global,
+    session: &Session,
+    report: &Report,
+    topic: Topic,
+) -> Result<Vec<u8>, AllocError>
+    requires { IsReport session.now report.now }
+    ensures { IfOk result (λ text. BeginsWith (ended (first_line report.now ∷ [])) text.items) }
+{
+    let told = tell(alloc, session, report, topic)?;
+    let words = words_of(alloc, session, report, &told)?;
+    let mut text = print_first_line(alloc, report)?;
+    text.extend_from_slice(words.as_bytes())?;
+    Ok(text)
+}
+
+/// What happened in a session, in words, after the first line of the report on it: what [`print_topic`] has of the report.
 pub fn print_explained(
     alloc: Global,
     session: &Session,
@@ -27,11 +44,7 @@ pub fn print_explained(
     requires { IsReport session.now report.now }
     ensures { IfOk result (λ text. BeginsWith (ended (first_line report.now ∷ [])) text.items) }
 {
-    let explanation = explain(alloc, session, report)?;
-    let words = words_of(alloc, session, &explanation)?;
-    let mut text = print_first_line(alloc, report)?;
-    text.extend_from_slice(words.as_bytes())?;
-    Ok(text)
+    print_topic(alloc, session, report, Topic::Report)
 }
 
 /// What a clean session lacks, in words, after the line that says it. Each line ends with LF. Takes a few passes over each log,

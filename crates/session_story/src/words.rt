@@ -6,12 +6,16 @@ mod missing;
 mod reasons;
 mod records;
 mod shapes;
+mod topics;
 
 use crate::counting::Counts;
 use crate::explaining::Explanation;
+use crate::topics::Told;
 use crate::words::faults::{push_fault, push_faulty};
 use crate::words::knots::{push_knot, push_no_order};
 use crate::words::shapes::push_shape_story;
+use crate::words::topics::{push_line, push_line_summary, push_page, push_page_summary};
+use audit_report::Report;
 pub use knots::push_wait;
 use migration_types::{Session, Version};
 pub(crate) use missing::words_of_missing;
@@ -68,33 +72,56 @@ fn push_counts(out: &mut String, version: Version, counts: &Counts) -> Result<()
     )
 }
 
-/// What happened in a session, in words.
+/// Adds what happened in a session.
+fn push_explanation(
+    out: &mut String,
+    session: &Session,
+    explanation: &Explanation,
+) -> Result<(), AllocError> {
+    match explanation {
+        Explanation::Shape(story) => push_shape_story(out, session, story),
+        Explanation::Knot(knot) => push_knot(out, session, knot),
+        Explanation::Faulty(fault) => push_fault(out, session, fault),
+        Explanation::Clean(counts) => push_counts(out, session.version(), counts),
+    }
+}
+
+/// What is told of a session with this report, in words.
 pub(crate) fn words_of(
     alloc: Global,
     session: &Session,
-    explanation: &Explanation,
+    report: &Report,
+    told: &Told,
 ) -> Result<String, AllocError> {
     let mut out = String::new(alloc);
-    match explanation {
-        Explanation::Shape(story) => push_shape_story(&mut out, session, story)?,
-        Explanation::Knot(knot) => push_knot(&mut out, session, knot)?,
-        Explanation::Faulty(fault) => push_fault(&mut out, session, fault)?,
-        Explanation::Clean(counts) => push_counts(&mut out, session.version(), counts)?,
+    match told {
+        Told::Report(explanation) => push_explanation(&mut out, session, explanation)?,
+        Told::Page(number, page) => push_page(&mut out, session, report, *number, page)?,
+        Told::Line(number, line) => push_line(&mut out, session, report, *number, line)?,
     }
     Ok(out)
 }
 
-/// Adds what is told of a session first, each sentence on a line of its own: what is wrong, or that nothing is. An
-/// error: there is no memory for it.
-pub fn push_summary(
+/// Adds what is told first of what happened in a session.
+fn push_first_of(
     out: &mut String,
     session: &Session,
-    told: &Explanation,
+    explanation: &Explanation,
 ) -> Result<(), AllocError> {
-    match told {
+    match explanation {
         Explanation::Shape(story) => push_shape_story(out, session, story),
         Explanation::Knot(_) => push_no_order(out),
         Explanation::Faulty(story) => push_faulty(out, session, story),
         Explanation::Clean(_) => out.push_str(CLEAN),
+    }
+}
+
+/// Adds what is told first, each sentence on a line of its own: what is wrong, or that nothing is. An error: there is no
+/// memory for it.
+pub fn push_summary(out: &mut String, session: &Session, told: &Told) -> Result<(), AllocError> {
+    match told {
+        Told::Report(explanation) => push_first_of(out, session, explanation),
+        Told::Page(number, page) => push_page_summary(out, session, *number, page),
+        Told::Line(number, line) => push_line_summary(out, session, *number, line),
     }
 }

@@ -5,7 +5,7 @@ use super::reasons::{push_order, push_plain};
 use super::records::{push_place, push_record};
 use crate::faults::{Cause, Detail, FaultStory};
 use crate::looks::Look;
-use crate::pages::PageStory;
+use crate::pages::{Handover, PageStory};
 use crate::values::Held;
 use audit_model::delivery;
 use migration_types::{LogName, PagerRec, Record, Session, SourceRec};
@@ -247,8 +247,12 @@ fn push_delivery(out: &mut String, session: &Session, page: &PageStory) -> Resul
 }
 
 /// Adds a page's story, in the order in which it should happen.
-fn push_story(out: &mut String, session: &Session, story: &FaultStory) -> Result<(), AllocError> {
-    let page = &story.page;
+pub(crate) fn push_story(
+    out: &mut String,
+    session: &Session,
+    page: &PageStory,
+    handover: &Handover,
+) -> Result<(), AllocError> {
     let number = page.page.number();
     write!(out, "What the logs say of page {number}:\n")?;
     push_step(
@@ -263,7 +267,7 @@ fn push_story(out: &mut String, session: &Session, story: &FaultStory) -> Result
         out,
         session,
         LogName::Guest,
-        story.handover.halt,
+        handover.halt,
         "",
         "the guest is not halted",
     )?;
@@ -353,8 +357,8 @@ pub(crate) fn push_faulty(
     push_wrong(out, session, story)
 }
 
-/// Adds the fault of a page.
-pub(crate) fn push_fault(
+/// Adds what went wrong with a page first, where that is told, and then its fault.
+pub(crate) fn push_cause_and_fault(
     out: &mut String,
     session: &Session,
     story: &FaultStory,
@@ -362,7 +366,16 @@ pub(crate) fn push_fault(
     if let Some(cause) = &story.cause {
         push_cause(out, session, cause)?;
     }
-    push_faulty(out, session, story)?;
+    push_faulty(out, session, story)
+}
+
+/// Adds the fault of a page.
+pub(crate) fn push_fault(
+    out: &mut String,
+    session: &Session,
+    story: &FaultStory,
+) -> Result<(), AllocError> {
+    push_cause_and_fault(out, session, story)?;
     push_order(out, story)?;
-    push_story(out, session, story)
+    push_story(out, session, &story.page, &story.handover)
 }

@@ -1,0 +1,34 @@
+-- The story of a page's first fault.
+use Rattle.std.proofs.Common.{◌≡◌, ℕ, Option, Some, sym, ap, ◌∙◌, subst}
+use Rattle.migration_types.specs.Receipts.{Name}
+use Rattle.migration_types.specs.Sessions.{Recorded}
+use Rattle.audit_model.specs.declared.reasons.PageReason.{PageReason}
+use Rattle.audit_model.specs.Faults.{IsPageFault}
+use Rattle.audit_model.specs.inner.PageFaultTests.{fault_test}
+use Rattle.audit_model.proofs.PageFaultTests.{fault_Decides}
+use Rattle.page_facts.specs.declared.page_fault.PageFault.{PageFault}
+use Rattle.page_facts.specs.inner.FirstOfLog.{reason_at}
+use Rattle.page_facts.specs.PageFaults.{page_at, IsFirstFault}
+use Rattle.page_facts.proofs.LeastReason.{least_is}
+use Rattle.session_story.specs.declared.faults.FaultStory.{FaultStory}
+use Rattle.session_story.specs.declared.topics.PageTold.{PageTold}
+use Rattle.session_story.specs.Explained.{IsFaultStory}
+use Rattle.session_story.specs.Topics.{IsFirstFaultStory, IsPageTold, IsToldOfItsPage}
+
+module _ (s : Recorded) where
+  -- a record with a reason is a fault
+  reasoned : (name : Name) (r : PageReason) → reason_at s name ≡ Some r → IsPageFault s r name
+  reasoned name r e = (fault_Decides s r name).0 ((least_is (λ reason. fault_test s reason name)).holds r e)
+
+  pub is_fault : (page : ℕ) (f : PageFault) → IsFirstFault s page f → IsPageFault s f.reason (f.log, f.place)
+  is_fault page f first = reasoned (f.log, f.place) f.reason first.is_reason
+
+  pub is_of_page : (page : ℕ) (f : PageFault) → IsFirstFault s page f → page_at s (f.log, f.place) ≡ Some page
+  is_of_page page f first = first.is_of ∙ ap (λ (p : ℕ). Some p) first.is_among
+
+  pub first_story : (page : ℕ) (f : PageFault) (story : FaultStory) → IsFirstFault s page f → story.fault ≡ f → IsFaultStory s story → IsFirstFaultStory s page story
+  first_story page f story first same is = record { is_first = subst (λ (g : PageFault). IsFirstFault s page g) (sym same) first; story = is }
+
+  -- what is told of the page that a record is of
+  pub told_of_its : (at own : Option ℕ) (page : ℕ) (t : PageTold) → at ≡ own → at ≡ Some page → IsPageTold s page t → IsToldOfItsPage s own (Some t)
+  told_of_its at own page t same is told = subst (λ (o : Option ℕ). IsToldOfItsPage s o (Some t)) (sym is ∙ same) told

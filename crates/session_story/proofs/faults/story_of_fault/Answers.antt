@@ -1,0 +1,34 @@
+use Rattle.std.proofs.Common.{subst}
+use Rattle.audit_model.specs.declared.reasons.PageReason.{PageReason}
+use Rattle.audit_model.specs.Faults.{IsPageFault}
+use Rattle.audit_report.proofs.Showing.{fault_there}
+use Rattle.session_story.proofs.Paged.{page_below, guest_read, guest_early}
+use Rattle.session_story.proofs.faults.story_of_fault.Goals as goal
+
+pub detail_of-requires-clause-page : goal.detail_of-requires-clause-page
+detail_of-requires-clause-page c = page_below c.args.session.now c.keeps_limits.ensures (c.args.fault.now.log, c.args.fault.now.place) c.args.page.now.page c.requires.of
+
+pub detail_of-requires-clause-there : goal.detail_of-requires-clause-there
+detail_of-requires-clause-there c = fault_there c.args.session.now c.args.fault.now.reason c.args.fault.now.log c.args.fault.now.place c.requires.fault
+
+pub detail_of-requires-clause-guest : goal.detail_of-requires-clause-guest
+detail_of-requires-clause-guest c = λ e.
+    let s = c.args.session.now in
+    guest_read s (c.args.fault.now.log, c.args.fault.now.place) (subst (λ (r : PageReason). IsPageFault s r (c.args.fault.now.log, c.args.fault.now.place)) e c.requires.fault)
+
+pub detail_of-requires-clause-early : goal.detail_of-requires-clause-early
+detail_of-requires-clause-early c = λ e.
+    let s = c.args.session.now in
+    guest_early s (c.args.fault.now.log, c.args.fault.now.place) (subst (λ (r : PageReason). IsPageFault s r (c.args.fault.now.log, c.args.fault.now.place)) e c.requires.fault)
+
+pub cause_of-requires-clause-page : goal.cause_of-requires-clause-page
+cause_of-requires-clause-page c = page_below c.args.session.now c.keeps_limits.ensures (c.args.fault.now.log, c.args.fault.now.place) c.args.page.now.page c.requires.of
+
+pub returns-clause-story : goal.returns-clause-story
+returns-clause-story c = record {
+  is_of = c.requires.of;
+  page = c.requires.story;
+  handover = c.handover_of.ensures;
+  detail = c.in_ok-detail.ensures;
+  cause = c.in_ok-cause.ensures;
+}

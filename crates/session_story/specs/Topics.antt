@@ -1,0 +1,89 @@
+-- What is told of a session on a topic: its report, a page, or a line of its text.
+use Rattle.std.specs.Prelude.{◌≡◌, ◌≢◌, ℕ, ◌<◌, ◌≤◌, Option, Some, None, MatchOption}
+use Rattle.migration_types.specs.Sessions.{Recorded}
+use Rattle.page_facts.specs.PageFaults.{page_at, IsClean, IsFirstFault}
+use Rattle.audit_report.specs.declared.report.Report.{Report}
+use Rattle.audit_report.specs.declared.report.Report.TheVariants as report
+use Rattle.session_story.specs.Explained.{IsExplanation, IsFaultStory, IsShapeStory}
+use Rattle.session_story.specs.Pages.{IsHandover, IsPageStory}
+use Rattle.session_story.specs.Places.{IsAtLineOf, HasNoRecord}
+use Rattle.session_story.specs.declared.explaining.Explanation.{Explanation}
+use Rattle.session_story.specs.declared.explaining.Explanation.TheVariants as explained
+use Rattle.session_story.specs.declared.faults.FaultStory.{FaultStory}
+use Rattle.session_story.specs.declared.faults.ShapeStory.{ShapeStory}
+use Rattle.session_story.specs.declared.topics.LineTold.{LineTold}
+use Rattle.session_story.specs.declared.topics.PageTold.{PageTold}
+use Rattle.session_story.specs.declared.topics.Told.{Told}
+use Rattle.session_story.specs.declared.topics.Told.TheVariants as told
+use Rattle.session_story.specs.declared.topics.Topic.{Topic}
+use Rattle.session_story.specs.declared.topics.Topic.TheVariants as topic
+
+-- the story of the page's first fault
+pub record IsFirstFaultStory (s : Recorded) (page : ℕ) (f : FaultStory) : Type 0 where
+  pub is_first : IsFirstFault s page f.fault
+  pub story : IsFaultStory s f
+
+-- what became of the page, with the story of its first fault, or it has none
+pub record IsPageTold (s : Recorded) (page : ℕ) (t : PageTold) : Type 0 where
+  pub story : IsPageStory s page t.story
+  pub handover : IsHandover s t.handover
+  pub fault : MatchOption t.fault (IsClean s page) (IsFirstFaultStory s page)
+
+-- the machine has a page of this number, and this is told of it, or it has none
+abbrev pub IsToldOfPage : Recorded → ℕ → Option PageTold → Type 0
+IsToldOfPage s number None = s.geometry.pages ≤ number
+IsToldOfPage s number (Some t) = (number < s.geometry.pages) × IsPageTold s number t
+
+-- where a record is of a page, this is told of the page
+abbrev pub IsToldOfItsPage : Recorded → Option ℕ → Option PageTold → Type 0
+IsToldOfItsPage s None told = told ≡ None
+IsToldOfItsPage s (Some page) None = ⊥
+IsToldOfItsPage s (Some page) (Some t) = IsPageTold s page t
+
+-- where the report's fault of shape stands at this line, its story
+abbrev pub IsShapeTold : Recorded → Report → ℕ → Option ShapeStory → Type 0
+IsShapeTold s (report.Shape fault) line shape = MatchOption shape (fault.line ≢ line) (λ t. (fault.line ≡ line) × IsShapeStory s fault t)
+IsShapeTold s _ line shape = shape ≡ None
+
+-- the record at this line, the story of what is wrong with its shape, where the report says so, and what is told of its page
+pub record IsLineTold (s : Recorded) (r : Report) (line : ℕ) (t : LineTold) : Type 0 where
+  pub is_at : IsAtLineOf s t.log line t.place
+  pub shape : IsShapeTold s r line t.shape
+  pub page : IsToldOfItsPage s (page_at s (t.log, t.place)) t.page
+
+-- a record stands at this line, and this is told of it, or none does
+abbrev pub IsToldOfLine : Recorded → Report → ℕ → Option LineTold → Type 0
+IsToldOfLine s r line t = MatchOption t (HasNoRecord s line) (IsLineTold s r line)
+
+-- what is told of a session with this report, on a topic
+abbrev pub IsTold : Recorded → Report → Topic → Told → Type 0
+IsTold s r topic.Report (told.Report explanation) = IsExplanation s r explanation
+IsTold s r (topic.Page number) (told.Page n t) = (n ≡ number) × IsToldOfPage s number t
+IsTold s r (topic.Line line) (told.Line n t) = (n ≡ line) × IsToldOfLine s r line t
+IsTold s r _ _ = ⊥
+
+-- ---- in what is told
+
+-- what is told of a page, if it is of one
+abbrev pub page_of_line : Option LineTold → Option PageTold
+page_of_line None = None
+page_of_line (Some t) = t.page
+
+abbrev pub page_in : Told → Option PageTold
+page_in (told.Report explanation) = None
+page_in (told.Page number t) = t
+page_in (told.Line line t) = page_of_line t
+
+-- the story of the fault that is told, if one is: the report's, or the first of the page
+abbrev pub fault_reported : Explanation → Option FaultStory
+fault_reported (explained.Faulty story) = Some story
+fault_reported other = None
+
+abbrev pub fault_of_page : Option PageTold → Option FaultStory
+fault_of_page None = None
+fault_of_page (Some t) = t.fault
+
+abbrev pub fault_in : Told → Option FaultStory
+fault_in (told.Report explanation) = fault_reported explanation
+fault_in (told.Page number t) = fault_of_page t
+fault_in (told.Line line t) = fault_of_page (page_of_line t)

@@ -1,0 +1,218 @@
+//! What is told of a session on a topic: its report, a page, or a line of its text.
+
+ghost use Rattle.std.specs.Prelude.{◌≡◌, ◌<◌, IfOk, MatchOption};
+ghost use Rattle.page_facts.specs.PageFaults.{page_at, IsClean};
+ghost use Rattle.audit_report.specs.Reports.{IsReport};
+ghost use Rattle.session_story.specs.Pages.{IsPageStory};
+ghost use Rattle.session_story.specs.Topics.{IsFirstFaultStory, IsPageTold, IsShapeTold, IsTold, IsToldOfItsPage, IsToldOfLine, IsToldOfPage, fault_in, fault_reported, page_in};
+
+use crate::explaining::{Explanation, explain};
+use crate::faults::{FaultStory, ShapeStory, page_at, shape_at, story_of_fault};
+use crate::lines::record_on;
+use crate::pages::{Handover, PageStory, handover_of, story_of};
+use audit_report::Report;
+use migration_types::{LogName, PageNo, Session};
+use page_facts::fault_of;
+use std::alloc::{AllocError, Global};
+
+/// Of what is told.
+#[derive(Clone, Copy, Debug, PartialEq, Eq)]
+pub enum Topic {
+    /// Of what the report names.
+    Report,
+    /// Of the page of this number.
+    Page(u32),
+    /// Of the record at this line of the session's text, counted from 1, and of its page.
+    Line(u32),
+}
+
+/// What became of a page.
+#[derive(Clone, Copy, Debug, PartialEq, Eq)]
+pub struct PageTold {
+    pub story: PageStory,
+    pub handover: Handover,
+    /// Its first fault, if it has one.
+    pub fault: Option<FaultStory>,
+}
+
+/// A record, and what became of its page.
+#[derive(Clone, Copy, Debug, PartialEq, Eq)]
+pub struct LineTold {
+    pub log: LogName,
+    /// The record's number in its log.
+    pub place: u32,
+    /// What is wrong with its shape, where it is the record that the report names for that.
+    pub shape: Option<ShapeStory>,
+    /// What became of its page, if it is of one.
+    pub page: Option<PageTold>,
+}
+
+/// What is told of a session.
+#[derive(Debug, Drop)]
+pub enum Told {
+    /// What its report names.
+    Report(Explanation),
+    /// The page of this number; nothing where the machine has no such page.
+    Page(u32, Option<PageTold>),
+    /// The record at this line; nothing where the line tells no record.
+    Line(u32, Option<LineTold>),
+}
+
+impl Told {
+    /// What is told of a page, if it is of one. Takes no memory.
+    pub fn page(&self) -> Option<PageTold>
+        ensures { result ≡ page_in self.now }
+    {
+        match self {
+            Told::Report(_) => None,
+            Told::Page(_, told) => *told,
+            Told::Line(_, told) => match told {
+                Some(line) => line.page,
+                None => None,
+            },
+        }
+    }
+
+    /// The story of the fault that is told, if one is: the report's, or the first of the page. Takes no memory.
+    pub fn fault(&self) -> Option<FaultStory>
+        ensures { result ≡ fault_in self.now }
+    {
+        if let Told::Report(explanation) = self {
+            return fault_reported(explanation);
+        }
+        match self.page() {
+            Some(page) => page.fault,
+            None => None,
+        }
+    }
+}
+
+/// The story of the report's fault of a page, if it names one.
+fn fault_reported(explanation: &Explanation) -> Option<FaultStory>
+    ensures { result ≡ fault_reported explanation.now }
+{
+    match explanation {
+        Explanation::Faulty(story) => Some(*story),
+        _ => None,
+    }
+}
+
+/// A page's first fault, with its story; none where the page has no fault.
+fn first_fault_of(
+    alloc: Global,
+    session: &Session,
+    page: &PageStory,
+) -> Result<Option<FaultStory>, AllocError>
+    requires { IsPageStory session.now page.now.page page.now }
+    ensures { IfOk result (λ fault. MatchOption fault (IsClean session.now page.now.page) (IsFirstFaultStory session.now page.now.page)) }
+{
+    match fault_of(session, &page.found, page.page) {
+        Some(fault) => Ok(Some(story_of_fault(alloc, session, &fault, page)?)),
+        None => Ok(None),
+    }
+}
+
+/// What became of a page.
+fn page_told(alloc: Global, session: &Session, page: PageNo) -> Result<PageTold, AllocError>
+    requires { page < session.now.geometry.pages }
+    ensures { IfOk result (IsPageTold session.now page) }
+{
+    let story = story_of(alloc, session, page)?;
+    let fault = first_fault_of(alloc, session, &story)?;
+    Ok(PageTold {
+        story,
+        handover: handover_of(session),
+        fault,
+    })
+}
+
+/// What became of the page of this number; none where the machine has no such page. Takes a few passes over each log,
+/// and as much memory as judging does and one machine more, which is the only error.
+pub fn told_of_page(
+    alloc: Global,
+    session: &Session,
+    number: u32,
+) -> Result<Option<PageTold>, AllocError>
+    ensures { IfOk result (IsToldOfPage session.now number) }
+{
+    session.keeps_limits();
+    if number >= session.geometry().pages() {
+        return Ok(None);
+    }
+    let told = page_told(alloc, session, PageNo::new(number as u16))?;
+    Ok(Some(told))
+}
+
+/// What became of the page that a record is of, if it is of one.
+fn told_of_its_page(
+    alloc: Global,
+    session: &Session,
+    log: LogName,
+    place: u32,
+) -> Result<Option<PageTold>, AllocError>
+    ensures { IfOk result (IsToldOfItsPage session.now (page_at session.now (log, place))) }
+{
+    session.keeps_limits();
+    match page_at(session, log, place) {
+        Some(page) => Ok(Some(page_told(alloc, session, page)?)),
+        None => Ok(None),
+    }
+}
+
+/// What is wrong with the shape of the record at this line, where it is the one that the report names for that.
+fn shape_told(session: &Session, report: &Report, line: u32) -> Option<ShapeStory>
+    requires { IsReport session.now report.now }
+    ensures { IsShapeTold session.now report.now line result }
+{
+    match report {
+        Report::Shape(fault) => {
+            if fault.line == line {
+                Some(shape_at(session, fault))
+            } else {
+                None
+            }
+        }
+        _ => None,
+    }
+}
+
+/// The record at this line of a session's text, and what became of its page; none where the line tells no record. Takes
+/// as much as [`told_of_page`].
+pub fn told_of_line(
+    alloc: Global,
+    session: &Session,
+    report: &Report,
+    line: u32,
+) -> Result<Option<LineTold>, AllocError>
+    requires { IsReport session.now report.now }
+    ensures { IfOk result (IsToldOfLine session.now report.now line) }
+{
+    let Some((log, place)) = record_on(session, line) else {
+        return Ok(None);
+    };
+    let page = told_of_its_page(alloc, session, log, place)?;
+    Ok(Some(LineTold {
+        log,
+        place,
+        shape: shape_told(session, report, line),
+        page,
+    }))
+}
+
+/// What is told of a session on a topic, with the report on it. Takes a few passes over each log, and as much memory as
+/// an audit does and one machine more, which is the only error.
+pub fn tell(
+    alloc: Global,
+    session: &Session,
+    report: &Report,
+    topic: Topic,
+) -> Result<Told, AllocError>
+    requires { IsReport session.now report.now }
+    ensures { IfOk result (IsTold session.now report.now topic) }
+{
+    match topic {
+        Topic::Report => Ok(Told::Report(explain(alloc, session, report)?)),
+        Topic::Page(number) => Ok(Told::Page(number, told_of_page(alloc, session, number)?)),
+        Topic::Line(line) => Ok(Told::Line(line, told_of_line(alloc, session, report, line)?)),
+    }
+}
