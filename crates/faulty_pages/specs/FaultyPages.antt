@@ -1,0 +1,22 @@
+-- The pages with a fault.
+use Rattle.std.specs.Prelude.{◌≡◌, ◌≢◌, ℕ, ◌<◌, List}
+use Rattle.std.specs.List.{All, AllPairs}
+use Rattle.migration_types.specs.Sessions.{Recorded, line_of}
+use Rattle.page_facts.specs.PageFaults.{IsClean, IsFirstFault}
+use Rattle.faulty_pages.specs.declared.FaultyPage.{FaultyPage}
+
+-- a page's first fault, with its line
+pub record IsFaultyPage (s : Recorded) (f : FaultyPage) : Type 0 where
+  pub is_line : f.line ≡ line_of s (f.fault.log, f.fault.place)
+  pub is_first : IsFirstFault s f.page f.fault
+
+-- Of the pages below a number those with a fault, in ascending order, each with its first. A page that is none of them is clean.
+pub record AreFaultyBelow (s : Recorded) (n : ℕ) (found : List FaultyPage) : Type 0 where
+  pub ascending : AllPairs (λ a b. a.page < b.page) found
+  pub within : All (λ f. f.page < n) found
+  pub faulty : All (IsFaultyPage s) found
+  pub others : (page : ℕ) → page < n → All (λ f. f.page ≢ page) found → IsClean s page
+
+-- of all pages of the machine
+abbrev pub AreFaultyPages : Recorded → List FaultyPage → Type 0
+AreFaultyPages s found = AreFaultyBelow s s.geometry.pages found
