@@ -1,7 +1,8 @@
--- The story of a page's first fault.
-use Rattle.std.proofs.Common.{◌≡◌, ℕ, Option, Some, sym, ap, ◌∙◌, subst}
+-- The first fault of a page, and the pages that have one.
+use Rattle.std.proofs.Common.{◌≡◌, ◌≢◌, ℕ, ◌<◌, true, false, List, [], ◌∷◌, length, Option, Some, None, refl, sym, ap, ◌∙◌, subst, arith}
+use Rattle.std.proofs.lemmas.List.Elements.{All-nil}
 use Rattle.migration_types.specs.Receipts.{Name}
-use Rattle.migration_types.specs.Sessions.{Recorded}
+use Rattle.migration_types.specs.Sessions.{Recorded, IsSession}
 use Rattle.audit_model.specs.declared.reasons.PageReason.{PageReason}
 use Rattle.audit_model.specs.Faults.{IsPageFault}
 use Rattle.audit_model.specs.inner.PageFaultTests.{fault_test}
@@ -9,10 +10,13 @@ use Rattle.audit_model.proofs.PageFaultTests.{fault_Decides}
 use Rattle.page_facts.specs.declared.page_fault.PageFault.{PageFault}
 use Rattle.page_facts.specs.inner.FirstOfLog.{reason_at}
 use Rattle.page_facts.specs.PageFaults.{page_at, IsFirstFault}
-use Rattle.page_facts.proofs.LeastReason.{least_is}
+use Rattle.page_facts.proofs.LeastReason.{least_is, least_rank}
+use Rattle.faulty_pages.specs.declared.FaultyPage.{FaultyPage}
+use Rattle.faulty_pages.specs.FaultyPages.{AreFaultyPages}
 use Rattle.session_story.specs.declared.faults.FaultStory.{FaultStory}
 use Rattle.session_story.specs.declared.topics.PageTold.{PageTold}
 use Rattle.session_story.specs.Explained.{IsFaultStory}
+use Rattle.session_story.proofs.Paged.{fault_paged, page_below}
 use Rattle.session_story.specs.Topics.{IsFirstFaultStory, IsPageTold, IsToldOfItsPage}
 
 module _ (s : Recorded) where
@@ -32,3 +36,16 @@ module _ (s : Recorded) where
   -- what is told of the page that a record is of
   pub told_of_its : (at own : Option ℕ) (page : ℕ) (t : PageTold) → at ≡ own → at ≡ Some page → IsPageTold s page t → IsToldOfItsPage s own (Some t)
   told_of_its at own page t same is told = subst (λ (o : Option ℕ). IsToldOfItsPage s o (Some t)) (sym is ∙ same) told
+
+-- a session with a fault of a page has a page with a fault
+pub some_faulty : (s : Recorded) → IsSession s → (reason : PageReason) (name : Name) (found : List FaultyPage) → IsPageFault s reason name → AreFaultyPages s found → 0 < length found
+some_faulty s fits reason name (f ∷ found) fault are = omega arith
+some_faulty s fits reason name [] fault are = go (page_at s name) refl
+  where
+    go : (o : Option ℕ) → page_at s name ≡ o → 0 < 0
+    go None at = absurd (fault_paged s reason name fault at)
+    go (Some page) at =
+        let clean : reason_at s name ≡ None = (are.others page (page_below s fits name page at) (All-nil (λ (f : FaultyPage). f.page ≢ page))).each page name refl at in
+        let test : fault_test s reason name ≡ true = (fault_Decides s reason name).1 fault in
+        let none : fault_test s reason name ≡ false = (least_is (λ r. fault_test s r name)).none clean reason (least_rank reason) in
+        absurd (cc)

@@ -100,6 +100,6 @@ is_always reason placement = true
 
 -- whether the session goes wrong in every order of its records
 abbrev pub is_always_wrong : Explanation → Bool
-is_always_wrong (told.Faulty story) = is_always story.fault.reason story.page.found.placement
+is_always_wrong (told.Faulty story more) = is_always story.fault.reason story.page.found.placement
 is_always_wrong (told.Clean counts) = false
 is_always_wrong other = true

@@ -1,5 +1,5 @@
 -- What is told of a session, by the report on it.
-use Rattle.std.specs.Prelude.{◌≡◌, ℕ, ◌<◌, Bool, true, false, not, ◌&&◌, nat_le, is_some, List, length, MatchOption, Option, Some, None, slice_get, slice_index}
+use Rattle.std.specs.Prelude.{◌≡◌, ℕ, ◌+◌, ◌<◌, Bool, true, false, not, ◌&&◌, nat_le, is_some, List, length, MatchOption, Option, Some, None, slice_get, slice_index}
 use Rattle.migration_types.specs.declared.records.LogName.{LogName}
 use Rattle.migration_types.specs.declared.records.GuestRec.TheVariants.{Read}
 use Rattle.migration_types.specs.declared.records.SourceRec.TheVariants.{Send}
@@ -10,6 +10,8 @@ use Rattle.audit_model.specs.declared.reasons.PageReason.TheVariants.{Read as Wr
 use Rattle.audit_model.specs.Flat.{flat, at_halt}
 use Rattle.audit_model.specs.FirstFault.{IsFirstFault, IsFirstPageFault}
 use Rattle.audit_model.specs.Shape.{is_send_of, is_placement_of}
+use Rattle.faulty_pages.specs.declared.FaultyPage.{FaultyPage}
+use Rattle.faulty_pages.specs.FaultyPages.{AreFaultyPages}
 use Rattle.page_facts.specs.declared.findings.Findings.{Findings}
 use Rattle.page_facts.specs.declared.page_fault.PageFault.{PageFault}
 use Rattle.page_facts.specs.Judged.{is_late_touch, releases_at}
@@ -135,6 +137,10 @@ pub record IsReportedStory (s : Recorded) (line : ℕ) (fault : PageFault) (f : 
   pub is_first : IsFirstPageFault s fault.reason (fault.log, fault.place)
   pub story : IsFaultStory s f
 
+-- so many pages have a fault beside the one of the session's first
+abbrev pub AreMoreFaulty : Recorded → ℕ → Type 0
+AreMoreFaulty s more = (faulty : List FaultyPage) × AreFaultyPages s faulty × (length faulty ≡ more + 1)
+
 -- the first record that has not the right shape, and what was of its kind before
 pub record IsShapeStory (s : Recorded) (fault : ShapeFault) (t : ShapeStory) : Type 0 where
   pub is_line : fault.line ≡ line_of s (fault.log, fault.place)
@@ -147,6 +153,6 @@ pub record IsShapeStory (s : Recorded) (fault : ShapeFault) (t : ShapeStory) : T
 abbrev pub IsExplanation : Recorded → Report → Explanation → Type 0
 IsExplanation s (report.Shape fault) (told.Shape story) = IsShapeStory s fault story
 IsExplanation s (report.Knot left found) (told.Knot knot) = IsCircle s knot
-IsExplanation s (report.Faulty line fault order) (told.Faulty story) = IsReportedStory s line fault story
+IsExplanation s (report.Faulty line fault order) (told.Faulty story more) = IsReportedStory s line fault story × AreMoreFaulty s more
 IsExplanation s (report.Clean cert) (told.Clean counts) = IsCounts s cert.entries counts
 IsExplanation s _ _ = ⊥

@@ -76,7 +76,7 @@ page_in (told.Line line t) = page_of_line t
 
 -- the story of the fault that is told, if one is: the report's, or the first of the page
 abbrev pub fault_reported : Explanation → Option FaultStory
-fault_reported (explained.Faulty story) = Some story
+fault_reported (explained.Faulty story more) = Some story
 fault_reported other = None
 
 abbrev pub fault_of_page : Option PageTold → Option FaultStory

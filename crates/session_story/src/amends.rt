@@ -191,7 +191,7 @@ pub fn is_always_wrong(told: &Explanation) -> bool
     ensures { result ≡ is_always_wrong told.now }
 {
     match told {
-        Explanation::Faulty(story) => is_always(story),
+        Explanation::Faulty { story, .. } => is_always(story),
         Explanation::Shape(_) | Explanation::Knot(_) => true,
         Explanation::Clean(_) => false,
     }

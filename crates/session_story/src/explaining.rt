@@ -1,15 +1,18 @@
 //! What happened in a session.
 
 ghost use Rattle.std.specs.Prelude.{◌≡◌, IfOk};
+ghost use Rattle.audit_model.specs.FirstFault.{IsFirstPageFault};
 ghost use Rattle.audit_report.specs.Reports.{IsReport};
 ghost use Rattle.session_story.specs.Counted.{IsCounts};
-ghost use Rattle.session_story.specs.Explained.{IsExplanation};
+ghost use Rattle.session_story.specs.Explained.{AreMoreFaulty, IsExplanation};
 
 use crate::counting::{Counts, counts_of};
 use crate::faults::{FaultStory, ShapeStory, fault_at, shape_at};
 use crate::waits::{Knot, circle_of};
 use audit_report::Report;
+use faulty_pages::faulty_pages;
 use migration_types::{Cert, Session};
+use page_facts::{Alone, PageFault};
 use std::alloc::{AllocError, Global};
 
 /// What happened in a session: what its report names, with the records that it came from.
@@ -20,7 +23,11 @@ pub enum Explanation {
     /// There is no order of the records: some wait for one another.
     Knot(Knot),
     /// A fault of a page.
-    Faulty(FaultStory),
+    Faulty {
+        story: FaultStory,
+        /// So many other pages have a fault too.
+        more: usize,
+    },
     /// It is clean.
     Clean(Counts),
 }
@@ -31,6 +38,16 @@ fn clean_counts(session: &Session, cert: &Cert) -> Counts
 {
     cert.keeps_limits();
     counts_of(session, cert.entries())
+}
+
+/// How many pages have a fault beside the one of the session's first.
+fn more_faulty(alloc: Global, session: &Session, fault: &PageFault) -> Result<usize, AllocError>
+    requires { IsFirstPageFault session.now fault.now.reason (fault.now.log, fault.now.place) }
+    ensures { IfOk result (AreMoreFaulty session.now) }
+{
+    session.keeps_limits();
+    let faulty = faulty_pages(&Alone, alloc, session)?;
+    Ok(faulty.len() - 1)
 }
 
 /// What happened in a session, by the report on it. Takes a few passes over each log, and as much memory as an audit
@@ -44,7 +61,11 @@ pub fn explain(alloc: Global, session: &Session, report: &Report) -> Result<Expl
         Report::Knot { left, found } => {
             Ok(Explanation::Knot(circle_of(alloc, session, left, found)?))
         }
-        Report::Faulty { fault, .. } => Ok(Explanation::Faulty(fault_at(alloc, session, fault)?)),
+        Report::Faulty { fault, .. } => {
+            let story = fault_at(alloc, session, fault)?;
+            let more = more_faulty(alloc, session, fault)?;
+            Ok(Explanation::Faulty { story, more })
+        }
         Report::Clean(cert) => Ok(Explanation::Clean(clean_counts(session, cert))),
     }
 }

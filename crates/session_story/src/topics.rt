@@ -92,7 +92,7 @@ fn fault_reported(explanation: &Explanation) -> Option<FaultStory>
     ensures { result ≡ fault_reported explanation.now }
 {
     match explanation {
-        Explanation::Faulty(story) => Some(*story),
+        Explanation::Faulty { story, .. } => Some(*story),
         _ => None,
     }
 }

@@ -11,7 +11,7 @@ mod topics;
 use crate::counting::Counts;
 use crate::explaining::Explanation;
 use crate::topics::Told;
-use crate::words::faults::{push_fault, push_faulty};
+use crate::words::faults::{push_fault, push_faulty, push_more};
 use crate::words::knots::{push_knot, push_no_order};
 use crate::words::shapes::push_shape_story;
 use crate::words::topics::{push_line, push_line_summary, push_page, push_page_summary};
@@ -81,7 +81,10 @@ fn push_explanation(
     match explanation {
         Explanation::Shape(story) => push_shape_story(out, session, story),
         Explanation::Knot(knot) => push_knot(out, session, knot),
-        Explanation::Faulty(fault) => push_fault(out, session, fault),
+        Explanation::Faulty { story, more } => {
+            push_fault(out, session, story)?;
+            push_more(out, *more)
+        }
         Explanation::Clean(counts) => push_counts(out, session.version(), counts),
     }
 }
@@ -111,7 +114,7 @@ fn push_first_of(
     match explanation {
         Explanation::Shape(story) => push_shape_story(out, session, story),
         Explanation::Knot(_) => push_no_order(out),
-        Explanation::Faulty(story) => push_faulty(out, session, story),
+        Explanation::Faulty { story, .. } => push_faulty(out, session, story),
         Explanation::Clean(_) => out.push_str(CLEAN),
     }
 }

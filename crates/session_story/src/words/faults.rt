@@ -379,3 +379,15 @@ pub(crate) fn push_fault(
     push_order(out, story)?;
     push_story(out, session, &story.page, &story.handover)
 }
+
+/// Adds how many other pages have a fault, where some have.
+pub(crate) fn push_more(out: &mut String, more: usize) -> Result<(), AllocError> {
+    match more {
+        0 => Ok(()),
+        1 => out.push_str("1 more page has a fault; audit --all lists them.\n"),
+        _ => write!(
+            out,
+            "{more} more pages have a fault; audit --all lists them.\n"
+        ),
+    }
+}
