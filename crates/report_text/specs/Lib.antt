@@ -1,3 +1,4 @@
 pub mod ReportText
+pub mod FaultyPagesText
 pub mod RefusalText
 pub mod MissingText
