@@ -10,4 +10,4 @@ mod wanted;
 pub use auditing::{Audited, audit_text};
 pub use checking::{check_read, check_texts, check_texts_alone};
 pub use replaying::{Outcome, find_outcome, replay_texts};
-pub use wanted::{Wanted, print_audited};
+pub use wanted::{Wanted, print_audited, print_wanted};

@@ -34,8 +34,8 @@ fn certificate(alloc: Global, report: &Report) -> Result<Vec<u8>, AllocError>
     }
 }
 
-/// What is wanted of a report.
-fn wanted_of(alloc: Global, report: &Report, wanted: Wanted) -> Result<Vec<u8>, AllocError>
+/// What is wanted of a report. Each line ends with LF. An error: there is no memory for it.
+pub fn print_wanted(alloc: Global, report: &Report, wanted: Wanted) -> Result<Vec<u8>, AllocError>
     requires { ReportFits report.now }
     ensures { IfOk result (λ text. text.items ≡ wanted_text wanted report.now) }
 {
@@ -58,6 +58,6 @@ pub fn print_audited(
 {
     match audited {
         Audited::Refused(line) => print_refused_session(alloc, *line),
-        Audited::Reported(report) => wanted_of(alloc, report, wanted),
+        Audited::Reported(report) => print_wanted(alloc, report, wanted),
     }
 }
