@@ -5,8 +5,7 @@ use Rattle.std.specs.List.{AllByRecursion, concat}
 use Rattle.std.specs.Borrow.{Bor}
 use Rattle.std.proofs.lemmas.List.{append_assoc, append-nil, take_all, take_more}
 use Rattle.command_texts.specs.Told.{AreRead, IsNamed, is_dash}
-use Rattle.command_texts.specs.declared.several.Listing.{Listing}
-use Rattle.command_texts.specs.Several.{AreGathered, Entry, IsGathered, IsRight, listed, names_of, well}
+use Rattle.command_texts.specs.Several.{AreGathered, Entry, IsGathered, IsRight, Style, listed, names_of, well}
 
 -- what is read under a name is read where nothing is known of the input
 input_unknown : (dash : Bool) (file input : Option (List ℕ)) (text : List ℕ) → AreRead (cond dash input file) text → AreRead (cond dash None file) text
@@ -34,13 +33,13 @@ well_more : (es : List Entry) (e : Entry) → well (es ++ e ∷ []) ≡ well es 
 well_more [] e = omega arith
 well_more (y ∷ ys) e = ap (λ (n : ℕ). cond (y.status == 0) 1 0 + n) (well_more ys e) ∙ omega arith
 
-module _ (files : List ℕ → Option (List ℕ)) (IsAnswer : List ℕ → List ℕ → ℕ → Type 0) (listing : Listing) where
+module _ (files : List ℕ → Option (List ℕ)) (IsAnswer : List ℕ → List ℕ → ℕ → Type 0) (style : Style) where
   -- nothing was added yet
-  pub none_gathered : (out : List ℕ) → AreGathered files IsAnswer listing [] out out 0
+  pub none_gathered : (out : List ℕ) → AreGathered files IsAnswer style [] out out 0
   none_gathered out = record { entries = []; are_names = refl; are_right = tt; added = sym (append-nil out); tells = refl }
 
   -- one more was added
-  pub one_gathered : (names : List (List ℕ)) (name old mid new : List ℕ) (count : ℕ) (is_well : Bool) → AreGathered files IsAnswer listing names old mid count → IsGathered files IsAnswer listing name mid new is_well → AreGathered files IsAnswer listing (names ++ name ∷ []) old new (count + cond is_well 1 0)
+  pub one_gathered : (names : List (List ℕ)) (name old mid new : List ℕ) (count : ℕ) (is_well : Bool) → AreGathered files IsAnswer style names old mid count → IsGathered files IsAnswer style name mid new is_well → AreGathered files IsAnswer style (names ++ name ∷ []) old new (count + cond is_well 1 0)
   one_gathered names name old mid new count is_well h k =
       let es = h.entries in
       let e = k.entry in
@@ -48,17 +47,17 @@ module _ (files : List ℕ → Option (List ℕ)) (IsAnswer : List ℕ → List 
         entries = es ++ e ∷ [];
         are_names = map_more (λ (x : Entry). x.name) es e ∙ ap₂ (λ (xs : List (List ℕ)) (x : List ℕ). xs ++ x ∷ []) h.are_names k.is_name;
         are_right = all_more (IsRight files IsAnswer) es e h.are_right k.is_right;
-        added = k.added ∙ ap (λ xs. xs ++ listed listing e) h.added ∙ append_assoc old (concat (map (listed listing) es)) (listed listing e)
-          ∙ ap (λ xs. old ++ xs) (sym (ap concat (map_more (listed listing) es e) ∙ concat_more (map (listed listing) es) (listed listing e)));
+        added = k.added ∙ ap (λ xs. xs ++ listed style e) h.added ∙ append_assoc old (concat (map (listed style) es)) (listed style e)
+            ∙ ap (λ xs. old ++ xs) (sym (ap concat (map_more (listed style) es e) ∙ concat_more (map (listed style) es) (listed style e)));
         tells = ap₂ (λ (n : ℕ) (b : Bool). n + cond b 1 0) h.tells k.tells ∙ sym (well_more es e);
       }
 
   -- the next of the names was added
-  pub next_gathered : (names : List (Bor (List ℕ))) (k : ℕ) (d : Bor (List ℕ)) (old mid new : List ℕ) (count : ℕ) (is_well : Bool) → k < length names → AreGathered files IsAnswer listing (names_of (take k names)) old mid count → IsGathered files IsAnswer listing (get_or names k d).now mid new is_well → AreGathered files IsAnswer listing (names_of (take (k + 1) names)) old new (count + cond is_well 1 0)
+  pub next_gathered : (names : List (Bor (List ℕ))) (k : ℕ) (d : Bor (List ℕ)) (old mid new : List ℕ) (count : ℕ) (is_well : Bool) → k < length names → AreGathered files IsAnswer style (names_of (take k names)) old mid count → IsGathered files IsAnswer style (get_or names k d).now mid new is_well → AreGathered files IsAnswer style (names_of (take (k + 1) names)) old new (count + cond is_well 1 0)
   next_gathered names k d old mid new count is_well lt h next =
       let more : names_of (take (k + 1) names) ≡ names_of (take k names) ++ (get_or names k d).now ∷ [] = ap names_of (take_more names k d lt) ∙ map_more (λ (name : Bor (List ℕ)). name.now) (take k names) (get_or names k d) in
-      subst (λ ns. AreGathered files IsAnswer listing ns old new (count + cond is_well 1 0)) (sym more) (one_gathered (names_of (take k names)) (get_or names k d).now old mid new count is_well h next)
+      subst (λ ns. AreGathered files IsAnswer style ns old new (count + cond is_well 1 0)) (sym more) (one_gathered (names_of (take k names)) (get_or names k d).now old mid new count is_well h next)
 
   -- all names were added
-  pub all_gathered : (names : List (Bor (List ℕ))) (k : ℕ) (old new : List ℕ) (count : ℕ) → length names ≤ k → AreGathered files IsAnswer listing (names_of (take k names)) old new count → AreGathered files IsAnswer listing (names_of names) old new count
-  all_gathered names k old new count le h = subst (λ ns. AreGathered files IsAnswer listing (names_of ns) old new count) (take_all k names le) h
+  pub all_gathered : (names : List (Bor (List ℕ))) (k : ℕ) (old new : List ℕ) (count : ℕ) → length names ≤ k → AreGathered files IsAnswer style (names_of (take k names)) old new count → AreGathered files IsAnswer style (names_of names) old new count
+  all_gathered names k old new count le h = subst (λ ns. AreGathered files IsAnswer style (names_of ns) old new count) (take_all k names le) h

@@ -1,7 +1,7 @@
 //! A command on several texts, one after the other: an answer for each, and how many say that all is well.
 
 ghost use Rattle.std.specs.Prelude.{◌≡◌, ◌<◌, ◌++◌, ℕ, IfOk, OnOk, map};
-ghost use Rattle.command_texts.specs.Several.{AreGathered, IsGathered, TellsSeveral, list_end, listed_as, names_of};
+ghost use Rattle.command_texts.specs.Several.{AreGathered, IsGathered, TellsSeveral, list_end, listed_as, names_of, style_of};
 
 use crate::answer::{ACCEPTED, Answer, Fault, status_where, written};
 use crate::naming::read_named;
@@ -26,7 +26,7 @@ pub enum Listing<'a> {
 impl Listing<'_> {
     // Adds an answer.
     fn push_answer(self, out: &mut Vec<u8>, name: &str, answer: &Answer) -> Result<(), AllocError>
-        ensures { OnOk result (out.new.items ≡ out.old.items ++ listed_as self.entry name.now answer.now.text.items) }
+        ensures { OnOk result (out.new.items ≡ out.old.items ++ listed_as (style_of self.entry) name.now answer.now.text.items) }
     {
         if let Listing::Named(_) = self {
             out.extend_from_slice(name.as_bytes())?;
@@ -37,7 +37,7 @@ impl Listing<'_> {
 
     // Adds what ends the list, where so many answers of so many say that all is well.
     fn push_end(self, out: &mut Vec<u8>, well: usize, all: usize) -> Result<(), AllocError>
-        ensures { OnOk result (out.new.items ≡ out.old.items ++ list_end self.entry well all) }
+        ensures { OnOk result (out.new.items ≡ out.old.items ++ list_end (style_of self.entry) well all) }
     {
         let Listing::Named(sum) = self else {
             return Ok(());
@@ -62,7 +62,7 @@ fn push_one<'a, C: OnOne, R: Threads + Sync, S: TextSource, I: Read + Send, E: W
     errors: &mut E,
 ) -> Result<bool, Fault<'a>>
     requires ready { C.ready }
-    ensures { IfOk result (IsGathered (S.bytes_of texts.now) (C.is_answer command.now) listing.entry name.entry.now out.old.items out.new.items) }
+    ensures { IfOk result (IsGathered (S.bytes_of texts.now) (C.is_answer command.now) (style_of listing.entry) name.entry.now out.old.items out.new.items) }
 {
     let mut why = None;
     let found = read_named::<C::Text, R, S, I>(rt, alloc, name, texts, input, &mut why)?;
@@ -87,7 +87,7 @@ fn push_each<'a, C: OnOne, R: Threads + Sync, S: TextSource, I: Read + Send, E: 
     errors: &mut E,
 ) -> Result<usize, Fault<'a>>
     requires ready { C.ready }
-    ensures { IfOk result (AreGathered (S.bytes_of texts.now) (C.is_answer command.now) listing.entry (names_of names.now) out.old.items out.new.items) }
+    ensures { IfOk result (AreGathered (S.bytes_of texts.now) (C.is_answer command.now) (style_of listing.entry) (names_of names.now) out.old.items out.new.items) }
 {
     let mut well = 0;
     for name in names {
@@ -124,7 +124,7 @@ pub fn perform_several<
 ) -> Result<u8, Fault<'a>>
     requires ready { C.ready }
     ensures few { IfOk result (λ status. status < 2) }
-    ensures told { IfOk result (TellsSeveral (S.bytes_of texts.now) (C.is_answer command.now) listing.entry (names_of names.now) (O.contents output.old) (O.contents output.new)) }
+    ensures told { IfOk result (TellsSeveral (S.bytes_of texts.now) (C.is_answer command.now) (style_of listing.entry) (names_of names.now) (O.contents output.old) (O.contents output.new)) }
 {
     let mut text = Vec::new(alloc);
     let well = match push_each(

@@ -1,9 +1,9 @@
 use Rattle.std.proofs.Common.{◌≤◌, take}
-use Rattle.command_texts.specs.Several.{AreGathered, names_of}
+use Rattle.command_texts.specs.Several.{AreGathered, names_of, style_of}
 use Rattle.command_texts.proofs.several.push_each.Given as goal
 
 abbrev pub invariant-loop-name : goal.invariant-loop-name
 invariant-loop-name g l = record {
   few : l.well ≤ l.name-index;
-  gathered : AreGathered (g.S.TextSource.bytes_of l.texts) (g.C.OnOne.is_answer l.command) l.listing (names_of (take l.name-index l.names)) l.fn.out.items l.out.items l.well;
+  gathered : AreGathered (g.S.TextSource.bytes_of l.texts) (g.C.OnOne.is_answer l.command) (style_of l.listing) (names_of (take l.name-index l.names)) l.fn.out.items l.out.items l.well;
 }
