@@ -2,6 +2,7 @@
 -- first. Its words are those of the report's first line, so none has a letter that JSON escapes.
 use Rattle.std.specs.Prelude.{ℕ, List, [], ◌∷◌, ◌++◌, Option, Some, None, codes}
 use Rattle.std.specs.Fmt.{decimal}
+use Rattle.std.specs.List.{flat_map}
 use Rattle.migration_types.specs.declared.cert.Run.{Run}
 use Rattle.migration_types.specs.declared.records.LogName.{LogName}
 use Rattle.migration_types.specs.declared.records.LogName.TheVariants.{Pager}
@@ -10,6 +11,7 @@ use Rattle.migration_types.specs.Sessions.{Recorded, line_of}
 use Rattle.audit_model.specs.Reasons.{page_word, shape_word}
 use Rattle.page_facts.specs.declared.page_fault.PageFault.{PageFault}
 use Rattle.page_facts.specs.PageFaults.{page_at}
+use Rattle.faulty_pages.specs.declared.FaultyPage.{FaultyPage}
 use Rattle.cert_check.specs.declared.verdict.ShapeFault.{ShapeFault}
 use Rattle.cert_check.specs.declared.verdict.Verdict.{Verdict}
 use Rattle.cert_check.specs.declared.verdict.Verdict.TheVariants as verdict
@@ -30,23 +32,22 @@ word name w = codes ",\"" ++ name ++ codes "\":\"" ++ w ++ codes "\""
 abbrev pub run : Run → List ℕ
 run r = codes "[\"" ++ log_word r.log ++ codes "\"," ++ decimal r.count ++ codes "]"
 
--- more runs, each after a comma
-abbrev pub more_runs : List Run → List ℕ
-more_runs [] = []
-more_runs (r ∷ rs) = codes "," ++ run r ++ more_runs rs
+-- more items, each after a comma
+abbrev pub after_commas : {X : Type 0} → (X → List ℕ) → List X → List ℕ
+after_commas written xs = flat_map (λ x. codes "," ++ written x) xs
 
--- runs, with commas between them
-abbrev pub all_runs : List Run → List ℕ
-all_runs [] = []
-all_runs (r ∷ rs) = run r ++ more_runs rs
+-- items, with commas between them
+abbrev pub with_commas : {X : Type 0} → (X → List ℕ) → List X → List ℕ
+with_commas written [] = []
+with_commas written (x ∷ xs) = written x ++ after_commas written xs
 
--- what stands before the runs of an order
-unfoldable pub before_runs : List ℕ
-before_runs = codes ",\"runs\":["
+-- a list under a name
+unfoldable pub listed : {X : Type 0} → List ℕ → (X → List ℕ) → List X → List ℕ
+listed name written xs = codes ",\"" ++ name ++ codes "\":[" ++ with_commas written xs ++ codes "]"
 
 -- the runs of an order, as in ,"runs":[["guest",3],["link",1]]
-unfoldable pub runs : List Run → List ℕ
-runs rs = before_runs ++ all_runs rs ++ codes "]"
+abbrev pub runs : List Run → List ℕ
+runs rs = listed (codes "runs") run rs
 
 -- what stands before a verdict
 unfoldable pub opening : List ℕ
@@ -73,19 +74,42 @@ unfoldable pub page_of : Option ℕ → List ℕ
 page_of None = []
 page_of (Some page) = number (codes "page") page
 
+-- what is told of a fault of shape
+abbrev pub shape_told : ShapeFault → List ℕ
+shape_told fault = record_at fault.line fault.log fault.place ++ word (codes "reason") (shape_word fault.reason)
+
 abbrev pub shape_object : ShapeFault → List ℕ
-shape_object fault = object (codes "shape") (record_at fault.line fault.log fault.place ++ word (codes "reason") (shape_word fault.reason))
+shape_object fault = object (codes "shape") (shape_told fault)
 
 -- what is told of the fault of a record, with the runs of an order in which it shows
 unfoldable pub fault_told : Recorded → ℕ → PageFault → List Run → List ℕ
 fault_told s line fault order = record_at line fault.log fault.place ++ word (codes "reason") (page_word fault.reason) ++ page_of (page_at s (fault.log, fault.place)) ++ runs order
 
--- The object of a report. A knot has the found order up to it, and a clean session the order of its certificate.
+-- The object of a report, up to its end. A knot has the found order up to it, and a clean session the order of its certificate.
+unfoldable pub report_begun : Recorded → Report → List ℕ
+report_begun s (report.Clean cert) = begun (codes "clean") ++ runs cert.runs
+report_begun s (report.Shape fault) = begun (codes "shape") ++ shape_told fault
+report_begun s (report.Knot left found) = begun (codes "knot") ++ record_at left.line left.log left.place ++ runs found.runs
+report_begun s (report.Faulty line fault order) = begun (codes "faulty") ++ fault_told s line fault order
+
+-- the object of a report
 abbrev pub report_object : Recorded → Report → List ℕ
-report_object s (report.Clean cert) = object (codes "clean") (runs cert.runs)
-report_object s (report.Shape fault) = shape_object fault
-report_object s (report.Knot left found) = object (codes "knot") (record_at left.line left.log left.place ++ runs found.runs)
-report_object s (report.Faulty line fault order) = object (codes "faulty") (fault_told s line fault order)
+report_object s report = report_begun s report ++ codes "}\n"
+
+-- a page with a fault, as in {"page":3,"line":14,"reason":"read"}
+unfoldable pub faulty_page : FaultyPage → List ℕ
+faulty_page f = codes "{\"page\":" ++ decimal f.page ++ number (codes "line") f.line ++ word (codes "reason") (page_word f.fault.reason) ++ codes "}"
+
+-- the pages with a fault, where the report judges the pages
+abbrev pub pages_told : Report → List FaultyPage → List ℕ
+pages_told (report.Clean cert) pages = listed (codes "pages") faulty_page pages
+pages_told (report.Shape fault) pages = []
+pages_told (report.Knot left found) pages = []
+pages_told (report.Faulty line fault order) pages = listed (codes "pages") faulty_page pages
+
+-- the object of a report that tells these pages with a fault
+abbrev pub all_faults_object : Recorded → Report → List FaultyPage → List ℕ
+all_faults_object s report pages = report_begun s report ++ pages_told report pages ++ codes "}\n"
 
 -- the object of a verdict on a certificate
 abbrev pub verdict_object : Verdict → List ℕ

@@ -1,9 +1,9 @@
 //! Objects and their fields. Each field begins with its comma, as the verdict stands before it.
 
 ghost use Rattle.std.specs.Prelude.{◌≡◌, [], ◌++◌, codes, OnOk};
-ghost use Rattle.report_json.specs.JsonText.{all_runs, before_runs, begun, more_runs, number, object, opening, page_of, record_at, run, runs, word};
+ghost use Rattle.report_json.specs.JsonText.{begun, number, object, opening, page_of, record_at, word};
 
-use migration_types::{LogName, PageNo, Run};
+use migration_types::{LogName, PageNo};
 use std::alloc::AllocError;
 use text_lines::push_number;
 
@@ -87,64 +87,4 @@ pub(crate) fn push_page(out: &mut Vec<u8>, page: Option<PageNo>) -> Result<(), A
         Some(page) => push_number_under(out, b"page", u32::from(page.number())),
         None => Ok(()),
     }
-}
-
-/// Adds a run.
-fn push_run(out: &mut Vec<u8>, one: &Run) -> Result<(), AllocError>
-    ensures { OnOk result (out.new.items ≡ out.old.items ++ run one.now) }
-{
-    out.extend_from_slice(b"[\"")?;
-    out.extend_from_slice(one.log.word().as_bytes())?;
-    out.extend_from_slice(b"\",")?;
-    push_number(out, one.count)?;
-    out.extend_from_slice(b"]")
-}
-
-/// Adds a run after a comma.
-fn push_next_run(out: &mut Vec<u8>, one: &Run) -> Result<(), AllocError>
-    ensures { OnOk result (out.new.items ≡ out.old.items ++ (codes "," ++ run one.now)) }
-{
-    out.extend_from_slice(b",")?;
-    push_run(out, one)
-}
-
-/// Adds more runs, each after a comma.
-fn push_more_runs(out: &mut Vec<u8>, more: &[Run]) -> Result<(), AllocError>
-    ensures { OnOk result (out.new.items ≡ out.old.items ++ more_runs more.now) }
-{
-    for one in more {
-        push_next_run(out, one)?;
-    }
-    Ok(())
-}
-
-/// Adds runs, with commas between them.
-fn push_all_runs(out: &mut Vec<u8>, order: &[Run]) -> Result<(), AllocError>
-    ensures { OnOk result (out.new.items ≡ out.old.items ++ all_runs order.now) }
-{
-    match order.split_first() {
-        Some((first, more)) => {
-            push_run(out, first)?;
-            push_more_runs(out, more)
-        }
-        None => Ok(()),
-    }
-}
-
-/// Adds what stands before the runs of an order.
-#[tactic(auto, unfolding(crate::specs::JsonText::before_runs))]
-fn push_before_runs(out: &mut Vec<u8>) -> Result<(), AllocError>
-    ensures { OnOk result (out.new.items ≡ out.old.items ++ before_runs) }
-{
-    out.extend_from_slice(b",\"runs\":[")
-}
-
-/// Adds the runs of an order.
-#[tactic(auto, unfolding(crate::specs::JsonText::runs))]
-pub(crate) fn push_runs(out: &mut Vec<u8>, order: &[Run]) -> Result<(), AllocError>
-    ensures { OnOk result (out.new.items ≡ out.old.items ++ runs order.now) }
-{
-    push_before_runs(out)?;
-    push_all_runs(out, order)?;
-    out.extend_from_slice(b"]")
 }

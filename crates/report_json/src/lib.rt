@@ -2,6 +2,7 @@
 #![tactic(auto)]
 
 mod fields;
+mod lists;
 mod objects;
 
-pub use objects::{push_missing, push_refused, push_report, push_verdict};
+pub use objects::{push_all_faults, push_missing, push_refused, push_report, push_verdict};

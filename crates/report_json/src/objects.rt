@@ -2,14 +2,16 @@
 
 ghost use Rattle.std.specs.Prelude.{◌≡◌, ◌++◌, codes, OnOk};
 ghost use Rattle.completeness.specs.Complete.{IsFirstMissing};
-ghost use Rattle.report_json.specs.JsonText.{at_line, fault_told, missing_object, missing_told, number, record_at, report_object, shape_object, verdict_object, word};
+ghost use Rattle.report_json.specs.JsonText.{all_faults_object, at_line, begun, fault_told, missing_object, missing_told, number, pages_told, record_at, report_begun, report_object, shape_object, shape_told, verdict_object, word};
 
 use crate::fields::{
-    begin, end, push_bare, push_number_under, push_page, push_record, push_runs, push_word_under,
+    begin, end, push_bare, push_number_under, push_page, push_record, push_word_under,
 };
+use crate::lists::{push_list_under, push_runs};
 use audit_report::Report;
 use cert_check::{ShapeFault, Verdict};
 use completeness::Missing;
+use faulty_pages::FaultyPage;
 use migration_types::{LogName, PageNo, Run, Session};
 use page_facts::PageFault;
 use report_text::line_of_taken;
@@ -32,13 +34,20 @@ pub fn push_refused(out: &mut Vec<u8>, line: u32) -> Result<(), AllocError>
     push_at_line(out, b"session-text", line)
 }
 
+/// Begins the object of a fault of shape.
+fn begin_shape(out: &mut Vec<u8>, fault: &ShapeFault) -> Result<(), AllocError>
+    ensures { OnOk result (out.new.items ≡ out.old.items ++ (begun (codes "shape") ++ shape_told fault.now)) }
+{
+    begin(out, b"shape")?;
+    push_record(out, fault.line, fault.log, fault.place)?;
+    push_word_under(out, b"reason", fault.reason.word())
+}
+
 /// Adds the object of a fault of shape.
 fn push_shape(out: &mut Vec<u8>, fault: &ShapeFault) -> Result<(), AllocError>
     ensures { OnOk result (out.new.items ≡ out.old.items ++ shape_object fault.now) }
 {
-    begin(out, b"shape")?;
-    push_record(out, fault.line, fault.log, fault.place)?;
-    push_word_under(out, b"reason", fault.reason.word())?;
+    begin_shape(out, fault)?;
     end(out)
 }
 
@@ -59,29 +68,61 @@ fn push_fault(
     push_runs(out, order)
 }
 
-/// Adds the object of the report on a session. An error: there is no memory for it.
-pub fn push_report(out: &mut Vec<u8>, session: &Session, report: &Report) -> Result<(), AllocError>
-    ensures { OnOk result (out.new.items ≡ out.old.items ++ report_object session.now report.now) }
+/// Begins the object of the report on a session.
+#[tactic(auto, unfolding(crate::specs::JsonText::report_begun))]
+fn begin_report(out: &mut Vec<u8>, session: &Session, report: &Report) -> Result<(), AllocError>
+    ensures { OnOk result (out.new.items ≡ out.old.items ++ report_begun session.now report.now) }
 {
     match report {
         Report::Clean(cert) => {
             begin(out, b"clean")?;
-            push_runs(out, cert.runs())?;
-            end(out)
+            push_runs(out, cert.runs())
         }
-        Report::Shape(fault) => push_shape(out, fault),
+        Report::Shape(fault) => begin_shape(out, fault),
         Report::Knot { left, found } => {
             begin(out, b"knot")?;
             push_record(out, left.line, left.log, left.place)?;
-            push_runs(out, found.runs.as_slice())?;
-            end(out)
+            push_runs(out, found.runs.as_slice())
         }
         Report::Faulty { line, fault, order } => {
             begin(out, b"faulty")?;
-            push_fault(out, session, *line, fault, order.as_slice())?;
-            end(out)
+            push_fault(out, session, *line, fault, order.as_slice())
         }
     }
+}
+
+/// Adds the object of the report on a session. An error: there is no memory for it.
+pub fn push_report(out: &mut Vec<u8>, session: &Session, report: &Report) -> Result<(), AllocError>
+    ensures { OnOk result (out.new.items ≡ out.old.items ++ report_object session.now report.now) }
+{
+    begin_report(out, session, report)?;
+    end(out)
+}
+
+/// Adds the pages with a fault, where the report judges the pages.
+fn push_pages(out: &mut Vec<u8>, report: &Report, pages: &[FaultyPage]) -> Result<(), AllocError>
+    ensures { OnOk result (out.new.items ≡ out.old.items ++ pages_told report.now pages.now) }
+{
+    match report {
+        Report::Clean(_) | Report::Faulty { .. } => push_list_under(out, b"pages", pages),
+        Report::Shape(_) | Report::Knot { .. } => Ok(()),
+    }
+}
+
+/// Adds the object of the report on a session that tells each page with a fault: that of the report, with these pages where it
+/// is clean or faulty. Of a session that has not the right shape, or no merging, no page is told. An error: there is no memory
+/// for it.
+pub fn push_all_faults(
+    out: &mut Vec<u8>,
+    session: &Session,
+    report: &Report,
+    pages: &[FaultyPage],
+) -> Result<(), AllocError>
+    ensures { OnOk result (out.new.items ≡ out.old.items ++ all_faults_object session.now report.now pages.now) }
+{
+    begin_report(out, session, report)?;
+    push_pages(out, report, pages)?;
+    end(out)
 }
 
 /// Adds the object of a verdict on a certificate. An error: there is no memory for it.

@@ -1,6 +1,8 @@
 //! Tests of the crates that judge a session: on sessions of which it is known what they are; and beside the plain
 //! programs, over these and over some thousands of small sessions made at random, the same in each run.
 
+#[cfg(test)]
+mod all_faults;
 pub mod changes;
 #[cfg(test)]
 mod compared;

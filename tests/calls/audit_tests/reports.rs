@@ -1,11 +1,11 @@
 //! Reports on recorded sessions, against the rules.
 
-use crate::texts::{FRESH, HANDOVER, OVER, PULLED, SEEN};
+use crate::texts::{FRESH, HANDOVER, OVER, PULLED, SEEN, changed};
 use audit_report::{Report, audit};
 use report_text::print_report;
 use migration_types::Session;
 use session_text::read_session;
-use std::alloc::{AllocError, Global};
+use std::alloc::Global;
 use std::marker::Sync;
 use std::thread::Threads;
 
@@ -457,15 +457,6 @@ static CASES: [Case; 19] = [
         report: UNSEEN_PULL_REPORT,
     },
 ];
-
-/// The text with its changes.
-fn changed(alloc: Global, text: &str, changes: &[(&str, &str)]) -> Result<String, AllocError> {
-    let mut text = String::from_str(alloc, text)?;
-    for (old, new) in changes {
-        text = text.as_str().replace(alloc, *old, new)?;
-    }
-    Ok(text)
-}
 
 /// Whether this is the text of a report.
 fn is_text_of(alloc: Global, report: &Report, text: &str) -> bool {

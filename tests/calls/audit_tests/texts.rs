@@ -532,6 +532,15 @@ fn text_of(alloc: Global, logs: &Logs) -> Result<String, AllocError> {
     )
 }
 
+/// The text with its changes.
+pub fn changed(alloc: Global, text: &str, changes: &[(&str, &str)]) -> Result<String, AllocError> {
+    let mut text = String::from_str(alloc, text)?;
+    for (old, new) in changes {
+        text = text.as_str().replace(alloc, *old, new)?;
+    }
+    Ok(text)
+}
+
 /// That session; none where its text is refused, or there is no memory.
 pub fn session_of(alloc: Global, logs: &Logs) -> Option<Session> {
     let text = text_of(alloc, logs).ok()?;
