@@ -4,6 +4,7 @@ use Rattle.std.specs.Borrow.{Bor}
 use Rattle.clap.specs.Words.{Text}
 use Rattle.command_words.specs.declared.asked.Asked.{Asked}
 use Rattle.command_words.specs.declared.asked.Asked.TheVariants.{Draw}
+use Rattle.command_words.specs.declared.asked.Topic.{Topic}
 use Rattle.command_words.specs.Table.{asked_names}
 use Rattle.std.specs.Prelude.{Result, Ok, Err, IfOk}
 use Rattle.std.specs.declared.alloc.AllocError.{AllocError}
@@ -19,11 +20,11 @@ use Rattle.commands.specs.Drawings.{Drawing, SessionText, RunsText, Drawn, IsDra
 use Rattle.command_texts.proofs.Said.{says_right}
 
 -- what was told of a session alone, and of a session with runs, was told of what the words ask for
-pub told_alone : (job : Asked (Bor Text)) (name : Bor Text) (further : Option (Bor Text)) (P : Asked Text → Type 0) → job ≡ Draw name further → further ≡ None → P (Draw name.now None) → P (asked_names job)
-told_alone job name further P is none p = subst (λ (a : Asked (Bor Text)). P (asked_names a)) (sym (is ∙ ap (λ (o : Option (Bor Text)). Draw name o) none)) p
+pub told_alone : (job : Asked (Bor Text)) (topic : Topic) (name : Bor Text) (further : Option (Bor Text)) (P : Asked Text → Type 0) → job ≡ Draw topic name further → further ≡ None → P (Draw topic name.now None) → P (asked_names job)
+told_alone job topic name further P is none p = subst (λ (a : Asked (Bor Text)). P (asked_names a)) (sym (is ∙ ap (λ (o : Option (Bor Text)). Draw topic name o) none)) p
 
-pub told_along : (job : Asked (Bor Text)) (name second : Bor Text) (further : Option (Bor Text)) (P : Asked Text → Type 0) → job ≡ Draw name further → further ≡ Some second → P (Draw name.now (Some second.now)) → P (asked_names job)
-told_along job name second further P is some p = subst (λ (a : Asked (Bor Text)). P (asked_names a)) (sym (is ∙ ap (λ (o : Option (Bor Text)). Draw name o) some)) p
+pub told_along : (job : Asked (Bor Text)) (topic : Topic) (name second : Bor Text) (further : Option (Bor Text)) (P : Asked Text → Type 0) → job ≡ Draw topic name further → further ≡ Some second → P (Draw topic name.now (Some second.now)) → P (asked_names job)
+told_along job topic name second further P is some p = subst (λ (a : Asked (Bor Text)). P (asked_names a)) (sym (is ∙ ap (λ (o : Option (Bor Text)). Draw topic name o) some)) p
 
 drawing_few : (d : Drawing) → drawing_status d < 2
 drawing_few (SessionText line) = omega arith

@@ -13,7 +13,7 @@ use Rattle.cert_check.specs.declared.verdict.Verdict.TheVariants as verdict
 use Rattle.judged_texts.specs.declared.wanted.Wanted.{Wanted}
 use Rattle.command_texts.specs.Cutting.{IsCutAtEnd}
 use Rattle.judge_commands.specs.Answers.{IsAuditAnswer, IsVerdictAnswer}
-use Rattle.judge_commands.proofs.Judged.{audited_clean, cut_texts, judged_text}
+use Rattle.judge_commands.proofs.Judged.{cut_texts, judged_clean, judged_text}
 use Rattle.host_commands.specs.Migrations.{AuditRefused, IsMigrateAnswer, IsMigration, LogFull, Migration, Records, ScriptText, TranscriptDiffers, certified_text, migration_status, migration_text}
 
 -- what was migrated
@@ -49,4 +49,4 @@ migrations_clean wanted script text first second answer status h cut k =
     let texts = cut_texts w.session w.cert text first second w.fits w.cert_fits w.is_text cut in
     let merges : HasMerging w.session = (spelled w.cert.runs, w.checked.1.merging) in
     let faultless : IsFaultless w.session = record { is_session = w.fits; shape = w.checked.0; clean = (safe_exactly_if_clean w.session w.fits w.checked.0 merges).0 w.safe } in
-    k.is_status ∙ audited_clean w.session first faultless merges texts.session k.value k.is_right
+    k.is_status ∙ judged_clean w.session first faultless merges texts.session k.value k.is_right

@@ -2,4 +2,3 @@ pub mod Settled
 pub mod Judged
 pub mod Recorded
 pub mod Drawn
-pub mod Explained

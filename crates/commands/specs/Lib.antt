@@ -1,3 +1,2 @@
-pub mod Explained
 pub mod Drawings
 pub mod Told

@@ -15,9 +15,10 @@ use command_texts::{
     ACCEPTED, Answer, Fault, Given, OnOne, OnTwo, REFUSED, given, given_alone, refused,
 };
 use migration_types::{Run, Seq, Session};
-use order_picture::{print_picture, print_picture_along};
+use order_picture::{print_picture_along_on, print_picture_on};
 use order_text::OrderReader;
 use report_text::print_refused_session;
+use session_story::Topic;
 use session_text::SessionReader;
 use std::alloc::{AllocError, Global};
 use std::thread::Threads;
@@ -32,38 +33,45 @@ fn refused_session(alloc: Global, line: u32) -> Result<Answer, AllocError>
     })
 }
 
-/// The picture of a session in the order of its report.
-fn drawn<R: Threads + Sync>(rt: &R, alloc: Global, session: &Session) -> Result<Vec<u8>, AllocError>
+/// The picture of a session in the order of its report, about this topic.
+fn drawn<R: Threads + Sync>(
+    rt: &R,
+    alloc: Global,
+    topic: Topic,
+    session: &Session,
+) -> Result<Vec<u8>, AllocError>
     ensures { IfOk result (λ text. IsSvg text.items) }
 {
     let report = audit(rt, alloc, session)?;
-    print_picture(alloc, session, &report)
+    print_picture_on(alloc, session, &report, topic)
 }
 
-/// The picture of a session along runs.
+/// The picture of a session along runs, about this topic.
 fn drawn_along<R: Threads + Sync>(
     rt: &R,
     alloc: Global,
+    topic: Topic,
     session: &Session,
     runs: &[Run],
 ) -> Result<Vec<u8>, AllocError>
     ensures { IfOk result (λ text. IsSvg text.items) }
 {
     let report = audit(rt, alloc, session)?;
-    print_picture_along(alloc, session, &report, runs)
+    print_picture_along_on(alloc, session, &report, topic, runs)
 }
 
 /// The picture of a session, by what was read of its text.
 fn draw_read<R: Threads + Sync>(
     rt: &R,
     alloc: Global,
+    topic: Topic,
     session: &Result<Session, u32>,
 ) -> Result<Answer, AllocError>
     ensures { (text : List ℕ) → IsRead SpellsSession text session.now → IfOk result (λ answer. IsDrawAnswer text answer.text.items answer.status) }
 {
     match session {
         Ok(session) => {
-            let text = drawn(rt, alloc, session)?;
+            let text = drawn(rt, alloc, topic, session)?;
             Ok(Answer {
                 text,
                 status: ACCEPTED,
@@ -77,6 +85,7 @@ fn draw_read<R: Threads + Sync>(
 fn draw_along_read<R: Threads + Sync>(
     rt: &R,
     alloc: Global,
+    topic: Topic,
     session: &Result<Session, u32>,
     runs: &Result<Seq<Run>, u32>,
 ) -> Result<Answer, AllocError>
@@ -85,7 +94,7 @@ fn draw_along_read<R: Threads + Sync>(
     match session {
         Ok(session) => match runs {
             Ok(runs) => {
-                let text = drawn_along(rt, alloc, session, runs.as_slice())?;
+                let text = drawn_along(rt, alloc, topic, session, runs.as_slice())?;
                 Ok(Answer {
                     text,
                     status: ACCEPTED,
@@ -101,6 +110,8 @@ fn draw_along_read<R: Threads + Sync>(
 #[derive(Clone, Copy)]
 pub struct DrawCommand<'a, R> {
     pub rt: &'a R,
+    /// What the picture is about.
+    pub topic: Topic,
 }
 
 impl<R: Threads + Sync> OnOne for DrawCommand<'_, R> {
@@ -111,7 +122,7 @@ impl<R: Threads + Sync> OnOne for DrawCommand<'_, R> {
     ghost is_answer = { λ _. IsDrawAnswer };
 
     fn answer(&self, alloc: Global, session: &Result<Session, u32>) -> Given {
-        given(draw_read(self.rt, alloc, session))
+        given(draw_read(self.rt, alloc, self.topic, session))
     }
 }
 
@@ -119,6 +130,8 @@ impl<R: Threads + Sync> OnOne for DrawCommand<'_, R> {
 #[derive(Clone, Copy)]
 pub struct DrawAlongCommand<'a, R> {
     pub rt: &'a R,
+    /// What the picture is about.
+    pub topic: Topic,
 }
 
 impl<R: Threads + Sync> OnTwo for DrawAlongCommand<'_, R> {
@@ -138,6 +151,6 @@ impl<R: Threads + Sync> OnTwo for DrawAlongCommand<'_, R> {
         session: &Result<Session, u32>,
         runs: &Result<Seq<Run>, u32>,
     ) -> Result<(Answer, ()), Fault<'static>> {
-        given_alone(draw_along_read(self.rt, alloc, session, runs))
+        given_alone(draw_along_read(self.rt, alloc, self.topic, session, runs))
     }
 }

@@ -3,9 +3,10 @@
 
 mod answering;
 mod drawing;
-mod explaining;
+mod judging;
 mod laws;
 mod program;
+mod topics;
 
 pub use laws::{migrations_are_judged_yes, recorded_sessions_are_clean};
-pub use program::run;
+pub use program::{output_named, run};

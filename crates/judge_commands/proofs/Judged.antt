@@ -20,13 +20,11 @@ use Rattle.cert_check.specs.declared.verdict.Verdict.TheVariants as verdict
 use Rattle.audit_report.specs.Reports.{IsReport}
 use Rattle.audit_report.specs.declared.report.Report.{Report}
 use Rattle.audit_report.specs.declared.report.Report.TheVariants as report
-use Rattle.judged_texts.specs.Audited.{IsAudited}
 use Rattle.judged_texts.specs.Checked.{IsJudged, IsTextVerdict}
-use Rattle.judged_texts.specs.declared.auditing.Audited.{Audited}
-use Rattle.judged_texts.specs.declared.auditing.Audited.TheVariants.{Refused, Reported}
 use Rattle.command_texts.specs.Cutting.{HasNoEnd, IsCutAtEnd}
 use Rattle.command_texts.proofs.CutOnce.{cut_once}
-use Rattle.judge_commands.specs.Answers.{audited_status, report_status, verdict_status}
+use Rattle.judge_commands.specs.Answers.{verdict_status}
+use Rattle.judge_commands.specs.Judged.{IsJudged as IsSessionJudged, Judged as SessionJudged, Refused, Reported, judged_status, report_status}
 use Rattle.judge_commands.proofs.Closed.{closed_session}
 
 -- the report on a session with no fault and with a merging
@@ -36,10 +34,10 @@ clean_status s f merges (report.Shape fault) is = let right = f.shape fault.reas
 clean_status s f merges (report.Knot left found) is = absurd (is.1.has_no_merging merges)
 clean_status s f merges (report.Faulty line fault order) is = absurd (f.clean fault.reason (fault.log, fault.place) is.1.is_first.is_fault)
 
--- and the audit of its text
-pub audited_clean : (s : Recorded) (text : List ℕ) → IsFaultless s → HasMerging s → IsSpelling SpellsSession s text → (a : Audited) → IsAudited text a → audited_status a ≡ 0
-audited_clean s text f merges spelled (Refused line) refused = absurd (refused.spells_nothing s spelled)
-audited_clean s text f merges spelled (Reported r) (other, is_other, is) =
+-- and what is judged of its text
+pub judged_clean : (s : Recorded) (text : List ℕ) → IsFaultless s → HasMerging s → IsSpelling SpellsSession s text → (j : SessionJudged) → IsSessionJudged text j → judged_status j ≡ 0
+judged_clean s text f merges spelled (Refused line) refused = absurd (refused.spells_nothing s spelled)
+judged_clean s text f merges spelled (Reported other r) (is_other, is) =
     let same : other ≡ s = sessions_unambiguous.one_value other s text is_other spelled in
     clean_status s f merges r (subst (λ (t : Recorded). IsReport t r) same is)
 

@@ -1,5 +1,7 @@
+pub mod Added
 pub mod Statuses
 pub mod Closed
 pub mod Judged
 pub mod Lacking
+pub mod Reported
 pub mod Told

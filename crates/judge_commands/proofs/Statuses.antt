@@ -4,14 +4,10 @@ use Rattle.cert_check.specs.declared.verdict.Verdict.{Verdict}
 use Rattle.cert_check.specs.declared.verdict.Verdict.TheVariants as verdict
 use Rattle.audit_report.specs.declared.report.Report.{Report}
 use Rattle.audit_report.specs.declared.report.Report.TheVariants as report
-use Rattle.judged_texts.specs.declared.auditing.Audited.{Audited}
-use Rattle.judged_texts.specs.declared.auditing.Audited.TheVariants.{Refused, Reported}
-use Rattle.judged_texts.specs.declared.wanted.Wanted.{Wanted}
 use Rattle.judged_texts.specs.declared.replaying.Outcome.{Outcome}
 use Rattle.judged_texts.specs.declared.replaying.Outcome.TheVariants as outcome
-use Rattle.judge_commands.specs.Answers.{IsAuditAnswer, IsVerdictAnswer, audited_status, report_status, verdict_status}
-use Rattle.judge_commands.specs.Objects.{IsAuditObject, Judged, judged_status}
-use Rattle.judge_commands.specs.Objects as objects
+use Rattle.judge_commands.specs.Answers.{IsVerdictAnswer, verdict_status}
+use Rattle.judge_commands.specs.Judged.{IsJudgedTold, Judged, Refused, Reported, judged_status, report_status}
 use Rattle.judge_commands.specs.Replayed.{IsReplayAnswer, outcome_status}
 
 pub verdict_few : (v : Verdict) → verdict_status v < 2
@@ -29,9 +25,9 @@ report_few (report.Shape fault) = omega arith
 report_few (report.Knot left found) = omega arith
 report_few (report.Faulty line fault order) = omega arith
 
-pub audited_few : (a : Audited) → audited_status a < 2
-audited_few (Refused line) = omega arith
-audited_few (Reported r) = report_few r
+judged_few : (j : Judged) → judged_status j < 2
+judged_few (Refused line) = omega arith
+judged_few (Reported s r) = report_few r
 
 outcome_few : (o : Outcome) → outcome_status o < 2
 outcome_few (outcome.SessionText n) = omega arith
@@ -41,18 +37,11 @@ outcome_few outcome.NoMerging = omega arith
 outcome_few (outcome.Broken n) = omega arith
 outcome_few outcome.Safe = omega arith
 
-pub audit_few : (wanted : Wanted) (session text : List ℕ) (status : ℕ) → IsAuditAnswer wanted session text status → status < 2
-audit_few wanted session text status h = rw h.is_status (audited_few h.value)
+pub judged_told_few : (Tells : Judged → List ℕ → Type 0) (session text : List ℕ) (status : ℕ) → IsJudgedTold Tells session text status → status < 2
+judged_told_few Tells session text status h = rw h.is_status (judged_few h.value)
 
 pub check_few : (texts : List ℕ × List ℕ) (text : List ℕ) (status : ℕ) → IsVerdictAnswer texts.0 texts.1 text status → status < 2
 check_few texts text status h = rw h.is_status (verdict_few h.value)
 
 pub replay_few : (texts : List ℕ × List ℕ) (text : List ℕ) (status : ℕ) → IsReplayAnswer texts.0 texts.1 text status → status < 2
 replay_few texts text status h = rw h.is_status (outcome_few h.value)
-
-judged_few : (j : Judged) → judged_status j < 2
-judged_few (objects.Refused line) = omega arith
-judged_few (objects.Reported s r) = report_few r
-
-pub object_few : (session text : List ℕ) (status : ℕ) → IsAuditObject session text status → status < 2
-object_few session text status h = rw h.is_status (judged_few h.value)

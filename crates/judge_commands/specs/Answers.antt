@@ -5,14 +5,12 @@ use Rattle.judged_texts.specs.Checked.{IsTextVerdict}
 use Rattle.cert_check.specs.declared.verdict.Verdict.{Verdict}
 use Rattle.cert_check.specs.declared.verdict.Verdict.TheVariants.{SessionText, CertText, Shape, Pages, Runs, Page, Yes}
 use Rattle.report_text.specs.ReportText.{shape_line}
-use Rattle.judged_texts.specs.Audited.{IsAudited}
-use Rattle.judged_texts.specs.AuditedText.{audited_text}
+use Rattle.report_json.specs.JsonText.{verdict_object}
 use Rattle.judged_texts.specs.declared.wanted.Wanted.{Wanted}
-use Rattle.judged_texts.specs.declared.auditing.Audited.{Audited}
-use Rattle.judged_texts.specs.declared.auditing.Audited.TheVariants.{Refused, Reported}
-use Rattle.audit_report.specs.declared.report.Report.{Report}
-use Rattle.audit_report.specs.declared.report.Report.TheVariants as report
 use Rattle.command_texts.specs.Answers.{IsAnswer, numbered}
+use Rattle.judge_commands.specs.Judged.{IsJudgedTold}
+use Rattle.judge_commands.specs.Forms.{TellsAllFaults, TellsObject, TellsStory, TellsWanted}
+use Rattle.judge_commands.specs.declared.reports.AllFaults.{AllFaults}
 
 -- the line of a verdict
 abbrev pub verdict_line : Verdict → List ℕ
@@ -37,16 +35,22 @@ IsVerdictTold words texts = IsAnswer (IsTextVerdict texts.0 texts.1) words verdi
 abbrev pub IsVerdictAnswer : List ℕ → List ℕ → List ℕ → ℕ → Type 0
 IsVerdictAnswer session cert = IsVerdictTold verdict_line (session, cert)
 
--- 0 for clean, and 1 for every other report
-abbrev pub report_status : Report → ℕ
-report_status (report.Clean cert) = 0
-report_status other = 1
+-- `check --format json`: the object of the verdict
+abbrev pub IsVerdictObject : List ℕ × List ℕ → List ℕ → ℕ → Type 0
+IsVerdictObject = IsVerdictTold verdict_object
 
--- and 1 for a text that is refused
-abbrev pub audited_status : Audited → ℕ
-audited_status (Refused line) = 1
-audited_status (Reported r) = report_status r
-
--- `audit` and `certify`: what is wanted of the audit of the text
+-- `audit` and `certify`: what is wanted of the report on the session
 abbrev pub IsAuditAnswer : Wanted → List ℕ → List ℕ → ℕ → Type 0
-IsAuditAnswer wanted session = IsAnswer (IsAudited session) (audited_text wanted) audited_status
+IsAuditAnswer wanted = IsJudgedTold (TellsWanted wanted)
+
+-- `audit --format json`: the object of the report
+abbrev pub IsAuditObject : List ℕ → List ℕ → ℕ → Type 0
+IsAuditObject = IsJudgedTold TellsObject
+
+-- `audit --all`: the report with each page that has a fault
+abbrev pub IsAllFaultsAnswer : AllFaults → List ℕ → List ℕ → ℕ → Type 0
+IsAllFaultsAnswer form = IsJudgedTold (TellsAllFaults form)
+
+-- `explain`: the report with what happened, after its first line
+abbrev pub IsExplainAnswer : List ℕ → List ℕ → ℕ → Type 0
+IsExplainAnswer = IsJudgedTold TellsStory

@@ -1,5 +1,5 @@
 -- What the commands answer that ask for a complete session.
-use Rattle.std.specs.Prelude.{◌≡◌, ℕ, List, ◌⊎◌}
+use Rattle.std.specs.Prelude.{◌≡◌, ℕ, List, ◌++◌, ◌⊎◌}
 use Rattle.text_lines.specs.Text.{IsSpelling}
 use Rattle.migration_types.specs.Sessions.{Recorded}
 use Rattle.session_text.specs.Grammar.{SpellsSession}
@@ -11,14 +11,20 @@ use Rattle.session_story.specs.Told.{BeginsWith}
 use Rattle.judged_texts.specs.Checked.{OfSpelled}
 
 -- the ways to tell that a session lacks something: a line, an object, and the line with words after it
-abbrev pub is_line : Recorded → Missing → List ℕ → Type 0
-is_line s m text = text ≡ missing_text s m
+abbrev pub TellsInLine : Recorded → Missing → List ℕ → Type 0
+TellsInLine s m text = text ≡ missing_text s m
 
-abbrev pub is_object : Recorded → Missing → List ℕ → Type 0
-is_object s m text = text ≡ missing_object s m
+abbrev pub TellsInObject : Recorded → Missing → List ℕ → Type 0
+TellsInObject s m text = text ≡ missing_object s m
 
-abbrev pub is_words : Recorded → Missing → List ℕ → Type 0
-is_words s m text = BeginsWith (missing_text s m) text
+abbrev pub TellsInWords : Recorded → Missing → List ℕ → Type 0
+TellsInWords s m text = BeginsWith (missing_text s m) text
+
+-- a text of these is added
+pub record Adds (IsText : List ℕ → Type 0) (old new : List ℕ) : Type 0 where
+  pub text : List ℕ
+  pub is_text : IsText text
+  pub added : new ≡ old ++ text
 
 -- What is answered without asking stays, where its status is not 0 or the session is complete.
 pub record StaysAnswered (IsPlain : List ℕ → ℕ → Type 0) (session text : List ℕ) (status : ℕ) : Type 0 where

@@ -1,5 +1,6 @@
 pub mod Answers
+pub mod Judged
+pub mod Forms
 pub mod Replayed
 pub mod Completed
-pub mod Objects
 pub mod inner

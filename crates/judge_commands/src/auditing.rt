@@ -1,17 +1,15 @@
-//! The report on a session, or its certificate, as a text and a status.
+//! The report on a session, told in some form, with its status.
 
 ghost use Rattle.std.specs.Prelude.{◌≡◌, ℕ, List, IfOk};
 ghost use Rattle.std.specs.Thread.{IsSync};
 ghost use Rattle.text_lines.specs.Answer.{IsRead};
 ghost use Rattle.session_text.specs.Grammar.{SpellsSession};
-ghost use Rattle.judged_texts.specs.Audited.{AuditedFits, IsAudited};
-ghost use Rattle.judged_texts.specs.AuditedText.{audited_text};
-ghost use Rattle.command_texts.specs.Answers.{Says};
-ghost use Rattle.judge_commands.specs.Answers.{IsAuditAnswer, audited_status, report_status};
+ghost use Rattle.judge_commands.specs.Judged.{IsJudgedTold, report_status};
+ghost use Rattle.judge_commands.specs.inner.Reported.{SaysRefusal, SaysReport};
 
+use crate::reports::TellsReport;
 use audit_report::{Report, audit};
-use command_texts::{Answer, Given, OnOne, REFUSED, given, status_where};
-use judged_texts::{Audited, Wanted, print_audited};
+use command_texts::{Answer, Given, OnOne, REFUSED, Telling, given, status_where};
 use migration_types::Session;
 use session_text::SessionReader;
 use std::alloc::{AllocError, Global};
@@ -24,76 +22,66 @@ pub fn report_status(report: &Report) -> u8
     status_where(matches!(report, Report::Clean(_)))
 }
 
-/// The status of an audit.
-fn audited_status(audited: &Audited) -> u8
-    ensures { result ≡ audited_status audited.now }
+/// The report on a session, told in this form.
+fn reported<R: Threads + Sync, T: TellsReport>(
+    rt: &R,
+    form: &T,
+    alloc: Global,
+    session: &Session,
+) -> Result<Answer, AllocError>
+    ensures { IfOk result (SaysReport (T.tells form.now) session.now) }
 {
-    match audited {
-        Audited::Reported(report) => report_status(report),
-        Audited::Refused(_) => REFUSED,
-    }
+    let report = audit(rt, alloc, session)?;
+    let text = form.tell_report(rt, alloc, session, &report)?;
+    let status = report_status(&report);
+    Ok(Answer { text, status })
 }
 
-/// What is wanted of an audit, with its status.
-fn told(alloc: Global, audited: &Audited, wanted: Wanted) -> Result<Answer, AllocError>
-    requires { AuditedFits audited.now }
-    ensures { IfOk result (λ answer. Says answer (audited_text wanted audited.now) (audited_status audited.now)) }
+/// The line at which a session's text is refused, told in this form.
+fn refused<T: TellsReport>(form: &T, alloc: Global, line: u32) -> Result<Answer, AllocError>
+    ensures { IfOk result (SaysRefusal (T.tells form.now) line) }
 {
-    let text = print_audited(alloc, audited, wanted)?;
+    let text = form.tell_refusal(alloc, line)?;
     Ok(Answer {
         text,
-        status: audited_status(audited),
+        status: REFUSED,
     })
 }
 
-/// The audit of a session's text, by what was read of it.
-fn audited<R: Threads + Sync>(
+/// What is judged of a session's text, told in this form, by what was read of the text.
+fn audit_read<R: Threads + Sync, T: TellsReport>(
     rt: &R,
+    form: &T,
     alloc: Global,
     session: &Result<Session, u32>,
-) -> Result<Audited, AllocError>
-    ensures audited { (text : List ℕ) → IsRead SpellsSession text session.now → IfOk result (IsAudited text) }
-    ensures fits { IfOk result AuditedFits }
+) -> Result<Answer, AllocError>
+    ensures { (text : List ℕ) → IsRead SpellsSession text session.now → IfOk result (λ answer. IsJudgedTold (T.tells form.now) text answer.text.items answer.status) }
 {
     match session {
-        Ok(session) => match audit(rt, alloc, session) {
-            Ok(report) => Ok(Audited::Reported(report)),
-            Err(error) => Err(error),
-        },
-        Err(line) => Ok(Audited::Refused(*line)),
+        Ok(session) => reported(rt, form, alloc, session),
+        Err(line) => refused(form, alloc, *line),
     }
 }
 
-/// What is wanted of the audit of a session, by what was read of its text.
-fn audit_read<R: Threads + Sync>(
-    rt: &R,
-    alloc: Global,
-    session: &Result<Session, u32>,
-    wanted: Wanted,
-) -> Result<Answer, AllocError>
-    ensures { (text : List ℕ) → IsRead SpellsSession text session.now → IfOk result (λ answer. IsAuditAnswer wanted text answer.text.items answer.status) }
-{
-    match audited(rt, alloc, session) {
-        Ok(audited) => told(alloc, &audited, wanted),
-        Err(error) => Err(error),
-    }
-}
-
-/// `audit` and `certify`: what is wanted of the audit of a session.
+/// `audit`, `certify` and `explain`: the report on a session, told in this form.
 #[derive(Clone, Copy)]
-pub struct AuditCommand<'a, R> {
+pub struct AuditCommand<'a, R, T> {
     pub rt: &'a R,
-    pub wanted: Wanted,
+    pub form: T,
 }
 
-impl<R: Threads + Sync> OnOne for AuditCommand<'_, R> {
+impl<R: Threads + Sync, T: TellsReport> OnOne for AuditCommand<'_, R, T> {
     type Text = SessionReader;
 
     ghost ready = { IsSync R.row };
 
-    ghost is_answer = { λ command. IsAuditAnswer command.wanted };
+    ghost is_answer = { λ command. IsJudgedTold (T.tells command.form) };
+
+    fn telling(&self) -> Telling {
+        self.form.telling()
+    }
 
     fn answer(&self, alloc: Global, session: &Result<Session, u32>) -> Given {
-        given(audit_read(self.rt, alloc, session, self.wanted))
+        given(audit_read(self.rt, &self.form, alloc, session))
     }
 }

@@ -56,7 +56,8 @@ fn judge_read<R: Threads + Sync, T: TellsVerdict>(
     ensures told { IfOk result (λ judged. Says judged.0 (T.verdict_text judged.1) (verdict_status judged.1)) }
 {
     let verdict = check_read(rt, alloc, session, cert)?;
-    let text = form.tell_verdict(alloc, verdict)?;
+    let mut text = Vec::new(alloc);
+    form.push_verdict(&mut text, verdict)?;
     let answer = Answer {
         text,
         status: verdict_status(verdict),

@@ -1,16 +1,31 @@
 //! Commands that ask for a complete session: they answer as without asking, but for a session that lacks something.
 
 ghost use Rattle.std.specs.Prelude.{IfOk, MatchOption};
-ghost use Rattle.completeness.specs.Complete.{IsComplete};
+ghost use Rattle.completeness.specs.Complete.{IsComplete, IsFirstMissing};
 ghost use Rattle.judge_commands.specs.Completed.{IsCompleteAnswer};
 ghost use Rattle.judge_commands.specs.inner.Held.{IsHeld, IsLack};
 
 use crate::forms::TellsLack;
 use command_texts::{Answer, Fault, Given, OnOne, OnTwo, REFUSED, Taker, Telling, given};
-use completeness::first_missing;
+use completeness::{Missing, first_missing};
 use migration_types::Session;
 use session_text::{SessionReader, session_texts_are_unambiguous};
 use std::alloc::{AllocError, Global};
+
+/// What tells that a session lacks this.
+fn told<L: TellsLack>(
+    form: &L,
+    alloc: Global,
+    session: &Session,
+    missing: Missing,
+) -> Result<Vec<u8>, AllocError>
+    requires { IsFirstMissing session.now missing }
+    ensures { IfOk result (λ text. L.tells session.now missing text.items) }
+{
+    let mut text = Vec::new(alloc);
+    form.push_lack(alloc, &mut text, session, missing)?;
+    Ok(text)
+}
 
 /// What tells that a session lacks something, if it does.
 fn lack_of<L: TellsLack>(
@@ -23,7 +38,7 @@ fn lack_of<L: TellsLack>(
     let Some(missing) = first_missing(alloc, session)? else {
         return Ok(None);
     };
-    let text = form.tell_lack(alloc, session, missing)?;
+    let text = told(form, alloc, session, missing)?;
     Ok(Some(text))
 }
 

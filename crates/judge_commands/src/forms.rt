@@ -1,13 +1,13 @@
 //! How a verdict is told, and that a session lacks something.
 
-ghost use Rattle.std.specs.Prelude.{◌≡◌, ℕ, List, IfOk};
+ghost use Rattle.std.specs.Prelude.{◌≡◌, ◌++◌, ℕ, List, OnOk};
 ghost use Rattle.migration_types.specs.Sessions.{Recorded};
 ghost use Rattle.completeness.specs.Complete.{IsFirstMissing};
 ghost use Rattle.completeness.specs.declared.missing.Missing.{Missing as Lack};
 ghost use Rattle.cert_check.specs.declared.verdict.Verdict.{Verdict as Judged};
 ghost use Rattle.report_json.specs.JsonText.{verdict_object};
 ghost use Rattle.judge_commands.specs.Answers.{verdict_line};
-ghost use Rattle.judge_commands.specs.Completed.{is_line, is_object, is_words};
+ghost use Rattle.judge_commands.specs.Completed.{Adds, TellsInLine, TellsInObject, TellsInWords};
 
 use crate::checking::push_verdict;
 use cert_check::Verdict;
@@ -23,9 +23,9 @@ pub trait TellsVerdict {
     /// This tells the verdict.
     ghost verdict_text: { Judged → List ℕ };
 
-    /// Tells a verdict. An error: there is no memory for it.
-    fn tell_verdict(&self, alloc: Global, verdict: Verdict) -> Result<Vec<u8>, AllocError>
-        ensures { IfOk result (λ text. text.items ≡ verdict_text verdict) };
+    /// Adds the text that tells a verdict. An error: there is no memory for it.
+    fn push_verdict(&self, out: &mut Vec<u8>, verdict: Verdict) -> Result<(), AllocError>
+        ensures { OnOk result (out.new.items ≡ out.old.items ++ verdict_text verdict) };
 }
 
 /// How it is told that a session lacks something.
@@ -33,15 +33,16 @@ pub trait TellsLack {
     /// This tells that the session lacks this.
     ghost tells: { Recorded → Lack → List ℕ → Type 0 };
 
-    /// Tells what a session lacks first. An error: there is no memory for it.
-    fn tell_lack(
+    /// Adds a text that tells what a session lacks first. An error: there is no memory for it.
+    fn push_lack(
         &self,
         alloc: Global,
+        out: &mut Vec<u8>,
         session: &Session,
         missing: Missing,
-    ) -> Result<Vec<u8>, AllocError>
+    ) -> Result<(), AllocError>
         requires { IsFirstMissing session.now missing }
-        ensures { IfOk result (λ text. tells session.now missing text.items) };
+        ensures { OnOk result (Adds (tells session.now missing) out.old.items out.new.items) };
 }
 
 /// In a line of text.
@@ -51,25 +52,22 @@ pub struct InLine;
 impl TellsVerdict for InLine {
     ghost verdict_text = { verdict_line };
 
-    fn tell_verdict(&self, alloc: Global, verdict: Verdict) -> Result<Vec<u8>, AllocError> {
-        let mut line = Vec::new(alloc);
-        push_verdict(&mut line, verdict)?;
-        Ok(line)
+    fn push_verdict(&self, out: &mut Vec<u8>, verdict: Verdict) -> Result<(), AllocError> {
+        push_verdict(out, verdict)
     }
 }
 
 impl TellsLack for InLine {
-    ghost tells = { is_line };
+    ghost tells = { TellsInLine };
 
-    fn tell_lack(
+    fn push_lack(
         &self,
-        alloc: Global,
+        _alloc: Global,
+        out: &mut Vec<u8>,
         session: &Session,
         missing: Missing,
-    ) -> Result<Vec<u8>, AllocError> {
-        let mut line = Vec::new(alloc);
-        push_missing(&mut line, session, missing)?;
-        Ok(line)
+    ) -> Result<(), AllocError> {
+        push_missing(out, session, missing)
     }
 }
 
@@ -80,25 +78,22 @@ pub struct InObject;
 impl TellsVerdict for InObject {
     ghost verdict_text = { verdict_object };
 
-    fn tell_verdict(&self, alloc: Global, verdict: Verdict) -> Result<Vec<u8>, AllocError> {
-        let mut object = Vec::new(alloc);
-        push_verdict_object(&mut object, verdict)?;
-        Ok(object)
+    fn push_verdict(&self, out: &mut Vec<u8>, verdict: Verdict) -> Result<(), AllocError> {
+        push_verdict_object(out, verdict)
     }
 }
 
 impl TellsLack for InObject {
-    ghost tells = { is_object };
+    ghost tells = { TellsInObject };
 
-    fn tell_lack(
+    fn push_lack(
         &self,
-        alloc: Global,
+        _alloc: Global,
+        out: &mut Vec<u8>,
         session: &Session,
         missing: Missing,
-    ) -> Result<Vec<u8>, AllocError> {
-        let mut object = Vec::new(alloc);
-        push_missing_object(&mut object, session, missing)?;
-        Ok(object)
+    ) -> Result<(), AllocError> {
+        push_missing_object(out, session, missing)
     }
 }
 
@@ -107,14 +102,16 @@ impl TellsLack for InObject {
 pub struct InWords;
 
 impl TellsLack for InWords {
-    ghost tells = { is_words };
+    ghost tells = { TellsInWords };
 
-    fn tell_lack(
+    fn push_lack(
         &self,
         alloc: Global,
+        out: &mut Vec<u8>,
         session: &Session,
         missing: Missing,
-    ) -> Result<Vec<u8>, AllocError> {
-        print_missing(alloc, session, missing)
+    ) -> Result<(), AllocError> {
+        let words = print_missing(alloc, session, missing)?;
+        out.extend_from_slice(&words)
     }
 }

@@ -5,12 +5,12 @@ mod auditing;
 mod checking;
 mod completing;
 mod forms;
-mod objects;
 mod replaying;
+mod reports;
 
 pub use auditing::{AuditCommand, report_status};
 pub use checking::{CheckCommand, push_verdict, verdict_status};
 pub use completing::Complete;
 pub use forms::{InLine, InObject, InWords, TellsLack, TellsVerdict};
-pub use objects::AuditObjectCommand;
 pub use replaying::ReplayCommand;
+pub use reports::{AllFaults, TellsReport};

@@ -1,8 +1,12 @@
-use Rattle.judged_texts.specs.Audited.{IsAudited}
-use Rattle.judged_texts.specs.AuditedText.{audited_text}
-use Rattle.judge_commands.specs.Answers.{audited_status}
-use Rattle.command_texts.proofs.Said.{says_right}
+use Rattle.std.proofs.Common.{ℕ, Result, subst}
+use Rattle.text_lines.specs.Answer.{IsRead}
+use Rattle.migration_types.specs.Sessions.{Recorded}
+use Rattle.session_text.specs.Grammar.{SpellsSession}
+use Rattle.judge_commands.proofs.Reported.{refusal_told, report_told}
 use Rattle.judge_commands.proofs.auditing.audit_read.Goals as goal
 
 pub returns-in-Ok : goal.returns-in-Ok
-returns-in-Ok g c = λ text read. says_right (IsAudited text) (audited_text c.args.wanted) audited_status c.in-Ok.audited c.told.result (c.in-Ok.ensures.audited text read) c.told.ensures
+returns-in-Ok g c = λ text read. report_told (g.T.TellsReport.tells c.args.form.now) text c.in-Ok.session c.reported.result (subst (λ (r : Result Recorded ℕ). IsRead SpellsSession text r) c.in-Ok.is read) c.reported.ensures
+
+pub returns-in-Err : goal.returns-in-Err
+returns-in-Err g c = λ text read. refusal_told (g.T.TellsReport.tells c.args.form.now) text c.in-Err.line c.refused.result (subst (λ (r : Result Recorded ℕ). IsRead SpellsSession text r) c.in-Err.is read) c.refused.ensures

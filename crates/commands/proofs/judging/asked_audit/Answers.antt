@@ -1,7 +1,7 @@
-use Rattle.commands.proofs.answering.asked_audit.Goals as goal
+use Rattle.commands.proofs.judging.asked_audit.Goals as goal
 
-pub returns-in-Text-clause-told : goal.returns-in-Text-clause-told
-returns-in-Text-clause-told g c = rw c.in-Text.is c.demanded_one.ensures.told
+pub returns-in-First-clause-told : goal.returns-in-First-clause-told
+returns-in-First-clause-told g c = rw (c.in-Text.is, c.in-First.is) c.demanded_one.ensures.told
 
 pub returns-in-Line-clause-told : goal.returns-in-Line-clause-told
 returns-in-Line-clause-told g c = rw c.in-Line.is c.demanded_one-in-Line.ensures.told

@@ -1,4 +1,4 @@
-use Rattle.commands.proofs.answering.demanded_one.Goals as goal
+use Rattle.commands.proofs.judging.demanded_one.Goals as goal
 
 pub returns-in-Safety-clause-told : goal.returns-in-Safety-clause-told
 returns-in-Safety-clause-told g c = rw c.in-Safety.is c.perform_one.ensures.told

@@ -1,4 +1,4 @@
-use Rattle.commands.proofs.answering.asked_check.Goals as goal
+use Rattle.commands.proofs.judging.asked_check.Goals as goal
 
 pub returns-in-Text-clause-told : goal.returns-in-Text-clause-told
 returns-in-Text-clause-told g c = rw c.in-Text.is c.demanded_two.ensures.told

@@ -1,0 +1,436 @@
+//! The commands that judge a session, as they are asked: how it is told, and whether the session has to be complete.
+
+ghost use Rattle.std.specs.Prelude.{◌≡◌, ◌<◌, IfOk};
+ghost use Rattle.command_texts.specs.Several.{TellsSeveral, names_of, style_of};
+ghost use Rattle.command_texts.specs.Told.{AreNamed, IsNamed, Tells};
+ghost use Rattle.command_words.specs.Table.{several_names};
+ghost use Rattle.commands.specs.Told.{answered, IsOneAnswer, IsAsked, IsTwoAnswer, TellsSeveralAsked, lines_asked, lines_style};
+
+use crate::topics::told_topic;
+use command_texts::{
+    Fault, Listing, OnOne, OnTwo, TextSource, perform_one, perform_several, perform_two,
+};
+use command_words::{Asking, Audits, Demand, Explains, Faults, Form, Several};
+use judge_commands::{AllFaults, AuditCommand, CheckCommand, Complete, InLine, InObject, InWords};
+use judged_texts::Wanted;
+use std::alloc::Global;
+use std::io::{Read, Write};
+use std::thread::Threads;
+
+/// What ends the list of what is told of several sessions, after how many of how many are clean.
+const ARE_CLEAN: &[u8] = b" sessions are clean\n";
+
+// The audit that is told in this form, with the way to tell what a session lacks that has to be complete.
+fn audit_in<R, T, L>(rt: &R, form: T, lack: L) -> Complete<AuditCommand<'_, R, T>, L>
+    ensures { result ≡ record { command = record { rt = rt; form = form.entry }; form = lack.entry } }
+{
+    Complete {
+        command: AuditCommand { rt, form },
+        form: lack,
+    }
+}
+
+// Does one of two commands on the text under a name: the second where a complete session is asked for.
+fn demanded_one<
+    'a,
+    A: OnOne,
+    B: OnOne,
+    R: Threads + Sync,
+    S: TextSource,
+    I: Read + Send,
+    O: Write,
+    E: Write,
+>(
+    rt: &R,
+    alloc: Global,
+    demand: Demand,
+    plain: &A,
+    whole: &B,
+    name: &'a str,
+    texts: &S,
+    input: &mut I,
+    output: &mut O,
+    errors: &mut E,
+) -> Result<u8, Fault<'a>>
+    requires ready_plain { A.ready }
+    requires ready_whole { B.ready }
+    ensures few { IfOk result (λ status. status < 2) }
+    ensures told { IfOk result (Tells (IsNamed name.entry.now (S.bytes_of texts.now) (I.remaining input.old)) (λ text. answered demand (A.is_answer plain.now text) (B.is_answer whole.now text)) (O.contents output.old) (O.contents output.new)) }
+{
+    match demand {
+        Demand::Safety => perform_one(rt, alloc, plain, name, texts, input, output, errors),
+        Demand::Completeness => perform_one(rt, alloc, whole, name, texts, input, output, errors),
+    }
+}
+
+// Does one of two commands on the texts under two names: the second where a complete session is asked for.
+fn demanded_two<
+    'a,
+    A: OnTwo,
+    B: OnTwo,
+    R: Threads + Sync,
+    S: TextSource,
+    I: Read + Send,
+    O: Write,
+    E: Write,
+>(
+    rt: &R,
+    alloc: Global,
+    demand: Demand,
+    plain: &A,
+    whole: &B,
+    first: &'a str,
+    second: &'a str,
+    texts: &S,
+    input: &mut I,
+    output: &mut O,
+    errors: &mut E,
+) -> Result<u8, Fault<'a>>
+    requires ready_plain { A.ready }
+    requires ready_whole { B.ready }
+    ensures few { IfOk result (λ status. status < 2) }
+    ensures told { IfOk result (Tells (AreNamed first.entry.now second.entry.now (S.bytes_of texts.now) (I.remaining input.old)) (λ read. answered demand (A.is_answer plain.now read) (B.is_answer whole.now read)) (O.contents output.old) (O.contents output.new)) }
+{
+    match demand {
+        Demand::Safety => perform_two(
+            rt, alloc, plain, first, second, texts, input, output, errors,
+        ),
+        Demand::Completeness => perform_two(
+            rt, alloc, whole, first, second, texts, input, output, errors,
+        ),
+    }
+}
+
+// Does one of two commands on each of the texts under these names: the second where complete sessions are asked for.
+fn demanded_several<
+    'a,
+    A: OnOne,
+    B: OnOne,
+    R: Threads + Sync,
+    S: TextSource,
+    I: Read + Send,
+    O: Write,
+    E: Write,
+>(
+    rt: &R,
+    alloc: Global,
+    demand: Demand,
+    plain: &A,
+    whole: &B,
+    listing: Listing<'_>,
+    names: &[&'a str],
+    texts: &S,
+    input: &mut I,
+    output: &mut O,
+    errors: &mut E,
+) -> Result<u8, Fault<'a>>
+    requires ready_plain { A.ready }
+    requires ready_whole { B.ready }
+    ensures few { IfOk result (λ status. status < 2) }
+    ensures told { IfOk result (TellsSeveral (S.bytes_of texts.now) (λ text. answered demand (A.is_answer plain.now text) (B.is_answer whole.now text)) (style_of listing.entry) (names_of names.now) (O.contents output.old) (O.contents output.new)) }
+{
+    match demand {
+        Demand::Safety => perform_several(
+            rt, alloc, plain, listing, names, texts, input, output, errors,
+        ),
+        Demand::Completeness => perform_several(
+            rt, alloc, whole, listing, names, texts, input, output, errors,
+        ),
+    }
+}
+
+// Audits the session under a name, as this is asked.
+pub(crate) fn asked_audit<'a, R: Threads + Sync, S: TextSource, I: Read + Send, O: Write, E: Write>(
+    rt: &R,
+    alloc: Global,
+    audits: Audits,
+    name: &'a str,
+    texts: &S,
+    input: &mut I,
+    output: &mut O,
+    errors: &mut E,
+) -> Result<u8, Fault<'a>>
+    ensures few { IfOk result (λ status. status < 2) }
+    ensures told { IfOk result (Tells (IsNamed name.entry.now (S.bytes_of texts.now) (I.remaining input.old)) (IsOneAnswer (OneText.Audit audits)) (O.contents output.old) (O.contents output.new)) }
+{
+    let demand = audits.asking.demand;
+    match audits.asking.form {
+        Form::Text => match audits.faults {
+            Faults::First => {
+                let asked = audit_in(rt, Wanted::Report, InLine);
+                demanded_one(
+                    rt,
+                    alloc,
+                    demand,
+                    &asked.command,
+                    &asked,
+                    name,
+                    texts,
+                    input,
+                    output,
+                    errors,
+                )
+            }
+            Faults::All => {
+                let asked = audit_in(rt, AllFaults::Lines, InLine);
+                demanded_one(
+                    rt,
+                    alloc,
+                    demand,
+                    &asked.command,
+                    &asked,
+                    name,
+                    texts,
+                    input,
+                    output,
+                    errors,
+                )
+            }
+        },
+        Form::Line => {
+            let asked = audit_in(rt, Wanted::FirstLine, InLine);
+            demanded_one(
+                rt,
+                alloc,
+                demand,
+                &asked.command,
+                &asked,
+                name,
+                texts,
+                input,
+                output,
+                errors,
+            )
+        }
+        Form::Json => match audits.faults {
+            Faults::First => {
+                let asked = audit_in(rt, InObject, InObject);
+                demanded_one(
+                    rt,
+                    alloc,
+                    demand,
+                    &asked.command,
+                    &asked,
+                    name,
+                    texts,
+                    input,
+                    output,
+                    errors,
+                )
+            }
+            Faults::All => {
+                let asked = audit_in(rt, AllFaults::Object, InObject);
+                demanded_one(
+                    rt,
+                    alloc,
+                    demand,
+                    &asked.command,
+                    &asked,
+                    name,
+                    texts,
+                    input,
+                    output,
+                    errors,
+                )
+            }
+        },
+    }
+}
+
+// Explains the session under a name, as this is asked.
+pub(crate) fn asked_explain<
+    'a,
+    R: Threads + Sync,
+    S: TextSource,
+    I: Read + Send,
+    O: Write,
+    E: Write,
+>(
+    rt: &R,
+    alloc: Global,
+    explains: Explains,
+    name: &'a str,
+    texts: &S,
+    input: &mut I,
+    output: &mut O,
+    errors: &mut E,
+) -> Result<u8, Fault<'a>>
+    ensures few { IfOk result (λ status. status < 2) }
+    ensures told { IfOk result (Tells (IsNamed name.entry.now (S.bytes_of texts.now) (I.remaining input.old)) (IsOneAnswer (OneText.Explain explains)) (O.contents output.old) (O.contents output.new)) }
+{
+    let asked = audit_in(rt, told_topic(explains.topic), InWords);
+    let demand = explains.demand;
+    demanded_one(
+        rt,
+        alloc,
+        demand,
+        &asked.command,
+        &asked,
+        name,
+        texts,
+        input,
+        output,
+        errors,
+    )
+}
+
+// Judges the session and the certificate under two names, as this is asked.
+pub(crate) fn asked_check<'a, R: Threads + Sync, S: TextSource, I: Read + Send, O: Write, E: Write>(
+    rt: &R,
+    alloc: Global,
+    asking: Asking,
+    first: &'a str,
+    second: &'a str,
+    texts: &S,
+    input: &mut I,
+    output: &mut O,
+    errors: &mut E,
+) -> Result<u8, Fault<'a>>
+    ensures few { IfOk result (λ status. status < 2) }
+    ensures told { IfOk result (Tells (AreNamed first.entry.now second.entry.now (S.bytes_of texts.now) (I.remaining input.old)) (IsTwoAnswer (TwoTexts.Check asking)) (O.contents output.old) (O.contents output.new)) }
+{
+    let demand = asking.demand;
+    let line = Complete {
+        command: CheckCommand { rt, form: InLine },
+        form: InLine,
+    };
+    let object = Complete {
+        command: CheckCommand { rt, form: InObject },
+        form: InObject,
+    };
+    match asking.form {
+        Form::Text => demanded_two(
+            rt,
+            alloc,
+            demand,
+            &line.command,
+            &line,
+            first,
+            second,
+            texts,
+            input,
+            output,
+            errors,
+        ),
+        Form::Line => demanded_two(
+            rt,
+            alloc,
+            demand,
+            &line.command,
+            &line,
+            first,
+            second,
+            texts,
+            input,
+            output,
+            errors,
+        ),
+        Form::Json => demanded_two(
+            rt,
+            alloc,
+            demand,
+            &object.command,
+            &object,
+            first,
+            second,
+            texts,
+            input,
+            output,
+            errors,
+        ),
+    }
+}
+
+// Audits the sessions under these names, of which each is told by the first line of its report.
+fn line_each<'a, R: Threads + Sync, S: TextSource, I: Read + Send, O: Write, E: Write>(
+    rt: &R,
+    alloc: Global,
+    demand: Demand,
+    names: &[&'a str],
+    texts: &S,
+    input: &mut I,
+    output: &mut O,
+    errors: &mut E,
+) -> Result<u8, Fault<'a>>
+    ensures few { IfOk result (λ status. status < 2) }
+    ensures told { IfOk result (TellsSeveral (S.bytes_of texts.now) (IsAsked (lines_asked demand) Faults.First) lines_style (names_of names.now) (O.contents output.old) (O.contents output.new)) }
+{
+    let asked = audit_in(rt, Wanted::FirstLine, InLine);
+    let listing = Listing::Named(ARE_CLEAN);
+    demanded_several(
+        rt,
+        alloc,
+        demand,
+        &asked.command,
+        &asked,
+        listing,
+        names,
+        texts,
+        input,
+        output,
+        errors,
+    )
+}
+
+/// Audits several sessions, as this is asked: a line for each, after its name, and how many are clean; or an object for each.
+pub(crate) fn asked_several<
+    'a,
+    R: Threads + Sync,
+    S: TextSource,
+    I: Read + Send,
+    O: Write,
+    E: Write,
+>(
+    rt: &R,
+    alloc: Global,
+    several: &Several<'a>,
+    texts: &S,
+    input: &mut I,
+    output: &mut O,
+    errors: &mut E,
+) -> Result<u8, Fault<'a>>
+    ensures few { IfOk result (λ status. status < 2) }
+    ensures told { IfOk result (TellsSeveralAsked (several_names several.now) (S.bytes_of texts.now) (O.contents output.old) (O.contents output.new)) }
+{
+    let Audits { asking, faults } = several.audits;
+    let demand = asking.demand;
+    let names = several.names.as_slice();
+    match asking.form {
+        Form::Text => line_each(rt, alloc, demand, names, texts, input, output, errors),
+        Form::Line => line_each(rt, alloc, demand, names, texts, input, output, errors),
+        Form::Json => match faults {
+            Faults::First => {
+                let asked = audit_in(rt, InObject, InObject);
+                demanded_several(
+                    rt,
+                    alloc,
+                    demand,
+                    &asked.command,
+                    &asked,
+                    Listing::Bare,
+                    names,
+                    texts,
+                    input,
+                    output,
+                    errors,
+                )
+            }
+            Faults::All => {
+                let asked = audit_in(rt, AllFaults::Object, InObject);
+                demanded_several(
+                    rt,
+                    alloc,
+                    demand,
+                    &asked.command,
+                    &asked,
+                    Listing::Bare,
+                    names,
+                    texts,
+                    input,
+                    output,
+                    errors,
+                )
+            }
+        },
+    }
+}

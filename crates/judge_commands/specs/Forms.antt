@@ -1,0 +1,45 @@
+-- How it is told what is judged of a session's text.
+use Rattle.std.specs.Prelude.{◌≡◌, ℕ, List, [], ◌∷◌, codes}
+use Rattle.text_lines.specs.Text.{ended}
+use Rattle.migration_types.specs.Sessions.{Recorded}
+use Rattle.faulty_pages.specs.declared.FaultyPage.{FaultyPage}
+use Rattle.faulty_pages.specs.FaultyPages.{AreFaultyPages}
+use Rattle.audit_report.specs.declared.report.Report.{Report}
+use Rattle.report_text.specs.FaultyPagesText.{JudgesPages, all_faults_text}
+use Rattle.report_text.specs.RefusalText.{refusal_text}
+use Rattle.report_text.specs.ReportText.{first_line}
+use Rattle.report_json.specs.JsonText.{all_faults_object, at_line, report_object}
+use Rattle.judged_texts.specs.AuditedText.{wanted_text}
+use Rattle.judged_texts.specs.declared.wanted.Wanted.{Wanted}
+use Rattle.session_story.specs.Told.{BeginsWith}
+use Rattle.judge_commands.specs.Judged.{Judged, Refused, Reported}
+use Rattle.judge_commands.specs.declared.reports.AllFaults.{AllFaults}
+use Rattle.judge_commands.specs.declared.reports.AllFaults.TheVariants.{Lines, Object}
+
+-- in lines: what is wanted of the report
+abbrev pub TellsWanted : Wanted → Judged → List ℕ → Type 0
+TellsWanted wanted (Refused line) text = text ≡ refusal_text line
+TellsWanted wanted (Reported s report) text = text ≡ wanted_text wanted report
+
+-- in an object of JSON
+abbrev pub TellsObject : Judged → List ℕ → Type 0
+TellsObject (Refused line) text = text ≡ at_line (codes "session-text") line
+TellsObject (Reported s report) text = text ≡ report_object s report
+
+-- with what happened, after the first line
+abbrev pub TellsStory : Judged → List ℕ → Type 0
+TellsStory (Refused line) text = BeginsWith (refusal_text line) text
+TellsStory (Reported s report) text = BeginsWith (ended (first_line report ∷ [])) text
+
+-- the text that these words make of the pages with a fault, where the report judges the pages
+pub record TellsPages (words : List FaultyPage → List ℕ) (s : Recorded) (report : Report) (text : List ℕ) : Type 0 where
+  pub pages : List FaultyPage
+  pub are_faulty : JudgesPages report → AreFaultyPages s pages
+  pub is_text : text ≡ words pages
+
+-- with each page that has a fault, in lines or in an object
+abbrev pub TellsAllFaults : AllFaults → Judged → List ℕ → Type 0
+TellsAllFaults Lines (Refused line) text = text ≡ refusal_text line
+TellsAllFaults Lines (Reported s report) text = TellsPages (all_faults_text report) s report text
+TellsAllFaults Object (Refused line) text = text ≡ at_line (codes "session-text") line
+TellsAllFaults Object (Reported s report) text = TellsPages (all_faults_object s report) s report text
