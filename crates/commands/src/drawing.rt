@@ -15,7 +15,7 @@ use command_texts::{
     ACCEPTED, Answer, Fault, Given, OnOne, OnTwo, REFUSED, given, given_alone, refused,
 };
 use migration_types::{Run, Seq, Session};
-use order_picture::{print_picture_along_on, print_picture_on};
+use order_picture::{print_picture_along, print_picture_on};
 use order_text::OrderReader;
 use report_text::print_refused_session;
 use session_story::Topic;
@@ -57,7 +57,7 @@ fn drawn_along<R: Threads + Sync>(
     ensures { IfOk result (λ text. IsSvg text.items) }
 {
     let report = audit(rt, alloc, session)?;
-    print_picture_along_on(alloc, session, &report, topic, runs)
+    print_picture_along(alloc, session, &report, topic, runs)
 }
 
 /// The picture of a session, by what was read of its text.

@@ -1,4 +1,4 @@
--- The picture of a session's records in the order of a report, or along given runs.
+-- The picture of a session's records in the order of a report, or along given runs, and what it is about.
 use Rattle.std.specs.Prelude.{◌≡◌, ℕ, ◌≤◌, List, Option, Some, None, length, map, option_and_then}
 use Rattle.std.specs.List.{list_any}
 use Rattle.migration_types.specs.declared.cert.Run.{Run}
@@ -11,9 +11,13 @@ use Rattle.audit_model.specs.FoundOrder.{IsFoundOrder}
 use Rattle.audit_report.specs.declared.report.Report.{Report}
 use Rattle.audit_report.specs.declared.report.Report.TheVariants as report
 use Rattle.merge_runs.specs.Taken.{cursors_of}
-use Rattle.session_story.specs.declared.explaining.Explanation.{Explanation}
-use Rattle.session_story.specs.Explained.{IsExplanation}
+use Rattle.session_story.specs.declared.faults.FaultStory.{FaultStory}
+use Rattle.session_story.specs.declared.topics.PageTold.{PageTold}
+use Rattle.session_story.specs.declared.topics.Told.{Told}
+use Rattle.session_story.specs.declared.topics.Told.TheVariants as told
+use Rattle.session_story.specs.declared.topics.Topic.{Topic}
 use Rattle.session_story.specs.Concerned.{concerned_of}
+use Rattle.session_story.specs.Topics.{IsTold, fault_in, page_in}
 use Rattle.order_picture.specs.declared.focus.Focus.{Focus}
 use Rattle.order_picture.specs.declared.picture.Picture.{Picture}
 use Rattle.order_picture.specs.Subjects.{is_one, mark_of, page_of}
@@ -27,19 +31,38 @@ fault_of (report.Faulty line fault order) = Some (fault.log, fault.place)
 fault_of (report.Knot left found) = None
 fault_of (report.Clean cert) = None
 
--- what a picture is about: the faulty record, its page, and the record that is told of as the one that the fault concerns
-pub record IsFocus (s : Recorded) (r : Report) (e : Explanation) (focus : Focus) : Type 0 where
-  pub fault : focus.fault ≡ fault_of r
-  pub page : focus.page ≡ option_and_then (page_of s) focus.fault
-  pub concerned : focus.concerned ≡ concerned_of s e
+-- the record of a fault of a page, if there is one
+abbrev pub faulty_in : Option FaultStory → Option Name
+faulty_in None = None
+faulty_in (Some story) = Some (story.fault.log, story.fault.place)
 
--- A picture of the records that the runs take, as far as they can be taken, with what is told of the session: each record
--- has its place in one row, there are few rows, the faulty record has one of its own, the record that is marked as what
--- its fault concerns is the one that is told of, and each row knows the row whose record it receives.
-pub record IsPictureOf (s : Recorded) (r : Report) (runs : List Run) (p : Picture) : Type 0 where
+-- the faulty record that a picture is about: the report's, or that of the first fault of the page that is told of
+abbrev pub fault_for : Report → Told → Option Name
+fault_for r (told.Report explanation) = fault_of r
+fault_for r t = faulty_in (fault_in t)
+
+abbrev pub number_in : Option PageTold → Option ℕ
+number_in None = None
+number_in (Some t) = Some t.story.page
+
+-- the page that a picture is about: the one that the report's faulty record is about, or the one that is told of
+abbrev pub page_for : Recorded → Report → Told → Option ℕ
+page_for s r (told.Report explanation) = option_and_then (page_of s) (fault_of r)
+page_for s r t = number_in (page_in t)
+
+-- what a picture is about, by what is told: the faulty record, the page, and the record that the fault concerns
+pub record IsFocus (s : Recorded) (r : Report) (t : Told) (focus : Focus) : Type 0 where
+  pub fault : focus.fault ≡ fault_for r t
+  pub page : focus.page ≡ page_for s r t
+  pub concerned : focus.concerned ≡ concerned_of s t
+
+-- A picture of the records that the runs take, as far as they can be taken, with what is told of the session on a topic:
+-- each record has its place in one row, there are few rows, the faulty record has one of its own, the record that is
+-- marked as what its fault concerns is the one that is told of, and each row knows the row whose record it receives.
+pub record IsPictureOf (s : Recorded) (r : Report) (topic : Topic) (runs : List Run) (p : Picture) : Type 0 where
   pub order : List Name
   pub drawn : IsDrawn s runs order p.bad
-  pub told : IsExplanation s r p.told
+  pub told : IsTold s r topic p.told
   pub focus : IsFocus s r p.told p.focus
   pub covers : Covers (mark_of s p.focus) p.rows.items order
   pub few : length p.rows.items ≤ 203
@@ -54,6 +77,6 @@ IsShownAlong s (report.Knot left found) runs = runs ≡ found.runs
 IsShownAlong s (report.Faulty line fault order) runs = runs ≡ order
 IsShownAlong s (report.Clean cert) runs = runs ≡ cert.runs
 
--- the picture of a report
-abbrev pub IsPicture : Recorded → Report → Picture → Type 0
-IsPicture s r p = (runs : List Run) × IsShownAlong s r runs × IsPictureOf s r runs p
+-- the picture of a report on a topic
+abbrev pub IsPicture : Recorded → Report → Topic → Picture → Type 0
+IsPicture s r topic p = (runs : List Run) × IsShownAlong s r runs × IsPictureOf s r topic runs p

@@ -6,13 +6,13 @@ use crate::picture::Picture;
 use crate::records::{Name, is_one};
 use crate::shapes::Look;
 use migration_types::{Session, logs};
-use session_story::{Explanation, Knot, push_wait};
+use session_story::{Explanation, Knot, Told, push_wait};
 use std::alloc::{AllocError, Global};
 
 /// The records that wait for one another, if some do.
-fn knot_of(told: &Explanation) -> Option<&Knot> {
+fn knot_of(told: &Told) -> Option<&Knot> {
     match told {
-        Explanation::Knot(knot) => Some(knot),
+        Told::Report(Explanation::Knot(knot)) => Some(knot),
         _ => None,
     }
 }
@@ -26,7 +26,7 @@ fn place_in(knot: &Knot, name: Name) -> Option<usize> {
 
 /// The record that this one waits for, where both are of those that wait for one another, and whether it is received
 /// itself: else the one that is received comes after it in its log.
-pub(crate) fn waited_for(told: &Explanation, name: Name) -> Option<(Name, bool)> {
+pub(crate) fn waited_for(told: &Told, name: Name) -> Option<(Name, bool)> {
     let knot = knot_of(told)?;
     let place = place_in(knot, name)?;
     let next = knot.next(place)?;

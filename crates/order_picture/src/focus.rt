@@ -1,23 +1,23 @@
-//! What a picture is about: the faulty record, what it concerns, and its page.
+//! What a picture is about: a faulty record, what its fault concerns, and a page.
 
 ghost use Rattle.std.specs.Prelude.{◌≡◌, option_and_then};
 ghost use Rattle.order_picture.specs.Subjects.{is_page, mark_of, page_of};
-ghost use Rattle.order_picture.specs.Pictures.{fault_of, IsFocus};
+ghost use Rattle.order_picture.specs.Pictures.{fault_for, fault_of, faulty_in, number_in, page_for, IsFocus};
 
 use crate::records::{Name, is_one};
 use crate::subjects::page_of;
 use audit_report::Report;
 use migration_types::{PageNo, Session};
-use session_story::{Explanation, concerned_of};
+use session_story::{FaultStory, PageTold, Told, concerned_of};
 
 /// Why a record stands out.
 #[derive(Clone, Copy, Debug, PartialEq, Eq)]
 pub enum Mark {
-    /// It is the faulty record of the report.
+    /// It is the faulty record that the picture is about.
     Faulty,
     /// It is the record that is told of as the one that the fault concerns.
     Concerned,
-    /// It is about the page of the faulty record.
+    /// It is about the page that the picture is about.
     OfPage,
     Plain,
 }
@@ -25,11 +25,11 @@ pub enum Mark {
 /// What a picture is about.
 #[derive(Clone, Copy)]
 pub struct Focus {
-    /// The faulty record.
+    /// The faulty record: the report's, or that of the first fault of the page that is told of.
     pub fault: Option<Name>,
     /// The record that the fault concerns.
     pub concerned: Option<Name>,
-    /// The page that the faulty record is about.
+    /// The page: the one that the report's faulty record is about, or the one that is told of.
     pub page: Option<PageNo>,
 }
 
@@ -73,18 +73,63 @@ fn fault_of(report: &Report) -> Option<Name>
     }
 }
 
-/// What the picture of a report is about, by what is told of it.
-pub(crate) fn focus_of(session: &Session, report: &Report, told: &Explanation) -> Focus
-    ensures { IsFocus session.now report.now told.now result }
+/// The record of a fault of a page, if there is one.
+fn faulty_in(fault: &Option<FaultStory>) -> Option<Name>
+    ensures { result ≡ faulty_in fault.now }
 {
-    let fault = fault_of(report);
-    let page = match fault {
+    match fault {
+        Some(story) => Some((story.fault.log, story.fault.place)),
+        None => None,
+    }
+}
+
+/// The faulty record that a picture is about, by what is told.
+fn fault_for(report: &Report, told: &Told) -> Option<Name>
+    ensures { result ≡ fault_for report.now told.now }
+{
+    match told {
+        Told::Report(_) => fault_of(report),
+        _ => faulty_in(&told.fault()),
+    }
+}
+
+/// The page that the report's faulty record is about, if there is one.
+fn page_of_fault(session: &Session, report: &Report) -> Option<PageNo>
+    ensures { result ≡ option_and_then (page_of session.now) (fault_of report.now) }
+{
+    match fault_of(report) {
         Some(name) => page_of(session, name),
         None => None,
-    };
+    }
+}
+
+/// The page that is told of, if there is one.
+fn number_in(page: &Option<PageTold>) -> Option<PageNo>
+    ensures { result ≡ number_in page.now }
+{
+    match page {
+        Some(told) => Some(told.story.page),
+        None => None,
+    }
+}
+
+/// The page that a picture is about, by what is told.
+fn page_for(session: &Session, report: &Report, told: &Told) -> Option<PageNo>
+    ensures { result ≡ page_for session.now report.now told.now }
+{
+    match told {
+        Told::Report(_) => page_of_fault(session, report),
+        _ => number_in(&told.page()),
+    }
+}
+
+/// What a picture is about, by what is told.
+pub(crate) fn focus_of(session: &Session, report: &Report, told: &Told) -> Focus
+    ensures { IsFocus session.now report.now told.now result }
+{
     Focus {
-        fault,
+        fault: fault_for(report, told),
         concerned: concerned_of(session, told),
-        page,
+        page: page_for(session, report, told),
     }
 }

@@ -7,7 +7,7 @@ use audit_report::Report;
 use merge_runs::all_of;
 use migration_types::Session;
 use report_text::push_first_line;
-use session_story::{is_always_wrong, push_summary};
+use session_story::{Told, is_always_wrong, push_summary};
 use std::alloc::{AllocError, Global};
 
 /// Which order a picture shows.
@@ -117,13 +117,24 @@ fn push_facts(out: &mut Vec<u8>, session: &Session) -> Result<(), AllocError> {
     push_counts(out, &all)
 }
 
+/// Which order shows a fault of the session, by what is told.
+fn faulty_order(told: &Told) -> &'static [u8] {
+    match told {
+        Told::Report(explanation) => {
+            if is_always_wrong(explanation) {
+                b"It goes wrong in every order, as in this one"
+            } else {
+                b"In an order in which it goes wrong"
+            }
+        }
+        _ => b"In the order that shows the first fault of the session",
+    }
+}
+
 /// Adds which of the orders it is where the report has one.
 fn push_reported(out: &mut Vec<u8>, report: &Report, picture: &Picture) -> Result<(), AllocError> {
     match report {
-        Report::Faulty { .. } if is_always_wrong(&picture.told) => {
-            push(out, b"It goes wrong in every order, as in this one")
-        }
-        Report::Faulty { .. } => push(out, b"In an order in which it goes wrong"),
+        Report::Faulty { .. } => push(out, faulty_order(&picture.told)),
         _ => match picture.bad {
             Some(_) => push(out, b"In the found order, as far as it goes"),
             None => push(out, b"In the found order"),

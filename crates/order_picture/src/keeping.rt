@@ -5,7 +5,7 @@
 use crate::focus::{Focus, Mark, mark_of};
 use crate::records::{Name, is_one};
 use migration_types::{GuestRec, LOG_COUNT, LOGS, LogName, Session};
-use session_story::{Explanation, tells_of};
+use session_story::{Told, tells_of};
 use std::alloc::{AllocError, Global};
 
 /// So many are kept at each end of the order.
@@ -62,19 +62,24 @@ fn uses(session: &Session, name: Name) -> bool {
 #[derive(Clone, Copy)]
 pub(crate) struct Keeping<'a> {
     pub session: &'a Session,
-    pub told: &'a Explanation,
+    pub told: &'a Told,
     pub focus: &'a Focus,
     /// Around which place of the order most is shown.
     pub middle: usize,
 }
 
-/// Whether a record concerns what the picture is about: a page, or, where there is none, the order.
+/// Whether a picture is about the order: what it tells of is the report, and that names no record of a page.
+fn is_of_order(keeping: &Keeping<'_>) -> bool {
+    keeping.focus.page.is_none() && matches!(keeping.told, Told::Report(_))
+}
+
+/// Whether a record concerns what the picture is about: a page, or the order.
 fn concerns(keeping: &Keeping<'_>, place: usize, name: Name) -> bool {
     if hands_over(keeping.session, name) {
         return true;
     }
     match mark_of(keeping.session, keeping.focus, name) {
-        Mark::Plain => { keeping.focus.page.is_none() && keeping.session.named(name).is_some() }
+        Mark::Plain => is_of_order(keeping) && keeping.session.named(name).is_some(),
         Mark::OfPage => {
             place > keeping.middle || !uses(keeping.session, name) || tells_of(keeping.told, name.1)
         }

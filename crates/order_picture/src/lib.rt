@@ -19,5 +19,5 @@ mod words;
 
 pub use focus::{Focus, Mark};
 pub use heading::Shown;
-pub use picture::{MOST_ROWS, Picture, Row, plan, plan_along};
-pub use svg::{picture_text, print_picture, print_picture_along};
+pub use picture::{MOST_ROWS, Picture, Row, plan, plan_along, plan_on};
+pub use svg::{picture_text, print_picture, print_picture_along, print_picture_on};

@@ -14,7 +14,7 @@ use audit_report::Report;
 use cert_maker::found_runs;
 use merge_runs::Taken;
 use migration_types::{GuestRec, LogName, Run, Session};
-use session_story::{Explanation, explain};
+use session_story::{Told, Topic, tell};
 use std::alloc::{AllocError, Global};
 
 /// A picture has at most so many rows.
@@ -46,7 +46,7 @@ pub struct Picture {
     /// has all records.
     pub bad: Option<usize>,
     /// What is told of the session.
-    pub told: Explanation,
+    pub told: Told,
     /// What it is about.
     pub focus: Focus,
 }
@@ -125,18 +125,19 @@ fn middle_of(session: &Session, focus: &Focus, order: &[Name], is_whole: bool) -
         .unwrap_or(0)
 }
 
-/// The picture of a session's records along runs: of all of them, where the runs spell a merging, and else of those
-/// that the runs before the first bad one take.
+/// The picture of a session's records along runs, with what is told on a topic: of all of them, where the runs spell a
+/// merging, and else of those that the runs before the first bad one take.
 pub fn plan_along(
     alloc: Global,
     session: &Session,
     report: &Report,
+    topic: Topic,
     runs: &[Run],
 ) -> Result<Picture, AllocError>
     requires { IsReport session.now report.now }
-    ensures { IfOk result (IsPictureOf session.now report.now runs.now) }
+    ensures { IfOk result (IsPictureOf session.now report.now topic runs.now) }
 {
-    let told = explain(alloc, session, report)?;
+    let told = tell(alloc, session, report, topic)?;
     let focus = focus_of(session, report, &told);
     let Drawn { names, taken, bad } = draw_along(alloc, session, runs)?;
     let middle = middle_of(session, &focus, &names, bad.is_none());
@@ -159,21 +160,36 @@ pub fn plan_along(
     })
 }
 
-/// The picture of a report: along the runs that show its fault, or those that it has of a knot; of a clean session along
-/// those of its certificate; and of a session of another shape along the found order as far as it goes. Takes what
-/// [`explain`] takes, a few passes over the records, and memory for the names of the records and two flags for each. An
-/// error: there is no memory for them.
-pub fn plan(alloc: Global, session: &Session, report: &Report) -> Result<Picture, AllocError>
+/// The picture of a report, with what is told on a topic: along the runs that show its fault, or those that it has of a
+/// knot; of a clean session along those of its certificate; and of a session of another shape along the found order as far
+/// as it goes. Takes what [`tell`] takes, a few passes over the records, and memory for the names of the records and two
+/// flags for each. An error: there is no memory for them.
+pub fn plan_on(
+    alloc: Global,
+    session: &Session,
+    report: &Report,
+    topic: Topic,
+) -> Result<Picture, AllocError>
     requires { IsReport session.now report.now }
-    ensures { IfOk result (IsPicture session.now report.now) }
+    ensures { IfOk result (IsPicture session.now report.now topic) }
 {
     match report {
-        Report::Faulty { order, .. } => plan_along(alloc, session, report, order.as_slice()),
-        Report::Clean(cert) => plan_along(alloc, session, report, cert.runs()),
-        Report::Knot { found, .. } => plan_along(alloc, session, report, found.runs.as_slice()),
+        Report::Faulty { order, .. } => plan_along(alloc, session, report, topic, order.as_slice()),
+        Report::Clean(cert) => plan_along(alloc, session, report, topic, cert.runs()),
+        Report::Knot { found, .. } => {
+            plan_along(alloc, session, report, topic, found.runs.as_slice())
+        }
         Report::Shape(_) => {
-            let found = found_runs(alloc, session)?;
-            plan_along(alloc, session, report, found.runs.as_slice())
+            let made = found_runs(alloc, session)?;
+            plan_along(alloc, session, report, topic, made.runs.as_slice())
         }
     }
+}
+
+/// The picture of a report, about what it names: what [`plan_on`] has of it.
+pub fn plan(alloc: Global, session: &Session, report: &Report) -> Result<Picture, AllocError>
+    requires { IsReport session.now report.now }
+    ensures { IfOk result (IsPicture session.now report.now Topic.Report) }
+{
+    plan_on(alloc, session, report, Topic::Report)
 }

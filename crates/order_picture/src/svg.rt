@@ -9,7 +9,7 @@ use crate::focus::Mark;
 use crate::heading::{Shown, heading_of};
 use crate::labels::{push_amended, push_label};
 use crate::legend::{Occurring, legend_height, push_legend};
-use crate::picture::{Picture, Row, plan, plan_along};
+use crate::picture::{Picture, Row, plan_along, plan_on};
 use crate::records::{Name, is_one};
 use crate::shapes::{
     Arrow, Columns, Look, Seat, begin_label, begin_margin, push_arrow, push_attribute, push_box,
@@ -20,7 +20,7 @@ use audit_report::Report;
 use merge_runs::Taken;
 use migration_types::{Run, Session, logs};
 use report_text::push_first_line;
-use session_story::{Amended, amended_by, line_at};
+use session_story::{Amended, Topic, amended_by, line_at};
 use std::alloc::{AllocError, Global};
 
 /// What is drawn.
@@ -449,8 +449,22 @@ pub fn picture_text(
     Ok(text)
 }
 
-/// The picture of a session in the order of its report. Takes what [`plan`] takes, and memory for the text, which is the
-/// only error.
+/// The picture of a session in the order of its report, about what is told on a topic. Takes what [`plan_on`] takes, and
+/// memory for the text, which is the only error.
+pub fn print_picture_on(
+    alloc: Global,
+    session: &Session,
+    report: &Report,
+    topic: Topic,
+) -> Result<Vec<u8>, AllocError>
+    requires { IsReport session.now report.now }
+    ensures { IfOk result (λ text. IsSvg text.items) }
+{
+    let picture = plan_on(alloc, session, report, topic)?;
+    picture_text(alloc, session, report, &picture, Shown::Reported)
+}
+
+/// The picture of a session in the order of its report, about what the report names. Takes as much.
 pub fn print_picture(
     alloc: Global,
     session: &Session,
@@ -459,20 +473,20 @@ pub fn print_picture(
     requires { IsReport session.now report.now }
     ensures { IfOk result (λ text. IsSvg text.items) }
 {
-    let picture = plan(alloc, session, report)?;
-    picture_text(alloc, session, report, &picture, Shown::Reported)
+    print_picture_on(alloc, session, report, Topic::Report)
 }
 
-/// The picture of a session along runs, with its report above it. Takes as much.
+/// The picture of a session along runs, with its report above it, about what is told on a topic. Takes as much.
 pub fn print_picture_along(
     alloc: Global,
     session: &Session,
     report: &Report,
+    topic: Topic,
     runs: &[Run],
 ) -> Result<Vec<u8>, AllocError>
     requires { IsReport session.now report.now }
     ensures { IfOk result (λ text. IsSvg text.items) }
 {
-    let picture = plan_along(alloc, session, report, runs)?;
+    let picture = plan_along(alloc, session, report, topic, runs)?;
     picture_text(alloc, session, report, &picture, Shown::Given)
 }

@@ -19,6 +19,8 @@ mod replays;
 #[cfg(test)]
 mod reports;
 #[cfg(test)]
+mod stories;
+#[cfg(test)]
 mod texts;
 #[cfg(test)]
 mod threads;
