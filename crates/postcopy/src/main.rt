@@ -1,14 +1,14 @@
 //! Records migrations, and audits recorded sessions.
 //!
-//! `postcopy check SESSION CERT` reads the two texts and writes one line, the verdict. `certify SESSION` writes the certificate of
-//! a session, `audit SESSION` the report on it, `explain SESSION` in words what the report's first line comes from, and
+//! `postcopy check SESSION CERT` reads the two texts and writes one line, the verdict. `certify SESSION` writes the certificate
+//! of a session, `audit SESSION` the report on it, `explain SESSION` in words what the report's first line comes from, and
 //! `replay SESSION RUNS` what becomes of a merging. `draw SESSION` draws a session's records. `steps SCRIPT EVENTS` writes the
-//! session that events record of a script, and `migrate SCRIPT` migrates the script's guest in threads and writes the session that
-//! was recorded, and its certificate after it. A file named `-` is standard input; where two are, the first text ends with the
-//! first line `end`. With no word it does `check - -`. The status is 0 where all is well, 1 for another answer, 2 for words that
-//! are no command, 3 for a file, a link or an output that failed, and 4 where memory ran out. Standard error tells what failed, why
-//! a text is refused, and what of a certificate does not fit. An output whose reader goes away, as `head` does, has not failed: the
-//! rest is dropped.
+//! session that events record of a script, and `migrate SCRIPT` migrates the script's guest in threads and writes the session
+//! that was recorded, and its certificate after it; with `-o FILE` these two write a file. A file named `-` is standard input;
+//! where two are, the first text ends with the first line `end`. With no word it does `check - -`. The status is 0 where all is
+//! well, 1 for another answer, 2 for words that are no command, 3 for a file, a link or an output that failed, and 4 where
+//! memory ran out. Standard error tells what failed, why a text is refused, and what of a certificate does not fit. An output
+//! whose reader goes away, as `head` does, has not failed: the rest is dropped.
 #![tactic(auto)]
 
 ghost use Rattle.std.specs.Prelude.{◌≤◌};
@@ -19,9 +19,12 @@ use crate::saving::save;
 use command_texts::{ACCEPTED, Closable, Fault, TextSource, USAGE, tell};
 use commands::{output_named, run};
 use std::alloc::{AllocError, Global};
-use std::io::{ErrorKind, Write};
+use std::io::{ErrorKind, Input, Write};
+use std::net::{Net, TcpListener, TcpStream};
 use std::process::ExitCode;
 use std::rt::{Env, Files};
+use std::sync::Wait;
+use std::thread::Threads;
 use std::{env, fs, io};
 
 /// The files of the system.
@@ -60,6 +63,51 @@ fn refuse_words<E: Write>(error: &io::Error, errors: &mut E) -> u8
     USAGE
 }
 
+// Answers to the words, and writes the answer to this output.
+fn answer<R, O: Write, E: Write>(
+    rt: &R,
+    alloc: Global,
+    words: &[&str],
+    output: &mut O,
+    errors: &mut E,
+) -> u8
+where
+    R: Threads + Wait + Sync + Net<Listener = TcpListener, Stream = TcpStream> + Files + Input,
+    R::File: Send,
+    R::Reader: Send,
+{
+    let files = Disk { rt };
+    run(rt, alloc, words, &files, &mut rt.reader(), output, errors)
+}
+
+// Answers to the words. Where all is well the answer goes to the file of this name, and else to the output.
+fn answer_into<R, O: Write, E: Write>(
+    rt: &R,
+    alloc: Global,
+    words: &[&str],
+    name: &str,
+    output: &mut O,
+    errors: &mut E,
+) -> u8
+where
+    R: Threads + Wait + Sync + Net<Listener = TcpListener, Stream = TcpStream> + Files + Input,
+    R::File: Send,
+    R::Reader: Send,
+{
+    let mut text = Vec::new(alloc);
+    let status = answer(rt, alloc, words, &mut text, errors);
+    let put = if status == ACCEPTED {
+        save(rt, alloc, name, text.as_slice())
+    } else {
+        output.write_all(text.as_slice())
+    };
+    match put {
+        Ok(()) => status,
+        Err(error) if error.kind() == ErrorKind::OutOfMemory => tell(Fault::Memory, errors),
+        Err(_) => tell(Fault::Output, errors),
+    }
+}
+
 fn main(rt: HostRuntime) -> ExitCode {
     let alloc = rt.alloc();
     let mut errors = rt.stderr();
@@ -71,37 +119,10 @@ fn main(rt: HostRuntime) -> ExitCode {
         return ExitCode::from(tell(Fault::Memory, &mut errors));
     };
     let words = words.as_slice();
-    let files = Disk { rt: &rt };
     let mut output = Closable::new(rt.stdout());
-    let Some(name) = output_named(alloc, words) else {
-        let status = run(
-            &rt,
-            alloc,
-            words,
-            &files,
-            &mut rt.reader(),
-            &mut output,
-            &mut errors,
-        );
-        return ExitCode::from(status);
+    let status = match output_named(alloc, words) {
+        Some(name) => answer_into(&rt, alloc, words, name, &mut output, &mut errors),
+        None => answer(&rt, alloc, words, &mut output, &mut errors),
     };
-    let mut answer = Vec::new(alloc);
-    let status = run(
-        &rt,
-        alloc,
-        words,
-        &files,
-        &mut rt.reader(),
-        &mut answer,
-        &mut errors,
-    );
-    let put = if status == ACCEPTED {
-        save(&rt, alloc, name, answer.as_slice())
-    } else {
-        output.write_all(answer.as_slice())
-    };
-    match put {
-        Ok(()) => ExitCode::from(status),
-        Err(_) => ExitCode::from(tell(Fault::Output, &mut errors)),
-    }
+    ExitCode::from(status)
 }
