@@ -1,4 +1,5 @@
 """At which line a text is refused, slowly and plainly: by the tables of docs/FORMATS.md, line by line and word by word."""
+import itertools
 import re
 
 from session_text import logs_of
@@ -17,6 +18,7 @@ RECORDS = {
 # The kinds of records that the second version alone has.
 LATER = {"pull"}
 FATES = ("deliver", "lose", "repeat", "back")
+REASONS = {"read", "early", "given", "stale", "twice", "altered", "unfit", "over"}
 EVENTS = {"halt", "push", "serve", "source-tick", "pop", "pop-lane", "flush", "pager-tick", "fault", "deliver"}
 EVENTS |= {f"link {direction} {fate}" for direction in ("down", "up", "lane") for fate in FATES}
 
@@ -111,6 +113,21 @@ def certificate(line):
     runs(line, version)
 
 
+def order(line):
+    """What tells an order: runs or a certificate, alone or below the first line of a report."""
+    first = line()
+    words = first.split(" ")
+    if first == "clean":
+        certificate(line)
+    elif words[:2] == ["faulty", "line"]:
+        demand(len(words) == 4 and words[3] in REASONS)
+        number(words[2], 1, 2**32 - 1)
+        runs_alone(line)
+    else:
+        lines = itertools.chain([first], iter(line, None))
+        (certificate if words[0] == "postcopy-certificate" else runs_alone)(lambda: next(lines))
+
+
 def fates(line, direction):
     demand(re.fullmatch(f"{direction} (-|[dlrb]{{1,4096}})", line))
 
@@ -144,7 +161,7 @@ def events(line):
             keyed(event, "guest", 0, 63)
 
 
-TEXTS = {"session": session, "certificate": certificate, "runs": runs_alone, "script": script, "events": events}
+TEXTS = {"session": session, "certificate": certificate, "runs": order, "script": script, "events": events}
 
 
 def refusal_line(kind, text):

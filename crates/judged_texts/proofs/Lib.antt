@@ -1,3 +1,4 @@
 pub mod Spelled
 pub mod Read
 pub mod Outcomes
+pub mod Ordered

@@ -3,3 +3,4 @@ pub mod Audited
 pub mod AuditedText
 pub mod Replayed
 pub mod inner
+pub mod Ordered

@@ -13,6 +13,8 @@ mod facts;
 #[cfg(test)]
 mod found;
 pub mod numbers;
+#[cfg(test)]
+mod orders;
 pub mod plain;
 #[cfg(test)]
 mod replays;

@@ -171,7 +171,7 @@ const EMPTY_SESSION: &[u8] = b"-:1:1: the text is empty; expected \"postcopy-ses
 
 const EMPTY_CERT: &[u8] = b"-:1:1: the text is empty; expected \"postcopy-certificate 1\" or \"postcopy-certificate 2\", the header of a certificate\n";
 
-const EMPTY_RUNS: &[u8] = b"-:1:1: the text is empty; expected \"postcopy-runs 1\", the header of a runs text\n";
+const EMPTY_ORDER: &[u8] = b"-:1:1: the text is empty; expected the first line of a text of runs, of a certificate or of a report\n";
 
 const EMPTY_EVENTS: &[u8] = b"-:1:1: the text is empty; expected \"postcopy-events 1\", the header of events\n";
 
@@ -179,7 +179,7 @@ const EMPTY_LINE: &[u8] = b"-:1:1: found an empty line; expected \"postcopy-sess
 
 const CERT_FOR_SESSION: &[u8] = b"cert:1:1: this is a certificate; expected a session: are the two files swapped?\n";
 
-const CERT_FOR_RUNS: &[u8] = b"cert:1:1: this is a certificate; expected a text of runs: are the two files swapped?\n";
+const SESSION_FOR_RUNS: &[u8] = b"session:1:1: this is a session; expected a text of runs: are the two files swapped?\n";
 
 // Each pair of texts, of which one or both may be the input.
 static VERDICTS: [Case; 10] = [
@@ -250,7 +250,7 @@ fn verdicts(rt: HostRuntime) {
 }
 
 // Mergings of sessions.
-static REPLAYS: [Case; 7] = [
+static REPLAYS: [Case; 10] = [
     Case(
         &["postcopy", "replay", "handover", "broken-runs"],
         b"",
@@ -288,7 +288,7 @@ static REPLAYS: [Case; 7] = [
         HANDOVER,
         1,
         b"runs-text line 1\n",
-        EMPTY_RUNS,
+        EMPTY_ORDER,
         None,
     ),
     Case(
@@ -300,11 +300,35 @@ static REPLAYS: [Case; 7] = [
         None,
     ),
     Case(
-        &["postcopy", "replay", "handover", "cert"],
+        &["postcopy", "replay", "handover", "session"],
         b"",
         1,
         b"runs-text line 1\n",
-        CERT_FOR_RUNS,
+        SESSION_FOR_RUNS,
+        None,
+    ),
+    Case(
+        &["postcopy", "replay", "session", "cert"],
+        b"",
+        0,
+        b"safe\n",
+        b"",
+        None,
+    ),
+    Case(
+        &["postcopy", "replay", "session", "-"],
+        CLEAN_REPORT,
+        0,
+        b"safe\n",
+        b"",
+        None,
+    ),
+    Case(
+        &["postcopy", "replay", "handover", "cert"],
+        b"",
+        1,
+        b"no-merging\n",
+        b"",
         None,
     ),
 ];

@@ -12,7 +12,7 @@ pub struct Case(pub At, pub u32, pub &'static [u8], pub &'static str);
 pub struct Group(pub At, pub u32, pub &'static str);
 
 /// Lines of plain words.
-pub static WORDS: [Group; 20] = [
+pub static WORDS: [Group; 21] = [
     Group(
         At::Guest,
         15,
@@ -214,6 +214,25 @@ BZh91AY
         1,
         r#"postcopy-script 1
 1: this is a script; expected a list of events: are the two files swapped?
+"#,
+    ),
+    Group(
+        At::OrderHead,
+        1,
+        r#"postcopy-certificate 3
+22: found "postcopy-certificate 3"; expected "postcopy-certificate 1" or "postcopy-certificate 2"
+postcopy-runs 2
+15: found "postcopy-runs 2"; expected "postcopy-runs 1"
+postcopy-session 2
+1: this is a session; expected a text of runs: are the two files swapped?
+faulty line 9 late
+15: found "late" in "faulty line 9 late"; expected "read" or "over", as in "faulty line N read"
+faulty line 0 read
+13: found "0" in "faulty line 0 read"; expected N, a number from 1 to 4294967295, as in "faulty line N read"
+knot line 9
+1: this is a report of audit; expected a text of runs
+hello
+1: found "hello"; expected the first line of an order
 "#,
     ),
     Group(

@@ -33,6 +33,15 @@ static ENTRIES: [&str; 5] = [
     "page Q balloon I - -",
 ];
 
+static ORDERS: [&str; 6] = [
+    "postcopy-runs 1",
+    "postcopy-certificate 1",
+    "postcopy-certificate 2",
+    "clean",
+    "faulty line N read",
+    "faulty line N over",
+];
+
 static LINKS: [&str; 3] = ["link down FATE", "link up FATE", "link lane FATE"];
 
 /// A line of a machine of 64 pages of 2 cells, behind some items of a list of 9 that line 6 counts.
@@ -67,6 +76,7 @@ pub enum At {
     SessionHead,
     CertHead,
     RunsHead,
+    OrderHead,
     EventsHead,
     Pages,
     InitialPage,
@@ -103,6 +113,7 @@ fn wanted_at(at: At) -> Wanted {
             0,
         ),
         At::RunsHead => alone("the header of runs", &["postcopy-runs 1"], 0, 0),
+        At::OrderHead => alone("the first line of an order", &ORDERS, 1, 4_294_967_295),
         At::EventsHead => alone("the header of events", &["postcopy-events 1"], 0, 0),
         At::Pages => alone("the number of pages", &["pages N"], 1, 65_536),
         At::InitialPage => Wanted {
