@@ -3,7 +3,7 @@
 use audit_model::ShapeReason;
 use cert_check::{ShapeFault, Verdict};
 use command_texts::TextSource;
-use commands::run;
+use commands::{output_named, run};
 use judge_commands::{push_verdict, verdict_status};
 use migration_types::LogName;
 use std::alloc::Global;
@@ -247,6 +247,76 @@ static VERDICTS: [Case; 10] = [
 #[test]
 fn verdicts(rt: HostRuntime) {
     none_is_wrong(&rt, wrong_case(&rt, VERDICTS.as_slice()));
+}
+
+// Audits of several sessions, in the order of the words; a text that is not there ends the list.
+static AUDITS: [Case; 5] = [
+    Case(
+        &["postcopy", "audit", "session", "handover"],
+        b"",
+        1,
+        b"session: clean\nhandover: faulty line 13 early\n1 of 2 sessions are clean\n",
+        b"",
+        Some(2),
+    ),
+    Case(
+        &["postcopy", "audit", "session", "-", "session"],
+        SESSION,
+        0,
+        b"session: clean\n-: clean\nsession: clean\n3 of 3 sessions are clean\n",
+        b"",
+        Some(2),
+    ),
+    Case(
+        &["postcopy", "audit", "cert", "session"],
+        b"",
+        1,
+        b"cert: session-text line 1\nsession: clean\n1 of 2 sessions are clean\n",
+        CERT_FOR_SESSION,
+        Some(2),
+    ),
+    Case(
+        &["postcopy", "audit", "session", "none", "handover"],
+        b"",
+        3,
+        b"session: clean\n",
+        b"file none\n",
+        Some(2),
+    ),
+    Case(
+        &["postcopy", "audit", "--all", "--quiet", "handover"],
+        b"",
+        1,
+        b"faulty line 13 early\n",
+        b"",
+        Some(1),
+    ),
+];
+
+#[test]
+fn audits(rt: HostRuntime) {
+    none_is_wrong(&rt, wrong_case(&rt, AUDITS.as_slice()));
+}
+
+// Whether these words name this file for the answer.
+fn is_named<R: AllocGlobal>(rt: &R, words: &[&str], file: Option<&str>) -> bool {
+    match (output_named(rt.alloc(), words), file) {
+        (Some(found), Some(file)) => found == file,
+        (None, None) => true,
+        _ => false,
+    }
+}
+
+#[test]
+fn outputs(rt: HostRuntime) {
+    let steps = ["postcopy", "steps", "-o", "out", "script", "events"];
+    assert!(rt; is_named(&rt, steps.as_slice(), Some("out")));
+    let long = ["postcopy", "migrate", "--output=out", "script"];
+    assert!(rt; is_named(&rt, long.as_slice(), Some("out")));
+    let plain = ["postcopy", "migrate", "script"];
+    assert!(rt; is_named(&rt, plain.as_slice(), None));
+    let refused = ["postcopy", "audit", "-o", "out", "session"];
+    assert!(rt; is_named(&rt, refused.as_slice(), None));
 }
 
 // Mergings of sessions.

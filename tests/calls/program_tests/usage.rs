@@ -7,7 +7,7 @@ use std::sync::Wait;
 use std::thread::Threads;
 
 // Words that are no command.
-static NO_COMMANDS: [&[&str]; 9] = [
+static NO_COMMANDS: [&[&str]; 12] = [
     &["postcopy", "check", "session"],
     &["postcopy", "check", "session", "cert", "cert"],
     &["postcopy", "send", "session", "cert"],
@@ -17,6 +17,9 @@ static NO_COMMANDS: [&[&str]; 9] = [
     &["postcopy", "migrate", "script", "--link", "paper"],
     &["postcopy", "draw"],
     &["postcopy", "draw", "session", "runs", "runs"],
+    &["postcopy", "draw", "--page", "first", "session"],
+    &["postcopy", "explain", "--line", "4294967296", "session"],
+    &["postcopy", "audit", "-o", "out", "session"],
 ];
 
 fn is_refused<
