@@ -109,7 +109,12 @@ pub extern "C" fn postcopy_draw(alloc: Global, session: &[u8], room: &mut [u8]) 
 /// of `postcopy_certify` is. The kind has the number of the answer that refuses such a text: of a session, of a certificate, or
 /// of what tells an order, as `postcopy_replay` takes it.
 #[unsafe(no_mangle)]
-pub extern "C" fn postcopy_why(alloc: Global, text: &[u8], kind: u32, room: &mut [u8]) -> PostcopyRefusal
+pub extern "C" fn postcopy_why(
+    alloc: Global,
+    text: &[u8],
+    kind: u32,
+    room: &mut [u8],
+) -> PostcopyRefusal
     ensures { IsWhy kind text.now room.old room.new result }
 {
     tell_why(alloc, text, kind, room)

@@ -78,10 +78,16 @@ fn has_line(refusal: &Refusal, text: &[u8]) -> bool {
 }
 
 /// Tells why a text is refused, or that there was no memory to read it or for the words.
-fn tell_refusal(alloc: Global, kind: u32, refusal: &Refusal, room: &mut [u8]) -> PostcopyRefusal
+fn tell_refusal(
+    alloc: Global,
+    kind: u32,
+    text: &[u8],
+    refusal: &Refusal,
+    room: &mut [u8],
+) -> PostcopyRefusal
     ensures { IsToldOf kind refusal.now.fault.line refusal.now.fault.kind room.old room.new result }
 {
-    if refusal.fault.kind == FaultKind::Memory {
+    if refusal.fault.kind == FaultKind::Memory || !has_line(refusal, text) {
         return without_words(NO_MEMORY);
     }
     match reason_of(alloc, refusal) {
@@ -96,8 +102,7 @@ fn tell_text<R: Rewind>(alloc: Global, kind: u32, text: &[u8], room: &mut [u8]) 
 {
     match read_or_why(R::empty(alloc), alloc, text) {
         Ok(_) => without_words(READ),
-        Err(refusal) if has_line(&refusal, text) => tell_refusal(alloc, kind, &refusal, room),
-        Err(_) => without_words(NO_MEMORY),
+        Err(refusal) => tell_refusal(alloc, kind, text, &refusal, room),
     }
 }
 
