@@ -1,7 +1,7 @@
 //! How the report on a session is told.
 
 ghost use Rattle.std.specs.Prelude.{◌≡◌, ℕ, List, IfOk};
-ghost use Rattle.migration_types.specs.Sessions.{Recorded};
+ghost use Rattle.std.specs.Thread.{IsSync};
 ghost use Rattle.faulty_pages.specs.FaultyPages.{AreFaultyPages};
 ghost use Rattle.audit_report.specs.Reports.{IsCleanWith, IsReport, ReportFits};
 ghost use Rattle.report_text.specs.FaultyPagesText.{JudgesPages};
@@ -9,7 +9,7 @@ ghost use Rattle.report_json.specs.JsonText.{all_faults_object};
 ghost use Rattle.judge_commands.specs.Judged.{Judged, Refused, Reported};
 ghost use Rattle.judge_commands.specs.Forms.{TellsAllFaults, TellsObject, TellsStory, TellsWanted};
 
-use crate::forms::{InObject, InWords};
+use crate::forms::InObject;
 use audit_report::Report;
 use command_texts::Telling;
 use faulty_pages::{FaultyPage, clean_sessions_have_no_faulty_page, faulty_pages};
@@ -18,7 +18,7 @@ use migration_types::{Cert, Session};
 use page_facts::InThreads;
 use report_json::{push_all_faults, push_refused, push_report};
 use report_text::{print_all_faults, print_refused_session};
-use session_story::{print_explained, print_refused};
+use session_story::{Topic, print_refused, print_topic};
 use std::alloc::{AllocError, Global};
 use std::thread::Threads;
 
@@ -40,6 +40,7 @@ pub trait TellsReport {
         session: &Session,
         report: &Report,
     ) -> Result<Vec<u8>, AllocError>
+        requires ready { IsSync R.row }
         requires report { IsReport session.now report.now }
         requires fits { ReportFits report.now }
         ensures { IfOk result (λ text. tells self.now (Reported session.now report.now) text.items) };
@@ -96,7 +97,7 @@ impl TellsReport for InObject {
     }
 }
 
-impl TellsReport for InWords {
+impl TellsReport for Topic {
     ghost tells = { λ _. TellsStory };
 
     fn telling(&self) -> Telling {
@@ -110,7 +111,7 @@ impl TellsReport for InWords {
         session: &Session,
         report: &Report,
     ) -> Result<Vec<u8>, AllocError> {
-        print_explained(alloc, session, report)
+        print_topic(alloc, session, report, *self)
     }
 
     fn tell_refusal(&self, alloc: Global, line: u32) -> Result<Vec<u8>, AllocError> {

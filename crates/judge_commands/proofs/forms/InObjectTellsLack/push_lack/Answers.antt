@@ -5,4 +5,4 @@ use Rattle.judge_commands.proofs.Added.{adds}
 use Rattle.judge_commands.proofs.forms.InObjectTellsLack.push_lack.Goals as goal
 
 pub returns : goal.returns
-returns c = adds c.push_missing_object.result (TellsInObject c.args.session.now c.args.missing) (missing_object c.args.session.now c.args.missing) c.args.out.now.items c.push_missing_object.new.out.items refl c.push_missing_object.ensures
+returns c = adds c.push_missing.result (TellsInObject c.args.session.now c.args.missing) (missing_object c.args.session.now c.args.missing) c.args.out.now.items c.push_missing.new.out.items refl c.push_missing.ensures
