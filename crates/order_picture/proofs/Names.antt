@@ -13,7 +13,8 @@ use Rattle.merge_runs.proofs.Walking.{walks_front, walk_back, walks_run, spelled
 use Rattle.order_picture.specs.declared.focus.Mark.TheVariants.{Faulty, Concerned, OfPage, Plain}
 use Rattle.order_picture.specs.declared.focus.Focus.{Focus}
 use Rattle.order_picture.specs.Rows.{is_faulty}
-use Rattle.order_picture.specs.Subjects.{about, page_by, page_within, page_of, is_one, is_page, mark_of}
+use Rattle.session_story.specs.Subjects.{page_of}
+use Rattle.order_picture.specs.Marks.{is_one, is_page, mark_of}
 
 -- one name more of a run
 pub run_push : (log : LogName) (place k : ℕ) → run_names log place (suc k) ≡ run_names log place k ++ (log, place + k) ∷ []
@@ -32,11 +33,6 @@ module _ (s : Recorded) (runs : List Run) (place : ℕ) (d : Run) (within : plac
       front =
           let more = spelled_front at_start (take (place + 1) runs) (drop (place + 1) runs) in
           walks_front s at_start (spelled (take (place + 1) runs)) more.0 (subst (λ (ns : List Name). Walks s at_start ns) (ap spelled (sym (take-append-drop (place + 1) runs)) ∙ more.1) walks)
-
--- one step on the way to a page
-pub step : (s : Recorded) (name : Name) (steps : ℕ) → 0 < steps → (n : ℕ) → n + 1 ≡ steps → page_within steps s name ≡ page_by (page_within n s) (about s name)
-step s name zero lt n e = absurd (omega arith)
-step s name (suc k) lt n e = ap (λ (m : ℕ). page_by (page_within m s) (about s name)) (omega (arith, e))
 
 faulty_mark : (a b c : Bool) → is_faulty (cond a Faulty (cond b Concerned (cond c OfPage Plain))) ≡ a
 faulty_mark true b c = refl

@@ -1,4 +1,4 @@
-pub mod Subjects
+pub mod Marks
 pub mod Labels
 pub mod Drawn
 pub mod Rows

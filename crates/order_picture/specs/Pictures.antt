@@ -17,10 +17,11 @@ use Rattle.session_story.specs.declared.topics.Told.{Told}
 use Rattle.session_story.specs.declared.topics.Told.TheVariants as told
 use Rattle.session_story.specs.declared.topics.Topic.{Topic}
 use Rattle.session_story.specs.Concerned.{concerned_of}
+use Rattle.session_story.specs.Subjects.{page_of}
 use Rattle.session_story.specs.Topics.{IsTold, fault_in, page_in}
 use Rattle.order_picture.specs.declared.focus.Focus.{Focus}
 use Rattle.order_picture.specs.declared.picture.Picture.{Picture}
-use Rattle.order_picture.specs.Subjects.{is_one, mark_of, page_of}
+use Rattle.order_picture.specs.Marks.{is_one, mark_of}
 use Rattle.order_picture.specs.Drawn.{IsDrawn}
 use Rattle.order_picture.specs.Rows.{Covers, shows_fault, sender_of}
 

@@ -11,7 +11,7 @@ use Rattle.order_picture.specs.declared.focus.Mark.{Mark}
 use Rattle.order_picture.specs.declared.focus.Mark.TheVariants.{Faulty, Concerned, OfPage, Plain}
 use Rattle.order_picture.specs.declared.picture.Row.{Row}
 use Rattle.order_picture.specs.declared.picture.Row.TheVariants.{Record, Fold}
-use Rattle.order_picture.specs.Subjects.{is_one}
+use Rattle.order_picture.specs.Marks.{is_one}
 
 -- The rows have the records of the order, in its sequence, each in one row: a row has one record with its mark, or the
 -- next few of them, of which it has the count of each log.

@@ -1,14 +1,14 @@
 //! What a picture is about: a faulty record, what its fault concerns, and a page.
 
 ghost use Rattle.std.specs.Prelude.{◌≡◌, option_and_then};
-ghost use Rattle.order_picture.specs.Subjects.{is_page, mark_of, page_of};
+ghost use Rattle.session_story.specs.Subjects.{page_of};
+ghost use Rattle.order_picture.specs.Marks.{is_page, mark_of};
 ghost use Rattle.order_picture.specs.Pictures.{fault_for, fault_of, faulty_in, number_in, page_for, IsFocus};
 
 use crate::records::{Name, is_one};
-use crate::subjects::page_of;
 use audit_report::Report;
 use migration_types::{PageNo, Session};
-use session_story::{FaultStory, PageTold, Told, concerned_of};
+use session_story::{FaultStory, PageTold, Told, concerned_of, page_of};
 
 /// Why a record stands out.
 #[derive(Clone, Copy, Debug, PartialEq, Eq)]

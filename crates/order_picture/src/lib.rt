@@ -13,7 +13,6 @@ mod picture;
 mod records;
 mod rows;
 mod shapes;
-mod subjects;
 mod svg;
 mod words;
 

@@ -1,7 +1,7 @@
 //! Records by their names.
 
 ghost use Rattle.std.specs.Prelude.{◌≡◌};
-ghost use Rattle.order_picture.specs.Subjects.{is_one};
+ghost use Rattle.order_picture.specs.Marks.{is_one};
 
 use migration_types::LogName;
 

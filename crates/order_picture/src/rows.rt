@@ -4,7 +4,7 @@ ghost use Rattle.std.specs.Prelude.{◌≡◌, ◌+◌, ◌*◌, ◌≤◌, ◌<
 ghost use Rattle.std.specs.List.{list_any};
 ghost use Rattle.migration_types.specs.Receipts.{Name as Named};
 ghost use Rattle.order_picture.specs.declared.focus.Mark.{Mark as Marked};
-ghost use Rattle.order_picture.specs.Subjects.{is_one, mark_of};
+ghost use Rattle.order_picture.specs.Marks.{is_one, mark_of};
 ghost use Rattle.audit_model.specs.Mergings.{at_start};
 ghost use Rattle.merge_runs.specs.Taken.{cursors_of};
 ghost use Rattle.order_picture.specs.Rows.{Covers, is_faulty, shows_fault};

@@ -3,4 +3,5 @@ pub mod Looking
 pub mod Paged
 pub mod Causing
 pub mod Firsts
+pub mod Reaching
 pub mod Circling

@@ -6,6 +6,7 @@ pub mod Looks
 pub mod Counted
 pub mod Waits
 pub mod Explained
+pub mod Subjects
 pub mod Topics
 pub mod Concerned
 pub mod Amended

@@ -1,12 +1,13 @@
 -- What is told of a session on a topic: its report, a page, or a line of its text.
 use Rattle.std.specs.Prelude.{◌≡◌, ◌≢◌, ℕ, ◌<◌, ◌≤◌, Option, Some, None, MatchOption}
 use Rattle.migration_types.specs.Sessions.{Recorded}
-use Rattle.page_facts.specs.PageFaults.{page_at, IsClean, IsFirstFault}
+use Rattle.page_facts.specs.PageFaults.{IsClean, IsFirstFault}
 use Rattle.audit_report.specs.declared.report.Report.{Report}
 use Rattle.audit_report.specs.declared.report.Report.TheVariants as report
 use Rattle.session_story.specs.Explained.{IsExplanation, IsFaultStory, IsShapeStory}
 use Rattle.session_story.specs.Pages.{IsHandover, IsPageStory}
 use Rattle.session_story.specs.Places.{IsAtLineOf, HasNoRecord}
+use Rattle.session_story.specs.Subjects.{page_of}
 use Rattle.session_story.specs.declared.explaining.Explanation.{Explanation}
 use Rattle.session_story.specs.declared.explaining.Explanation.TheVariants as explained
 use Rattle.session_story.specs.declared.faults.FaultStory.{FaultStory}
@@ -34,7 +35,7 @@ abbrev pub IsToldOfPage : Recorded → ℕ → Option PageTold → Type 0
 IsToldOfPage s number None = s.geometry.pages ≤ number
 IsToldOfPage s number (Some t) = (number < s.geometry.pages) × IsPageTold s number t
 
--- where a record is of a page, this is told of the page
+-- where a record is about a page, this is told of the page
 abbrev pub IsToldOfItsPage : Recorded → Option ℕ → Option PageTold → Type 0
 IsToldOfItsPage s None told = told ≡ None
 IsToldOfItsPage s (Some page) None = ⊥
@@ -49,7 +50,7 @@ IsShapeTold s _ line shape = shape ≡ None
 pub record IsLineTold (s : Recorded) (r : Report) (line : ℕ) (t : LineTold) : Type 0 where
   pub is_at : IsAtLineOf s t.log line t.place
   pub shape : IsShapeTold s r line t.shape
-  pub page : IsToldOfItsPage s (page_at s (t.log, t.place)) t.page
+  pub page : IsToldOfItsPage s (page_of s (t.log, t.place)) t.page
 
 -- a record stands at this line, and this is told of it, or none does
 abbrev pub IsToldOfLine : Recorded → Report → ℕ → Option LineTold → Type 0

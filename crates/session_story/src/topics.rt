@@ -1,15 +1,17 @@
 //! What is told of a session on a topic: its report, a page, or a line of its text.
 
 ghost use Rattle.std.specs.Prelude.{◌≡◌, ◌<◌, IfOk, MatchOption};
-ghost use Rattle.page_facts.specs.PageFaults.{page_at, IsClean};
+ghost use Rattle.page_facts.specs.PageFaults.{IsClean};
 ghost use Rattle.audit_report.specs.Reports.{IsReport};
 ghost use Rattle.session_story.specs.Pages.{IsPageStory};
+ghost use Rattle.session_story.specs.Subjects.{page_of};
 ghost use Rattle.session_story.specs.Topics.{IsFirstFaultStory, IsPageTold, IsShapeTold, IsTold, IsToldOfItsPage, IsToldOfLine, IsToldOfPage, fault_in, fault_reported, page_in};
 
 use crate::explaining::{Explanation, explain};
-use crate::faults::{FaultStory, ShapeStory, page_at, shape_at, story_of_fault};
+use crate::faults::{FaultStory, ShapeStory, shape_at, story_of_fault};
 use crate::lines::record_on;
 use crate::pages::{Handover, PageStory, handover_of, story_of};
+use crate::subjects::page_of;
 use audit_report::Report;
 use migration_types::{LogName, PageNo, Session};
 use page_facts::fault_of;
@@ -43,7 +45,7 @@ pub struct LineTold {
     pub place: u32,
     /// What is wrong with its shape, where it is the record that the report names for that.
     pub shape: Option<ShapeStory>,
-    /// What became of its page, if it is of one.
+    /// What became of the page that it is about, itself or by way of the records that it names, if it is about one.
     pub page: Option<PageTold>,
 }
 
@@ -143,17 +145,17 @@ pub fn told_of_page(
     Ok(Some(told))
 }
 
-/// What became of the page that a record is of, if it is of one.
+/// What became of the page that a record is about, if it is about one.
 fn told_of_its_page(
     alloc: Global,
     session: &Session,
     log: LogName,
     place: u32,
 ) -> Result<Option<PageTold>, AllocError>
-    ensures { IfOk result (IsToldOfItsPage session.now (page_at session.now (log, place))) }
+    ensures { IfOk result (IsToldOfItsPage session.now (page_of session.now (log, place))) }
 {
     session.keeps_limits();
-    match page_at(session, log, place) {
+    match page_of(session, (log, place)) {
         Some(page) => Ok(Some(page_told(alloc, session, page)?)),
         None => Ok(None),
     }

@@ -1,4 +1,4 @@
-//! What is told of a page and of a line, in words, and what a picture is about.
+//! What is told of a page and of a line, in words; what a picture is about; and which record stands at a line.
 
 use crate::texts::{HANDOVER, changed_session};
 use audit_report::{Report, audit};
@@ -58,6 +58,31 @@ What the logs say of page 0:
 const UNNAMED: &str = "shape line 30 named
 Not of the right shape is line 30 (pager 2): the pager learns of the miss guest 4.
 It has to name a `miss` of the guest, and names line 11 (guest 4): the guest looks at the placement pager 5.
+Page 0 has no fault.
+What the logs say of page 0:
+  the guest neither writes nor releases it before the halt
+  line 8 (guest 1): the guest is halted at the source
+  line 20 (source 3): the source sends page 0
+  line 25 (link 2): the link delivers to the pager what source 3 sent
+  line 32 (pager 4): the pager takes what link 2 delivered
+  line 33 (pager 5): the pager places page 0, which came with pager 4
+  line 11 (guest 4): the guest looks at the placement pager 5, the first look that reaches its placement
+  line 12 (guest 5): virtual processor 0 reads 5 in cell 0 of page 0, its first use at the target
+";
+
+/// What is told of the record at line 26 of a clean handover.
+const DELIVERED: &str = "clean
+This is line 26 (link 3): the link delivers to the pager what source 4 sent.
+Page 1 has no fault.
+What the logs say of page 1:
+  line 7 (guest 0): virtual processor 0 writes 7 into cell 0 of page 1, its last change before the halt
+  line 8 (guest 1): the guest is halted at the source
+  line 21 (source 4): the source sends page 1
+  line 26 (link 3): the link delivers to the pager what source 4 sent
+  line 34 (pager 6): the pager takes what link 3 delivered
+  line 35 (pager 7): the pager places page 1, which came with pager 6
+  line 13 (guest 6): the guest looks at the placement pager 7, the first look that reaches its placement
+  line 14 (guest 7): virtual processor 0 writes 9 into cell 0 of page 1, its first use at the target
 ";
 
 /// What is told of the report of a handover where a read of each page gives another value than was written.
@@ -86,7 +111,7 @@ struct Case {
     told: &'static str,
 }
 
-static CASES: [Case; 9] = [
+static CASES: [Case; 10] = [
     Case {
         is: "a page with a fault",
         old: "r 0 1 0 9",
@@ -114,6 +139,13 @@ static CASES: [Case; 9] = [
         new: "end",
         topic: Topic::Line(12),
         told: READ,
+    },
+    Case {
+        is: "a delivery, which is about the page of what was sent",
+        old: "end",
+        new: "end",
+        topic: Topic::Line(26),
+        told: DELIVERED,
     },
     Case {
         is: "a record of no page",

@@ -32,8 +32,8 @@ fn push_verdict(out: &mut String, page: &PageTold) -> Result<(), AllocError> {
     })
 }
 
-/// Whether a session with this report is known to have an order that shows the fault of a page: its own fault has one,
-/// and one that is there in every order has any.
+/// Whether it is known which orders show a fault of a page: the report has one that shows its own, and where there are
+/// orders at all, each shows a fault that is always there.
 fn is_shown(report: &Report, story: &FaultStory) -> bool {
     match report {
         Report::Faulty { fault, .. } => {

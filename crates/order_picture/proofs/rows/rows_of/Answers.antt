@@ -1,6 +1,6 @@
 use Rattle.std.proofs.Common.{◌∙◌, List, sym, ap, subst}
 use Rattle.order_picture.specs.declared.picture.Row.{Row}
-use Rattle.order_picture.specs.Subjects.{mark_of}
+use Rattle.order_picture.specs.Marks.{mark_of}
 use Rattle.order_picture.specs.Rows.{Covers, shows_fault}
 use Rattle.order_picture.proofs.Built.{closed_covers, closed_shows}
 use Rattle.order_picture.proofs.Names.{any_faulty}

@@ -1,5 +1,5 @@
 use Rattle.std.proofs.Common.{take}
-use Rattle.order_picture.specs.Subjects.{mark_of}
+use Rattle.order_picture.specs.Marks.{mark_of}
 use Rattle.order_picture.proofs.Built.{since_few}
 use Rattle.order_picture.proofs.rows.take_all.Goals as goal
 

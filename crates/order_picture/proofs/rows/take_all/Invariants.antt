@@ -1,5 +1,5 @@
 use Rattle.std.proofs.Common.{◌+◌, ◌*◌, ◌≤◌, length, take}
-use Rattle.order_picture.specs.Subjects.{mark_of}
+use Rattle.order_picture.specs.Marks.{mark_of}
 use Rattle.order_picture.specs.inner.Built.{IsBuilt}
 use Rattle.order_picture.proofs.rows.take_all.Given as goal
 

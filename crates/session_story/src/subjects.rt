@@ -4,9 +4,9 @@ ghost use Rattle.std.specs.Prelude.{◌≡◌};
 ghost use Rattle.migration_types.specs.Receipts.{Name as Named};
 ghost use Rattle.migration_types.specs.Rows.{row_of};
 ghost use Rattle.migration_types.specs.Sessions.{Recorded};
-ghost use Rattle.order_picture.specs.Subjects.{about, about_among, about_by, page_of};
+ghost use Rattle.session_story.specs.Subjects.{about, about_among, about_by, page_of};
 
-use crate::records::Name;
+use crate::concerns::Name;
 use migration_types::{Field, LogName, PageNo, Session};
 
 /// What a record is about.
@@ -51,8 +51,9 @@ fn subject(session: &Session, name: Name) -> About
     }
 }
 
-/// The page that a record is about, itself or by way of the records that it names.
-pub(crate) fn page_of(session: &Session, name: Name) -> Option<PageNo>
+/// The page that a record is about, itself or by way of the records that it names; none where it is about no page. Takes
+/// no memory.
+pub fn page_of(session: &Session, name: (LogName, u32)) -> Option<PageNo>
     ensures { result ≡ page_of session.now name }
 {
     let mut at = name;

@@ -1,5 +1,5 @@
--- What a record is about: a page, or what another record is about; and how a record is marked.
-use Rattle.std.specs.Prelude.{ℕ, zero, suc, Bool, false, List, [], ◌∷◌, Option, Some, None, slice_get, ◌==◌, ◌&&◌, if◌then◌else◌}
+-- What a record is about: a page, or what another record is about.
+use Rattle.std.specs.Prelude.{ℕ, zero, suc, List, [], ◌∷◌, Option, Some, None, slice_get}
 use Rattle.migration_types.specs.declared.records.LogName.TheVariants.{Guest, Source, Link, Lane, Pager}
 use Rattle.migration_types.specs.declared.records.GuestRec.{GuestRec}
 use Rattle.migration_types.specs.declared.records.GuestRec.TheVariants.{Read, Write, Release, Miss, Halt, Resume, See}
@@ -16,12 +16,8 @@ use Rattle.migration_types.specs.Sessions.{Recorded}
 use Rattle.migration_types.specs.declared.rows.Field.{Field}
 use Rattle.migration_types.specs.declared.rows.Field.TheVariants as field
 use Rattle.migration_types.specs.Rows.{Consists}
-use Rattle.audit_model.specs.Names.{same_log}
-use Rattle.order_picture.specs.declared.subjects.About.{About}
-use Rattle.order_picture.specs.declared.subjects.About.TheVariants.{Page, Record, Nothing}
-use Rattle.order_picture.specs.declared.focus.Focus.{Focus}
-use Rattle.order_picture.specs.declared.focus.Mark.{Mark}
-use Rattle.order_picture.specs.declared.focus.Mark.TheVariants.{Faulty, Concerned, OfPage, Plain}
+use Rattle.session_story.specs.declared.subjects.About.{About}
+use Rattle.session_story.specs.declared.subjects.About.TheVariants.{Page, Record, Nothing}
 
 -- a use, a release or a miss is about its page, a look about what the placement is about
 abbrev pub guest_about : GuestRec → About
@@ -101,22 +97,3 @@ page_within (suc steps) s name = page_by (page_within steps s) (about s name)
 -- the page that a record is about: what came and was dropped is about what was got, delivered, and sent again
 abbrev pub page_of : Recorded → Name → Option ℕ
 page_of s name = page_within 5 s name
-
--- whether the name is this one, if there is one
-abbrev pub is_one : Option Name → Name → Bool
-is_one None name = false
-is_one (Some one) name = same_log one.0 name.0 && one.1 == name.1
-
--- whether both are the same page
-abbrev pub is_page : Option ℕ → Option ℕ → Bool
-is_page None other = false
-is_page (Some page) None = false
-is_page (Some page) (Some other) = page == other
-
--- how a record is marked
-abbrev pub mark_of : Recorded → Focus → Name → Mark
-mark_of s focus name =
-    if is_one focus.fault name then Faulty
-    else if is_one focus.concerned name then Concerned
-    else if is_page focus.page (page_of s name) then OfPage
-    else Plain
