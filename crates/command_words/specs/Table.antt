@@ -32,9 +32,9 @@ plain = record { demand = Safety; form = form.Text }
 abbrev pub plain_audit : Audits
 plain_audit = record { asking = plain; faults = faults.First }
 
--- and of an explanation: what the report names
+-- and of an explanation: what the report names, in words
 abbrev pub plain_explanation : Explains
-plain_explanation = record { demand = Safety; topic = topic.Report }
+plain_explanation = record { asking = plain; topic = topic.Report }
 
 -- `check SESSION CERT`, `certify SESSION`, `audit SESSION`, `explain SESSION`, `replay SESSION RUNS`,
 -- `steps SCRIPT EVENTS`, `migrate SCRIPT`, `draw SESSION`, `draw SESSION RUNS`; with no option, this is asked

@@ -89,7 +89,7 @@ with_quiet app = with_rule app (flag_rule (codes "quiet"))
 abbrev pub with_one : ValueParser → OneText → App → App
 with_one parser (Audit audits) app = with_format parser audits.asking.form (with_quiet (with_all (with_demand app)))
 with_one parser Certify app = app
-with_one parser (Explain explains) app = with_line (with_page (with_demand app))
+with_one parser (Explain explains) app = with_format parser explains.asking.form (with_line (with_page (with_demand app)))
 
 abbrev pub with_two : ValueParser → TwoTexts → App → App
 with_two parser (Check asking) app = with_format parser asking.form (with_demand app)
@@ -212,7 +212,7 @@ topic_in rows otherwise = unwrap_or (option_map Line (number_in (codes "line") r
 
 -- what is asked of an explanation, where no option says more than this
 abbrev pub explains_in : List Row → Explains → Explains
-explains_in rows otherwise = record { demand = demand_in rows otherwise.demand; topic = topic_in rows otherwise.topic }
+explains_in rows otherwise = record { asking = asking_in rows otherwise.asking; topic = topic_in rows otherwise.topic }
 
 -- a command on one text, and one on two, with what is asked of them
 abbrev pub one_in : List Row → OneText → OneText

@@ -73,7 +73,7 @@ pub enum Topic {
 /// What is asked of an explanation.
 #[derive(Clone, Copy)]
 pub struct Explains {
-    pub demand: Demand,
+    pub asking: Asking,
     pub topic: Topic,
 }
 

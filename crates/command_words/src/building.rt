@@ -278,10 +278,11 @@ fn with_one<'a>(
             let command = with_quiet(alloc, command)?;
             with_format(alloc, command, forms, audits.asking.form)
         }
-        OneText::Explain(_) => {
+        OneText::Explain(explains) => {
             let command = with_demand(alloc, command)?;
             let command = with_page(alloc, command)?;
-            with_line(alloc, command)
+            let command = with_line(alloc, command)?;
+            with_format(alloc, command, forms, explains.asking.form)
         }
         OneText::Certify => Ok(command),
     }

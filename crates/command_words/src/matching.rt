@@ -180,7 +180,7 @@ fn explains_given(otherwise: Explains, matches: &ArgMatches<'_>) -> Explains
     ensures { result ≡ explains_in (rows_of (found_of matches.now)) otherwise }
 {
     Explains {
-        demand: demand_given(otherwise.demand, matches),
+        asking: asking_given(otherwise.asking, matches),
         topic: topic_given(otherwise.topic, matches),
     }
 }

@@ -147,7 +147,7 @@ static COMMANDS: [Row; 8] = [
         about: "Tells what happened in a session, with the records of its fault, as in: postcopy explain session",
         asked: Asked::One(
             OneText::Explain(Explains {
-                demand: Demand::Safety,
+                asking: PLAIN,
                 topic: Topic::Report,
             }),
             SESSION,

@@ -25,7 +25,7 @@ use Rattle.migration_types.specs.Sessions.{Recorded}
 use Rattle.completeness.specs.declared.missing.Missing.{Missing}
 use Rattle.command_texts.specs.Several.{Style, TellsSeveral}
 use Rattle.command_texts.specs.Told.{AreNamed, IsNamed, Tells}
-use Rattle.judge_commands.specs.Answers.{IsAllFaultsAnswer, IsAuditAnswer, IsAuditObject, IsExplainAnswer, IsVerdictAnswer, IsVerdictObject}
+use Rattle.judge_commands.specs.Answers.{IsAllFaultsAnswer, IsAuditAnswer, IsAuditObject, IsExplainAnswer, IsExplainObject, IsVerdictAnswer, IsVerdictObject}
 use Rattle.judge_commands.specs.Completed.{IsCompleteAnswer, TellsInLine, TellsInObject, TellsInWords}
 use Rattle.judge_commands.specs.Replayed.{IsReplayAnswer}
 use Rattle.host_commands.specs.Steps.{IsStepsAnswer}
@@ -71,11 +71,25 @@ IsDemanded demand Tells IsPlain session = answered demand IsPlain (IsCompleteAns
 abbrev pub IsAsked : Asking → Faults → List ℕ → List ℕ → ℕ → Type 0
 IsAsked asking faults session = IsDemanded asking.demand (TellsLack asking.form) (IsAuditIn asking.form faults session) session
 
+-- the answer of `explain`, in this form, and how it is told what a session lacks
+abbrev pub IsExplainIn : Form → List ℕ → List ℕ → ℕ → Type 0
+IsExplainIn Text = IsExplainAnswer
+IsExplainIn Line = IsExplainAnswer
+IsExplainIn Json = IsExplainObject
+
+abbrev pub TellsLackOf : Form → Recorded → Missing → List ℕ → Type 0
+TellsLackOf Text = TellsInWords
+TellsLackOf Line = TellsInWords
+TellsLackOf Json = TellsInObject
+
+abbrev pub IsExplained : Demand → Form → List ℕ → List ℕ → ℕ → Type 0
+IsExplained demand form session = IsDemanded demand (TellsLackOf form) (IsExplainIn form session) session
+
 -- the answer of a command on one text
 abbrev pub IsOneAnswer : OneText → List ℕ → List ℕ → ℕ → Type 0
 IsOneAnswer Certify session = IsAuditAnswer wanted.Certificate session
 IsOneAnswer (Audit audits) session = IsAsked audits.asking audits.faults session
-IsOneAnswer (Explain explains) session = IsDemanded explains.demand TellsInWords (IsExplainAnswer session) session
+IsOneAnswer (Explain explains) session = IsExplained explains.asking.demand explains.asking.form session
 
 -- the answer of a command on two texts
 abbrev pub IsTwoAnswer : TwoTexts → List ℕ × List ℕ → List ℕ → ℕ → Type 0

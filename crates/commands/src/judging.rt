@@ -4,13 +4,13 @@ ghost use Rattle.std.specs.Prelude.{◌≡◌, ◌<◌, IfOk};
 ghost use Rattle.command_texts.specs.Several.{TellsSeveral, names_of, style_of};
 ghost use Rattle.command_texts.specs.Told.{AreNamed, IsNamed, Tells};
 ghost use Rattle.command_words.specs.Table.{several_names};
-ghost use Rattle.commands.specs.Told.{answered, IsOneAnswer, IsAsked, IsTwoAnswer, TellsSeveralAsked, lines_asked, lines_style};
+ghost use Rattle.commands.specs.Told.{answered, IsOneAnswer, IsAsked, IsExplained, IsTwoAnswer, TellsSeveralAsked, lines_asked, lines_style};
 
 use crate::topics::told_topic;
 use command_texts::{
     Fault, Listing, OnOne, OnTwo, TextSource, perform_one, perform_several, perform_two,
 };
-use command_words::{Asking, Audits, Demand, Explains, Faults, Form, Several};
+use command_words::{Asking, Audits, Demand, Explains, Faults, Form, Several, Topic};
 use judge_commands::{AllFaults, AuditCommand, CheckCommand, Complete, InLine, InObject, InWords};
 use judged_texts::Wanted;
 use std::alloc::Global;
@@ -237,6 +237,36 @@ pub(crate) fn asked_audit<'a, R: Threads + Sync, S: TextSource, I: Read + Send, 
     }
 }
 
+// Tells in words what happened in the session under a name, of this topic.
+fn words_of<'a, R: Threads + Sync, S: TextSource, I: Read + Send, O: Write, E: Write>(
+    rt: &R,
+    alloc: Global,
+    demand: Demand,
+    topic: Topic,
+    name: &'a str,
+    texts: &S,
+    input: &mut I,
+    output: &mut O,
+    errors: &mut E,
+) -> Result<u8, Fault<'a>>
+    ensures few { IfOk result (λ status. status < 2) }
+    ensures told { IfOk result (Tells (IsNamed name.entry.now (S.bytes_of texts.now) (I.remaining input.old)) (IsExplained demand Form.Text) (O.contents output.old) (O.contents output.new)) }
+{
+    let asked = audit_in(rt, told_topic(topic), InWords);
+    demanded_one(
+        rt,
+        alloc,
+        demand,
+        &asked.command,
+        &asked,
+        name,
+        texts,
+        input,
+        output,
+        errors,
+    )
+}
+
 // Explains the session under a name, as this is asked.
 pub(crate) fn asked_explain<
     'a,
@@ -258,20 +288,46 @@ pub(crate) fn asked_explain<
     ensures few { IfOk result (λ status. status < 2) }
     ensures told { IfOk result (Tells (IsNamed name.entry.now (S.bytes_of texts.now) (I.remaining input.old)) (IsOneAnswer (OneText.Explain explains)) (O.contents output.old) (O.contents output.new)) }
 {
-    let asked = audit_in(rt, told_topic(explains.topic), InWords);
-    let demand = explains.demand;
-    demanded_one(
-        rt,
-        alloc,
-        demand,
-        &asked.command,
-        &asked,
-        name,
-        texts,
-        input,
-        output,
-        errors,
-    )
+    let demand = explains.asking.demand;
+    match explains.asking.form {
+        Form::Text => words_of(
+            rt,
+            alloc,
+            demand,
+            explains.topic,
+            name,
+            texts,
+            input,
+            output,
+            errors,
+        ),
+        Form::Line => words_of(
+            rt,
+            alloc,
+            demand,
+            explains.topic,
+            name,
+            texts,
+            input,
+            output,
+            errors,
+        ),
+        Form::Json => {
+            let asked = audit_in(rt, StoryObject, InObject);
+            demanded_one(
+                rt,
+                alloc,
+                demand,
+                &asked.command,
+                &asked,
+                name,
+                texts,
+                input,
+                output,
+                errors,
+            )
+        }
+    }
 }
 
 // Judges the session and the certificate under two names, as this is asked.
