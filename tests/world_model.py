@@ -121,9 +121,22 @@ def pager_faults(session):
             yield n, "unfit"
 
 
-def first_fault(session):
-    """The first fault of a page: its log, its place there and its reason; or None."""
+def faults(session):
+    """Each fault of a page, from the first on: its log, its place there and its reason."""
     finders = {"guest": guest_faults, "source": source_faults, "pager": pager_faults}
     found = [(LOGS.index(log), n, REASONS.index(reason)) for log in finders for n, reason in finders[log](session)]
-    log, n, reason = min(found, default=(None, None, None))
-    return None if log is None else (LOGS[log], n, REASONS[reason])
+    return [(LOGS[log], n, REASONS[reason]) for log, n, reason in sorted(found)]
+
+
+def first_fault(session):
+    """The first fault of a page, or None."""
+    return next(iter(faults(session)), None)
+
+
+def page_faults(session):
+    """The first fault of each page that has one, in the order of pages."""
+    first = {}
+    for log, n, reason in faults(session):
+        words = session.logs[log][n]
+        first.setdefault(int(words[2] if log == "guest" else words[1]), (log, n, reason))
+    return dict(sorted(first.items()))
