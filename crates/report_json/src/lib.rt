@@ -4,5 +4,8 @@
 mod fields;
 mod lists;
 mod objects;
+mod records;
 
-pub use objects::{push_all_faults, push_missing, push_refused, push_report, push_verdict};
+pub use objects::{
+    push_all_faults, push_explained, push_missing, push_refused, push_report, push_verdict,
+};

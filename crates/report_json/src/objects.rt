@@ -3,11 +3,13 @@
 ghost use Rattle.std.specs.Prelude.{◌≡◌, ◌++◌, codes, OnOk};
 ghost use Rattle.completeness.specs.Complete.{IsFirstMissing};
 ghost use Rattle.report_json.specs.JsonText.{all_faults_object, at_line, begun, fault_told, missing_object, missing_told, number, pages_told, record_at, report_begun, report_object, shape_object, shape_told, verdict_object, word};
+ghost use Rattle.report_json.specs.RecordsText.{explained_object};
 
 use crate::fields::{
     begin, end, push_bare, push_number_under, push_page, push_record, push_word_under,
 };
 use crate::lists::{push_list_under, push_runs};
+use crate::records::records_of;
 use audit_report::Report;
 use cert_check::{ShapeFault, Verdict};
 use completeness::Missing;
@@ -15,8 +17,8 @@ use faulty_pages::FaultyPage;
 use migration_types::{LogName, PageNo, Run, Session};
 use page_facts::PageFault;
 use report_text::line_of_taken;
-use session_story::page_at;
-use std::alloc::AllocError;
+use session_story::{Explanation, page_at};
+use std::alloc::{AllocError, Global};
 
 /// Adds the object of a verdict at a line of a text.
 fn push_at_line(out: &mut Vec<u8>, verdict: &[u8], line: u32) -> Result<(), AllocError>
@@ -122,6 +124,25 @@ pub fn push_all_faults(
 {
     begin_report(out, session, report)?;
     push_pages(out, report, pages)?;
+    end(out)
+}
+
+/// Adds the object of the report on a session that tells the records of what happened, each with its role: that of the report,
+/// with the records that its story names. Of a fault these are the faulty record and those of its page's story, of a fault of
+/// shape the record and the first sending of its page, of a knot the records that wait for one another, in their order, and of
+/// a clean session none. An error: there is no memory for it.
+pub fn push_explained(
+    alloc: Global,
+    out: &mut Vec<u8>,
+    session: &Session,
+    report: &Report,
+    explanation: &Explanation,
+) -> Result<(), AllocError>
+    ensures { OnOk result (out.new.items ≡ out.old.items ++ explained_object session.now report.now explanation.now) }
+{
+    let records = records_of(alloc, session, explanation)?;
+    begin_report(out, session, report)?;
+    push_list_under(out, b"records", &records)?;
     end(out)
 }
 

@@ -1,0 +1,63 @@
+//! The records that an object tells of what happened in a session, each with its role.
+
+use crate::texts::{HANDOVER, changed};
+use audit_report::audit;
+use report_json::push_explained;
+use session_story::explain;
+use session_text::read_session;
+use std::alloc::{AllocError, Global};
+use std::marker::Sync;
+use std::thread::Threads;
+
+/// Changes of the handover, and the end of the object that tells what happened.
+struct Case {
+    is: &'static str,
+    changes: &'static [(&'static str, &'static str)],
+    records: &'static str,
+}
+
+static CASES: [Case; 4] = [
+    Case {
+        is: "a clean session",
+        changes: &[],
+        records: ",\"records\":[]}\n",
+    },
+    Case {
+        is: "a wrong read, with what became of its page",
+        changes: &[("r 0 1 0 9", "r 0 1 0 8")],
+        records: ",\"records\":[{\"role\":\"faulty\",\"log\":\"guest\",\"record\":8,\"line\":15},{\"role\":\"changed\",\"log\":\"guest\",\"record\":0,\"line\":7},{\"role\":\"halt\",\"log\":\"guest\",\"record\":1,\"line\":8},{\"role\":\"sent\",\"log\":\"source\",\"record\":4,\"line\":21},{\"role\":\"delivered\",\"log\":\"link\",\"record\":3,\"line\":26},{\"role\":\"taken\",\"log\":\"pager\",\"record\":6,\"line\":34},{\"role\":\"placed\",\"log\":\"pager\",\"record\":7,\"line\":35},{\"role\":\"look\",\"log\":\"guest\",\"record\":6,\"line\":13},{\"role\":\"touch\",\"log\":\"guest\",\"record\":7,\"line\":14}]}\n",
+    },
+    Case {
+        is: "records that wait for one another",
+        changes: &[
+            ("miss 0 0\nsee 5", "see 5\nmiss 0 0"),
+            ("fault 3", "fault 4"),
+        ],
+        records: ",\"records\":[{\"role\":\"waits\",\"log\":\"guest\",\"record\":3,\"line\":10},{\"role\":\"waits\",\"log\":\"pager\",\"record\":2,\"line\":30}]}\n",
+    },
+    Case {
+        is: "a record that has not the right shape",
+        changes: &[("fault 3", "fault 4")],
+        records: ",\"records\":[{\"role\":\"faulty\",\"log\":\"pager\",\"record\":2,\"line\":30}]}\n",
+    },
+];
+
+/// Whether the object of a case's session ends so.
+fn is_told<R: Threads + Sync>(rt: &R, alloc: Global, case: &Case) -> Result<bool, AllocError> {
+    let text = changed(alloc, HANDOVER, case.changes)?;
+    let Ok(session) = read_session(alloc, text.as_bytes()) else {
+        return Ok(false);
+    };
+    let report = audit(rt, alloc, &session)?;
+    let explanation = explain(alloc, &session, &report)?;
+    let mut object = Vec::new(alloc);
+    push_explained(alloc, &mut object, &session, &report, &explanation)?;
+    Ok(object.as_slice().ends_with(case.records.as_bytes()))
+}
+
+#[test]
+fn objects_tell_the_records_of_what_happened(rt: HostRuntime) {
+    for case in &CASES {
+        assert!(rt; matches!(is_told(&rt, rt.alloc(), case), Ok(true)), "{}", case.is);
+    }
+}
