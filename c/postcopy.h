@@ -90,11 +90,28 @@ postcopy_answer postcopy_certify(const uint8_t *session, size_t session_len, uin
 /* Writes the report on a session, in the same way. */
 postcopy_answer postcopy_audit(const uint8_t *session, size_t session_len, uint8_t *room, size_t room_len);
 
-/* Writes what happened in a session, in words behind the first line of its report, in the same way. */
+/* Writes the first line of the report on a session, and each page that has a fault, in the same way. Of a session that has not
+   the right shape, or no merging, no page is told. */
+postcopy_answer postcopy_audit_all(const uint8_t *session, size_t session_len, uint8_t *room, size_t room_len);
+
+/* Writes what happened in a session, in words after the first line of its report, in the same way. */
 postcopy_answer postcopy_explain(const uint8_t *session, size_t session_len, uint8_t *room, size_t room_len);
+
+/* Writes what became of the page of this number, in the same way. Pages count from 0; of a number that the machine has no page
+   of it says so. */
+postcopy_answer postcopy_explain_page(const uint8_t *session, size_t session_len, uint32_t page, uint8_t *room,
+                                      size_t room_len);
+
+/* Writes what the record at this line of the session's text is, and what became of its page, in the same way. Lines count
+   from 1; of a line that tells no record it says so. */
+postcopy_answer postcopy_explain_line(const uint8_t *session, size_t session_len, uint32_t line, uint8_t *room,
+                                      size_t room_len);
 
 /* Writes the picture of a session in the order of its report, as SVG, in the same way; and of a text that is refused its line. */
 postcopy_answer postcopy_draw(const uint8_t *session, size_t session_len, uint8_t *room, size_t room_len);
+
+/* Writes the picture about the page of this number, in the same way. */
+postcopy_answer postcopy_draw_page(const uint8_t *session, size_t session_len, uint32_t page, uint8_t *room, size_t room_len);
 
 /* Why a text is refused: the line, the column, and words on what was found there and what may stand there, in one line without
    a line feed, which are written as the text of postcopy_certify is. `kind` is that of the answer which refuses the text:

@@ -1,7 +1,7 @@
 /* Calls the library as hostile surroundings do. Each line of the input is 'check SESSION CERT', 'replay SESSION RUNS', or
-   'certify', 'audit', 'explain' or 'draw' with a SESSION, where a file named - is empty; or 'session', 'certificate' or
-   'order' with a FILE, which asks why this is refused as such a text. The texts and the room end where memory ends that may be
-   touched.
+   'certify', 'audit', 'audit_all', 'explain' or 'draw' with a SESSION, where a file named - is empty; 'explain_page',
+   'explain_line' or 'draw_page' with a SESSION and a NUMBER; or 'session', 'certificate' or 'order' with a FILE, which asks why
+   this is refused as such a text. The texts and the room end where memory ends that may be touched.
 
    Each call is made with each allocation failing in turn, with rooms of each length up to the text's own, and by four threads at
    once on small stacks. For each line it writes the answer's numbers on a line, and then the answer's text. The first call that
@@ -99,6 +99,7 @@ typedef struct {
     const char *line, *command;
     uint8_t *session, *other;
     size_t session_len, other_len;
+    uint32_t number;
     postcopy_answer wanted;
     uint8_t *text;
 } job;
@@ -107,7 +108,14 @@ typedef struct {
 static const struct {
     const char *command;
     postcopy_answer (*call)(const uint8_t *session, size_t session_len, uint8_t *room, size_t room_len);
-} writers[] = {{"certify", postcopy_certify}, {"audit", postcopy_audit}, {"explain", postcopy_explain}, {"draw", postcopy_draw}};
+} writers[] = {{"certify", postcopy_certify}, {"audit", postcopy_audit}, {"audit_all", postcopy_audit_all},
+               {"explain", postcopy_explain}, {"draw", postcopy_draw}};
+
+/* The calls that write a text about a page, or a line, of a session. */
+static const struct {
+    const char *command;
+    postcopy_answer (*call)(const uint8_t *session, size_t session_len, uint32_t number, uint8_t *room, size_t room_len);
+} topics[] = {{"explain_page", postcopy_explain_page}, {"explain_line", postcopy_explain_line}, {"draw_page", postcopy_draw_page}};
 
 /* The kinds of texts of which it is asked why one is refused. */
 static const struct {
@@ -126,6 +134,9 @@ static postcopy_answer call(const job *it, uint8_t *room, size_t room_len) {
     if (!strcmp(it->command, "replay")) return postcopy_replay(it->session, it->session_len, it->other, it->other_len);
     for (size_t i = 0; i < sizeof writers / sizeof *writers; i++) {
         if (!strcmp(it->command, writers[i].command)) return writers[i].call(it->session, it->session_len, room, room_len);
+    }
+    for (size_t i = 0; i < sizeof topics / sizeof *topics; i++) {
+        if (!strcmp(it->command, topics[i].command)) return topics[i].call(it->session, it->session_len, it->number, room, room_len);
     }
     for (size_t i = 0; i < sizeof refusals / sizeof *refusals; i++) {
         if (!strcmp(it->command, refusals[i].command)) return why(it, refusals[i].kind, room, room_len);
@@ -210,8 +221,10 @@ static void call_in_threads(job *it) {
 static void do_job(const char *line) {
     char words[3][1024] = {"", "-", "-"};
     if (sscanf(line, "%1023s %1023s %1023s", words[0], words[1], words[2]) < 2) fail("too few words", line);
-    job it = {.line = line, .command = words[0]};
-    it.session = text_of(words[1], &it.session_len), it.other = text_of(words[2], &it.other_len);
+    char *end;
+    job it = {.line = line, .command = words[0], .number = (uint32_t)strtoul(words[2], &end, 10)};
+    int is_number = end != words[2] && !*end;
+    it.session = text_of(words[1], &it.session_len), it.other = text_of(is_number ? "-" : words[2], &it.other_len);
     it.text = guarded(0);
     it.wanted = call(&it, it.text, 0);
     if (it.wanted.text_len) {

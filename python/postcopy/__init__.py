@@ -23,16 +23,17 @@ import functools
 import io
 import itertools
 import mmap
+import operator
 import os
 import subprocess
 from dataclasses import dataclass, field, replace
 from pathlib import Path
-from typing import Callable, Optional, TypeVar, Union
+from typing import Callable, List, NamedTuple, Optional, TypeVar, Union
 
 from .records import page_in
 
-__all__ = ["Answer", "Kind", "OutOfMemory", "Reason", "Refused", "Report", "Text", "audit", "certify", "check", "draw", "explain",
-           "replay", "version", "why"]
+__all__ = ["Answer", "Fault", "Kind", "OutOfMemory", "Reason", "Refused", "Report", "Text", "audit", "audit_all", "certify", "check",
+           "draw", "explain", "replay", "version", "why"]
 
 __version__ = "1.0.0"
 
@@ -122,6 +123,14 @@ class Reason(enum.IntEnum):
         return self.name.lower().replace("_", "-")
 
 
+class Fault(NamedTuple):
+    """A page that has a fault: its number, and the line and the reason of its first fault."""
+
+    page: int
+    line: int
+    reason: Reason
+
+
 #: The kinds of answers that refuse a text, in the order in which the texts are given.
 _REFUSED = (Kind.SESSION_TEXT, Kind.CERT_TEXT, Kind.RUNS_TEXT)
 
@@ -131,8 +140,9 @@ class Answer:
     """An answer: its kind, the line of a text that it names, its reason, and its text.
 
     The text is that which the program's command writes: of `certify` the certificate, or the first line of the report, of
-    `audit` the report, of `explain` what happened in words, and of `draw` a picture as SVG. `check` and `replay` have none. A
-    notebook shows a picture. Where a text is refused, `column` and `why` tell more of it, as Refused has them.
+    `audit` the report, of `audit_all` its first line and each page that has a fault, of `explain` what happened in words, and of
+    `draw` a picture as SVG. `check` and `replay` have none. A notebook shows a picture. Where a text is refused, `column` and `why`
+    tell more of it, as Refused has them.
     """
 
     kind: Kind
@@ -172,8 +182,8 @@ class Answer:
 class Report(Answer):
     """What `audit` answers: the report on a session, which is kept as it was given.
 
-    `page`, `explain` and `draw` read the session again when they are asked for, so its file has to be there, as it was. A
-    notebook shows a report as the picture of its session.
+    `page`, `faults`, `explain` and `draw` read the session again when they are asked for, so its file has to be there, as it was.
+    A notebook shows a report as the picture of its session.
     """
 
     session: Text = field(default=b"", repr=False, compare=False)
@@ -193,14 +203,20 @@ class Report(Answer):
         """The page that went wrong, where the session is faulty: the record at the line names it."""
         return page_in(_line(self.session, self.line or 0)) if self.kind is Kind.FAULTY else None
 
-    def explain(self) -> str:
-        """What happened in the session, in words behind the first line of the report."""
-        return explain(self.session).text.decode("ascii")
+    def faults(self) -> List[Fault]:
+        """Each page that has a fault, in ascending order, with its first. They are none where the session is not faulty."""
+        return _faults(audit_all(self.session).text) if self.kind is Kind.FAULTY else []
 
-    def draw(self) -> str:
-        """The picture of the session in the order of the report, as SVG. Raises Refused where its text is refused."""
+    def explain(self, page: Optional[int] = None, line: Optional[int] = None) -> str:
+        """What happened in the session, in words after the first line of the report; or what became of a page, or of the record
+        at a line of the session's text and of its page."""
+        return explain(self.session, page, line).text.decode("ascii")
+
+    def draw(self, page: Optional[int] = None) -> str:
+        """The picture of the session in the order of the report, as SVG, about what the report names, or about a page. Raises
+        Refused where its text is refused."""
         self.raise_if_refused()
-        return draw(self.session).text.decode("ascii")
+        return draw(self.session, page).text.decode("ascii")
 
     def _behind_first_line(self) -> bytes:
         return self.text.partition(b"\n")[2]
@@ -300,9 +316,12 @@ def _library() -> ctypes.CDLL:
         raise ImportError("there is no libpostcopy: in a checkout tools/library builds it, and tools/install installs it")
     library = ctypes.CDLL(name)
     text = [ctypes.c_void_p, ctypes.c_size_t]
-    for name in ("check", "replay", "certify", "audit", "explain", "draw"):
+    for name in ("check", "replay", "certify", "audit", "audit_all", "explain", "draw"):
         call = getattr(library, f"postcopy_{name}")
         call.argtypes, call.restype = text + text, _Answer
+    for name in ("explain_page", "explain_line", "draw_page"):
+        call = getattr(library, f"postcopy_{name}")
+        call.argtypes, call.restype = [*text, ctypes.c_uint32, *text], _Answer
     library.postcopy_why.argtypes, library.postcopy_why.restype = [*text, ctypes.c_uint32, *text], _Refusal
     library.postcopy_version.argtypes, library.postcopy_version.restype = [], ctypes.c_uint32
     return library
@@ -336,10 +355,25 @@ def _in_room(length: int, call: "Callable[[object, int], _Numbers]") -> "tuple[_
         length = numbers.text_len
 
 
-def _with_text(call: "ctypes._FuncPointer", session: Text) -> Answer:
+def _with_text(call: "ctypes._FuncPointer", session: Text, *topic: int) -> Answer:
+    """What a call answers that writes a text on a session, about the page or the line that it takes, if it takes one."""
     with _Bytes(session) as given:
-        numbers, text = _in_room(given.length + mmap.PAGESIZE, lambda room, length: call(given.at, given.length, room, length))
+        numbers, text = _in_room(given.length + mmap.PAGESIZE, lambda room, length: call(given.at, given.length, *topic, room, length))
         return _told(numbers, text, given)
+
+
+def _topic(what: str, number: int) -> int:
+    """The number of a page or of a line, where a call can take it. (ctypes would cut any other.)"""
+    number = operator.index(number)
+    if not 0 <= number < 1 << 32:
+        raise ValueError(f"no {what} has the number {number}")
+    return number
+
+
+def _faults(text: bytes) -> List[Fault]:
+    """The pages that have a fault, by what `audit_all` writes of them."""
+    pages = (it.split(" ") for it in text.decode("ascii").splitlines() if it.startswith("page "))
+    return [Fault(int(page), int(line), Reason[reason.upper().replace("-", "_")]) for _, page, _, line, reason in pages]
 
 
 def _on_two(call: "ctypes._FuncPointer", session: Text, other: Text) -> Answer:
@@ -377,15 +411,30 @@ def audit(session: Text) -> Report:
     return Report(answer.kind, answer.line, answer.reason, answer.text, answer.column, answer.why, session)
 
 
-def explain(session: Text) -> Answer:
-    """What happened in a session, in words behind the first line of its report, as the command `explain` writes it. Raises
+def audit_all(session: Text) -> Answer:
+    """The first line of the report on a session, and each page that has a fault, as the command `audit --all` writes them. Raises
     OutOfMemory where memory is refused."""
+    return _with_text(_library().postcopy_audit_all, session)
+
+
+def explain(session: Text, page: Optional[int] = None, line: Optional[int] = None) -> Answer:
+    """What happened in a session, in words after the first line of its report, as the command `explain` writes it; or what became
+    of a page, as `explain --page` does, or of the record at a line of the text and of its page, as `explain --line` does. Raises
+    ValueError where both are named, and OutOfMemory where memory is refused."""
+    if page is not None and line is not None:
+        raise ValueError("it is told of a page or of a line, and not of both")
+    if page is not None:
+        return _with_text(_library().postcopy_explain_page, session, _topic("page", page))
+    if line is not None:
+        return _with_text(_library().postcopy_explain_line, session, _topic("line", line))
     return _with_text(_library().postcopy_explain, session)
 
 
-def draw(session: Text) -> Answer:
-    """The picture of a session in the order of its report, as the command `draw` writes it. The answer is of the kind of the
-    report. Raises OutOfMemory where memory is refused."""
+def draw(session: Text, page: Optional[int] = None) -> Answer:
+    """The picture of a session in the order of its report, as the command `draw` writes it, or about a page, as `draw --page` does.
+    The answer is of the kind of the report. Raises OutOfMemory where memory is refused."""
+    if page is not None:
+        return _with_text(_library().postcopy_draw_page, session, _topic("page", page))
     return _with_text(_library().postcopy_draw, session)
 
 

@@ -1,0 +1,54 @@
+"""What is asked of a session besides its report: all of its faults, a page, a line, and the picture of a page."""
+import re
+import subprocess
+from typing import NamedTuple, Optional
+
+
+class Topic(NamedTuple):
+    """A call of the library without its prefix, the program's command and option that say the same, and the page or the line, if
+    it is of one."""
+
+    call: str
+    command: str
+    option: str
+    session: str
+    number: Optional[int] = None
+
+    @property
+    def words(self):
+        """The words of the program."""
+        return [self.command, self.option, *self._numbers, self.session]
+
+    @property
+    def line(self):
+        """The call, as c/tests/embedding.c takes it."""
+        return " ".join([self.call, self.session, *self._numbers])
+
+    @property
+    def _numbers(self):
+        return [] if self.number is None else [str(self.number)]
+
+    def said(self, program):
+        """What the program writes."""
+        how = {"stdin": subprocess.DEVNULL, "stdout": subprocess.PIPE, "stderr": subprocess.DEVNULL}
+        return subprocess.run([program, *self.words], **how).stdout
+
+    def told(self, postcopy):
+        """What Python answers."""
+        topic = {} if self.number is None else {self.option[2:]: self.number}
+        return getattr(postcopy, self.command if topic else self.call)(self.session, **topic)
+
+
+def topics_of(session):
+    """What is asked of a session: all faults, two pages and one that no machine has, the first line of the guest's log, a line that
+    tells no record, and the picture of a page."""
+    with open(session, "rb") as file:
+        text = file.read()
+    guest = re.search(rb"^guest \d+$", text, re.M)
+    line = text[: guest.end()].count(b"\n") + 2 if guest else 1
+    yield Topic("audit_all", "audit", "--all", session)
+    for page in (0, 1, 65536):
+        yield Topic("explain_page", "explain", "--page", session, page)
+    for line in (line, 1):
+        yield Topic("explain_line", "explain", "--line", session, line)
+    yield Topic("draw_page", "draw", "--page", session, 1)
