@@ -34,6 +34,10 @@ class Browser:
         acts = [{"type": it, "value": key} for key in keys for it in ("keyDown", "keyUp")]
         self.act([{"type": "key", "id": "keys", "actions": acts}])
 
+    def fill(self, selector, value):
+        """Has this in a field, as one who types it and goes on."""
+        self.run("const it = document.querySelector(arguments[0]); it.value = arguments[1]; it.onchange()", selector, value)
+
     def choose(self, *files):
         """Chooses files, and waits for what the page shows of them."""
         self.run("document.getElementById('files').value = ''; delete document.body.dataset.done")

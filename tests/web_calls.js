@@ -1,5 +1,6 @@
-// Calls the module of the page, in node: web_calls.js MODULE. Each line of the input is a call and the files of its texts, as
-// JSON; each line of the output is the answer, with its text in base64, and why a text is refused.
+// Calls the module of the page, in node: web_calls.js MODULE. Each line of the input is a call, the files of its texts, and the page
+// or the line that it is about, or null, as JSON; each line of the output is the answer, with its text in base64, and why a text is
+// refused.
 "use strict";
 const fs = require("fs");
 const { Postcopy } = require("../web/postcopy.js");
@@ -8,10 +9,10 @@ const compiled = new WebAssembly.Module(fs.readFileSync(process.argv[2]));
 if (WebAssembly.Module.imports(compiled).length) throw new Error("the module takes something from elsewhere");
 
 // The answer of a call. Each text is asked for with no room at first, and then with its own.
-function answered([call, ...names]) {
+function answered([call, names, topic]) {
   const it = new Postcopy(compiled);
   const [session, certificate] = names.map((name) => it.put(fs.readFileSync(name)));
-  const { bytes, ...answer } = certificate ? it.check(session, certificate) : it.text(call, session, 0);
+  const { bytes, ...answer } = certificate ? it.check(session, certificate) : it.text(call, session, topic ?? undefined, 0);
   const refused = { SESSION_TEXT: session, CERT_TEXT: certificate }[answer.kind];
   return { ...answer, ...(refused && it.why(answer.kind, refused, 0)), text: Buffer.from(bytes ?? []).toString("base64") };
 }

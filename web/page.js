@@ -67,12 +67,13 @@ function started() {
   return it;
 }
 
-// The answer of a call, or `failure` in its place. `say` is told how many bytes of how many were read.
-function ask(call, session, certificate, say) {
+// The answer of a call, or `failure` in its place. `topic` is the page that it is about, where the call takes one, and `say` is told
+// how many bytes of how many were read.
+function ask(call, session, { certificate, topic, say } = {}) {
   worker ??= started();
   return new Promise((done) => {
     waiting.set(++asked, { say, done });
-    worker.postMessage({ number: asked, call, session, certificate, bytes });
+    worker.postMessage({ number: asked, call, session, certificate, topic, bytes });
   });
 }
 
@@ -272,17 +273,24 @@ function addText(name, file, index) {
   return it;
 }
 
+const pictureFile = ({ bytes }) => new File([bytes], "picture.svg", { type: "image/svg+xml" });
+
 // A session, with its certificate, is judged.
 
 let judging = 0;
+
+// What says how much of a session is read, and then what is done with it.
+const sayingOf = (session, what, current) => (done, total) =>
+  current() && busy(total ? `Reading ${session.name}: ${mib(done)} of ${mib(total)}` : what, done, total);
 
 function cleared() {
   stop();
   marked = first = 0;
   texts = [];
+  about = undefined;
   picture?.replaceChildren();
   delete document.body.dataset.done;
-  for (const it of ["story", "drawn", "texts", "bar"]) at(it).hidden = true;
+  for (const it of ["story", "about", "drawn", "texts", "bar"]) at(it).hidden = true;
   for (const it of ["words", "which", "lines"]) at(it).replaceChildren();
   at("numbers").textContent = "";
 }
@@ -299,7 +307,7 @@ async function sorted(files) {
 }
 
 async function certificateWords(session, certificate) {
-  const answer = await ask("check", session, certificate);
+  const answer = await ask("check", session, { certificate });
   if (answer.failure) return `The certificate could not be judged: ${answer.failure.words}.`;
   const words = CERTIFICATES[answer.kind]?.replace("@", () => `line ${answer.line} of ${certificate.name}`);
   return answer.why ? `${words} ${whyRefused(answer)}` : words;
@@ -315,12 +323,12 @@ async function judged(files) {
     document.body.dataset.done = mine;
     return;
   }
-  const saying = (what) => (done, total) => current() && busy(total ? `Reading ${session.name}: ${mib(done)} of ${mib(total)}` : what, done, total);
+  const saying = (what) => sayingOf(session, what, current);
   at("given").open = false;
   busy(`Reading ${session.name}`);
   show("", `Judging ${session.name} ..`);
   const question = async (call, what) => {
-    const answer = await ask(call, session, undefined, saying(what));
+    const answer = await ask(call, session, { say: saying(what) });
     if (answer.failure && current()) showFailure(answer.failure, session);
     return current() && !answer.failure ? answer : undefined;
   };
@@ -352,11 +360,14 @@ async function tell(answer, { session, certificate, runs }, question, current) {
   const drawn = answer.kind !== "SESSION_TEXT" && (await question("draw", "Drawing"));
   if (drawn) {
     showPicture(new TextDecoder().decode(drawn.bytes));
-    addText("Picture", new File([drawn.bytes], "picture.svg", { type: "image/svg+xml" }));
+    addText("Picture", pictureFile(drawn));
   }
   const certified = current() && answer.kind === "CLEAN" && (await question("certify", "Writing the certificate"));
   if (certified) addText("Certificate", new File([certified.bytes], "certificate"));
-  if (current()) await showText(texts[0], answer.line || 1);
+  const all = current() && answer.kind === "FAULTY" && (await question("audit_all", "Looking for all faults"));
+  if (!current()) return;
+  await showText(texts[0], answer.line || 1);
+  if (drawn) showTopics(session, answer.line, all ? faultsIn(all.bytes) : []);
 }
 
 // The examples, and what the reader does.
@@ -387,8 +398,13 @@ function listen() {
     judging++;
     stop();
     busy();
-    show("odd", "Stopped.", "Nothing is said of the session.");
+    if (!about) return show("odd", "Stopped.", "Nothing is said of the session.");
+    nameTopic();
+    document.body.dataset.done = judging;
   };
+  at("next-fault").onclick = () => goToFault(1);
+  at("previous-fault").onclick = () => goToFault(-1);
+  at("page").onchange = () => at("page").validity.valid && tellOf(at("page").value === "" ? undefined : +at("page").value);
   at("to-words").onclick = () => go(wordsOf(marked)[0]);
   at("to-picture").onclick = () => go(rowOf(marked));
   at("to-text").onclick = () => showText(texts[0], marked).then(goToText);
@@ -396,7 +412,12 @@ function listen() {
   at("earlier").onclick = () => showLines(first - MOST_LINES);
   at("later").onclick = () => showLines(first + MOST_LINES);
   at("line").onchange = () => showText(text, Math.max(1, Math.min(+at("line").value || 1, +at("line").max)));
-  addEventListener("keydown", (event) => event.key === "Escape" && marked && mark(0));
+  addEventListener("keydown", (event) => {
+    if (event.key === "Escape" && marked) mark(0);
+    const step = { n: 1, p: -1 }[event.key];
+    const isForPage = !event.ctrlKey && !event.altKey && !event.metaKey && event.target.tagName !== "INPUT";
+    if (step && isForPage && about?.faults.length > 1) goToFault(step);
+  });
   addEventListener("hashchange", judgeExample);
 }
 

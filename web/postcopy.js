@@ -41,11 +41,13 @@ class Postcopy {
     return { kind: KINDS[kind], line, reason, length: Number(view.getBigUint64(16, true)) };
   }
 
-  // The answer of a call that writes a text, with this text. A room of the length `first` is tried, and then one that fits.
-  text(call, session, first = session.length + 4096) {
+  // The answer of a call that writes a text, with this text. `topic` is the page or the line that it is about, where the call
+  // takes one. A room of the length `first` is tried, and then one that fits.
+  text(call, session, topic, first = session.length + 4096) {
+    const numbers = topic === undefined ? [] : [topic];
     for (let length = first; ; ) {
       const room = this.room(length);
-      const answer = this.answer(call, session.at, BigInt(session.length), room.at, BigInt(length));
+      const answer = this.answer(call, session.at, BigInt(session.length), ...numbers, room.at, BigInt(length));
       if (answer.length <= length) return { ...answer, bytes: this.view({ at: room.at, length: answer.length }).slice() };
       this.calls.free(room.at);
       length = answer.length;

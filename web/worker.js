@@ -30,7 +30,7 @@ async function linesOf(file, say) {
   return { lines: lines + !ended, marks, perMark: PER_MARK };
 }
 
-async function answered({ call, session, certificate, bytes }, say) {
+async function answered({ call, session, certificate, topic, bytes }, say) {
   if (call === "lines") return linesOf(session, say);
   compiled ??= WebAssembly.compile(bytes);
   const it = new Postcopy(await compiled);
@@ -38,7 +38,7 @@ async function answered({ call, session, certificate, bytes }, say) {
   const second = certificate && (await readInto(it, certificate, say));
   say(1, 0);
   const began = performance.now();
-  const answer = second ? it.check(first, second) : it.text(call, first);
+  const answer = second ? it.check(first, second) : it.text(call, first, topic);
   const ms = performance.now() - began;
   const refused = { SESSION_TEXT: first, CERT_TEXT: second }[answer.kind];
   return { ...answer, ...(refused && it.why(answer.kind, refused)), ms, memory: it.memory() };

@@ -1,0 +1,64 @@
+// What the page tells of: what the report names, a page with a fault and then the next, or any page. It is a part of the script of
+// page.js, and stands before it.
+"use strict";
+
+// What the words and the picture are about: the report, or the page of a number. `place` tells from which fault one goes to the next.
+
+let about;
+
+// The pages that have a fault, each with the line of its first, as `audit --all` lists them.
+const faultsIn = (bytes) =>
+  [...new TextDecoder().decode(bytes).matchAll(/^page (\d+) line (\d+) /gm)].map(([, page, line]) => ({ page: +page, line: +line }));
+
+// Which of the faults is that of the page, or that which the report names; -1 where none is.
+const placeOf = (page) => about.faults.findIndex((it) => (page === undefined ? it.line === about.line : it.page === page));
+
+function nameTopic() {
+  const { faults, page } = about, place = placeOf(page), named = page === undefined ? "" : `page ${page}`;
+  at("topic").textContent = place >= 0 && faults.length > 1 ? `fault ${place + 1} of ${faults.length}: page ${faults[place].page}` : named;
+  at("page").value = page ?? "";
+}
+
+function showTopics(session, line, faults) {
+  about = { session, line, faults };
+  about.place = placeOf();
+  for (const it of ["previous-fault", "next-fault"]) at(it).hidden = faults.length < 2;
+  at("about").hidden = false;
+  nameTopic();
+}
+
+// Tells of a page, or of the report, in words and as a picture.
+async function tellOf(page) {
+  const mine = ++judging, current = () => mine === judging, { session, faults, place } = about, found = placeOf(page);
+  about.place = found < 0 ? place : found;
+  delete document.body.dataset.done;
+  const question = async (call, what) => {
+    const how = { topic: page, say: sayingOf(session, what, current) };
+    const answer = await ask(page === undefined ? call : `${call}_page`, session, how);
+    if (answer.failure && current()) at("topic").textContent = `It could not be told: ${answer.failure.words}.`;
+    return current() && !answer.failure ? answer : undefined;
+  };
+  const told = await question("explain", "Finding out what happened");
+  const drawn = told && (await question("draw", "Drawing"));
+  if (drawn) await showTold(page, told, drawn, faults[found]?.line ?? (page === undefined ? about.line : 0));
+  if (!current()) return;
+  busy();
+  document.body.dataset.done = mine;
+}
+
+async function showTold(page, told, drawn, line) {
+  about.page = page;
+  nameTopic();
+  showWords(new TextDecoder().decode(told.bytes));
+  showPicture(new TextDecoder().decode(drawn.bytes));
+  Object.assign(texts.find((it) => it.name === "Picture"), { file: pictureFile(drawn), index: undefined });
+  await mark(0);
+  await showText(line ? texts[0] : text, line || +at("line").value || 1);
+}
+
+// Tells of the page with the next fault, or with the one before; the first comes after the last.
+function goToFault(step) {
+  const { faults, place } = about;
+  tellOf(faults[(place + step + faults.length) % faults.length].page);
+}
+
