@@ -9,7 +9,7 @@ use Rattle.report_json.specs.JsonText.{verdict_object}
 use Rattle.judged_texts.specs.declared.wanted.Wanted.{Wanted}
 use Rattle.command_texts.specs.Answers.{IsAnswer, numbered}
 use Rattle.judge_commands.specs.Judged.{IsJudgedTold}
-use Rattle.judge_commands.specs.Forms.{TellsAllFaults, TellsObject, TellsStory, TellsWanted}
+use Rattle.judge_commands.specs.Forms.{TellsAllFaults, TellsObject, TellsStory, TellsStoryObject, TellsWanted}
 use Rattle.judge_commands.specs.declared.reports.AllFaults.{AllFaults}
 
 -- the line of a verdict
@@ -50,6 +50,10 @@ IsAuditObject = IsJudgedTold TellsObject
 -- `audit --all`: the report with each page that has a fault
 abbrev pub IsAllFaultsAnswer : AllFaults → List ℕ → List ℕ → ℕ → Type 0
 IsAllFaultsAnswer form = IsJudgedTold (TellsAllFaults form)
+
+-- `explain --format json`: the object of the report with the records of what happened
+abbrev pub IsExplainObject : List ℕ → List ℕ → ℕ → Type 0
+IsExplainObject = IsJudgedTold TellsStoryObject
 
 -- `explain`: the report with what happened, after its first line
 abbrev pub IsExplainAnswer : List ℕ → List ℕ → ℕ → Type 0

@@ -11,7 +11,10 @@ use Rattle.report_text.specs.ReportText.{first_line}
 use Rattle.report_json.specs.JsonText.{all_faults_object, at_line, report_object}
 use Rattle.judged_texts.specs.AuditedText.{wanted_text}
 use Rattle.judged_texts.specs.declared.wanted.Wanted.{Wanted}
+use Rattle.report_json.specs.RecordsText.{explained_object}
+use Rattle.session_story.specs.Explained.{IsExplanation}
 use Rattle.session_story.specs.Told.{BeginsWith}
+use Rattle.session_story.specs.declared.explaining.Explanation.{Explanation}
 use Rattle.judge_commands.specs.Judged.{Judged, Refused, Reported}
 use Rattle.judge_commands.specs.declared.reports.AllFaults.{AllFaults}
 use Rattle.judge_commands.specs.declared.reports.AllFaults.TheVariants.{Lines, Object}
@@ -30,6 +33,16 @@ TellsObject (Reported s report) text = text ≡ report_object s report
 abbrev pub TellsStory : Judged → List ℕ → Type 0
 TellsStory (Refused line) text = BeginsWith (refusal_text line) text
 TellsStory (Reported s report) text = BeginsWith (ended (first_line report ∷ [])) text
+
+-- in an object, with the records of what happened
+pub record TellsRecords (s : Recorded) (report : Report) (text : List ℕ) : Type 0 where
+  pub explanation : Explanation
+  pub is_explanation : IsExplanation s report explanation
+  pub is_text : text ≡ explained_object s report explanation
+
+abbrev pub TellsStoryObject : Judged → List ℕ → Type 0
+TellsStoryObject (Refused line) text = text ≡ at_line (codes "session-text") line
+TellsStoryObject (Reported s report) text = TellsRecords s report text
 
 -- the text that these words make of the pages with a fault, where the report judges the pages
 pub record TellsPages (words : List FaultyPage → List ℕ) (s : Recorded) (report : Report) (text : List ℕ) : Type 0 where

@@ -13,4 +13,4 @@ pub use checking::{CheckCommand, push_verdict, verdict_status};
 pub use completing::Complete;
 pub use forms::{InLine, InObject, InWords, TellsLack, TellsVerdict};
 pub use replaying::ReplayCommand;
-pub use reports::{AllFaults, TellsReport};
+pub use reports::{AllFaults, StoryObject, TellsReport};

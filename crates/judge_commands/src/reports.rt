@@ -7,7 +7,7 @@ ghost use Rattle.audit_report.specs.Reports.{IsCleanWith, IsReport, ReportFits};
 ghost use Rattle.report_text.specs.FaultyPagesText.{JudgesPages};
 ghost use Rattle.report_json.specs.JsonText.{all_faults_object};
 ghost use Rattle.judge_commands.specs.Judged.{Judged, Refused, Reported};
-ghost use Rattle.judge_commands.specs.Forms.{TellsAllFaults, TellsObject, TellsStory, TellsWanted};
+ghost use Rattle.judge_commands.specs.Forms.{TellsAllFaults, TellsObject, TellsStory, TellsStoryObject, TellsWanted};
 
 use crate::forms::InObject;
 use audit_report::Report;
@@ -16,9 +16,9 @@ use faulty_pages::{FaultyPage, clean_sessions_have_no_faulty_page, faulty_pages}
 use judged_texts::{Wanted, print_wanted};
 use migration_types::{Cert, Session};
 use page_facts::InThreads;
-use report_json::{push_all_faults, push_refused, push_report};
+use report_json::{push_all_faults, push_explained, push_refused, push_report};
 use report_text::{print_all_faults, print_refused_session};
-use session_story::{Topic, print_refused, print_topic};
+use session_story::{Topic, explain, print_refused, print_topic};
 use std::alloc::{AllocError, Global};
 use std::thread::Threads;
 
@@ -116,6 +116,31 @@ impl TellsReport for Topic {
 
     fn tell_refusal(&self, alloc: Global, line: u32) -> Result<Vec<u8>, AllocError> {
         print_refused(alloc, line)
+    }
+}
+
+/// In an object of JSON, with the records of what happened, each with its role.
+#[derive(Clone, Copy)]
+pub struct StoryObject;
+
+impl TellsReport for StoryObject {
+    ghost tells = { λ _. TellsStoryObject };
+
+    fn tell_report<R: Threads + Sync>(
+        &self,
+        _rt: &R,
+        alloc: Global,
+        session: &Session,
+        report: &Report,
+    ) -> Result<Vec<u8>, AllocError> {
+        let explanation = explain(alloc, session, report)?;
+        let mut object = Vec::new(alloc);
+        push_explained(alloc, &mut object, session, report, &explanation)?;
+        Ok(object)
+    }
+
+    fn tell_refusal(&self, alloc: Global, line: u32) -> Result<Vec<u8>, AllocError> {
+        refusal_object(alloc, line)
     }
 }
 
