@@ -68,7 +68,7 @@ waiting_records s waits = flat_map (λ w. told s role.Waits w.log (Some w.place)
 abbrev pub records_of : Recorded → Explanation → List ToldRecord
 records_of s (story.Shape t) = shape_records s t
 records_of s (story.Knot knot) = waiting_records s knot.waits.items
-records_of s (story.Faulty f) = fault_records s f
+records_of s (story.Faulty f more) = fault_records s f
 records_of s (story.Clean counts) = []
 
 -- the object of a report that tells the records of what happened

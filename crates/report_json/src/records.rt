@@ -234,7 +234,7 @@ pub(crate) fn records_of(
     match explanation {
         Explanation::Shape(story) => take_shape(&mut records, session, story)?,
         Explanation::Knot(knot) => take_waits(&mut records, session, &knot.waits)?,
-        Explanation::Faulty(story) => take_fault(&mut records, session, story)?,
+        Explanation::Faulty { story, .. } => take_fault(&mut records, session, story)?,
         Explanation::Clean(_) => {}
     }
     Ok(records)
