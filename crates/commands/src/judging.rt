@@ -11,7 +11,9 @@ use command_texts::{
     Fault, Listing, OnOne, OnTwo, TextSource, perform_one, perform_several, perform_two,
 };
 use command_words::{Asking, Audits, Demand, Explains, Faults, Form, Several, Topic};
-use judge_commands::{AllFaults, AuditCommand, CheckCommand, Complete, InLine, InObject, InWords};
+use judge_commands::{
+    AllFaults, AuditCommand, CheckCommand, Complete, InLine, InObject, InWords, StoryObject,
+};
 use judged_texts::Wanted;
 use std::alloc::Global;
 use std::io::{Read, Write};
