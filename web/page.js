@@ -398,9 +398,8 @@ function listen() {
     judging++;
     stop();
     busy();
-    if (!about) return show("odd", "Stopped.", "Nothing is said of the session.");
-    nameTopic();
-    document.body.dataset.done = judging;
+    if (about) stayAtTopic();
+    else show("odd", "Stopped.", "Nothing is said of the session.");
   };
   at("next-fault").onclick = () => goToFault(1);
   at("previous-fault").onclick = () => goToFault(-1);

@@ -56,6 +56,14 @@ async function showTold(page, told, drawn, line) {
   await showText(line ? texts[0] : text, line || +at("line").value || 1);
 }
 
+// What was asked for last was stopped: the page goes on with what it shows.
+function stayAtTopic() {
+  const found = placeOf(about.page);
+  if (found >= 0) about.place = found;
+  nameTopic();
+  document.body.dataset.done = judging;
+}
+
 // Tells of the page with the next fault, or with the one before; the first comes after the last.
 function goToFault(step) {
   const { faults, place } = about;
