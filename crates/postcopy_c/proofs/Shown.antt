@@ -5,10 +5,9 @@ use Rattle.text_lines.specs.Text.{IsSpelling}
 use Rattle.migration_types.specs.Sessions.{Recorded}
 use Rattle.session_text.specs.Grammar.{SpellsSession}
 use Rattle.judged_texts.specs.declared.auditing.Audited.{Audited}
-use Rattle.judged_texts.specs.Audited.{IsAudited}
 use Rattle.postcopy_c.specs.declared.showing.ShownAs.{ShownAs}
 use Rattle.postcopy_c.specs.declared.showing.Showing.{Showing}
-use Rattle.postcopy_c.specs.Showings.{IsShowing, IsShowingOf}
+use Rattle.postcopy_c.specs.Showings.{IsShown, IsShowing, IsShowingOf}
 
 -- the audit alone
 abbrev pub audits : Result Showing AllocError → Result Audited AllocError
@@ -24,8 +23,6 @@ to_audits Holds (Ok showing) h = h
 to_audits Holds (Err e) h = tt
 
 pub showing_of : (shown_as : ShownAs) (text : List ℕ) (s : Recorded) (found : Result Showing AllocError) → IsSpelling SpellsSession s text → IfOk found (IsShowingOf shown_as s) → IfOk found (IsShowing shown_as text)
-showing_of shown_as text s (Ok showing) spells is = record {
-  is_audited = subst (IsAudited text) (sym is.is_reported) (s, spells, is.is_report);
-  is_text = is.is_text;
-}
+showing_of shown_as text s (Ok showing) spells is =
+    subst (λ (a : Audited). IsShown shown_as text a showing.text.items) (sym is.is_reported) (s, spells, is.is_report, is.is_text)
 showing_of shown_as text s (Err e) spells is = tt

@@ -1,40 +1,59 @@
--- What the calls that explain and draw answer to the bytes that they are handed.
-use Rattle.std.specs.Prelude.{◌≡◌, ℕ, ◌⊎◌, List, length}
+-- What the calls that explain, draw and tell all faults answer to the bytes that they are handed.
+use Rattle.std.specs.Prelude.{◌≡◌, ℕ, ◌⊎◌, List, [], ◌∷◌, length}
+use Rattle.text_lines.specs.Text.{IsSpelling, IsRefusalLine, ended}
 use Rattle.migration_types.specs.Sessions.{Recorded}
+use Rattle.session_text.specs.Grammar.{SpellsSession}
+use Rattle.faulty_pages.specs.declared.FaultyPage.{FaultyPage}
+use Rattle.faulty_pages.specs.FaultyPages.{AreFaultyPages}
 use Rattle.audit_report.specs.declared.report.Report.{Report}
 use Rattle.audit_report.specs.Reports.{IsReport}
 use Rattle.report_text.specs.RefusalText.{refusal_text}
+use Rattle.report_text.specs.ReportText.{first_line}
+use Rattle.report_text.specs.FaultyPagesText.{all_faults_text}
 use Rattle.judged_texts.specs.declared.auditing.Audited.{Audited}
 use Rattle.judged_texts.specs.declared.auditing.Audited.TheVariants.{Refused, Reported}
-use Rattle.judged_texts.specs.Audited.{IsAudited}
-use Rattle.judged_texts.specs.AuditedText.{summary_text}
 use Rattle.session_story.specs.Told.{BeginsWith}
 use Rattle.order_picture.specs.Svg.{IsSvg}
 use Rattle.postcopy_c.specs.declared.answer.PostcopyAnswer.{PostcopyAnswer}
 use Rattle.postcopy_c.specs.declared.showing.ShownAs.{ShownAs}
-use Rattle.postcopy_c.specs.declared.showing.ShownAs.TheVariants.{Words, Picture}
+use Rattle.postcopy_c.specs.declared.showing.ShownAs.TheVariants.{Words, Picture, AllFaults}
 use Rattle.postcopy_c.specs.declared.showing.Showing.{Showing}
 use Rattle.postcopy_c.specs.Numbers.{audited_numbers}
 use Rattle.postcopy_c.specs.Answers.{IsPut, WantsMemory}
 
--- what the text is that shows an audit: words behind the first line of what `audit` writes; or a picture, or else the line
--- of a text that is refused
-abbrev pub IsShownText : ShownAs → Audited → List ℕ → Type 0
-IsShownText Words audited text = BeginsWith (summary_text audited) text
-IsShownText Picture (Refused line) text = text ≡ refusal_text line
-IsShownText Picture (Reported report) text = IsSvg text
+-- what the text is that shows that a text is refused at this line: the line that says so, with more words behind it where a
+-- session is shown in words
+abbrev pub IsShownRefusal : ShownAs → ℕ → List ℕ → Type 0
+IsShownRefusal (Words topic) line text = BeginsWith (refusal_text line) text
+IsShownRefusal (Picture topic) line text = text ≡ refusal_text line
+IsShownRefusal AllFaults line text = text ≡ refusal_text line
+
+-- the text of the report that tells the pages of the session that have a fault
+abbrev pub IsAllFaultsText : Recorded → Report → List ℕ → Type 0
+IsAllFaultsText s report text = (pages : List FaultyPage) × AreFaultyPages s pages × (text ≡ all_faults_text report pages)
+
+-- what the text is that shows a session by its report: words after the first line of the report, a picture, or all faults
+abbrev pub IsShownReport : ShownAs → Recorded → Report → List ℕ → Type 0
+IsShownReport (Words topic) s report text = BeginsWith (ended (first_line report ∷ [])) text
+IsShownReport (Picture topic) s report text = IsSvg text
+IsShownReport AllFaults s report text = IsAllFaultsText s report text
 
 -- the report on a session is shown
 pub record IsShowingOf (shown_as : ShownAs) (s : Recorded) (showing : Showing) : Type 0 where
   pub report : Report
   pub is_report : IsReport s report
   pub is_reported : showing.audited ≡ Reported report
-  pub is_text : IsShownText shown_as showing.audited showing.text.items
+  pub is_text : IsShownReport shown_as s report showing.text.items
+
+-- the text shows this audit of the bytes: the line at which they are refused, or the report on the session that they spell
+abbrev pub IsShown : ShownAs → List ℕ → Audited → List ℕ → Type 0
+IsShown shown_as session (Refused line) text = IsRefusalLine SpellsSession session line × IsShownRefusal shown_as line text
+IsShown shown_as session (Reported report) text =
+    (s : Recorded) × IsSpelling SpellsSession s session × IsReport s report × IsShownReport shown_as s report text
 
 -- the audit of the bytes is shown
-pub record IsShowing (shown_as : ShownAs) (session : List ℕ) (showing : Showing) : Type 0 where
-  pub is_audited : IsAudited session showing.audited
-  pub is_text : IsShownText shown_as showing.audited showing.text.items
+abbrev pub IsShowing : ShownAs → List ℕ → Showing → Type 0
+IsShowing shown_as session showing = IsShown shown_as session showing.audited showing.text.items
 
 -- the audit of the bytes is told by its numbers, with the length of the text that shows it, and this text is in the room
 pub record TellsShown (shown_as : ShownAs) (session before after : List ℕ) (answer : PostcopyAnswer) : Type 0 where

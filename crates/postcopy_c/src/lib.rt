@@ -24,6 +24,7 @@ use crate::refusals::{PostcopyRefusal, tell_why};
 use crate::showing::{ShownAs, tell_shown};
 use crate::telling::tell_audit;
 use judged_texts::{Wanted, check_texts_alone, replay_texts};
+use session_story::Topic;
 use std::alloc::Global;
 
 /// The version: 10,000 for each of its first number, 100 for each of its second, and its third.
@@ -79,30 +80,101 @@ pub extern "C" fn postcopy_audit(alloc: Global, session: &[u8], room: &mut [u8])
     tell_audit(alloc, session, Wanted::Report, room)
 }
 
-/// What happened in a session, in words behind the first line of its report, as a text that is handed over as that of
-/// `postcopy_certify` is.
+/// The first line of the report on a session, and each page that has a fault, as a text that is handed over as that of
+/// `postcopy_certify` is. Of a session that has not the right shape, or no merging, no page is told.
 #[unsafe(no_mangle)]
-pub extern "C" fn postcopy_explain(alloc: Global, session: &[u8], room: &mut [u8]) -> PostcopyAnswer
-    ensures told { IsShownAnswer ShownAs.Words session.now room.old room.new result }
+pub extern "C" fn postcopy_audit_all(
+    alloc: Global,
+    session: &[u8],
+    room: &mut [u8],
+) -> PostcopyAnswer
+    ensures told { IsShownAnswer ShownAs.AllFaults session.now room.old room.new result }
     ensures one_session { result.kind ≢ SESSION_TEXT → result.kind ≢ NO_MEMORY → SpellsOneSession session.now }
     ensures safe { result.kind ≡ CLEAN → OfSpelled session.now IsSafe }
     ensures exactly { result.kind ≢ NO_MEMORY → OfSpelled session.now (IsSafeExactlyIf (result.kind ≡ CLEAN)) }
     ensures faulty { result.kind ≡ FAULTY → OfSpelled session.now IsUnsafe }
 {
-    tell_shown(alloc, session, ShownAs::Words, room)
+    tell_shown(alloc, session, ShownAs::AllFaults, room)
+}
+
+/// What happened in a session, in words after the first line of its report, as a text that is handed over as that of
+/// `postcopy_certify` is.
+#[unsafe(no_mangle)]
+pub extern "C" fn postcopy_explain(alloc: Global, session: &[u8], room: &mut [u8]) -> PostcopyAnswer
+    ensures told { IsShownAnswer (ShownAs.Words Topic.Report) session.now room.old room.new result }
+    ensures one_session { result.kind ≢ SESSION_TEXT → result.kind ≢ NO_MEMORY → SpellsOneSession session.now }
+    ensures safe { result.kind ≡ CLEAN → OfSpelled session.now IsSafe }
+    ensures exactly { result.kind ≢ NO_MEMORY → OfSpelled session.now (IsSafeExactlyIf (result.kind ≡ CLEAN)) }
+    ensures faulty { result.kind ≡ FAULTY → OfSpelled session.now IsUnsafe }
+{
+    tell_shown(alloc, session, ShownAs::Words(Topic::Report), room)
+}
+
+/// What became of the page of this number, in words after the first line of the report, handed over in the same way. Of a
+/// number that the machine has no page of it says so.
+#[unsafe(no_mangle)]
+pub extern "C" fn postcopy_explain_page(
+    alloc: Global,
+    session: &[u8],
+    page: u32,
+    room: &mut [u8],
+) -> PostcopyAnswer
+    ensures told { IsShownAnswer (ShownAs.Words (Topic.Page page)) session.now room.old room.new result }
+    ensures one_session { result.kind ≢ SESSION_TEXT → result.kind ≢ NO_MEMORY → SpellsOneSession session.now }
+    ensures safe { result.kind ≡ CLEAN → OfSpelled session.now IsSafe }
+    ensures exactly { result.kind ≢ NO_MEMORY → OfSpelled session.now (IsSafeExactlyIf (result.kind ≡ CLEAN)) }
+    ensures faulty { result.kind ≡ FAULTY → OfSpelled session.now IsUnsafe }
+{
+    tell_shown(alloc, session, ShownAs::Words(Topic::Page(page)), room)
+}
+
+/// What the record at this line of the session's text is, and what became of its page, in words after the first line of the
+/// report, handed over in the same way. Lines count from 1. Of a line that tells no record it says so.
+#[unsafe(no_mangle)]
+pub extern "C" fn postcopy_explain_line(
+    alloc: Global,
+    session: &[u8],
+    line: u32,
+    room: &mut [u8],
+) -> PostcopyAnswer
+    ensures told { IsShownAnswer (ShownAs.Words (Topic.Line line)) session.now room.old room.new result }
+    ensures one_session { result.kind ≢ SESSION_TEXT → result.kind ≢ NO_MEMORY → SpellsOneSession session.now }
+    ensures safe { result.kind ≡ CLEAN → OfSpelled session.now IsSafe }
+    ensures exactly { result.kind ≢ NO_MEMORY → OfSpelled session.now (IsSafeExactlyIf (result.kind ≡ CLEAN)) }
+    ensures faulty { result.kind ≡ FAULTY → OfSpelled session.now IsUnsafe }
+{
+    tell_shown(alloc, session, ShownAs::Words(Topic::Line(line)), room)
 }
 
 /// The picture of a session in the order of its report, as SVG, and of a text that is refused its line; handed over in the
 /// same way.
 #[unsafe(no_mangle)]
 pub extern "C" fn postcopy_draw(alloc: Global, session: &[u8], room: &mut [u8]) -> PostcopyAnswer
-    ensures told { IsShownAnswer ShownAs.Picture session.now room.old room.new result }
+    ensures told { IsShownAnswer (ShownAs.Picture Topic.Report) session.now room.old room.new result }
     ensures one_session { result.kind ≢ SESSION_TEXT → result.kind ≢ NO_MEMORY → SpellsOneSession session.now }
     ensures safe { result.kind ≡ CLEAN → OfSpelled session.now IsSafe }
     ensures exactly { result.kind ≢ NO_MEMORY → OfSpelled session.now (IsSafeExactlyIf (result.kind ≡ CLEAN)) }
     ensures faulty { result.kind ≡ FAULTY → OfSpelled session.now IsUnsafe }
 {
-    tell_shown(alloc, session, ShownAs::Picture, room)
+    tell_shown(alloc, session, ShownAs::Picture(Topic::Report), room)
+}
+
+/// The picture about the page of this number, in the order of the report, as SVG, and of a text that is refused its line;
+/// handed over in the same way.
+#[unsafe(no_mangle)]
+pub extern "C" fn postcopy_draw_page(
+    alloc: Global,
+    session: &[u8],
+    page: u32,
+    room: &mut [u8],
+) -> PostcopyAnswer
+    ensures told { IsShownAnswer (ShownAs.Picture (Topic.Page page)) session.now room.old room.new result }
+    ensures one_session { result.kind ≢ SESSION_TEXT → result.kind ≢ NO_MEMORY → SpellsOneSession session.now }
+    ensures safe { result.kind ≡ CLEAN → OfSpelled session.now IsSafe }
+    ensures exactly { result.kind ≢ NO_MEMORY → OfSpelled session.now (IsSafeExactlyIf (result.kind ≡ CLEAN)) }
+    ensures faulty { result.kind ≡ FAULTY → OfSpelled session.now IsUnsafe }
+{
+    tell_shown(alloc, session, ShownAs::Picture(Topic::Page(page)), room)
 }
 
 /// Why a text is refused as one of a kind: the line, the column, and words on it in one line, which are handed over as the text

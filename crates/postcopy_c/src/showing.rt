@@ -1,4 +1,4 @@
-//! A session shown in words or as a picture, told by numbers and by a text in the caller's room.
+//! A session shown in words, as a picture or by all of its faults, told by numbers and by a text in the caller's room.
 
 ghost use Rattle.std.specs.Prelude.{◌≡◌, ◌≢◌, length, IfOk};
 ghost use Rattle.audit_model.specs.World.{IsSafe};
@@ -7,27 +7,31 @@ ghost use Rattle.judged_texts.specs.Checked.{SpellsOneSession, OfSpelled};
 ghost use Rattle.judged_texts.specs.Audited.{HasReport, FindsClean, FindsFault, IsSafeExactlyIf, IsUnsafe};
 ghost use Rattle.postcopy_c.specs.Numbers.{audited_numbers};
 ghost use Rattle.postcopy_c.specs.Answers.{IsPut};
-ghost use Rattle.postcopy_c.specs.Showings.{IsShownText, IsShowingOf, IsShowing, IsShownAnswer};
+ghost use Rattle.postcopy_c.specs.Showings.{IsAllFaultsText, IsShownRefusal, IsShownReport, IsShowingOf, IsShowing, IsShownAnswer};
 
 use crate::answer::{PostcopyAnswer, audited_answer, out_of_memory};
 use crate::kinds::{CLEAN, FAULTY, NO_MEMORY, SESSION_TEXT};
 use crate::telling::put;
 use audit_report::{Report, audit_by};
-use judged_texts::{Audited, Wanted, print_audited};
+use faulty_pages::faulty_pages;
+use judged_texts::Audited;
 use migration_types::Session;
-use order_picture::{Shown, picture_text, plan};
+use order_picture::print_picture_on;
 use page_facts::Alone;
-use session_story::{print_explained, print_refused};
+use report_text::{print_all_faults, print_refused_session};
+use session_story::{Topic, print_refused, print_topic};
 use session_text::{read_session, session_texts_are_unambiguous};
 use std::alloc::{AllocError, Global};
 
 /// As what a session is shown.
 #[derive(Clone, Copy)]
 pub enum ShownAs {
-    /// What happened, in words behind the first line of the report.
-    Words,
-    /// The picture, in the order of the report.
-    Picture,
+    /// What happened on a topic, in words after the first line of the report.
+    Words(Topic),
+    /// The picture about a topic, in the order of the report.
+    Picture(Topic),
+    /// The first line of the report, and each page that has a fault.
+    AllFaults,
 }
 
 /// An audit, and the text that shows it.
@@ -39,13 +43,12 @@ pub struct Showing {
     pub text: Vec<u8>,
 }
 
-/// The picture of a session in the order of its report.
-fn picture_of(alloc: Global, session: &Session, report: &Report) -> Result<Vec<u8>, AllocError>
-    requires { IsReport session.now report.now }
-    ensures { IfOk result (λ text. IsShownText ShownAs.Picture (Audited.Reported report.now) text.items) }
+/// The text of a report that tells each page with a fault.
+fn all_faults_of(alloc: Global, session: &Session, report: &Report) -> Result<Vec<u8>, AllocError>
+    ensures { IfOk result (λ text. IsAllFaultsText session.now report.now text.items) }
 {
-    let picture = plan(alloc, session, report)?;
-    picture_text(alloc, session, report, &picture, Shown::Reported)
+    let pages = faulty_pages(&Alone, alloc, session)?;
+    print_all_faults(alloc, report, &pages)
 }
 
 /// The text that shows a session by its report.
@@ -56,21 +59,22 @@ fn text_of(
     shown_as: ShownAs,
 ) -> Result<Vec<u8>, AllocError>
     requires { IsReport session.now report.now }
-    ensures { IfOk result (λ text. IsShownText shown_as (Audited.Reported report.now) text.items) }
+    ensures { IfOk result (λ text. IsShownReport shown_as session.now report.now text.items) }
 {
     match shown_as {
-        ShownAs::Words => print_explained(alloc, session, report),
-        ShownAs::Picture => picture_of(alloc, session, report),
+        ShownAs::Words(topic) => print_topic(alloc, session, report, topic),
+        ShownAs::Picture(topic) => print_picture_on(alloc, session, report, topic),
+        ShownAs::AllFaults => all_faults_of(alloc, session, report),
     }
 }
 
 /// The text that shows that a text is refused at this line.
 fn refusal_of(alloc: Global, line: u32, shown_as: ShownAs) -> Result<Vec<u8>, AllocError>
-    ensures { IfOk result (λ text. IsShownText shown_as (Audited.Refused line) text.items) }
+    ensures { IfOk result (λ text. IsShownRefusal shown_as line text.items) }
 {
     match shown_as {
-        ShownAs::Words => print_refused(alloc, line),
-        ShownAs::Picture => print_audited(alloc, &Audited::Refused(line), Wanted::Report),
+        ShownAs::Words(_) => print_refused(alloc, line),
+        ShownAs::Picture(_) | ShownAs::AllFaults => print_refused_session(alloc, line),
     }
 }
 
