@@ -239,7 +239,10 @@ fn says_verdict<R: Threads + Sync>(rt: &R, alloc: Global) -> Option<bool> {
     Some(
         has_text(&clean, ">Page 0 has no fault.<")
             && has_text(&faulty, ">Page 1 has a fault.<")
-            && has_text(&none, ">The machine has no page 2: it has 2 pages, and the first is page 0.<"),
+            && has_text(
+                &none,
+                ">The machine has no page 2: it has 2 pages, and the first is page 0.<",
+            ),
     )
 }
 
