@@ -15,7 +15,8 @@ extern "C" {
 #define POSTCOPY_VERSION 10000
 
 /* Which answer it is. No answer has the number 0. Those of check are of postcopy_check alone, those of replay of
-   postcopy_replay alone, that of why of postcopy_why alone, and those of a report of the others. */
+   postcopy_replay alone, those of why and of missing of postcopy_why and postcopy_missing alone, and those of a report of all
+   that write a text on a session. */
 enum postcopy_kind {
     POSTCOPY_YES = 1,          /* check: the certificate is right, and every merging of the session is safe */
     POSTCOPY_CLEAN = 2,        /* a report: every merging of the session is safe */
@@ -32,7 +33,8 @@ enum postcopy_kind {
     POSTCOPY_RUNS_TEXT = 13,   /* replay: the text of the order is refused at `line` */
     POSTCOPY_NO_MERGING = 14,  /* replay: the runs spell no merging of the session */
     POSTCOPY_BROKEN = 15,      /* replay: in this order the record at `line` is the first that does not find what it demands */
-    POSTCOPY_READ = 16         /* why: the text is read, and no line of it is refused */
+    POSTCOPY_READ = 16,        /* why: the text is read, and no line of it is refused */
+    POSTCOPY_INCOMPLETE = 17   /* missing: every merging of the session is safe, but it does not tell of a whole migration */
 };
 
 /* Why, of POSTCOPY_SHAPE the first four, and of POSTCOPY_FAULTY the others. 0 is no reason. */
@@ -93,6 +95,10 @@ postcopy_answer postcopy_audit(const uint8_t *session, size_t session_len, uint8
 /* Writes the first line of the report on a session, and each page that has a fault, in the same way. Of a session that has not
    the right shape, or no merging, no page is told. */
 postcopy_answer postcopy_audit_all(const uint8_t *session, size_t session_len, uint8_t *room, size_t room_len);
+
+/* Writes what a clean session lacks first to tell of a whole migration, in one line, and nothing where it lacks nothing; of
+   another session the first line of its report. The room is as before. */
+postcopy_answer postcopy_missing(const uint8_t *session, size_t session_len, uint8_t *room, size_t room_len);
 
 /* Writes what happened in a session, in words after the first line of its report, in the same way. */
 postcopy_answer postcopy_explain(const uint8_t *session, size_t session_len, uint8_t *room, size_t room_len);

@@ -1,4 +1,4 @@
-"""What is asked of a session besides its report: all of its faults, a page, a line, and the picture of a page."""
+"""What is asked of a session besides its report: all of its faults, what is missing, a page, a line, and the picture of a page."""
 import re
 import subprocess
 from typing import NamedTuple, Optional
@@ -29,9 +29,9 @@ class Topic(NamedTuple):
         return [] if self.number is None else [str(self.number)]
 
     def said(self, program):
-        """What the program writes."""
+        """What the program writes of it."""
         how = {"stdin": subprocess.DEVNULL, "stdout": subprocess.PIPE, "stderr": subprocess.DEVNULL}
-        return subprocess.run([program, *self.words], **how).stdout
+        return text_of(self.call, subprocess.run([program, *self.words], **how).stdout)
 
     def told(self, postcopy):
         """What Python answers."""
@@ -39,14 +39,24 @@ class Topic(NamedTuple):
         return getattr(postcopy, self.command if topic else self.call)(self.session, **topic)
 
 
+def text_of(call, written):
+    """The text of a call, by what the program writes: where it is asked what is missing, the first line, and none of a session that
+    is clean and lacks nothing."""
+    if call != "missing":
+        return written
+    first = written[: written.find(b"\n") + 1]
+    return b"" if first == b"clean\n" else first
+
+
 def topics_of(session):
-    """What is asked of a session: all faults, two pages and one that no machine has, the first line of the guest's log, a line that
+    """What is asked of a session: all faults, what is missing, two pages and one that no machine has, the first line of the guest's log, a line that
     tells no record, and the picture of a page."""
     with open(session, "rb") as file:
         text = file.read()
     guest = re.search(rb"^guest \d+$", text, re.M)
     line = text[: guest.end()].count(b"\n") + 2 if guest else 1
     yield Topic("audit_all", "audit", "--all", session)
+    yield Topic("missing", "audit", "--complete", session)
     for page in (0, 1, 65536):
         yield Topic("explain_page", "explain", "--page", session, page)
     for line in (line, 1):

@@ -2,7 +2,7 @@
 "use strict";
 
 const KINDS = ["", "YES", "CLEAN", "SESSION_TEXT", "CERT_TEXT", "SHAPE", "PAGES", "RUNS", "PAGE", "KNOT", "FAULTY", "NO_MEMORY", "SAFE", "RUNS_TEXT",
-  "NO_MERGING", "BROKEN", "READ"];
+  "NO_MERGING", "BROKEN", "READ", "INCOMPLETE"];
 
 // There was no memory for a question.
 class OutOfMemory extends Error {}

@@ -1,5 +1,5 @@
 /* Calls the library as hostile surroundings do. Each line of the input is 'check SESSION CERT', 'replay SESSION RUNS', or
-   'certify', 'audit', 'audit_all', 'explain' or 'draw' with a SESSION, where a file named - is empty; 'explain_page',
+   'certify', 'audit', 'audit_all', 'missing', 'explain' or 'draw' with a SESSION, where a file named - is empty; 'explain_page',
    'explain_line' or 'draw_page' with a SESSION and a NUMBER; or 'session', 'certificate' or 'order' with a FILE, which asks why
    this is refused as such a text. The texts and the room end where memory ends that may be touched.
 
@@ -109,7 +109,7 @@ static const struct {
     const char *command;
     postcopy_answer (*call)(const uint8_t *session, size_t session_len, uint8_t *room, size_t room_len);
 } writers[] = {{"certify", postcopy_certify}, {"audit", postcopy_audit}, {"audit_all", postcopy_audit_all},
-               {"explain", postcopy_explain}, {"draw", postcopy_draw}};
+               {"missing", postcopy_missing}, {"explain", postcopy_explain}, {"draw", postcopy_draw}};
 
 /* The calls that write a text about a page, or a line, of a session. */
 static const struct {

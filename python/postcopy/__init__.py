@@ -33,7 +33,7 @@ from typing import Callable, List, NamedTuple, Optional, TypeVar, Union
 from .records import page_in
 
 __all__ = ["Answer", "Fault", "Kind", "OutOfMemory", "Reason", "Refused", "Report", "Text", "audit", "audit_all", "certify", "check",
-           "draw", "explain", "replay", "version", "why"]
+           "draw", "explain", "missing", "replay", "version", "why"]
 
 __version__ = "1.0.0"
 
@@ -66,7 +66,8 @@ class Kind(enum.IntEnum):
     machines of different sizes. RUNS, PAGE: the run, or the entry, at the line of the certificate is not right. KNOT: the session's
     records wait for one another in a cycle. FAULTY: the session is not safe, because of the record at the line.
 
-    READ: a text is read, and no line of it is refused; `why` answers None then.
+    READ: a text is read, and no line of it is refused; `why` answers None then. INCOMPLETE, of `missing` alone: every merging is
+    safe, but the session does not tell of a whole migration.
 
     Of a replay, and so of one order alone: SAFE: each record finds what it demands; other orders may go wrong. NO_MERGING: the runs
     spell no merging of the session. BROKEN: the record at the line is the first that does not find what it demands.
@@ -88,6 +89,7 @@ class Kind(enum.IntEnum):
     NO_MERGING = 14
     BROKEN = 15
     READ = 16
+    INCOMPLETE = 17
 
     @property
     def word(self) -> str:
@@ -140,9 +142,9 @@ class Answer:
     """An answer: its kind, the line of a text that it names, its reason, and its text.
 
     The text is that which the program's command writes: of `certify` the certificate, or the first line of the report, of
-    `audit` the report, of `audit_all` its first line and each page that has a fault, of `explain` what happened in words, and of
-    `draw` a picture as SVG. `check` and `replay` have none. A notebook shows a picture. Where a text is refused, `column` and `why`
-    tell more of it, as Refused has them.
+    `audit` the report, of `audit_all` its first line and each page that has a fault, of `missing` the line of what is missing, of
+    `explain` what happened in words, and of `draw` a picture as SVG. `check` and `replay` have none. A notebook shows a picture.
+    Where a text is refused, `column` and `why` tell more of it, as Refused has them.
     """
 
     kind: Kind
@@ -155,7 +157,7 @@ class Answer:
     @property
     def is_safe(self) -> bool:
         """Whether every merging of the session is safe: by a right certificate, or by the audit. A replay never says so."""
-        return self.kind in (Kind.YES, Kind.CLEAN)
+        return self.kind in (Kind.YES, Kind.CLEAN, Kind.INCOMPLETE)
 
     @property
     def verdict(self) -> str:
@@ -169,6 +171,8 @@ class Answer:
 
     def __str__(self) -> str:
         """The first line of what the program writes."""
+        if self.kind is Kind.INCOMPLETE:
+            return self.text.decode("ascii").rstrip("\n")
         line = "" if self.line is None else f" line {self.line}"
         reason = "" if self.reason is None else f" {self.reason.word}"
         return f"{self.verdict}{line}{reason}"
@@ -316,7 +320,7 @@ def _library() -> ctypes.CDLL:
         raise ImportError("there is no libpostcopy: in a checkout tools/library builds it, and tools/install installs it")
     library = ctypes.CDLL(name)
     text = [ctypes.c_void_p, ctypes.c_size_t]
-    for name in ("check", "replay", "certify", "audit", "audit_all", "explain", "draw"):
+    for name in ("check", "replay", "certify", "audit", "audit_all", "missing", "explain", "draw"):
         call = getattr(library, f"postcopy_{name}")
         call.argtypes, call.restype = text + text, _Answer
     for name in ("explain_page", "explain_line", "draw_page"):
@@ -415,6 +419,13 @@ def audit_all(session: Text) -> Answer:
     """The first line of the report on a session, and each page that has a fault, as the command `audit --all` writes them. Raises
     OutOfMemory where memory is refused."""
     return _with_text(_library().postcopy_audit_all, session)
+
+
+def missing(session: Text) -> Answer:
+    """What a clean session lacks first to tell of a whole migration, by the line that `audit --complete` writes of it, with the kind
+    INCOMPLETE; CLEAN, with no text, where it lacks nothing; and of another session the first line of its report. Raises OutOfMemory
+    where memory is refused."""
+    return _with_text(_library().postcopy_missing, session)
 
 
 def explain(session: Text, page: Optional[int] = None, line: Optional[int] = None) -> Answer:

@@ -1,5 +1,5 @@
--- What the calls that explain, draw and tell all faults answer to the bytes that they are handed.
-use Rattle.std.specs.Prelude.{◌≡◌, ℕ, ◌⊎◌, List, [], ◌∷◌, length}
+-- What the calls that explain, draw, tell all faults and tell what is missing answer to the bytes that they are handed.
+use Rattle.std.specs.Prelude.{◌≡◌, ◌≢◌, ℕ, ◌<◌, ◌⊎◌, List, [], ◌∷◌, length}
 use Rattle.text_lines.specs.Text.{IsSpelling, IsRefusalLine, ended}
 use Rattle.migration_types.specs.Sessions.{Recorded}
 use Rattle.session_text.specs.Grammar.{SpellsSession}
@@ -10,15 +10,19 @@ use Rattle.audit_report.specs.Reports.{IsReport}
 use Rattle.report_text.specs.RefusalText.{refusal_text}
 use Rattle.report_text.specs.ReportText.{first_line}
 use Rattle.report_text.specs.FaultyPagesText.{all_faults_text}
+use Rattle.audit_report.specs.declared.report.Report.TheVariants as report
+use Rattle.completeness.specs.declared.missing.Missing.{Missing}
+use Rattle.completeness.specs.Complete.{IsComplete, IsFirstMissing}
+use Rattle.report_text.specs.MissingText.{missing_text}
 use Rattle.judged_texts.specs.declared.auditing.Audited.{Audited}
 use Rattle.judged_texts.specs.declared.auditing.Audited.TheVariants.{Refused, Reported}
 use Rattle.session_story.specs.Told.{BeginsWith}
 use Rattle.order_picture.specs.Svg.{IsSvg}
 use Rattle.postcopy_c.specs.declared.answer.PostcopyAnswer.{PostcopyAnswer}
 use Rattle.postcopy_c.specs.declared.showing.ShownAs.{ShownAs}
-use Rattle.postcopy_c.specs.declared.showing.ShownAs.TheVariants.{Words, Picture, AllFaults}
+use Rattle.postcopy_c.specs.declared.showing.ShownAs.TheVariants.{Words, Picture, AllFaults, Lack}
 use Rattle.postcopy_c.specs.declared.showing.Showing.{Showing}
-use Rattle.postcopy_c.specs.Numbers.{audited_numbers}
+use Rattle.postcopy_c.specs.Numbers.{audited_numbers, numbers}
 use Rattle.postcopy_c.specs.Answers.{IsPut, WantsMemory}
 
 -- what the text is that shows that a text is refused at this line: the line that says so, with more words behind it where a
@@ -27,16 +31,30 @@ abbrev pub IsShownRefusal : ShownAs → ℕ → List ℕ → Type 0
 IsShownRefusal (Words topic) line text = BeginsWith (refusal_text line) text
 IsShownRefusal (Picture topic) line text = text ≡ refusal_text line
 IsShownRefusal AllFaults line text = text ≡ refusal_text line
+IsShownRefusal Lack line text = text ≡ refusal_text line
 
 -- the text of the report that tells the pages of the session that have a fault
 abbrev pub IsAllFaultsText : Recorded → Report → List ℕ → Type 0
 IsAllFaultsText s report text = (pages : List FaultyPage) × AreFaultyPages s pages × (text ≡ all_faults_text report pages)
 
--- what the text is that shows a session by its report: words after the first line of the report, a picture, or all faults
+-- the line that says what the session lacks first, or nothing where it is complete
+abbrev pub IsLackText : Recorded → List ℕ → Type 0
+IsLackText s text = (IsComplete s × (text ≡ [])) ⊎ ((m : Missing) × IsFirstMissing s m × (text ≡ missing_text s m))
+
+-- this of a clean session, and of another the first line of its report
+abbrev pub IsLackByReport : Recorded → Report → List ℕ → Type 0
+IsLackByReport s (report.Clean cert) text = IsLackText s text
+IsLackByReport s (report.Shape fault) text = text ≡ ended (first_line (report.Shape fault) ∷ [])
+IsLackByReport s (report.Knot left found) text = text ≡ ended (first_line (report.Knot left found) ∷ [])
+IsLackByReport s (report.Faulty line fault order) text = text ≡ ended (first_line (report.Faulty line fault order) ∷ [])
+
+-- what the text is that shows a session by its report: words after the first line of the report, a picture, all faults, or
+-- what it lacks
 abbrev pub IsShownReport : ShownAs → Recorded → Report → List ℕ → Type 0
 IsShownReport (Words topic) s report text = BeginsWith (ended (first_line report ∷ [])) text
 IsShownReport (Picture topic) s report text = IsSvg text
 IsShownReport AllFaults s report text = IsAllFaultsText s report text
+IsShownReport Lack s report text = IsLackByReport s report text
 
 -- the report on a session is shown
 pub record IsShowingOf (shown_as : ShownAs) (s : Recorded) (showing : Showing) : Type 0 where
@@ -65,3 +83,18 @@ pub record TellsShown (shown_as : ShownAs) (session before after : List ℕ) (an
 -- what is shown of the bytes is told, or memory was refused
 abbrev pub IsShownAnswer : ShownAs → List ℕ → List ℕ → List ℕ → PostcopyAnswer → Type 0
 IsShownAnswer shown_as session before after answer = TellsShown shown_as session before after answer ⊎ WantsMemory before after answer
+
+-- The answer is the one that is shown, but for the kind of a clean session that lacks something, where the text is not empty.
+pub record IsHeld (shown answer : PostcopyAnswer) : Type 0 where
+  pub lacks : shown.kind ≡ 2 → 0 < shown.text_len → answer ≡ numbers 17 shown.line shown.reason shown.text_len
+  pub complete : shown.kind ≡ 2 → shown.text_len ≡ 0 → answer ≡ shown
+  pub other : shown.kind ≢ 2 → answer ≡ shown
+
+-- what a session lacks is told, with a kind of its own
+abbrev pub IsMissingAnswer : List ℕ → List ℕ → List ℕ → PostcopyAnswer → Type 0
+IsMissingAnswer session before after answer =
+    (shown : PostcopyAnswer) × IsShownAnswer Lack session before after shown × IsHeld shown answer
+
+-- the kinds that say that a session is safe: it is clean, or clean and not complete
+abbrev pub SaysSafe : ℕ → Type 0
+SaysSafe kind = (kind ≡ 2) ⊎ (kind ≡ 17)

@@ -47,3 +47,6 @@ pub const BROKEN: u32 = 15;
 
 /// The text is read, and no line of it is refused.
 pub const READ: u32 = 16;
+
+/// Every merging of the session is safe, but it does not tell of a whole migration.
+pub const INCOMPLETE: u32 = 17;

@@ -8,10 +8,11 @@ ghost use Rattle.audit_model.specs.Laws.{FindsResident, ReadsFlat, PlacedOnce, P
 ghost use Rattle.judged_texts.specs.Checked.{SpellsOneSession, OfSpelled, ReplaysClean};
 ghost use Rattle.judged_texts.specs.Audited.{IsSafeExactlyIf, IsUnsafe};
 ghost use Rattle.postcopy_c.specs.Answers.{IsVerdictAnswer, IsReplayAnswer, IsAuditAnswer};
-ghost use Rattle.postcopy_c.specs.Showings.{IsShownAnswer};
+ghost use Rattle.postcopy_c.specs.Showings.{IsMissingAnswer, IsShownAnswer, SaysSafe};
 ghost use Rattle.postcopy_c.specs.Refusals.{IsWhy};
 
 mod answer;
+mod completing;
 mod kinds;
 mod reasons;
 mod refusals;
@@ -19,6 +20,7 @@ mod showing;
 mod telling;
 
 use crate::answer::{PostcopyAnswer, replay_answer, verdict_answer};
+use crate::completing::tell_missing;
 use crate::kinds::{CLEAN, FAULTY, NO_MEMORY, SESSION_TEXT, YES};
 use crate::refusals::{PostcopyRefusal, tell_why};
 use crate::showing::{ShownAs, tell_shown};
@@ -95,6 +97,19 @@ pub extern "C" fn postcopy_audit_all(
     ensures faulty { result.kind ≡ FAULTY → OfSpelled session.now IsUnsafe }
 {
     tell_shown(alloc, session, ShownAs::AllFaults, room)
+}
+
+/// The line that says what a clean session lacks first, and no byte where it tells of a whole migration; of another session the
+/// first line of its report. Handed over in the same way.
+#[unsafe(no_mangle)]
+pub extern "C" fn postcopy_missing(alloc: Global, session: &[u8], room: &mut [u8]) -> PostcopyAnswer
+    ensures told { IsMissingAnswer session.now room.old room.new result }
+    ensures one_session { result.kind ≢ SESSION_TEXT → result.kind ≢ NO_MEMORY → SpellsOneSession session.now }
+    ensures safe { SaysSafe result.kind → OfSpelled session.now IsSafe }
+    ensures exactly { result.kind ≢ NO_MEMORY → OfSpelled session.now (IsSafeExactlyIf (SaysSafe result.kind)) }
+    ensures faulty { result.kind ≡ FAULTY → OfSpelled session.now IsUnsafe }
+{
+    tell_missing(alloc, session, room)
 }
 
 /// What happened in a session, in words after the first line of its report, as a text that is handed over as that of

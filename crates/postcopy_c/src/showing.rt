@@ -7,18 +7,19 @@ ghost use Rattle.judged_texts.specs.Checked.{SpellsOneSession, OfSpelled};
 ghost use Rattle.judged_texts.specs.Audited.{HasReport, FindsClean, FindsFault, IsSafeExactlyIf, IsUnsafe};
 ghost use Rattle.postcopy_c.specs.Numbers.{audited_numbers};
 ghost use Rattle.postcopy_c.specs.Answers.{IsPut};
-ghost use Rattle.postcopy_c.specs.Showings.{IsAllFaultsText, IsShownRefusal, IsShownReport, IsShowingOf, IsShowing, IsShownAnswer};
+ghost use Rattle.postcopy_c.specs.Showings.{IsAllFaultsText, IsLackText, IsLackByReport, IsShownRefusal, IsShownReport, IsShowingOf, IsShowing, IsShownAnswer};
 
 use crate::answer::{PostcopyAnswer, audited_answer, out_of_memory};
 use crate::kinds::{CLEAN, FAULTY, NO_MEMORY, SESSION_TEXT};
 use crate::telling::put;
 use audit_report::{Report, audit_by};
+use completeness::first_missing;
 use faulty_pages::faulty_pages;
 use judged_texts::Audited;
 use migration_types::Session;
 use order_picture::print_picture_on;
 use page_facts::Alone;
-use report_text::{print_all_faults, print_refused_session};
+use report_text::{print_all_faults, print_first_line, print_refused_session, push_missing};
 use session_story::{Topic, print_refused, print_topic};
 use session_text::{read_session, session_texts_are_unambiguous};
 use std::alloc::{AllocError, Global};
@@ -32,6 +33,8 @@ pub enum ShownAs {
     Picture(Topic),
     /// The first line of the report, and each page that has a fault.
     AllFaults,
+    /// What a clean session lacks first, or nothing where it is complete; and the first line of another report.
+    Lack,
 }
 
 /// An audit, and the text that shows it.
@@ -51,6 +54,30 @@ fn all_faults_of(alloc: Global, session: &Session, report: &Report) -> Result<Ve
     print_all_faults(alloc, report, &pages)
 }
 
+/// The line that says what a session lacks first, or nothing where it is complete.
+fn lack_of(alloc: Global, session: &Session) -> Result<Vec<u8>, AllocError>
+    ensures { IfOk result (λ text. IsLackText session.now text.items) }
+{
+    let mut text = Vec::new(alloc);
+    let Some(missing) = first_missing(alloc, session)? else {
+        return Ok(text);
+    };
+    push_missing(&mut text, session, missing)?;
+    Ok(text)
+}
+
+/// What a session lacks, where its report is clean, and else the first line of the report.
+fn lack_by_report(alloc: Global, session: &Session, report: &Report) -> Result<Vec<u8>, AllocError>
+    ensures { IfOk result (λ text. IsLackByReport session.now report.now text.items) }
+{
+    match report {
+        Report::Clean(_) => lack_of(alloc, session),
+        Report::Shape(_) | Report::Knot { .. } | Report::Faulty { .. } => {
+            print_first_line(alloc, report)
+        }
+    }
+}
+
 /// The text that shows a session by its report.
 fn text_of(
     alloc: Global,
@@ -65,6 +92,7 @@ fn text_of(
         ShownAs::Words(topic) => print_topic(alloc, session, report, topic),
         ShownAs::Picture(topic) => print_picture_on(alloc, session, report, topic),
         ShownAs::AllFaults => all_faults_of(alloc, session, report),
+        ShownAs::Lack => lack_by_report(alloc, session, report),
     }
 }
 
@@ -74,7 +102,9 @@ fn refusal_of(alloc: Global, line: u32, shown_as: ShownAs) -> Result<Vec<u8>, Al
 {
     match shown_as {
         ShownAs::Words(_) => print_refused(alloc, line),
-        ShownAs::Picture(_) | ShownAs::AllFaults => print_refused_session(alloc, line),
+        ShownAs::Picture(_) | ShownAs::AllFaults | ShownAs::Lack => {
+            print_refused_session(alloc, line)
+        }
     }
 }
 
