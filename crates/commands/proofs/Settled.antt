@@ -8,18 +8,21 @@ use Rattle.command_texts.specs.declared.answer.Fault.TheVariants.{File, Link, Ou
 use Rattle.command_texts.specs.Answers.{fault_status}
 
 -- what was done and settled: the status is not 2, and below that it is the answer's own
-settled : (done : Result ℕ Fault) (status : ℕ) (P : ℕ → Type 0) → MatchResult done (λ s. status ≡ s) (λ fault. status ≡ fault_status fault) → IfOk done (λ s. s < 2) → IfOk done P → (status ≢ 2) × (status < 2 → P status)
+pub settled : (done : Result ℕ Fault) (status : ℕ) (P : ℕ → Type 0) → MatchResult done (λ s. status ≡ s) (λ fault. status ≡ fault_status fault) → IfOk done (λ s. s < 2) → IfOk done P → (status ≢ 2) × (status < 2 → P status)
 settled (Ok s) status P e few p = (λ two. absurd (omega arith), λ lt. rw e p)
 settled (Err (File name)) status P h few p = (λ two. absurd (omega arith), λ lt. absurd (omega arith))
 settled (Err Link) status P h few p = (λ two. absurd (omega arith), λ lt. absurd (omega arith))
 settled (Err Output) status P h few p = (λ two. absurd (omega arith), λ lt. absurd (omega arith))
 settled (Err Memory) status P h few p = (λ two. absurd (omega arith), λ lt. absurd (omega arith))
 
--- the same for what the words ask for
-pub settled_asked : (done : Result ℕ Fault) (status : ℕ) (own job : Asked Text) (P : Asked Text → ℕ → Type 0) → Some own ≡ Some job → MatchResult done (λ s. status ≡ s) (λ fault. status ≡ fault_status fault) → IfOk done (λ s. s < 2) → IfOk done (P own) → (status ≢ 2) × (status < 2 → P job status)
-settled_asked done status own job P is h few p =
-    let same : own ≡ job = cc in
-    settled done status (P job) h few (subst (λ (x : Asked Text). IfOk done (P x)) same p)
+-- a fact of what is there, of this that is there
+pub some_given : {X : Type 0} (found : Option X) (x : X) (P : X → Type 0) → found ≡ Some x → IfSome found P → P x
+some_given found x P e h = subst (λ (o : Option _). IfSome o P) e h
+
+-- a fact of what is found under a premise, of what is asked
+pub some_told : {X : Type 0} (found asked : Option X) (Q : Type 0) (P : X → Type 0) → found ≡ asked → IfSome found (λ x. Q → P x) → Q → IfSome asked P
+some_told None asked Q P e h q = subst (λ (o : Option _). IfSome o P) e tt
+some_told (Some x) asked Q P e h q = subst (λ (o : Option _). IfSome o P) e (h q)
 
 -- a fact of what is there, given that it is there
 pub if_some : {X : Type 0} (found : Option X) (P : X → Type 0) → ((x : X) → found ≡ Some x → P x) → IfSome found P

@@ -91,9 +91,13 @@ IsOneAnswer Certify session = IsAuditAnswer wanted.Certificate session
 IsOneAnswer (Audit audits) session = IsAsked audits.asking audits.faults session
 IsOneAnswer (Explain explains) session = IsExplained explains.asking.demand explains.asking.form session
 
+-- the answer of `check`, as this is asked
+abbrev pub IsChecked : Asking → List ℕ × List ℕ → List ℕ → ℕ → Type 0
+IsChecked asking texts = IsDemanded asking.demand (TellsLack asking.form) (IsCheckIn asking.form texts) texts.0
+
 -- the answer of a command on two texts
 abbrev pub IsTwoAnswer : TwoTexts → List ℕ × List ℕ → List ℕ → ℕ → Type 0
-IsTwoAnswer (Check asking) texts = IsDemanded asking.demand (TellsLack asking.form) (IsCheckIn asking.form texts) texts.0
+IsTwoAnswer (Check asking) texts = IsChecked asking texts
 IsTwoAnswer Replay texts = IsReplayAnswer texts.0 texts.1
 IsTwoAnswer Steps texts = IsStepsAnswer texts.0 texts.1
 

@@ -1,16 +1,12 @@
 //! The commands that judge a session, as they are asked: how it is told, and whether the session has to be complete.
 
-ghost use Rattle.std.specs.Prelude.{◌≡◌, ◌<◌, IfOk};
-ghost use Rattle.command_texts.specs.Several.{TellsSeveral, names_of, style_of};
+ghost use Rattle.std.specs.Prelude.{◌<◌, IfOk};
 ghost use Rattle.command_texts.specs.Told.{AreNamed, IsNamed, Tells};
-ghost use Rattle.command_words.specs.Table.{several_names};
-ghost use Rattle.commands.specs.Told.{answered, IsOneAnswer, IsAsked, IsExplained, IsTwoAnswer, TellsSeveralAsked, lines_asked, lines_style};
+ghost use Rattle.commands.specs.Told.{answered, IsAsked, IsChecked, IsExplained};
 
 use crate::topics::told_topic;
-use command_texts::{
-    Fault, Listing, OnOne, OnTwo, TextSource, perform_one, perform_several, perform_two,
-};
-use command_words::{Asking, Audits, Demand, Explains, Faults, Form, Several, Topic};
+use command_texts::{Fault, OnOne, OnTwo, TextSource, perform_one, perform_two};
+use command_words::{Asking, Audits, Demand, Explains, Faults, Form, Topic};
 use judge_commands::{
     AllFaults, AuditCommand, CheckCommand, Complete, InLine, InObject, InWords, StoryObject,
 };
@@ -18,19 +14,6 @@ use judged_texts::Wanted;
 use std::alloc::Global;
 use std::io::{Read, Write};
 use std::thread::Threads;
-
-/// What ends the list of what is told of several sessions, after how many of how many are clean.
-const ARE_CLEAN: &[u8] = b" sessions are clean\n";
-
-// The audit that is told in this form, with the way to tell what a session lacks that has to be complete.
-fn audit_in<R, T, L>(rt: &R, form: T, lack: L) -> Complete<AuditCommand<'_, R, T>, L>
-    ensures { result ≡ record { command = record { rt = rt; form = form.entry }; form = lack.entry } }
-{
-    Complete {
-        command: AuditCommand { rt, form },
-        form: lack,
-    }
-}
 
 // Does one of two commands on the text under a name: the second where a complete session is asked for.
 fn demanded_one<
@@ -103,44 +86,6 @@ fn demanded_two<
     }
 }
 
-// Does one of two commands on each of the texts under these names: the second where complete sessions are asked for.
-fn demanded_several<
-    'a,
-    A: OnOne,
-    B: OnOne,
-    R: Threads + Sync,
-    S: TextSource,
-    I: Read + Send,
-    O: Write,
-    E: Write,
->(
-    rt: &R,
-    alloc: Global,
-    demand: Demand,
-    plain: &A,
-    whole: &B,
-    listing: Listing<'_>,
-    names: &[&'a str],
-    texts: &S,
-    input: &mut I,
-    output: &mut O,
-    errors: &mut E,
-) -> Result<u8, Fault<'a>>
-    requires ready_plain { A.ready }
-    requires ready_whole { B.ready }
-    ensures few { IfOk result (λ status. status < 2) }
-    ensures told { IfOk result (TellsSeveral (S.bytes_of texts.now) (λ text. answered demand (A.is_answer plain.now text) (B.is_answer whole.now text)) (style_of listing.entry) (names_of names.now) (O.contents output.old) (O.contents output.new)) }
-{
-    match demand {
-        Demand::Safety => perform_several(
-            rt, alloc, plain, listing, names, texts, input, output, errors,
-        ),
-        Demand::Completeness => perform_several(
-            rt, alloc, whole, listing, names, texts, input, output, errors,
-        ),
-    }
-}
-
 // Audits the session under a name, as this is asked.
 pub(crate) fn asked_audit<'a, R: Threads + Sync, S: TextSource, I: Read + Send, O: Write, E: Write>(
     rt: &R,
@@ -153,13 +98,19 @@ pub(crate) fn asked_audit<'a, R: Threads + Sync, S: TextSource, I: Read + Send, 
     errors: &mut E,
 ) -> Result<u8, Fault<'a>>
     ensures few { IfOk result (λ status. status < 2) }
-    ensures told { IfOk result (Tells (IsNamed name.entry.now (S.bytes_of texts.now) (I.remaining input.old)) (IsOneAnswer (OneText.Audit audits)) (O.contents output.old) (O.contents output.new)) }
+    ensures told { IfOk result (Tells (IsNamed name.entry.now (S.bytes_of texts.now) (I.remaining input.old)) (IsAsked audits.asking audits.faults) (O.contents output.old) (O.contents output.new)) }
 {
     let demand = audits.asking.demand;
     match audits.asking.form {
         Form::Text => match audits.faults {
             Faults::First => {
-                let asked = audit_in(rt, Wanted::Report, InLine);
+                let asked = Complete {
+                    command: AuditCommand {
+                        rt,
+                        form: Wanted::Report,
+                    },
+                    form: InLine,
+                };
                 demanded_one(
                     rt,
                     alloc,
@@ -174,7 +125,13 @@ pub(crate) fn asked_audit<'a, R: Threads + Sync, S: TextSource, I: Read + Send, 
                 )
             }
             Faults::All => {
-                let asked = audit_in(rt, AllFaults::Lines, InLine);
+                let asked = Complete {
+                    command: AuditCommand {
+                        rt,
+                        form: AllFaults::Lines,
+                    },
+                    form: InLine,
+                };
                 demanded_one(
                     rt,
                     alloc,
@@ -190,7 +147,13 @@ pub(crate) fn asked_audit<'a, R: Threads + Sync, S: TextSource, I: Read + Send, 
             }
         },
         Form::Line => {
-            let asked = audit_in(rt, Wanted::FirstLine, InLine);
+            let asked = Complete {
+                command: AuditCommand {
+                    rt,
+                    form: Wanted::FirstLine,
+                },
+                form: InLine,
+            };
             demanded_one(
                 rt,
                 alloc,
@@ -206,7 +169,10 @@ pub(crate) fn asked_audit<'a, R: Threads + Sync, S: TextSource, I: Read + Send, 
         }
         Form::Json => match audits.faults {
             Faults::First => {
-                let asked = audit_in(rt, InObject, InObject);
+                let asked = Complete {
+                    command: AuditCommand { rt, form: InObject },
+                    form: InObject,
+                };
                 demanded_one(
                     rt,
                     alloc,
@@ -221,7 +187,13 @@ pub(crate) fn asked_audit<'a, R: Threads + Sync, S: TextSource, I: Read + Send, 
                 )
             }
             Faults::All => {
-                let asked = audit_in(rt, AllFaults::Object, InObject);
+                let asked = Complete {
+                    command: AuditCommand {
+                        rt,
+                        form: AllFaults::Object,
+                    },
+                    form: InObject,
+                };
                 demanded_one(
                     rt,
                     alloc,
@@ -254,7 +226,13 @@ fn words_of<'a, R: Threads + Sync, S: TextSource, I: Read + Send, O: Write, E: W
     ensures few { IfOk result (λ status. status < 2) }
     ensures told { IfOk result (Tells (IsNamed name.entry.now (S.bytes_of texts.now) (I.remaining input.old)) (IsExplained demand Form.Text) (O.contents output.old) (O.contents output.new)) }
 {
-    let asked = audit_in(rt, told_topic(topic), InWords);
+    let asked = Complete {
+        command: AuditCommand {
+            rt,
+            form: told_topic(topic),
+        },
+        form: InWords,
+    };
     demanded_one(
         rt,
         alloc,
@@ -288,7 +266,7 @@ pub(crate) fn asked_explain<
     errors: &mut E,
 ) -> Result<u8, Fault<'a>>
     ensures few { IfOk result (λ status. status < 2) }
-    ensures told { IfOk result (Tells (IsNamed name.entry.now (S.bytes_of texts.now) (I.remaining input.old)) (IsOneAnswer (OneText.Explain explains)) (O.contents output.old) (O.contents output.new)) }
+    ensures told { IfOk result (Tells (IsNamed name.entry.now (S.bytes_of texts.now) (I.remaining input.old)) (IsExplained explains.asking.demand explains.asking.form) (O.contents output.old) (O.contents output.new)) }
 {
     let demand = explains.asking.demand;
     match explains.asking.form {
@@ -315,7 +293,13 @@ pub(crate) fn asked_explain<
             errors,
         ),
         Form::Json => {
-            let asked = audit_in(rt, StoryObject, InObject);
+            let asked = Complete {
+                command: AuditCommand {
+                    rt,
+                    form: StoryObject,
+                },
+                form: InObject,
+            };
             demanded_one(
                 rt,
                 alloc,
@@ -345,7 +329,7 @@ pub(crate) fn asked_check<'a, R: Threads + Sync, S: TextSource, I: Read + Send, 
     errors: &mut E,
 ) -> Result<u8, Fault<'a>>
     ensures few { IfOk result (λ status. status < 2) }
-    ensures told { IfOk result (Tells (AreNamed first.entry.now second.entry.now (S.bytes_of texts.now) (I.remaining input.old)) (IsTwoAnswer (TwoTexts.Check asking)) (O.contents output.old) (O.contents output.new)) }
+    ensures told { IfOk result (Tells (AreNamed first.entry.now second.entry.now (S.bytes_of texts.now) (I.remaining input.old)) (IsChecked asking) (O.contents output.old) (O.contents output.new)) }
 {
     let demand = asking.demand;
     let line = Complete {
@@ -396,99 +380,5 @@ pub(crate) fn asked_check<'a, R: Threads + Sync, S: TextSource, I: Read + Send, 
             output,
             errors,
         ),
-    }
-}
-
-// Audits the sessions under these names, of which each is told by the first line of its report.
-fn line_each<'a, R: Threads + Sync, S: TextSource, I: Read + Send, O: Write, E: Write>(
-    rt: &R,
-    alloc: Global,
-    demand: Demand,
-    names: &[&'a str],
-    texts: &S,
-    input: &mut I,
-    output: &mut O,
-    errors: &mut E,
-) -> Result<u8, Fault<'a>>
-    ensures few { IfOk result (λ status. status < 2) }
-    ensures told { IfOk result (TellsSeveral (S.bytes_of texts.now) (IsAsked (lines_asked demand) Faults.First) lines_style (names_of names.now) (O.contents output.old) (O.contents output.new)) }
-{
-    let asked = audit_in(rt, Wanted::FirstLine, InLine);
-    let listing = Listing::Named(ARE_CLEAN);
-    demanded_several(
-        rt,
-        alloc,
-        demand,
-        &asked.command,
-        &asked,
-        listing,
-        names,
-        texts,
-        input,
-        output,
-        errors,
-    )
-}
-
-/// Audits several sessions, as this is asked: a line for each, after its name, and how many are clean; or an object for each.
-pub(crate) fn asked_several<
-    'a,
-    R: Threads + Sync,
-    S: TextSource,
-    I: Read + Send,
-    O: Write,
-    E: Write,
->(
-    rt: &R,
-    alloc: Global,
-    several: &Several<'a>,
-    texts: &S,
-    input: &mut I,
-    output: &mut O,
-    errors: &mut E,
-) -> Result<u8, Fault<'a>>
-    ensures few { IfOk result (λ status. status < 2) }
-    ensures told { IfOk result (TellsSeveralAsked (several_names several.now) (S.bytes_of texts.now) (O.contents output.old) (O.contents output.new)) }
-{
-    let Audits { asking, faults } = several.audits;
-    let demand = asking.demand;
-    let names = several.names.as_slice();
-    match asking.form {
-        Form::Text => line_each(rt, alloc, demand, names, texts, input, output, errors),
-        Form::Line => line_each(rt, alloc, demand, names, texts, input, output, errors),
-        Form::Json => match faults {
-            Faults::First => {
-                let asked = audit_in(rt, InObject, InObject);
-                demanded_several(
-                    rt,
-                    alloc,
-                    demand,
-                    &asked.command,
-                    &asked,
-                    Listing::Bare,
-                    names,
-                    texts,
-                    input,
-                    output,
-                    errors,
-                )
-            }
-            Faults::All => {
-                let asked = audit_in(rt, AllFaults::Object, InObject);
-                demanded_several(
-                    rt,
-                    alloc,
-                    demand,
-                    &asked.command,
-                    &asked,
-                    Listing::Bare,
-                    names,
-                    texts,
-                    input,
-                    output,
-                    errors,
-                )
-            }
-        },
     }
 }

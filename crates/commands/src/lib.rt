@@ -6,6 +6,7 @@ mod drawing;
 mod judging;
 mod laws;
 mod program;
+mod several;
 mod topics;
 
 pub use laws::{migrations_are_judged_yes, recorded_sessions_are_clean};

@@ -2,13 +2,14 @@
 
 ghost use Rattle.std.specs.Prelude.{◌≡◌, ◌≢◌, ◌<◌, ◌≤◌, ℕ, List, IfOk, IfSome, MatchResult, Some, length, true};
 ghost use Rattle.clap.specs.Words.{kind_of, takes};
+ghost use Rattle.command_words.specs.Table.{job_of, several_of};
 ghost use Rattle.command_words.specs.Words.{IsPlain, asked, asked_by, output_named, postcopy_words, several_asked, word_texts};
 ghost use Rattle.command_texts.specs.Answers.{fault_status};
 ghost use Rattle.command_texts.specs.Told.{AreOfInput, Tells};
 ghost use Rattle.commands.specs.Told.{IsPlainCheck, TellsAsked, TellsSeveralAsked};
 
 use crate::answering::perform;
-use crate::judging::asked_several;
+use crate::several::asked_several;
 use clap::error::ErrorKind;
 use command_texts::{Fault, TextSource, USAGE, perform_two, tell};
 use command_words::{Wish, read_output, read_words};
@@ -73,6 +74,38 @@ fn refuse<O: Write, E: Write>(error: clap::Error, output: &mut O, errors: &mut E
     }
 }
 
+// Does what is wished, and tells a fault of it.
+fn grant<
+    R: Threads + Wait + Sync + Net<Listener = TcpListener, Stream = TcpStream>,
+    S: TextSource,
+    I: Read + Send,
+    O: Write,
+    E: Write,
+>(
+    rt: &R,
+    alloc: Global,
+    wish: Wish<'_>,
+    texts: &S,
+    input: &mut I,
+    output: &mut O,
+    errors: &mut E,
+) -> u8
+    ensures known { (result ≢ 2) × (result ≤ 4) }
+    ensures job { IfSome (job_of wish.entry) (λ job. result < 2 → TellsAsked job (S.bytes_of texts.now) (I.remaining input.old) (O.contents output.old) (O.contents output.new) result) }
+    ensures several { IfSome (several_of wish.entry) (λ asked. result < 2 → TellsSeveralAsked asked (S.bytes_of texts.now) (O.contents output.old) (O.contents output.new) result) }
+{
+    match wish {
+        Wish::Job(job) => settle(
+            perform(rt, alloc, job, texts, input, output, errors),
+            errors,
+        ),
+        Wish::Several(several) => settle(
+            asked_several(rt, alloc, &several, texts, input, output, errors),
+            errors,
+        ),
+    }
+}
+
 /// The program: it reads the texts that the words name, writes what the command answers to them, and answers its status.
 ///
 /// The first of the words is the program's own name; with no other it checks the two texts of the input. The status is
@@ -112,14 +145,7 @@ pub fn run<
         return settle(check_input(rt, alloc, texts, input, output, errors), errors);
     }
     match read_words(alloc, words) {
-        Ok(Some(Wish::Job(job))) => settle(
-            perform(rt, alloc, job, texts, input, output, errors),
-            errors,
-        ),
-        Ok(Some(Wish::Several(several))) => settle(
-            asked_several(rt, alloc, &several, texts, input, output, errors),
-            errors,
-        ),
+        Ok(Some(wish)) => grant(rt, alloc, wish, texts, input, output, errors),
         Ok(None) => settle(check_input(rt, alloc, texts, input, output, errors), errors),
         Err(error) => refuse(error, output, errors),
     }

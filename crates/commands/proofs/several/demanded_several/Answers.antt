@@ -1,4 +1,4 @@
-use Rattle.commands.proofs.judging.demanded_several.Goals as goal
+use Rattle.commands.proofs.several.demanded_several.Goals as goal
 
 pub returns-in-Safety-clause-told : goal.returns-in-Safety-clause-told
 returns-in-Safety-clause-told g c = rw c.in-Safety.is c.perform_several.ensures.told

@@ -1,0 +1,164 @@
+//! The audit of several sessions: a line for each, after its name, and how many are clean; or an object for each.
+
+ghost use Rattle.std.specs.Prelude.{◌<◌, IfOk};
+ghost use Rattle.command_texts.specs.Several.{TellsSeveral, names_of, style_of};
+ghost use Rattle.command_words.specs.Table.{several_names};
+ghost use Rattle.commands.specs.Told.{answered, IsAsked, TellsSeveralAsked, lines_asked, lines_style};
+
+use command_texts::{Fault, Listing, OnOne, TextSource, perform_several};
+use command_words::{Audits, Demand, Faults, Form, Several};
+use judge_commands::{AllFaults, AuditCommand, Complete, InLine, InObject};
+use judged_texts::Wanted;
+use std::alloc::Global;
+use std::io::{Read, Write};
+use std::thread::Threads;
+
+/// What ends the list of what is told of several sessions, after how many of how many are clean.
+const ARE_CLEAN: &[u8] = b" sessions are clean\n";
+
+// Does one of two commands on each of the texts under these names: the second where complete sessions are asked for.
+fn demanded_several<
+    'a,
+    A: OnOne,
+    B: OnOne,
+    R: Threads + Sync,
+    S: TextSource,
+    I: Read + Send,
+    O: Write,
+    E: Write,
+>(
+    rt: &R,
+    alloc: Global,
+    demand: Demand,
+    plain: &A,
+    whole: &B,
+    listing: Listing<'_>,
+    names: &[&'a str],
+    texts: &S,
+    input: &mut I,
+    output: &mut O,
+    errors: &mut E,
+) -> Result<u8, Fault<'a>>
+    requires ready_plain { A.ready }
+    requires ready_whole { B.ready }
+    ensures few { IfOk result (λ status. status < 2) }
+    ensures told { IfOk result (TellsSeveral (S.bytes_of texts.now) (λ text. answered demand (A.is_answer plain.now text) (B.is_answer whole.now text)) (style_of listing.entry) (names_of names.now) (O.contents output.old) (O.contents output.new)) }
+{
+    match demand {
+        Demand::Safety => perform_several(
+            rt, alloc, plain, listing, names, texts, input, output, errors,
+        ),
+        Demand::Completeness => perform_several(
+            rt, alloc, whole, listing, names, texts, input, output, errors,
+        ),
+    }
+}
+
+// Audits the sessions under these names, of which each is told by the first line of its report.
+fn line_each<'a, R: Threads + Sync, S: TextSource, I: Read + Send, O: Write, E: Write>(
+    rt: &R,
+    alloc: Global,
+    demand: Demand,
+    names: &[&'a str],
+    texts: &S,
+    input: &mut I,
+    output: &mut O,
+    errors: &mut E,
+) -> Result<u8, Fault<'a>>
+    ensures few { IfOk result (λ status. status < 2) }
+    ensures told { IfOk result (TellsSeveral (S.bytes_of texts.now) (IsAsked (lines_asked demand) Faults.First) lines_style (names_of names.now) (O.contents output.old) (O.contents output.new)) }
+{
+    let asked = Complete {
+        command: AuditCommand {
+            rt,
+            form: Wanted::FirstLine,
+        },
+        form: InLine,
+    };
+    let listing = Listing::Named(ARE_CLEAN);
+    demanded_several(
+        rt,
+        alloc,
+        demand,
+        &asked.command,
+        &asked,
+        listing,
+        names,
+        texts,
+        input,
+        output,
+        errors,
+    )
+}
+
+/// Audits several sessions, as this is asked: a line for each, after its name, and how many are clean; or an object for each.
+pub(crate) fn asked_several<
+    'a,
+    R: Threads + Sync,
+    S: TextSource,
+    I: Read + Send,
+    O: Write,
+    E: Write,
+>(
+    rt: &R,
+    alloc: Global,
+    several: &Several<'a>,
+    texts: &S,
+    input: &mut I,
+    output: &mut O,
+    errors: &mut E,
+) -> Result<u8, Fault<'a>>
+    ensures few { IfOk result (λ status. status < 2) }
+    ensures told { IfOk result (TellsSeveralAsked (several_names several.now) (S.bytes_of texts.now) (O.contents output.old) (O.contents output.new)) }
+{
+    let Audits { asking, faults } = several.audits;
+    let demand = asking.demand;
+    let names = several.names.as_slice();
+    match asking.form {
+        Form::Text => line_each(rt, alloc, demand, names, texts, input, output, errors),
+        Form::Line => line_each(rt, alloc, demand, names, texts, input, output, errors),
+        Form::Json => match faults {
+            Faults::First => {
+                let asked = Complete {
+                    command: AuditCommand { rt, form: InObject },
+                    form: InObject,
+                };
+                demanded_several(
+                    rt,
+                    alloc,
+                    demand,
+                    &asked.command,
+                    &asked,
+                    Listing::Bare,
+                    names,
+                    texts,
+                    input,
+                    output,
+                    errors,
+                )
+            }
+            Faults::All => {
+                let asked = Complete {
+                    command: AuditCommand {
+                        rt,
+                        form: AllFaults::Object,
+                    },
+                    form: InObject,
+                };
+                demanded_several(
+                    rt,
+                    alloc,
+                    demand,
+                    &asked.command,
+                    &asked,
+                    Listing::Bare,
+                    names,
+                    texts,
+                    input,
+                    output,
+                    errors,
+                )
+            }
+        },
+    }
+}
