@@ -250,7 +250,7 @@ fn verdicts(rt: HostRuntime) {
 }
 
 // Audits of several sessions, in the order of the words; a text that is not there ends the list.
-static AUDITS: [Case; 5] = [
+static SEVERAL: [Case; 5] = [
     Case(
         &["postcopy", "audit", "session", "handover"],
         b"",
@@ -294,8 +294,8 @@ static AUDITS: [Case; 5] = [
 ];
 
 #[test]
-fn audits(rt: HostRuntime) {
-    none_is_wrong(&rt, wrong_case(&rt, AUDITS.as_slice()));
+fn several(rt: HostRuntime) {
+    none_is_wrong(&rt, wrong_case(&rt, SEVERAL.as_slice()));
 }
 
 // Whether these words name this file for the answer.
