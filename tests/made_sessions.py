@@ -106,6 +106,7 @@ class MadeSessions:
         self.of_known_sessions()
         self.of_links()
         self.of_cuts_and_windows()
+        self.of_larger_machines()
         self.of_holes()
         self.of_the_script()
 
@@ -190,6 +191,39 @@ class MadeSessions:
             for last in range(first, 5):
                 made = self.script(folder, "--window", f"{first}-{last}")
                 self.tests.same(f"the window {first}-{last}", made.stdout, recording(f"4000{first}-4000{last}").text())
+        for size in range(1, 7):
+            made = self.script(folder, "--windows", str(size), "-o", f"{folder}/by-{size}")
+            self.tests.same(f"windows of {size} pages", (made.stdout, made.stderr, made.returncode), ("", "", 0))
+            wanted = {f"{first}-{min(first + size, 5) - 1}" for first in range(0, 5, size)}
+            self.tests.same("their names", set(os.listdir(f"{folder}/by-{size}")), wanted)
+            for name in wanted:
+                with open(f"{folder}/by-{size}/{name}", encoding="ascii") as file:
+                    self.tests.same(f"the window {name} of {size} pages", file.read(), self.script(folder, "--window", name).stdout)
+
+    def of_larger_machines(self):
+        """A machine with more pages than a session's, and a log with more records: two pages are moved, of which one is read
+        again and again, and the other is read wrongly in the end."""
+        pages, reads = 66000, 1048576
+        folder = self.folder()
+        os.makedirs(folder)
+        logs = {
+            "machine": [f"pages {pages} 1", "page 7 0000000000000005", f"page {pages - 1} 0000000000000006"],
+            "source": ["halted 0", "state", "send 7 0000000000000005", f"send {pages - 1} 0000000000000006"],
+            "pager": ["got-sent 1", "ready", "got-sent 2", "place 7 2 0000000000000005", "got-sent 3", f"place {pages - 1} 4 0000000000000006"],
+            "guest": ["halt", "resume 1", "see 3", *["r 0 7 0 5"] * reads, "see 5", f"r 0 {pages - 1} 0 9"],
+        }
+        for log, records in logs.items():
+            with open(f"{folder}/{log}.1.0", "w", encoding="ascii") as file:
+                file.writelines(f"{number} {record}\n" for number, record in enumerate(records))
+        made = self.script(folder, "--windows", "60000", "-o", f"{folder}/windows")
+        many = f"{folder}/windows/0-59999: guest: 3 records left out: a session's log has 1048576 records at most"
+        self.tests.same("what is said of windows", (made.stderr, made.returncode), (f"session: {many}\n", 0))
+        verdicts = [self.tests.audit(text_of(f"{folder}/windows/{name}")) for name in ("0-59999", "60000-65999")]
+        self.tests.same("the verdicts through windows", verdicts, ["clean", "faulty line 10 read"])
+        made = self.script(folder, "--window", f"{pages - 2}-{pages - 1}")
+        self.tests.same("the window of the last pages", self.tests.audit(made.stdout), "faulty line 10 read")
+        made = self.script(folder)
+        self.tests.same("such a machine in one session", (made.stdout, made.returncode, "66000 pages of 1 cells are too many" in made.stderr), ("", 2, True))
 
     def of_holes(self):
         """A record that is missing in the middle, a second one of a number, and files that are none."""
@@ -259,4 +293,5 @@ class MadeSessions:
         ):
             ran = self.script(*words)
             self.tests.same(f"session {words}", (ran.stdout, ran.stderr, ran.returncode), ("", said, 2))
-        self.tests.same("a window that is none", self.script(both, "--window", "3-2").returncode, 2)
+        for words in (["--window", "3-2"], ["--windows", "2"], ["--windows", "0", "-o", f"{both}/by"], ["--window", "0-1", "--windows", "1", "-o", f"{both}/by"]):
+            self.tests.same(f"words that are none, {words}", self.script(both, *words).returncode, 2)

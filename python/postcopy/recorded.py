@@ -9,14 +9,14 @@ import os
 import re
 from typing import Dict, Iterable, Iterator, List, Tuple
 
-from .records import LOGS, RECORDS, read_record
+from .records import LOGS, LOST, RECORDS, read_record
 from .sessions import Session
 
-__all__ = ["Unfit", "session_of"]
+__all__ = ["Unfit", "recording_of", "session_of"]
 
 _NAME = re.compile(rf"(machine|{'|'.join(LOGS)})\.[0-9]+\.[0-9]+", re.ASCII)
 _LINE = re.compile("(0|[1-9][0-9]{0,9}) (.+)", re.ASCII)
-_MACHINE = re.compile("pages ([1-9][0-9]{0,4}) ([1-9][0-9]{0,2})|page (0|[1-9][0-9]{0,4}) ((?:[0-9a-f]{16})+)", re.ASCII)
+_MACHINE = re.compile("pages ([1-9][0-9]{0,9}) ([1-9][0-9]{0,2})|page (0|[1-9][0-9]{0,9}) ((?:[0-9a-f]{16})+)", re.ASCII)
 
 
 class Unfit(ValueError):
@@ -91,14 +91,15 @@ def _whole(log: str, texts: Dict[int, str]) -> Tuple[List[str], List[str]]:
     return [texts[number] for number in range(length)], said
 
 
-def session_of(folders: Iterable[str]) -> Tuple[Session, List[str]]:
-    """The session of the files in these folders, cut to a whole, and what was left out or is missing, in words. Raises Unfit
-    where they make none, and OSError where they cannot be read."""
+def recording_of(folders: Iterable[str]) -> Tuple[Session, List[str]]:
+    """The recording of the files in these folders, cut to a whole, and what was left out or is missing, in words. Its machine may have
+    more pages than that of a session, and its logs more records: windows show some of the pages. Raises Unfit where the files make
+    no recording, and OSError where they cannot be read."""
     texts = _texts(folders)
     session, said = _machine(texts.pop("machine", {})), []
     session.has_lane = "lane" in texts
     for log in LOGS:
-        whole, holes = _whole(log, texts.get(log, {}))
+        whole, holes = _whole(log, texts.pop(log, {}))
         said += holes
         try:
             session.logs[log] = [read_record(log, text) for text in whole]
@@ -110,4 +111,11 @@ def session_of(folders: Iterable[str]) -> Tuple[Session, List[str]]:
     except ValueError as fault:
         raise Unfit(str(fault)) from None
     missing = [log for log in LOGS if not session.logs[log] and log != "lane"]
-    return session, said + session.cut() + [f"{log}: there is no record" for log in missing]
+    return session, said + session.cut(LOST) + [f"{log}: there is no record" for log in missing]
+
+
+def session_of(folders: Iterable[str]) -> Tuple[Session, List[str]]:
+    """The session of the files in these folders, cut to a whole and to the records that a session may have, and what was left out or
+    is missing, in words. Raises as `recording_of` does."""
+    session, said = recording_of(folders)
+    return session, said + session.cut()

@@ -14,7 +14,7 @@ from __future__ import annotations
 import re
 from typing import Dict, Iterator, NamedTuple, Optional, Tuple, Union
 
-__all__ = ["Field", "Kind", "LOGS", "LOST", "MOST_RECORDS", "RECEIVED", "RECORDS", "Record", "named", "page_in", "page_of", "read_record",
+__all__ = ["Field", "Kind", "LOGS", "LOST", "MOST_CELLS", "MOST_IN_ALL", "MOST_PAGES", "MOST_RECORDS", "RECEIVED", "RECORDS", "Record", "named", "page_in", "page_of", "read_record",
            "spelled"]
 
 Record = Tuple[Union[str, int], ...]
@@ -22,8 +22,11 @@ Record = Tuple[Union[str, int], ...]
 #: The logs of a session, in the order of its text. The lane is in the second version alone.
 LOGS = ("guest", "source", "link", "lane", "pager")
 
-#: So many records a log of a session has at most.
+#: So many records a log of a session has at most, so many pages its machine, so many cells a page, and so many all pages together.
 MOST_RECORDS = 1048576
+MOST_PAGES = 65536
+MOST_CELLS = 512
+MOST_IN_ALL = 1048576
 
 #: What a recorder answers in the place of a number where a record was not written.
 LOST = 2**32 - 1
@@ -104,7 +107,7 @@ for _kind in _kinds(_TABLE + _RECEIVED.lstrip()):
 
 _NUMBER = re.compile("0|[1-9][0-9]*", re.ASCII)
 _CONTENTS = re.compile("(?:[0-9a-f]{16})+", re.ASCII)
-_LIMITS = {"vcpu": 64, "page": 65536, "cell": 512, "value": 2**64}
+_LIMITS = {"vcpu": 64, "cell": MOST_CELLS, "value": 2**64}
 
 
 def _field(field: Field, text: str) -> Union[str, int]:

@@ -7,10 +7,9 @@ from __future__ import annotations
 from bisect import bisect_left
 from collections import Counter
 from dataclasses import dataclass, field
-from itertools import accumulate
-from typing import Dict, Iterator, List
+from typing import Callable, Dict, Iterator, List, Tuple
 
-from .records import LOGS, LOST, MOST_RECORDS, RECEIVED, RECORDS, Record, named, page_of, spelled
+from .records import LOGS, LOST, MOST_CELLS, MOST_IN_ALL, MOST_PAGES, MOST_RECORDS, RECEIVED, RECORDS, Record, named, page_of, spelled
 
 __all__ = ["Session"]
 
@@ -39,6 +38,12 @@ class Session:
         return 2 if is_carried or is_late else 1
 
     def text(self) -> str:
+        """The text of the session. Raises ValueError where the machine is larger than that of a session may be."""
+        if self.pages > MOST_PAGES or self.cells > MOST_CELLS or self.pages * self.cells > MOST_IN_ALL:
+            raise ValueError(
+                f"{self.pages} pages of {self.cells} cells are too many: a session has at most {MOST_PAGES} pages, {MOST_CELLS} cells a page "
+                f"and {MOST_IN_ALL} cells in all; a window shows some of the pages"
+            )
         version = self.version()
         lines = [f"postcopy-session {version}", f"pages {self.pages}", f"cells {self.cells}", f"init {len(self.initial)}"]
         lines += [f"page {page} {self.initial[page]}" for page in sorted(self.initial)]
@@ -70,12 +75,13 @@ class Session:
             if record[0] == "ask-sent":
                 self.logs["source"][number] = ("ask", ups[int(record[1])].pop() if record[1] in ups else LOST)
 
-    def cut(self) -> List[str]:
+    def cut(self, most: int = MOST_RECORDS) -> List[str]:
         """Cuts each log in front of its first record that names one which is not there, until there is none; and tells what
-        was left out. So too a `halted` that is alone, and what is past the greatest number."""
+        was left out. So too a `halted` that is alone, and what is past so many records: those of a session, or more where a window
+        is still to come."""
         reach = {log: _Reach(log, self.logs[log]) for log in LOGS}
-        lengths = {log: min(len(self.logs[log]), MOST_RECORDS) for log in LOGS}
-        said = {log: f"a session's log has {MOST_RECORDS} records at most" for log in LOGS if lengths[log] < len(self.logs[log])}
+        lengths = {log: min(len(self.logs[log]), most) for log in LOGS}
+        said = {log: f"a session's log has {most} records at most" for log in LOGS if lengths[log] < len(self.logs[log])}
         is_cut = True
         while is_cut:
             is_cut = False
@@ -96,55 +102,110 @@ class Session:
         """The session seen through some of its pages, which are numbered from 0: what tells of another page is left out, and
         what names such a record. A look tells of the newest placement that is kept, and goes where an earlier one told as much.
         No record of this session names one that is not there."""
-        kept = {log: [_is_within(log, record, first, last) for record in records] for log, records in self.logs.items()}
-        while any([self._drop_what_names_others(log, kept) for log in LOGS]):
-            pass
-        looks = self._looks(kept)
-        numbers = {log: list(accumulate(marks, initial=0)) for log, marks in kept.items()}
+        return next(self._seen(first, last - first + 1, last + 1))
+
+    def windows(self, size: int) -> Iterator["Session"]:
+        """The session seen through windows of so many pages, one after another, until each page was in one. The last may have
+        fewer pages. It takes little longer than one window."""
+        return self._seen(0, size, self.pages)
+
+    def _seen(self, first: int, size: int, end: int) -> Iterator["Session"]:
+        """The windows of so many pages from one on, up to that in front of the end."""
+        homes = self._homes(lambda page: (page - first) // size if first <= page < end else _NONE)
+        kept = {log: _by_home(homes[log]) for log in LOGS}
+        looks = self._looks(homes["pager"])
+        initial: Dict[int, Dict[int, str]] = {}
+        for page, contents in self.initial.items():
+            initial.setdefault((page - first) // size if first <= page < end else _NONE, {})[page] = contents
+        for window, start in enumerate(range(first, end, size)):
+            numbers = {log: sorted(kept[log].get(_ALL, []) + kept[log].get(window, [])) for log in LOGS}
+            seen = looks.get(window, {})
+            numbers["guest"] = sorted(numbers["guest"] + list(seen))
+            yield self._of_records(numbers, seen, start, min(size, end - start), initial.get(window, {}))
+
+    def _of_records(self, kept: Dict[str, List[int]], looks: Dict[int, int], first: int, pages: int, initial: Dict[int, str]) -> "Session":
+        """The session of these records and looks, told by their numbers; a look tells of this placement."""
+        places = {log: {number: place for place, number in enumerate(kept[log])} for log in LOGS}
 
         def moved(log: str, number: int) -> Record:
-            record = list(self.logs[log][number] if log != "guest" else looks.get(number, self.logs[log][number]))
+            record = list(self.logs[log][number])
+            if log == "guest" and number in looks:
+                record[1] = looks[number]
             for place, part in enumerate(RECORDS[log][str(record[0])].fields, 1):
                 if part.log is not None:
-                    record[place] = numbers[part.log][int(record[place])]
+                    record[place] = places[part.log][int(record[place])]
                 elif part.name == "page":
                     record[place] = int(record[place]) - first
             return tuple(record)
 
-        logs = {log: [moved(log, number) for number, is_kept in enumerate(kept[log]) if is_kept] for log in LOGS}
-        initial = {page - first: contents for page, contents in self.initial.items() if first <= page <= last}
-        return Session(last - first + 1, self.cells, initial, logs, self.has_lane)
+        logs = {log: [moved(log, number) for number in kept[log]] for log in LOGS}
+        return Session(pages, self.cells, {page - first: contents for page, contents in initial.items()}, logs, self.has_lane)
 
-    def _drop_what_names_others(self, log: str, kept: Dict[str, List[bool]]) -> bool:
-        """Drops the records that name one which is not kept, but for looks, and answers whether there was one."""
-        is_dropped = False
+    def _homes(self, window_of: Callable[[int], int]) -> Dict[str, List[int]]:
+        """The window that keeps each record: that of its page, and of each record that it names. Looks are kept by another rule."""
+        homes = {log: [_home(log, record, window_of) for record in records] for log, records in self.logs.items()}
+        naming = {log: list(self._naming(log)) for log in LOGS}
+        while any([_narrow(log, naming[log], homes) for log in LOGS]):
+            pass
+        return homes
+
+    def _naming(self, log: str) -> Iterator[Tuple[int, str, int]]:
+        """The records of a log that name another, but for looks: a record's number, and the log and the number of the other."""
         for number, record in enumerate(self.logs[log]):
-            if kept[log][number] and record[0] != "see" and not all(kept[other][it] for other, it in named(log, record)):
-                kept[log][number], is_dropped = False, True
-        return is_dropped
+            if record[0] != "see":
+                for other, it in named(log, record):
+                    yield number, other, it
 
-    def _looks(self, kept: Dict[str, List[bool]]) -> Dict[int, Record]:
-        """The looks by their numbers, each with the newest placement that is kept; drops those that tell of none, or of no
-        newer one than an earlier look."""
-        newest, placed = [], -1
-        for number, record in enumerate(self.logs["pager"]):
-            if record[0] in PLACEMENTS and kept["pager"][number]:
-                placed = number
-            newest.append(placed)
-        looks: Dict[int, Record] = {}
-        seen = -1
+    def _looks(self, homes: List[int]) -> Dict[int, Dict[int, int]]:
+        """The looks that each window keeps, with the newest placement of the window that each tells of: those that tell of a newer
+        one than each before."""
+        placed = [(number, homes[number]) for number, record in enumerate(self.logs["pager"]) if record[0] in PLACEMENTS]
+        looks: Dict[int, Dict[int, int]] = {}
+        told = 0
         for number, record in enumerate(self.logs["guest"]):
             if record[0] == "see":
-                shown = newest[int(record[1])]
-                kept["guest"][number] = shown > seen
-                if shown > seen:
-                    looks[number], seen = ("see", shown), shown
+                while told < len(placed) and placed[told][0] <= int(record[1]):
+                    placement, window = placed[told]
+                    looks.setdefault(window, {})[number] = placement
+                    told += 1
         return looks
 
 
-def _is_within(log: str, record: Record, first: int, last: int) -> bool:
+# The windows that keep a record, where it is not one: each of them, or none.
+_ALL, _NONE = -1, -2
+
+
+def _home(log: str, record: Record, window_of: Callable[[int], int]) -> int:
+    if record[0] == "see":
+        return _NONE
     page = page_of(log, record)
-    return page is None or first <= page <= last
+    return _ALL if page is None else window_of(page)
+
+
+def _both(one: int, other: int) -> int:
+    """The windows that keep what these keep, both of them."""
+    if one == _ALL:
+        return other
+    return one if other in (_ALL, one) else _NONE
+
+
+def _narrow(log: str, naming: List[Tuple[int, str, int]], homes: Dict[str, List[int]]) -> bool:
+    """Keeps the records of a log only where what they name is kept. Answers whether one was kept in more windows before."""
+    of_log, is_changed = homes[log], False
+    for number, other, it in naming:
+        home = _both(of_log[number], homes[other][it])
+        if home != of_log[number]:
+            of_log[number], is_changed = home, True
+    return is_changed
+
+
+def _by_home(homes: List[int]) -> Dict[int, List[int]]:
+    """The numbers of the records that each window keeps, or that all do."""
+    kept: Dict[int, List[int]] = {}
+    for number, home in enumerate(homes):
+        if home != _NONE:
+            kept.setdefault(home, []).append(number)
+    return kept
 
 
 class _Reach:
