@@ -3,6 +3,7 @@ pub mod Fates
 pub mod Passages
 pub mod Tries
 pub mod Turns
+pub mod Rounds
 pub mod Sides
 pub mod Operations
 pub mod Runs

@@ -8,13 +8,14 @@ ghost use Rattle.target_book.specs.Kept.{part_of as target_of};
 ghost use Rattle.pager_book.specs.PagerLists.{part_of, IsPacketOf};
 ghost use Rattle.book_events.specs.Parts.{receiving, placing};
 ghost use Rattle.host_threads.specs.Tries.{exchange_tries, attend_tries, exchange_makes, attend_makes};
+ghost use Rattle.host_threads.specs.Rounds.{Attends, Exchanges, MakesAll};
 ghost use Rattle.host_threads.specs.Turns.{IsTurn, IsUntried};
 
 use crate::bell::{Bell, Fault, Party};
 use crate::gate::{Gate, most_at_once};
 use crate::shared::{Shared, Turn, told, told_to_all};
 use crate::side::TargetSide;
-use crate::turns::{Books, make_often};
+use crate::turns::{Makes, make_often};
 use book_events::paging::{
     pager_deliver, pager_fault, pager_flush, pager_pop, pager_pull, pager_tick,
 };
@@ -137,7 +138,9 @@ fn placed_last(pager: &PagerBook) -> Option<PageNo> {
 }
 
 /// The same as `attend`. The bell is told which virtual processors it lets go on, which the caller rings.
-fn attend_told(bell: &Bell, pager: &mut PagerBook, target: &mut TargetBook, event: Event) -> Turn {
+fn attend_told(bell: &Bell, pager: &mut PagerBook, target: &mut TargetBook, event: Event) -> Turn
+    ensures { Attends event result (pager.old, target.old) (pager.new, target.new) }
+{
     let was_resumed = target.is_resumed();
     let turn = attend(pager, target, event);
     if let Turn::Served = turn {
@@ -151,35 +154,42 @@ fn attend_told(bell: &Bell, pager: &mut PagerBook, target: &mut TargetBook, even
     turn
 }
 
-/// The pager's and the target's books, and the bell.
+/// The bell that is told which virtual processors go on.
 #[derive(Drop)]
 struct Attending<'a> {
     bell: &'a Bell,
-    pager: &'a mut PagerBook,
-    target: &'a mut TargetBook,
 }
 
-impl<'a> Books for Attending<'a> {
-    fn make(&mut self, event: Event) -> Turn {
-        attend_told(self.bell, self.pager, self.target, event)
+impl<'a> Makes<PagerBook, TargetBook> for Attending<'a> {
+    ghost makes = { λ self event turn old new. Attends event turn old new };
+
+    fn make(&self, pager: &mut PagerBook, target: &mut TargetBook, event: Event) -> Turn {
+        attend_told(self.bell, pager, target, event)
     }
 }
 
-/// The first of these events for which there is something to do, at most so often, where there is a target's book.
+/// The first of these events for which there is something to do, at most so often.
+fn attend_all(
+    bell: &Bell,
+    pager: &mut PagerBook,
+    target: &mut TargetBook,
+    events: &[Event],
+    most: usize,
+) -> Turn
+    ensures { MakesAll Attends events.now most result (pager.old, target.old) (pager.new, target.new) }
+{
+    make_often(&Attending { bell }, pager, target, events, most)
+}
+
+/// The same on the books that are locked, where there is a target's.
 fn attend_often<R: Wait>(rt: &R, shared: &Shared, events: &[Event], most: usize) -> Turn {
     let mut pager = shared.pager.lock(rt);
     let mut side = shared.target.lock(rt);
-    let target = match &mut *side {
-        TargetSide::Guest(_) => return Turn::Idle,
-        TargetSide::Moving => return Turn::Stops(Fault::Astray),
-        TargetSide::Target(target) => target,
-    };
-    let mut books = Attending {
-        bell: &shared.bell,
-        pager: &mut pager,
-        target,
-    };
-    make_often(&mut books, events, most)
+    match &mut *side {
+        TargetSide::Guest(_) => Turn::Idle,
+        TargetSide::Moving => Turn::Stops(Fault::Astray),
+        TargetSide::Target(target) => attend_all(&shared.bell, &mut pager, target, events, most),
+    }
 }
 
 /// Whether there is no source's book yet, or it is done.
@@ -236,28 +246,30 @@ fn serve<R: Wait, G: Gate>(rt: &R, shared: &Shared, gate: &G, is_resumed: &mut b
     }
 }
 
-/// The link's and the pager's books.
-#[derive(Drop)]
-struct Exchanging<'a> {
-    link: &'a mut LinkBook,
-    pager: &'a mut PagerBook,
-}
+/// What the pager makes of the link's book and its own.
+#[derive(Clone, Copy, Drop)]
+struct Exchanging;
 
-impl<'a> Books for Exchanging<'a> {
-    fn make(&mut self, event: Event) -> Turn {
-        exchange(self.link, self.pager, event)
+impl Makes<LinkBook, PagerBook> for Exchanging {
+    ghost makes = { λ self event turn old new. Exchanges event turn old new };
+
+    fn make(&self, link: &mut LinkBook, pager: &mut PagerBook, event: Event) -> Turn {
+        exchange(link, pager, event)
     }
 }
 
 /// The first of these events for which there is something to do, at most so often.
+fn exchange_all(link: &mut LinkBook, pager: &mut PagerBook, events: &[Event], most: usize) -> Turn
+    ensures { MakesAll Exchanges events.now most result (link.old, pager.old) (link.new, pager.new) }
+{
+    make_often(&Exchanging, link, pager, events, most)
+}
+
+/// The same on the books that are locked.
 fn exchange_often<R: Wait>(rt: &R, shared: &Shared, events: &[Event], most: usize) -> Turn {
     let mut link = shared.link.lock(rt);
     let mut pager = shared.pager.lock(rt);
-    let mut books = Exchanging {
-        link: &mut link,
-        pager: &mut pager,
-    };
-    let turn = make_often(&mut books, events, most);
+    let turn = exchange_all(&mut link, &mut pager, events, most);
     shared.ring_over(&turn, &link);
     turn
 }

@@ -5,6 +5,7 @@ ghost use Rattle.source_book.specs.Books.{part_of};
 ghost use Rattle.link_book.specs.Links.{is_quiet};
 ghost use Rattle.book_events.specs.Parts.{pushing, sending};
 ghost use Rattle.host_threads.specs.Tries.{source_tries, source_makes};
+ghost use Rattle.host_threads.specs.Rounds.{Acts, MakesAll};
 ghost use Rattle.host_threads.specs.Turns.{IsTurn, IsUntried};
 ghost use Rattle.host_threads.specs.Sides.{Halts};
 
@@ -12,7 +13,7 @@ use crate::bell::{Fault, Party};
 use crate::gate::{Gate, most_at_once};
 use crate::shared::{Shared, Turn, of_event, told};
 use crate::side::TargetSide;
-use crate::turns::{Books, make_often};
+use crate::turns::{Makes, make_often};
 use book_events::sending::{push, serve, source_tick};
 use link_book::LinkBook;
 use migration_events::Event;
@@ -91,17 +92,17 @@ fn halt<R: Wait>(rt: &R, shared: &Shared, script: &Script) -> Turn {
     turn
 }
 
-/// The source's and the link's books, and the script by which pages are pushed.
+/// The script by which pages are pushed.
 #[derive(Drop)]
 struct Acting<'a> {
-    book: &'a mut SourceBook,
-    link: &'a mut LinkBook,
     script: &'a Script,
 }
 
-impl<'a> Books for Acting<'a> {
-    fn make(&mut self, event: Event) -> Turn {
-        act(self.book, self.link, event, self.script)
+impl<'a> Makes<SourceBook, LinkBook> for Acting<'a> {
+    ghost makes = { λ self event turn old new. Acts self.script.now event turn old new };
+
+    fn make(&self, book: &mut SourceBook, link: &mut LinkBook, event: Event) -> Turn {
+        act(book, link, event, self.script)
     }
 }
 
@@ -112,6 +113,19 @@ fn source_tries() -> [Event; 3]
     [Event::Serve, Event::Push, Event::SourceTick]
 }
 
+/// The first of these events for which there is something to do, at most so often.
+fn act_all(
+    book: &mut SourceBook,
+    link: &mut LinkBook,
+    script: &Script,
+    events: &[Event],
+    most: usize,
+) -> Turn
+    ensures { MakesAll (Acts script.now) events.now most result (book.old, link.old) (book.new, link.new) }
+{
+    make_often(&Acting { script }, book, link, events, most)
+}
+
 /// What there is to do after the halt, at most so often.
 fn turn<R: Wait>(rt: &R, shared: &Shared, script: &Script, most: usize) -> Turn {
     let mut source = shared.source.lock(rt);
@@ -119,12 +133,7 @@ fn turn<R: Wait>(rt: &R, shared: &Shared, script: &Script, most: usize) -> Turn 
     let Some(book) = &mut *source else {
         return Turn::Idle;
     };
-    let mut books = Acting {
-        book: &mut *book,
-        link: &mut link,
-        script,
-    };
-    let turn = make_often(&mut books, &source_tries(), most);
+    let turn = act_all(book, &mut link, script, &source_tries(), most);
     if book.is_done() {
         shared.bell.finish();
     }

@@ -1,33 +1,51 @@
 //! Events that a thread makes, one after another under one hold of its locks.
 
+ghost use Rattle.migration_events.specs.declared.events.Event.{Event as Tried};
+ghost use Rattle.host_threads.specs.declared.shared.Turn.{Turn as Told};
+ghost use Rattle.host_threads.specs.Rounds.{MakesAll, MakesFirst};
+
 use crate::shared::Turn;
 use migration_events::Event;
 
-/// The books that a thread has locked.
-pub(crate) trait Books {
+/// Makes events of two books.
+pub(crate) trait Makes<A, B> {
+    /// What is told of an event, and what it makes of the books.
+    ghost makes: { Self → Tried → Told → A × B → A × B → Type 0 };
+
     /// Makes an event of these books, where there is something to do.
-    fn make(&mut self, event: Event) -> Turn;
+    fn make(&self, one: &mut A, other: &mut B, event: Event) -> Turn
+        ensures { makes self.now event result (one.old, other.old) (one.new, other.new) };
 }
 
 /// Makes the first of these events for which there is something to do.
-fn make_first<B: Books>(books: &mut B, events: &[Event]) -> Turn {
+fn make_first<A, B, M: Makes<A, B>>(maker: &M, one: &mut A, other: &mut B, events: &[Event]) -> Turn
+    ensures { MakesFirst (M.makes maker.now) events.now result (one.old, other.old) (one.new, other.new) }
+{
     for event in events {
-        match books.make(*event) {
+        match maker.make(one, other, *event) {
             Turn::Idle => {}
-            other => return other,
+            turn => return turn,
         }
     }
     Turn::Idle
 }
 
 /// The same as long as there is something to do, at most so often. The last that was not idle is told.
-pub(crate) fn make_often<B: Books>(books: &mut B, events: &[Event], most: usize) -> Turn {
+pub(crate) fn make_often<A, B, M: Makes<A, B>>(
+    maker: &M,
+    one: &mut A,
+    other: &mut B,
+    events: &[Event],
+    most: usize,
+) -> Turn
+    ensures { MakesAll (M.makes maker.now) events.now most result (one.old, other.old) (one.new, other.new) }
+{
     let mut last = Turn::Idle;
     for _ in 0..most {
-        match make_first(books, events) {
+        match make_first(maker, one, other, events) {
             Turn::Idle => break,
             Turn::Stops(fault) => return Turn::Stops(fault),
-            other => last = other,
+            turn => last = turn,
         }
     }
     last
