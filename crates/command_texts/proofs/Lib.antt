@@ -6,3 +6,5 @@ pub mod Said
 pub mod WhatIsRead
 pub mod Names
 pub mod Listed
+pub mod Fronts
+pub mod Endings

@@ -1,9 +1,10 @@
 -- Pieces that a taker takes one after another.
 use Rattle.std.proofs.Common.{◌≡◌, ℕ, ◌+◌, List, [], ◌++◌, length, refl, sym, ap, ◌∙◌, subst, length-append, arith}
 use Rattle.std.proofs.lemmas.List.{append-nil}
-use Rattle.std.specs.Prelude.{Option, Some, None, IfSome}
+use Rattle.std.specs.Prelude.{Option, Some, None, IfSome, Result, Ok, Err, OnOk}
 use Rattle.std.specs.Io.KnownBytes.{Consumes, IsAtEnd}
 use Rattle.std.proofs.KnownBytes.{Consumes-all, Consumes-nil, Consumes-trans}
+use Rattle.command_texts.specs.Told.{AreRead}
 use Rattle.command_texts.specs.inner.Takings.{Takes, TakesAll}
 use Rattle.command_texts.proofs.WhatIsRead.{more_taken}
 
@@ -47,3 +48,8 @@ takes_rest Came most left known rest old now new yet all = record {
   whole = whole_behind known rest yet.bytes all.bytes yet.consumed all.whole;
   taken = more_taken Came old now new yet.bytes all.bytes yet.taken (λ text came. all.taken text came);
 }
+
+-- what was taken is the text that was read
+pub all_taken : {E : Type 0} (r : Result (Unit {0}) E) {T : Type 0} (Came : T → List ℕ → Type 0) (known : Option (List ℕ)) (old new : T) → OnOk r (TakesAll Came 268435456 known old new) → OnOk r ((text : List ℕ) × AreRead known text × (Came old [] → Came new text))
+all_taken (Ok v) Came known old new h = (h.bytes, record { few = h.few; whole = h.whole }, λ came. h.taken [] came)
+all_taken (Err e) Came known old new h = tt

@@ -1,16 +1,14 @@
 -- What was read of a text.
 use Rattle.std.proofs.Common.{◌≡◌, ◌≢◌, ℕ, ◌<◌, List, ◌++◌, refl, subst, sym, append_assoc}
-use Rattle.std.specs.Prelude.{Option, Result, Ok, Err, IfOk, OnOk, MatchResult}
-use Rattle.std.specs.Io.KnownBytes.{Appends}
+use Rattle.std.specs.Prelude.{Option, Some, None, Result, Ok, Err, IfOk, OnOk, MatchResult}
 use Rattle.text_lines.specs.declared.FaultKind.{FaultKind}
 use Rattle.text_lines.specs.declared.FaultKind.TheVariants.{Form, Range, Ended, Memory}
 use Rattle.std.specs.declared.alloc.AllocError.{AllocError}
 use Rattle.text_lines.specs.declared.wanted.Refusal.{Refusal}
 use Rattle.text_lines.specs.Answer.{IsRead, Refused}
 use Rattle.text_lines.specs.Text.{IsRefusalLine, IsSpelling}
-use Rattle.command_texts.specs.declared.answer.Answer.{Answer}
 use Rattle.command_texts.specs.declared.answer.Fault.{Fault}
-use Rattle.command_texts.specs.Told.{Tells}
+use Rattle.command_texts.specs.Reasons.{IsRefusedAt, line_of}
 
 -- a text that is refused, and not because there is no memory for it, is refused at that line
 pub refused_at : {V : Type 0} (Spells : V → List (List ℕ) → Type 0) (text : List ℕ) (line : ℕ) (kind : FaultKind) → Refused Spells text line kind → kind ≢ Memory → IsRefusalLine Spells text line
@@ -23,18 +21,6 @@ refused_at Spells text line Memory h ne = absurd (ne refl)
 pub more_taken : {T : Type 0} (Came : T → List ℕ → Type 0) (start mid new : T) (bytes piece : List ℕ) → ((before : List ℕ) → Came start before → Came mid (before ++ bytes)) → ((text : List ℕ) → Came mid text → Came new (text ++ piece)) → (before : List ℕ) → Came start before → Came new (before ++ (bytes ++ piece))
 more_taken Came start mid new bytes piece yet more before came = subst (Came new) (append_assoc before bytes piece) (more (before ++ bytes) (yet before came))
 
--- what was written is the answer to some texts, with its status
-pub tells : {T : Type 0} (AreTexts : T → Type 0) (IsAnswerTo : T → List ℕ → ℕ → Type 0) (old new : Option (List ℕ)) (texts : T) (answer : Answer) (done : Result ℕ Fault) → AreTexts texts → IsAnswerTo texts answer.text.items answer.status
-    → IfOk done (λ status. status ≡ answer.status)
-    → IfOk done (λ status. Appends old new answer.text.items)
-    → IfOk done (Tells AreTexts IsAnswerTo old new)
-tells AreTexts IsAnswerTo old new texts answer (Ok status) are is same written = record {
-  texts = texts;
-  are_texts = are;
-  told = record { text = answer.text.items; is_answer = subst (λ (n : ℕ). IsAnswerTo texts answer.text.items n) (sym same) is; written = written };
-}
-tells AreTexts IsAnswerTo old new texts answer (Err fault) are is same written = tt
-
 -- the status that was written is the answer's
 pub few_written : (done : Result ℕ Fault) (own : ℕ) → own < 2 → IfOk done (λ status. status ≡ own) → IfOk done (λ status. status < 2)
 few_written (Ok status) own few e = rw e few
@@ -45,10 +31,10 @@ ok_then (Ok v) P Q h f = f h
 ok_then (Err e) P Q h f = tt
 
 -- what is told of a text that was read
-pub told_read : {V : Type 0} (Spells : V → List (List ℕ) → Type 0) (text : List ℕ) (read : Result V Refusal) (told : Result (Result V ℕ) AllocError)
+pub told_read : {V : Type 0} (Spells : V → List (List ℕ) → Type 0) (text : List ℕ) (read : Result V Refusal) (told : Result (Result V ℕ × Option Refusal) AllocError)
     → MatchResult read (λ v. IsSpelling Spells v text) (λ why. Refused Spells text why.fault.line why.fault.kind)
-    → MatchResult read (λ v. told ≡ Ok (Ok v)) (λ why. MatchResult told (λ found. (found ≡ Err why.fault.line) × (why.fault.kind ≢ Memory)) (λ _. why.fault.kind ≡ Memory))
-    → IfOk told (IsRead Spells text)
-told_read Spells text (Ok v) told is same = rw same is
-told_read Spells text (Err why) (Ok found) is same = rw same.0 (refused_at Spells text why.fault.line why.fault.kind is same.1)
+    → MatchResult read (λ v. told ≡ Ok (Ok v, None)) (λ why. MatchResult told (λ t. (t ≡ (Err why.fault.line, Some why)) × (why.fault.kind ≢ Memory)) (λ _. why.fault.kind ≡ Memory))
+    → IfOk told (λ t. IsRead Spells text t.0 × IsRefusedAt Spells text (line_of t.1))
+told_read Spells text (Ok v) told is same = rw same (is, (v, is))
+told_read Spells text (Err why) (Ok t) is same = let refused = refused_at Spells text why.fault.line why.fault.kind is same.1 in rw same.0 (refused, refused)
 told_read Spells text (Err why) (Err e) is same = tt

@@ -1,5 +1,5 @@
 -- What a command answers to its texts: a text that it writes, and its status.
-use Rattle.std.specs.Prelude.{◌≡◌, ℕ, List, [], ◌∷◌, ◌++◌}
+use Rattle.std.specs.Prelude.{◌≡◌, ℕ, List, [], ◌∷◌, ◌++◌, codes, ⊤}
 use Rattle.std.specs.Fmt.{decimal}
 use Rattle.command_texts.specs.declared.answer.Answer.{Answer}
 use Rattle.command_texts.specs.declared.answer.Fault.{Fault}
@@ -11,6 +11,34 @@ fault_status (File name) = 3
 fault_status Link = 3
 fault_status Output = 3
 fault_status Memory = 4
+
+-- the line of a text that was not read whole
+abbrev pub file_line : List ℕ → List ℕ
+file_line name = codes "file " ++ name ++ codes "\n"
+
+-- the line that tells a fault
+abbrev pub fault_line : Fault → List ℕ
+fault_line (File name) = file_line name.now
+fault_line Link = codes "link\n"
+fault_line Output = codes "output\n"
+fault_line Memory = codes "out of memory\n"
+
+-- a text that was not read whole stands under such a name, or there was no memory
+abbrev pub IsReadFault : (List ℕ → Type 0) → Fault → Type 0
+IsReadFault IsName (File name) = IsName name.now
+IsReadFault IsName Link = ⊥
+IsReadFault IsName Output = ⊥
+IsReadFault IsName Memory = ⊤
+
+-- a fault of a command on texts under such names
+abbrev pub IsTextFault : (List ℕ → Type 0) → Fault → Type 0
+IsTextFault IsName Output = ⊤
+IsTextFault IsName other = IsReadFault IsName other
+
+-- and of one that may use a link
+abbrev pub IsLinkFault : (List ℕ → Type 0) → Fault → Type 0
+IsLinkFault IsName Link = ⊤
+IsLinkFault IsName other = IsTextFault IsName other
 
 -- an answer of this text and this status
 abbrev pub Says : Answer → List ℕ → ℕ → Type 0

@@ -1,5 +1,7 @@
 pub mod Cutting
 pub mod Answers
 pub mod Told
+pub mod Written
+pub mod Reasons
 pub mod Several
 pub mod inner

@@ -1,24 +1,30 @@
 -- The answers to several texts, one after the other.
-use Rattle.std.specs.Prelude.{◌≡◌, ℕ, ◌+◌, Bool, List, [], ◌∷◌, ◌++◌, Option, Some, None, codes, length, map, ◌==◌, if◌then◌else◌}
+use Rattle.std.specs.Prelude.{◌≡◌, ◌⊎◌, ℕ, ◌+◌, Bool, List, [], ◌∷◌, ◌++◌, Option, Some, None, codes, length, map, ◌==◌, if◌then◌else◌}
 use Rattle.std.specs.Fmt.{decimal}
 use Rattle.std.specs.List.{AllByRecursion, concat}
 use Rattle.std.specs.Borrow.{Bor}
-use Rattle.std.specs.Io.KnownBytes.{Appends}
+use Rattle.std.specs.Io.KnownBytes.{Appends, Keeps}
 use Rattle.command_texts.specs.declared.several.Listing.{Listing}
 use Rattle.command_texts.specs.declared.several.Listing.TheVariants.{Named, Bare}
+use Rattle.command_texts.specs.declared.why.Telling.TheVariants.{Short}
+use Rattle.command_texts.specs.Reasons.{TellsWhy, place_of}
 use Rattle.command_texts.specs.Told.{IsNamed}
+use Rattle.command_texts.specs.Written.{Streams}
 
--- a name, the text that stood under it, and the answer to this text with its status
+-- a name, the text that stood under it, the answer to this text with its status, and the line at which it is refused, if it is
 pub record Entry : Type 0 where
   pub name : List ℕ
   pub text : List ℕ
   pub said : List ℕ
   pub status : ℕ
+  pub line : Option ℕ
 
--- the text was read under its name, and this is the answer to it; of what was read of the input no more is said
-pub record IsRight (files : List ℕ → Option (List ℕ)) (IsAnswer : List ℕ → List ℕ → ℕ → Type 0) (e : Entry) : Type 0 where
+-- the text was read under its name, and this is the answer to it, and where it is refused; of what was read of the input no
+-- more is said
+pub record IsRight (files : List ℕ → Option (List ℕ)) (IsAnswer : List ℕ → List ℕ → ℕ → Type 0) (IsRefused : List ℕ → Option ℕ → Type 0) (e : Entry) : Type 0 where
   pub is_named : IsNamed e.name files None e.text
   pub is_answer : IsAnswer e.text e.said e.status
+  pub is_line : IsRefused e.text e.line
 
 -- how answers are listed: after their names, with these words after the counts at the end, or as they are
 abbrev pub Style : Type 0
@@ -54,26 +60,48 @@ list_text style es = concat (map (listed style) es) ++ list_end style (well es) 
 abbrev pub names_of : List (Bor (List ℕ)) → List (List ℕ)
 names_of names = map (λ name. name.now) names
 
+-- why a text is refused is told, if it is
+abbrev pub TellsEntry : Entry → Option (List ℕ) → Option (List ℕ) → Type 0
+TellsEntry e = TellsWhy Short (place_of e.name e.line)
+
+-- and so of each, one after the other
+abbrev pub TellsEach : List Entry → Option (List ℕ) → Option (List ℕ) → Type 0
+TellsEach [] old new = Keeps old new
+TellsEach (e ∷ es) old new = (between : Option (List ℕ)) × TellsEntry e old between × TellsEach es between new
+
+-- a list, and what the standard error has, as far as it is known
+abbrev pub Listed : Type 0
+Listed = List ℕ × Option (List ℕ)
+
 -- the answer to the text under a name was added to a list, and this tells whether all is well by it
-pub record IsGathered (files : List ℕ → Option (List ℕ)) (IsAnswer : List ℕ → List ℕ → ℕ → Type 0) (style : Style) (name old new : List ℕ) (is_well : Bool) : Type 0 where
+pub record IsGathered (files : List ℕ → Option (List ℕ)) (IsAnswer : List ℕ → List ℕ → ℕ → Type 0) (IsRefused : List ℕ → Option ℕ → Type 0) (style : Style) (name : List ℕ) (old new : Listed) (is_well : Bool) : Type 0 where
   pub entry : Entry
   pub is_name : entry.name ≡ name
-  pub is_right : IsRight files IsAnswer entry
-  pub added : new ≡ old ++ listed style entry
+  pub is_right : IsRight files IsAnswer IsRefused entry
+  pub added : new.0 ≡ old.0 ++ listed style entry
+  pub told : TellsEntry entry old.1 new.1
   pub tells : is_well ≡ (entry.status == 0)
 
 -- the answers to the texts under these names were added to a list, and by so many of them all is well
-pub record AreGathered (files : List ℕ → Option (List ℕ)) (IsAnswer : List ℕ → List ℕ → ℕ → Type 0) (style : Style) (names : List (List ℕ)) (old new : List ℕ) (count : ℕ) : Type 0 where
+pub record AreGathered (files : List ℕ → Option (List ℕ)) (IsAnswer : List ℕ → List ℕ → ℕ → Type 0) (IsRefused : List ℕ → Option ℕ → Type 0) (style : Style) (names : List (List ℕ)) (old new : Listed) (count : ℕ) : Type 0 where
   pub entries : List Entry
   pub are_names : map (λ e. e.name) entries ≡ names
-  pub are_right : AllByRecursion (IsRight files IsAnswer) entries
-  pub added : new ≡ old ++ concat (map (listed style) entries)
+  pub are_right : AllByRecursion (IsRight files IsAnswer IsRefused) entries
+  pub added : new.0 ≡ old.0 ++ concat (map (listed style) entries)
+  pub told : TellsEach entries old.1 new.1
   pub tells : count ≡ well entries
 
--- the answers to the texts under these names were told, and the status is 0 where each says that all is well
-pub record TellsSeveral (files : List ℕ → Option (List ℕ)) (IsAnswer : List ℕ → List ℕ → ℕ → Type 0) (style : Style) (names : List (List ℕ)) (old new : Option (List ℕ)) (status : ℕ) : Type 0 where
+-- the answers to the texts under these names were told, and beside them why texts are refused; the status is 0 where each says
+-- that all is well
+pub record TellsSeveral (files : List ℕ → Option (List ℕ)) (IsAnswer : List ℕ → List ℕ → ℕ → Type 0) (IsRefused : List ℕ → Option ℕ → Type 0) (style : Style) (names : List (List ℕ)) (old new : Streams) (status : ℕ) : Type 0 where
   pub entries : List Entry
   pub are_names : map (λ e. e.name) entries ≡ names
-  pub are_right : AllByRecursion (IsRight files IsAnswer) entries
-  pub written : Appends old new (list_text style entries)
+  pub are_right : AllByRecursion (IsRight files IsAnswer IsRefused) entries
+  pub written : Appends old.0 new.0 (list_text style entries)
+  pub beside : TellsEach entries old.1 new.1
   pub is_status : status ≡ (if well entries == length entries then 0 else 1)
+
+-- one of these names
+abbrev pub IsOneOf : List (List ℕ) → List ℕ → Type 0
+IsOneOf [] name = ⊥
+IsOneOf (n ∷ ns) name = (name ≡ n) ⊎ IsOneOf ns name

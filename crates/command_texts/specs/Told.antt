@@ -1,8 +1,11 @@
 -- What is told of the texts under names.
-use Rattle.std.specs.Prelude.{◌≡◌, ℕ, ◌≤◌, Bool, true, false, List, Option, IfSome, codes, length, if◌then◌else◌, ◌&&◌}
+use Rattle.std.specs.Prelude.{◌≡◌, ℕ, ◌≤◌, Bool, true, false, List, Option, Result, IfSome, MatchResult, codes, length, if◌then◌else◌, ◌&&◌}
 use Rattle.std.specs.Str.{bytes_eq}
-use Rattle.std.specs.Io.KnownBytes.{Appends}
+use Rattle.std.specs.Io.KnownBytes.{Appends, Keeps}
+use Rattle.command_texts.specs.declared.answer.Fault.{Fault}
+use Rattle.command_texts.specs.declared.answer.Fault.TheVariants.{Output}
 use Rattle.command_texts.specs.Cutting.{IsCutAtEnd}
+use Rattle.command_texts.specs.Written.{AppendsFront, Streams}
 
 -- the name of the input
 abbrev pub is_dash : List ℕ → Bool
@@ -42,8 +45,34 @@ pub record TellsOf (IsAnswer : List ℕ → ℕ → Type 0) (old new : Option (L
   pub is_answer : IsAnswer text status
   pub written : Appends old new text
 
--- the answer to such texts was told
-pub record Tells {T : Type 0} (AreTexts : T → Type 0) (IsAnswerTo : T → List ℕ → ℕ → Type 0) (old new : Option (List ℕ)) (status : ℕ) : Type 0 where
+-- the answer to such texts was told, and beside it what such a relation says
+pub record Tells {T : Type 0} (AreTexts : T → Type 0) (IsAnswerTo : T → List ℕ → ℕ → Type 0) (IsBeside : T → Option (List ℕ) → Option (List ℕ) → Type 0) (old new : Streams) (status : ℕ) : Type 0 where
   pub texts : T
   pub are_texts : AreTexts texts
-  pub told : TellsOf (IsAnswerTo texts) old new status
+  pub told : TellsOf (IsAnswerTo texts) old.0 new.0 status
+  pub beside : IsBeside texts old.1 new.1
+
+-- the output gained a front of the answer to such texts
+pub record CutsShort {T : Type 0} (AreTexts : T → Type 0) (IsAnswerTo : T → List ℕ → ℕ → Type 0) (old new : Option (List ℕ)) : Type 0 where
+  pub texts : T
+  pub are_texts : AreTexts texts
+  pub text : List ℕ
+  pub status : ℕ
+  pub is_answer : IsAnswerTo texts text status
+  pub written : AppendsFront old new text
+
+-- what a fault leaves of the output: where it is the output's own it was cut short, and at any other it stays
+abbrev pub IsLeft : Fault → Type 0 → Type 0 → Type 0
+IsLeft Output IsCut Stays = IsCut
+IsLeft other IsCut Stays = Stays
+
+-- it came to such a fault, and nothing is told beside it
+pub record Fails {T : Type 0} (IsFault : Fault → Type 0) (AreTexts : T → Type 0) (IsAnswerTo : T → List ℕ → ℕ → Type 0) (old new : Streams) (fault : Fault) : Type 0 where
+  pub is_fault : IsFault fault
+  pub output : IsLeft fault (CutsShort AreTexts IsAnswerTo old.0 new.0) (Keeps old.0 new.0)
+  pub errors : Keeps old.1 new.1
+
+-- the answer to such texts was told, or it came to such a fault
+abbrev pub Ends : {T : Type 0} → (Fault → Type 0) → (T → Type 0) → (T → List ℕ → ℕ → Type 0) → (T → Option (List ℕ) → Option (List ℕ) → Type 0) → Streams → Streams → Result ℕ Fault → Type 0
+Ends IsFault AreTexts IsAnswerTo IsBeside old new done =
+    MatchResult done (Tells AreTexts IsAnswerTo IsBeside old new) (Fails IsFault AreTexts IsAnswerTo old new)

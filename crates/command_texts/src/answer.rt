@@ -1,10 +1,12 @@
 //! Answers and faults, with their statuses.
 
-ghost use Rattle.std.specs.Prelude.{◌≡◌, [], ◌∷◌, Ok, IfOk, if◌then◌else◌};
+ghost use Rattle.std.specs.Prelude.{◌≡◌, [], ◌∷◌, Ok, IfOk, IfErr, if◌then◌else◌};
 ghost use Rattle.std.specs.Io.KnownBytes.{Appends};
 ghost use Rattle.text_lines.specs.Text.{ended};
-ghost use Rattle.command_texts.specs.Answers.{Says, fault_status, numbered};
+ghost use Rattle.command_texts.specs.Answers.{Says, fault_line, fault_status, file_line, numbered};
+ghost use Rattle.command_texts.specs.Written.{AppendsFront};
 
+use crate::writing::write_whole;
 use std::alloc::{AllocError, Global};
 use std::io::Write;
 use text_lines::{push_keyed, push_line};
@@ -47,25 +49,39 @@ pub enum Fault<'a> {
 /// An answer, or the fault that there is none.
 pub type Given = Result<Answer, Fault<'static>>;
 
+// Tells of the text under this name that it failed.
+fn tell_file<E: Write>(name: &str, errors: &mut E)
+    ensures { AppendsFront (E.contents errors.old) (E.contents errors.new) (file_line name.now) }
+{
+    if !write_whole(errors, b"file ") {
+        return;
+    }
+    if !write_whole(errors, name.as_bytes()) {
+        return;
+    }
+    write_whole(errors, b"\n");
+}
+
 /// Tells a fault on a line of its own, and answers its status. Where that line is not written the status is the same.
 pub fn tell<E: Write>(fault: Fault<'_>, errors: &mut E) -> u8
-    ensures { result ≡ fault_status fault.entry }
+    ensures status { result ≡ fault_status fault.entry }
+    ensures told { AppendsFront (E.contents errors.old) (E.contents errors.new) (fault_line fault.entry) }
 {
     match fault {
         Fault::File(name) => {
-            let _ = writeln!(errors, "file {name}");
+            tell_file(name, errors);
             FAILED
         }
         Fault::Link => {
-            let _ = errors.write_all(b"link\n");
+            write_whole(errors, b"link\n");
             FAILED
         }
         Fault::Output => {
-            let _ = errors.write_all(b"output\n");
+            write_whole(errors, b"output\n");
             FAILED
         }
         Fault::Memory => {
-            let _ = errors.write_all(b"out of memory\n");
+            write_whole(errors, b"out of memory\n");
             MEMORY
         }
     }
@@ -73,7 +89,8 @@ pub fn tell<E: Write>(fault: Fault<'_>, errors: &mut E) -> u8
 
 /// An answer, or the fault that there is none.
 pub fn given<V>(answer: Result<V, AllocError>) -> Result<V, Fault<'static>>
-    ensures { IfOk result (λ given. answer ≡ Ok given) }
+    ensures given { IfOk result (λ given. answer ≡ Ok given) }
+    ensures fault { IfErr result (λ fault. fault ≡ Fault.Memory) }
 {
     match answer {
         Ok(answer) => Ok(answer),
@@ -83,7 +100,8 @@ pub fn given<V>(answer: Result<V, AllocError>) -> Result<V, Fault<'static>>
 
 /// An answer of which no more is told, or the fault that there is none.
 pub fn given_alone(answer: Result<Answer, AllocError>) -> Result<(Answer, ()), Fault<'static>>
-    ensures { IfOk result (λ given. answer ≡ Ok given.0) }
+    ensures given { IfOk result (λ given. answer ≡ Ok given.0) }
+    ensures fault { IfErr result (λ fault. fault ≡ Fault.Memory) }
 {
     match answer {
         Ok(answer) => Ok((answer, ())),
@@ -126,9 +144,12 @@ pub fn status_where(well: bool) -> u8
 pub fn written<O: Write>(answer: &Answer, output: &mut O) -> Result<u8, Fault<'static>>
     ensures status { IfOk result (λ status. status ≡ answer.now.status) }
     ensures text { IfOk result (λ status. Appends (O.contents output.old) (O.contents output.new) answer.now.text.items) }
+    ensures fault { IfErr result (λ fault. fault ≡ Fault.Output) }
+    ensures front { AppendsFront (O.contents output.old) (O.contents output.new) answer.now.text.items }
 {
-    if output.write_all(answer.text.as_slice()).is_err() {
-        return Err(Fault::Output);
+    if write_whole(output, answer.text.as_slice()) {
+        Ok(answer.status)
+    } else {
+        Err(Fault::Output)
     }
-    Ok(answer.status)
 }

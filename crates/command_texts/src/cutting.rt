@@ -2,13 +2,13 @@
 
 ghost use Rattle.std.specs.Prelude.{◌≡◌, ◌≤◌, ◌↔◌, ℕ, List, ◌++◌, take, length, codes, IsTrue, IfSome, IfNone};
 ghost use Rattle.command_texts.specs.Cutting.{IsCutAtEnd};
+ghost use Rattle.command_texts.specs.Reasons.{IsFirstRefused};
 ghost use Rattle.command_texts.specs.inner.Ends.{CameAs, EndsThere, IsLacking, NoEndYet};
 
 use crate::taking::Taker;
-use crate::why::keep_first;
 use std::alloc::{AllocError, Global};
 use std::thread::Threads;
-use text_lines::{after_key, is_line, next_line};
+use text_lines::{Refusal, after_key, is_line, next_line};
 
 /// The line that ends the first text.
 const END: &[u8] = b"end";
@@ -63,12 +63,12 @@ pub struct Both<A: Taker, B: Taker> {
     lacking: Option<&'static [u8]>,
 }
 
-impl<A: Taker, B: Taker<Why = A::Why>> Taker for Both<A, B> {
+impl<A: Taker, B: Taker> Taker for Both<A, B> {
     type Found = (A::Found, B::Found);
 
-    type Why = A::Why;
-
     ghost is_found = { λ input found. (texts : List ℕ × List ℕ) × IsCutAtEnd input texts.0 texts.1 × A.is_found texts.0 found.0 × B.is_found texts.1 found.1 };
+
+    ghost is_refused = { λ input line. (texts : List ℕ × List ℕ) × IsCutAtEnd input texts.0 texts.1 × IsFirstRefused A.is_refused B.is_refused texts line };
 
     ghost came = { λ both input. CameAs (A.came both.first) (B.came both.second) both.ended both.lacking input };
 
@@ -101,11 +101,9 @@ impl<A: Taker, B: Taker<Why = A::Why>> Taker for Both<A, B> {
         }
     }
 
-    fn end(self, why: &mut Option<A::Why>) -> Result<(A::Found, B::Found), AllocError> {
-        let mut later = None;
-        let first = self.first.end(why)?;
-        let second = self.second.end(&mut later)?;
-        keep_first(why, later);
-        Ok((first, second))
+    fn end(self) -> Result<((A::Found, B::Found), Option<Refusal>), AllocError> {
+        let (first, why) = self.first.end()?;
+        let (second, later) = self.second.end()?;
+        Ok(((first, second), why.or(later)))
     }
 }

@@ -12,6 +12,7 @@ mod reading;
 mod several;
 mod taking;
 mod why;
+mod writing;
 
 pub use answer::{
     ACCEPTED, Answer, Fault, Given, REFUSED, USAGE, given, given_alone, refused, remark,
@@ -24,3 +25,4 @@ pub use reading::TextSource;
 pub use several::{Listing, perform_several};
 pub use taking::{Gathered, Taker};
 pub use why::{Telling, Why, tell_why};
+pub use writing::write_whole;

@@ -1,92 +1,110 @@
 //! The texts under names.
 
-ghost use Rattle.std.specs.Prelude.{◌≡◌, ◌&&◌, ℕ, List, false, IfOk};
-ghost use Rattle.command_texts.specs.Told.{AreNamed, AreOfInput, IsNamed, is_dash};
+ghost use Rattle.std.specs.Prelude.{◌≡◌, ◌⊎◌, ◌&&◌, ℕ, List, Option, false, IfOk, IfErr, option_map};
+ghost use Rattle.command_texts.specs.Answers.{IsReadFault};
+ghost use Rattle.command_texts.specs.Reasons.{IsFirstRefused, first_place, line_of, place_of, told_place};
+ghost use Rattle.command_texts.specs.Told.{AreNamed, AreOfInput, AreRead, IsNamed, is_dash};
 
 use crate::answer::Fault;
 use crate::cutting::Both;
-use crate::reading::{ReadFault, TextSource, fault_of, read_text};
+use crate::reading::{ReadFault, TextSource, fault_of, read_text, take_text};
 use crate::taking::Taker;
-use crate::why::{Why, keep_first, keep_under};
+use crate::why::{Why, under};
 use std::alloc::Global;
 use std::io::Read;
 use std::thread::Threads;
 use text_lines::Refusal;
 
 // The fault at the text under a name.
-fn fault_at(name: &str, fault: ReadFault) -> Fault<'_> {
+fn fault_at(name: &str, fault: ReadFault) -> Fault<'_>
+    ensures { IsReadFault (λ n. n ≡ name.entry.now) result }
+{
     match fault {
         ReadFault::File => Fault::File(name),
         ReadFault::Memory => Fault::Memory,
     }
 }
 
-// What is found of the text under a name. Where it is refused, `refusal` tells the reason from now on.
-fn read_under<'a, T: Taker<Why = Refusal>, R: Threads + Sync, S: TextSource, I: Read + Send>(
+// What is found of the text that a reader has, which stands under a name, and why it is refused, if it is.
+fn read_from<'a, T: Taker, R: Threads + Sync, I: Read + Send>(
+    rt: &R,
+    alloc: Global,
+    name: &'a str,
+    reader: &mut I,
+) -> Result<(T::Found, Option<Refusal>), Fault<'a>>
+    ensures read { IfOk result (λ read. (text : List ℕ) × AreRead (I.remaining reader.old) text × T.is_found text read.0 × T.is_refused text (line_of read.1)) }
+    ensures fault { IfErr result (IsReadFault (λ n. n ≡ name.entry.now)) }
+{
+    match read_text::<R, I, T>(rt, alloc, reader) {
+        Ok(read) => Ok(read),
+        Err(fault) => Err(fault_at(name, fault)),
+    }
+}
+
+// What is found of the text under a name, and why it is refused, if it is.
+fn read_under<'a, T: Taker, R: Threads + Sync, S: TextSource, I: Read + Send>(
     rt: &R,
     alloc: Global,
     name: &'a str,
     texts: &S,
     input: &mut I,
-    refusal: &mut Option<Refusal>,
-) -> Result<T::Found, Fault<'a>>
-    ensures named { IfOk result (λ found. (text : List ℕ) × IsNamed name.entry.now (S.bytes_of texts.now) (I.remaining input.old) text × T.is_found text found) }
+) -> Result<(T::Found, Option<Refusal>), Fault<'a>>
+    ensures named { IfOk result (λ read. (text : List ℕ) × IsNamed name.entry.now (S.bytes_of texts.now) (I.remaining input.old) text × T.is_found text read.0 × T.is_refused text (line_of read.1)) }
     ensures apart { is_dash name.entry.now ≡ false → input.new ≡ input.old }
+    ensures fault { IfErr result (IsReadFault (λ n. n ≡ name.entry.now)) }
 {
     if name == "-" {
-        return read_text::<R, I, T>(rt, alloc, input, refusal).map_err(|fault| fault_at(
-            name, fault,
-        ));
+        return read_from::<T, R, I>(rt, alloc, name, input);
     }
     match texts.text(name) {
-        Ok(mut text) => read_text::<R, S::Text, T>(rt, alloc, &mut text, refusal).map_err(
-            |fault| fault_at(name, fault),
-        ),
+        Ok(mut text) => read_from::<T, R, S::Text>(rt, alloc, name, &mut text),
         Err(error) => Err(fault_at(name, fault_of(&error))),
     }
 }
 
-/// What is found of the text under a name; `-` is the input. Where the text is refused, `why` tells the reason from now on.
-pub fn read_named<'a, T: Taker<Why = Refusal>, R: Threads + Sync, S: TextSource, I: Read + Send>(
+/// What is found of the text under a name, and why it is refused, if it is; `-` is the input.
+pub fn read_named<'a, T: Taker, R: Threads + Sync, S: TextSource, I: Read + Send>(
     rt: &R,
     alloc: Global,
     name: &'a str,
     texts: &S,
     input: &mut I,
-    why: &mut Option<Why<'a>>,
-) -> Result<T::Found, Fault<'a>>
-    ensures named { IfOk result (λ found. (text : List ℕ) × IsNamed name.entry.now (S.bytes_of texts.now) (I.remaining input.old) text × T.is_found text found) }
+) -> Result<(T::Found, Option<Why<'a>>), Fault<'a>>
+    ensures named { IfOk result (λ read. (text : List ℕ) × IsNamed name.entry.now (S.bytes_of texts.now) (I.remaining input.old) text × T.is_found text read.0 × ((line : Option ℕ) × T.is_refused text line × (option_map told_place read.1 ≡ place_of name.entry.now line))) }
     ensures apart { is_dash name.entry.now ≡ false → input.new ≡ input.old }
+    ensures fault { IfErr result (IsReadFault (λ n. n ≡ name.entry.now)) }
 {
-    let mut refusal = None;
-    let found = read_under::<T, R, S, I>(rt, alloc, name, texts, input, &mut refusal)?;
-    keep_under(why, name, refusal);
-    Ok(found)
+    let (found, refusal) = read_under::<T, R, S, I>(rt, alloc, name, texts, input)?;
+    Ok((found, under(name, refusal)))
 }
 
-/// What is found of the two texts that the input holds: the first ends with its first line `end`. Where one is refused, `why`
-/// tells the reason from now on, that of the first where both are.
-pub fn read_input<
-    'a,
-    A: Taker<Why = Refusal>,
-    B: Taker<Why = Refusal>,
-    R: Threads + Sync,
-    I: Read + Send,
->(
+// What is found of the two texts that the input holds: the first ends with its first line `end`; and why one is refused, if one
+// is, the first where both are.
+fn read_both<A: Taker, B: Taker, R: Threads + Sync, I: Read + Send>(
     rt: &R,
     alloc: Global,
     input: &mut I,
-    why: &mut Option<Why<'a>>,
-) -> Result<(A::Found, B::Found), Fault<'a>>
-    ensures { IfOk result (λ found. (texts : List ℕ × List ℕ) × AreOfInput (I.remaining input.old) texts × A.is_found texts.0 found.0 × B.is_found texts.1 found.1) }
+) -> Result<((A::Found, B::Found), Option<Refusal>), ReadFault>
+    ensures { IfOk result (λ read. (texts : List ℕ × List ℕ) × AreOfInput (I.remaining input.old) texts × A.is_found texts.0 read.0.0 × B.is_found texts.1 read.0.1 × IsFirstRefused A.is_refused B.is_refused texts (line_of read.1)) }
 {
-    let mut refusal = None;
-    match read_text::<R, I, Both<A, B>>(rt, alloc, input, &mut refusal) {
-        Ok(found) => {
-            keep_under(why, "-", refusal);
-            Ok(found)
-        }
-        Err(fault) => Err(fault_at("-", fault)),
+    let mut both = Both::<A, B>::new(alloc);
+    take_text(rt, alloc, input, &mut both)?;
+    Ok(both.end()?)
+}
+
+/// The same, under the name of the input.
+pub fn read_input<'a, A: Taker, B: Taker, R: Threads + Sync, I: Read + Send>(
+    rt: &R,
+    alloc: Global,
+    name: &'a str,
+    input: &mut I,
+) -> Result<((A::Found, B::Found), Option<Why<'a>>), Fault<'a>>
+    ensures named { IfOk result (λ read. (texts : List ℕ × List ℕ) × AreOfInput (I.remaining input.old) texts × A.is_found texts.0 read.0.0 × B.is_found texts.1 read.0.1 × ((one other : Option ℕ) × A.is_refused texts.0 one × B.is_refused texts.1 other × (option_map told_place read.1 ≡ first_place name.entry.now name.entry.now one other))) }
+    ensures fault { IfErr result (IsReadFault (λ n. n ≡ name.entry.now)) }
+{
+    match read_both::<A, B, R, I>(rt, alloc, input) {
+        Ok((found, refusal)) => Ok((found, under(name, refusal))),
+        Err(fault) => Err(fault_at(name, fault)),
     }
 }
 
@@ -97,33 +115,23 @@ fn are_input(first: &str, second: &str) -> bool
     first == "-" && second == "-"
 }
 
-/// What is found of the texts under two names, which are read in this order. Where both are `-` the input holds both:
-/// the first ends with its first line `end`. Where one is refused, `why` tells the reason from now on, that of the first where
-/// both are.
-pub fn read_pair<
-    'a,
-    A: Taker<Why = Refusal>,
-    B: Taker<Why = Refusal>,
-    R: Threads + Sync,
-    S: TextSource,
-    I: Read + Send,
->(
+/// What is found of the texts under two names, which are read in this order, and why one is refused, if one is, the first where
+/// both are. Where both names are `-` the input holds both: the first ends with its first line `end`.
+pub fn read_pair<'a, A: Taker, B: Taker, R: Threads + Sync, S: TextSource, I: Read + Send>(
     rt: &R,
     alloc: Global,
     first: &'a str,
     second: &'a str,
     texts: &S,
     input: &mut I,
-    why: &mut Option<Why<'a>>,
-) -> Result<(A::Found, B::Found), Fault<'a>>
-    ensures { IfOk result (λ found. (read : List ℕ × List ℕ) × AreNamed first.entry.now second.entry.now (S.bytes_of texts.now) (I.remaining input.old) read × A.is_found read.0 found.0 × B.is_found read.1 found.1) }
+) -> Result<((A::Found, B::Found), Option<Why<'a>>), Fault<'a>>
+    ensures named { IfOk result (λ read. (pair : List ℕ × List ℕ) × AreNamed first.entry.now second.entry.now (S.bytes_of texts.now) (I.remaining input.old) pair × A.is_found pair.0 read.0.0 × B.is_found pair.1 read.0.1 × ((one other : Option ℕ) × A.is_refused pair.0 one × B.is_refused pair.1 other × (option_map told_place read.1 ≡ first_place first.entry.now second.entry.now one other))) }
+    ensures fault { IfErr result (IsReadFault (λ n. (n ≡ first.entry.now) ⊎ (n ≡ second.entry.now))) }
 {
     if are_input(first, second) {
-        return read_input::<A, B, R, I>(rt, alloc, input, why);
+        return read_input::<A, B, R, I>(rt, alloc, first, input);
     }
-    let mut later = None;
-    let found = read_named::<A, R, S, I>(rt, alloc, first, texts, input, why)?;
-    let other = read_named::<B, R, S, I>(rt, alloc, second, texts, input, &mut later)?;
-    keep_first(why, later);
-    Ok((found, other))
+    let (found, why) = read_named::<A, R, S, I>(rt, alloc, first, texts, input)?;
+    let (other, later) = read_named::<B, R, S, I>(rt, alloc, second, texts, input)?;
+    Ok(((found, other), why.or(later)))
 }

@@ -1,24 +1,28 @@
 //! Commands, whatever they answer: the texts under their names are read, and the answer is written. The program ends
 //! then, and all its memory goes at once: what was found of the texts is forgotten, and not freed piece by piece.
 
-ghost use Rattle.std.specs.Prelude.{⊤, ◌<◌, ℕ, List, IfOk};
-ghost use Rattle.command_texts.specs.Told.{AreNamed, IsNamed, Tells};
+ghost use Rattle.std.specs.Prelude.{◌≡◌, ⊤, ◌<◌, ◌⊎◌, ℕ, List, [], IfOk, IfErr, OnOk};
+ghost use Rattle.command_texts.specs.Answers.{IsTextFault};
+ghost use Rattle.command_texts.specs.Reasons.{TellsBeside, TellsWhyOf};
+ghost use Rattle.command_texts.specs.declared.why.Telling.{Telling as HowMuch};
+ghost use Rattle.command_texts.specs.Told.{AreNamed, Ends, IsNamed};
+ghost use Rattle.command_texts.specs.Written.{BothGain, MayTell};
 
 use crate::answer::{Answer, Fault, Given, written};
 use crate::naming::{read_named, read_pair};
 use crate::reading::TextSource;
 use crate::taking::Taker;
 use crate::why::{Telling, tell_why};
+use crate::writing::write_whole;
 use std::alloc::{AllocError, Global};
 use std::io::{Read, Write};
 use std::mem;
 use std::thread::Threads;
-use text_lines::Refusal;
 
 /// A command on one text.
 pub trait OnOne {
     /// Takes its text.
-    type Text: Taker<Why = Refusal>;
+    type Text: Taker;
 
     // What lets it answer.
     ghost ready: { Type 0 } = { ⊤ };
@@ -27,24 +31,27 @@ pub trait OnOne {
     ghost is_answer: { Self → List ℕ → List ℕ → ℕ → Type 0 };
 
     /// How much it tells of a text that is refused.
-    fn telling(&self) -> Telling {
-        Telling::Short
-    }
+    ghost how_much: { Self → HowMuch };
 
-    /// Its answer to what was found of a text, with a status of 0 or 1. There is none where memory ran out or a link failed.
+    /// How much it tells of a text that is refused.
+    fn telling(&self) -> Telling
+        ensures { result ≡ how_much self.now };
+
+    /// Its answer to what was found of a text, with a status of 0 or 1. There is none where memory ran out.
     fn answer(&self, alloc: Global, found: &<Self::Text as Taker>::Found) -> Given
         requires ready { ready }
         ensures few { (text : List ℕ) → Self.Text.is_found text found.now → IfOk result (λ answer. answer.status < 2) }
-        ensures told { (text : List ℕ) → Self.Text.is_found text found.now → IfOk result (λ answer. is_answer self.now text answer.text.items answer.status) };
+        ensures told { (text : List ℕ) → Self.Text.is_found text found.now → IfOk result (λ answer. is_answer self.now text answer.text.items answer.status) }
+        ensures fault { IfErr result (λ fault. fault ≡ Fault.Memory) };
 }
 
 /// A command on two texts.
 pub trait OnTwo {
     /// Takes the first.
-    type First: Taker<Why = Refusal>;
+    type First: Taker;
 
     /// Takes the second.
-    type Second: Taker<Why = Refusal>;
+    type Second: Taker;
 
     /// What its answer says, where more can be told of it.
     type Said: Copy;
@@ -54,6 +61,12 @@ pub trait OnTwo {
 
     /// This is its answer to two texts, and its status.
     ghost is_answer: { Self → List ℕ × List ℕ → List ℕ → ℕ → Type 0 };
+
+    /// This is what its answer to two texts says.
+    ghost is_said: { Self → List ℕ × List ℕ → Self.Said → Type 0 };
+
+    /// This is what more is told of two texts: with the name of the second, what stands before it, and with it.
+    ghost adds_more: { Self → List ℕ × List ℕ → List ℕ → List ℕ → List ℕ → Type 0 };
 
     /// Its answer to what was found of two texts, with a status of 0 or 1, and what this says. There is none where memory ran
     /// out.
@@ -65,20 +78,21 @@ pub trait OnTwo {
     ) -> Result<(Answer, Self::Said), Fault<'static>>
         requires ready { ready }
         ensures few { (texts : List ℕ × List ℕ) → Self.First.is_found texts.0 first.now → Self.Second.is_found texts.1 second.now → IfOk result (λ given. given.0.status < 2) }
-        ensures told { (texts : List ℕ × List ℕ) → Self.First.is_found texts.0 first.now → Self.Second.is_found texts.1 second.now → IfOk result (λ given. is_answer self.now texts given.0.text.items given.0.status) };
+        ensures told { (texts : List ℕ × List ℕ) → Self.First.is_found texts.0 first.now → Self.Second.is_found texts.1 second.now → IfOk result (λ given. is_answer self.now texts given.0.text.items given.0.status) }
+        ensures said { (texts : List ℕ × List ℕ) → Self.First.is_found texts.0 first.now → Self.Second.is_found texts.1 second.now → IfOk result (λ given. is_said self.now texts given.1) }
+        ensures fault { IfErr result (λ fault. fault ≡ Fault.Memory) };
 
     /// Adds what more can be told of what its answer says, in words for people, with the name that the second text stands
     /// under. Many commands have no more to tell. An error: there is no memory for the words.
     fn push_more(
         &self,
-        _out: &mut Vec<u8>,
-        _name: &[u8],
-        _first: &<Self::First as Taker>::Found,
-        _second: &<Self::Second as Taker>::Found,
-        _said: Self::Said,
-    ) -> Result<(), AllocError> {
-        Ok(())
-    }
+        out: &mut Vec<u8>,
+        name: &[u8],
+        first: &<Self::First as Taker>::Found,
+        second: &<Self::Second as Taker>::Found,
+        said: Self::Said,
+    ) -> Result<(), AllocError>
+        ensures { (texts : List ℕ × List ℕ) → Self.First.is_found texts.0 first.now → Self.Second.is_found texts.1 second.now → is_said self.now texts said → OnOk result (adds_more self.now texts name.now out.old.items out.new.items) };
 }
 
 /// Does a command on the text under a name. Where it is refused, the errors tell why.
@@ -102,20 +116,36 @@ pub fn perform_one<
 ) -> Result<u8, Fault<'a>>
     requires ready { C.ready }
     ensures few { IfOk result (λ status. status < 2) }
-    ensures told { IfOk result (Tells (IsNamed name.entry.now (S.bytes_of texts.now) (I.remaining input.old)) (C.is_answer command.now) (O.contents output.old) (O.contents output.new)) }
+    ensures told { Ends (IsTextFault (λ n. n ≡ name.entry.now)) (IsNamed name.entry.now (S.bytes_of texts.now) (I.remaining input.old)) (C.is_answer command.now) (TellsWhyOf C.Text.is_refused (C.how_much command.now) name.entry.now) (O.contents output.old, E.contents errors.old) (O.contents output.new, E.contents errors.new) result }
+    ensures gains { BothGain (O.contents output.old, E.contents errors.old) (O.contents output.new, E.contents errors.new) }
 {
-    let mut why = None;
-    let found = read_named::<C::Text, R, S, I>(rt, alloc, name, texts, input, &mut why)?;
+    let (found, why) = read_named::<C::Text, R, S, I>(rt, alloc, name, texts, input)?;
     let answer = command.answer(alloc, &found)?;
-    let status = written(&answer, output);
-    tell_why(alloc, &why, command.telling(), &status, errors);
+    let status = written(&answer, output)?;
+    tell_why(alloc, &why, command.telling(), errors);
     mem::forget(found);
     mem::forget(answer);
-    status
+    Ok(status)
 }
 
-// Tells what more there is to tell of an answer that was written. What is not told, since it is not written or there is no
-// memory for it, is left out: the answer says it in short.
+// What more there is to tell of an answer.
+fn more_words<C: OnTwo>(
+    alloc: Global,
+    command: &C,
+    name: &[u8],
+    first: &<C::First as Taker>::Found,
+    second: &<C::Second as Taker>::Found,
+    said: C::Said,
+) -> Result<Vec<u8>, AllocError>
+    ensures { (texts : List ℕ × List ℕ) → C.First.is_found texts.0 first.now → C.Second.is_found texts.1 second.now → C.is_said command.now texts said → IfOk result (λ words. C.adds_more command.now texts name.now [] words.items) }
+{
+    let mut words = Vec::new(alloc);
+    command.push_more(&mut words, name, first, second, said)?;
+    Ok(words)
+}
+
+// Tells what more there is to tell of an answer. What is not told, since it is not written or there is no memory for it, is left
+// out: the answer says it in short.
 fn tell_more<C: OnTwo, E: Write>(
     alloc: Global,
     command: &C,
@@ -123,18 +153,12 @@ fn tell_more<C: OnTwo, E: Write>(
     first: &<C::First as Taker>::Found,
     second: &<C::Second as Taker>::Found,
     said: C::Said,
-    written: &Result<u8, Fault<'_>>,
     errors: &mut E,
-) {
-    if written.is_err() {
-        return;
-    }
-    let mut words = Vec::new(alloc);
-    if command
-        .push_more(&mut words, name, first, second, said)
-        .is_ok()
-    {
-        let _ = errors.write_all(words.as_slice());
+)
+    ensures { (texts : List ℕ × List ℕ) → C.First.is_found texts.0 first.now → C.Second.is_found texts.1 second.now → C.is_said command.now texts said → MayTell (C.adds_more command.now texts name.now []) (E.contents errors.old) (E.contents errors.new) }
+{
+    if let Ok(words) = more_words(alloc, command, name, first, second, said) {
+        write_whole(errors, words.as_slice());
     }
 }
 
@@ -161,15 +185,15 @@ pub fn perform_two<
 ) -> Result<u8, Fault<'a>>
     requires ready { C.ready }
     ensures few { IfOk result (λ status. status < 2) }
-    ensures told { IfOk result (Tells (AreNamed first.entry.now second.entry.now (S.bytes_of texts.now) (I.remaining input.old)) (C.is_answer command.now) (O.contents output.old) (O.contents output.new)) }
+    ensures told { Ends (IsTextFault (λ n. (n ≡ first.entry.now) ⊎ (n ≡ second.entry.now))) (AreNamed first.entry.now second.entry.now (S.bytes_of texts.now) (I.remaining input.old)) (C.is_answer command.now) (TellsBeside C.First.is_refused C.Second.is_refused (C.adds_more command.now) first.entry.now second.entry.now) (O.contents output.old, E.contents errors.old) (O.contents output.new, E.contents errors.new) result }
+    ensures gains { BothGain (O.contents output.old, E.contents errors.old) (O.contents output.new, E.contents errors.new) }
 {
-    let mut why = None;
-    let (found, other) = read_pair::<C::First, C::Second, R, S, I>(
-        rt, alloc, first, second, texts, input, &mut why,
+    let ((found, other), why) = read_pair::<C::First, C::Second, R, S, I>(
+        rt, alloc, first, second, texts, input,
     )?;
     let (answer, said) = command.answer(alloc, &found, &other)?;
-    let status = written(&answer, output);
-    tell_why(alloc, &why, Telling::Short, &status, errors);
+    let status = written(&answer, output)?;
+    tell_why(alloc, &why, Telling::Short, errors);
     tell_more(
         alloc,
         command,
@@ -177,10 +201,9 @@ pub fn perform_two<
         &found,
         &other,
         said,
-        &status,
         errors,
     );
     mem::forget((found, other));
     mem::forget(answer);
-    status
+    Ok(status)
 }

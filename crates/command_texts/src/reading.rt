@@ -1,6 +1,7 @@
 //! Reading texts to their ends, piece by piece.
 
-ghost use Rattle.std.specs.Prelude.{◌≡◌, ℕ, List, Option, Some, None, IfOk, OnOk, IfSome, MatchOption, vec_len};
+ghost use Rattle.std.specs.Prelude.{◌≡◌, ℕ, List, [], Option, Some, None, IfOk, OnOk, IfSome, MatchOption, vec_len};
+ghost use Rattle.command_texts.specs.Reasons.{line_of};
 ghost use Rattle.command_texts.specs.Told.{AreRead};
 ghost use Rattle.command_texts.specs.inner.Takings.{Fills, Takes, TakesAll};
 
@@ -10,6 +11,7 @@ use std::alloc::{AllocError, Global};
 use std::io;
 use std::io::{ErrorKind, Read};
 use std::thread::Threads;
+use text_lines::Refusal;
 
 /// Texts by their names, such as files.
 pub trait TextSource {
@@ -51,24 +53,34 @@ const FIRST_BYTES: usize = 131_072;
 /// How many pieces are taken so, before several threads take larger ones.
 const FIRST_PIECES: u32 = 8;
 
-/// What is found of the text that a reader has left, which is taken piece by piece as it is read: at most 268,435,456
-/// bytes, in at most 1,048,576 reads. Of a long text the pieces are taken by several threads, and the next one is read
-/// meanwhile. Where it is refused, `why` tells the reason from now on.
-pub fn read_text<H: Threads + Sync, R: Read + Send, T: Taker>(
+/// Gives the text that a reader has left to a taker, piece by piece as it is read: at most 268,435,456 bytes, in at most
+/// 1,048,576 reads. Of a long text the pieces are taken by several threads, and the next one is read meanwhile.
+pub(crate) fn take_text<H: Threads + Sync, R: Read + Send, T: Taker>(
     rt: &H,
     alloc: Global,
     reader: &mut R,
-    why: &mut Option<T::Why>,
-) -> Result<T::Found, ReadFault>
-    ensures { IfOk result (λ found. (text : List ℕ) × AreRead (R.remaining reader.old) text × T.is_found text found) }
+    taker: &mut T,
+) -> Result<(), ReadFault>
+    ensures { OnOk result ((text : List ℕ) × AreRead (R.remaining reader.old) text × (T.came taker.old [] → T.came taker.new text)) }
 {
     let most = Left {
         bytes: MOST_BYTES,
         reads: MOST_READS,
     };
+    read_within(rt, alloc, reader, taker, most)
+}
+
+/// What is found of the text that a reader has left, and why it is refused, if it is.
+pub fn read_text<H: Threads + Sync, R: Read + Send, T: Taker>(
+    rt: &H,
+    alloc: Global,
+    reader: &mut R,
+) -> Result<(T::Found, Option<Refusal>), ReadFault>
+    ensures { IfOk result (λ read. (text : List ℕ) × AreRead (R.remaining reader.old) text × T.is_found text read.0 × T.is_refused text (line_of read.1)) }
+{
     let mut taker = T::new(alloc);
-    read_within(rt, alloc, reader, &mut taker, most)?;
-    Ok(taker.end(why)?)
+    take_text(rt, alloc, reader, &mut taker)?;
+    Ok(taker.end()?)
 }
 
 /// How many bytes of an input may yet come, in how many reads.

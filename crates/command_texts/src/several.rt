@@ -1,13 +1,16 @@
 //! A command on several texts, one after the other: an answer for each, and how many say that all is well.
 
-ghost use Rattle.std.specs.Prelude.{◌≡◌, ◌<◌, ◌++◌, ℕ, IfOk, OnOk, map};
-ghost use Rattle.command_texts.specs.Several.{AreGathered, IsGathered, TellsSeveral, list_end, listed_as, names_of, style_of};
+ghost use Rattle.std.specs.Prelude.{◌≡◌, ◌<◌, ◌++◌, ℕ, IfOk, IfErr, OnOk, map};
+ghost use Rattle.command_texts.specs.Answers.{IsReadFault, IsTextFault};
+ghost use Rattle.command_texts.specs.Several.{AreGathered, IsGathered, IsOneOf, TellsSeveral, list_end, listed_as, names_of, style_of};
+ghost use Rattle.command_texts.specs.Written.{BothGain, Gains};
 
 use crate::answer::{ACCEPTED, Answer, Fault, status_where, written};
 use crate::naming::read_named;
 use crate::performing::OnOne;
 use crate::reading::TextSource;
 use crate::why::{Telling, tell_why};
+use crate::writing::write_whole;
 use std::alloc::{AllocError, Global};
 use std::io::{Read, Write};
 use std::thread::Threads;
@@ -62,12 +65,13 @@ fn push_one<'a, C: OnOne, R: Threads + Sync, S: TextSource, I: Read + Send, E: W
     errors: &mut E,
 ) -> Result<bool, Fault<'a>>
     requires ready { C.ready }
-    ensures { IfOk result (IsGathered (S.bytes_of texts.now) (C.is_answer command.now) (style_of listing.entry) name.entry.now out.old.items out.new.items) }
+    ensures gathered { IfOk result (IsGathered (S.bytes_of texts.now) (C.is_answer command.now) C.Text.is_refused (style_of listing.entry) name.entry.now (out.old.items, E.contents errors.old) (out.new.items, E.contents errors.new)) }
+    ensures fault { IfErr result (IsReadFault (λ n. n ≡ name.entry.now)) }
+    ensures gains { Gains (E.contents errors.old) (E.contents errors.new) }
 {
-    let mut why = None;
-    let found = read_named::<C::Text, R, S, I>(rt, alloc, name, texts, input, &mut why)?;
+    let (found, why) = read_named::<C::Text, R, S, I>(rt, alloc, name, texts, input)?;
     let answer = command.answer(alloc, &found)?;
-    tell_why(alloc, &why, Telling::Short, &Ok(answer.status), errors);
+    tell_why(alloc, &why, Telling::Short, errors);
     match listing.push_answer(out, name, &answer) {
         Ok(()) => Ok(answer.status == ACCEPTED),
         Err(_) => Err(Fault::Memory),
@@ -87,7 +91,9 @@ fn push_each<'a, C: OnOne, R: Threads + Sync, S: TextSource, I: Read + Send, E: 
     errors: &mut E,
 ) -> Result<usize, Fault<'a>>
     requires ready { C.ready }
-    ensures { IfOk result (AreGathered (S.bytes_of texts.now) (C.is_answer command.now) (style_of listing.entry) (names_of names.now) out.old.items out.new.items) }
+    ensures gathered { IfOk result (AreGathered (S.bytes_of texts.now) (C.is_answer command.now) C.Text.is_refused (style_of listing.entry) (names_of names.now) (out.old.items, E.contents errors.old) (out.new.items, E.contents errors.new)) }
+    ensures fault { IfErr result (IsReadFault (IsOneOf (names_of names.now))) }
+    ensures gains { Gains (E.contents errors.old) (E.contents errors.new) }
 {
     let mut well = 0;
     for name in names {
@@ -124,7 +130,9 @@ pub fn perform_several<
 ) -> Result<u8, Fault<'a>>
     requires ready { C.ready }
     ensures few { IfOk result (λ status. status < 2) }
-    ensures told { IfOk result (TellsSeveral (S.bytes_of texts.now) (C.is_answer command.now) (style_of listing.entry) (names_of names.now) (O.contents output.old) (O.contents output.new)) }
+    ensures told { IfOk result (TellsSeveral (S.bytes_of texts.now) (C.is_answer command.now) C.Text.is_refused (style_of listing.entry) (names_of names.now) (O.contents output.old, E.contents errors.old) (O.contents output.new, E.contents errors.new)) }
+    ensures fault { IfErr result (IsTextFault (IsOneOf (names_of names.now))) }
+    ensures gains { BothGain (O.contents output.old, E.contents errors.old) (O.contents output.new, E.contents errors.new) }
 {
     let mut text = Vec::new(alloc);
     let well = match push_each(
@@ -132,7 +140,7 @@ pub fn perform_several<
     ) {
         Ok(well) => well,
         Err(fault) => {
-            let _ = output.write_all(text.as_slice());
+            write_whole(output, text.as_slice());
             return Err(fault);
         }
     };

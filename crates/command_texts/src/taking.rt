@@ -1,9 +1,10 @@
 //! Texts that are taken piece by piece, as they are read.
 
-ghost use Rattle.std.specs.Prelude.{◌≡◌, ◌≢◌, ℕ, List, [], ◌++◌, Ok, Err, IfOk, OnOk, MatchResult};
+ghost use Rattle.std.specs.Prelude.{◌≡◌, ◌≢◌, ℕ, List, [], ◌++◌, Option, Some, None, Ok, Err, IfOk, OnOk, MatchResult};
 ghost use Rattle.std.specs.Thread.{IsSync};
 ghost use Rattle.text_lines.specs.Answer.{IsRead};
 ghost use Rattle.text_lines.specs.Progress.{CameSoFar};
+ghost use Rattle.command_texts.specs.Reasons.{IsRefusedAt, line_of};
 
 use std::alloc::{AllocError, Global};
 use std::marker::Model;
@@ -15,11 +16,11 @@ pub trait Taker: Drop {
     /// What is found of a text.
     type Found: Drop;
 
-    /// What tells why a text is refused.
-    type Why: Drop;
-
     /// This was found of a text.
     ghost is_found: { List ℕ → Self.Found → Type 0 };
+
+    /// A text is refused at this line, or nowhere.
+    ghost is_refused: { List ℕ → Option ℕ → Type 0 };
 
     /// These bytes came so far.
     ghost came: { Self → List ℕ → Type 0 };
@@ -38,18 +39,17 @@ pub trait Taker: Drop {
         requires { IsSync H.row }
         ensures { OnOk result ((text : List ℕ) → came self.old text → came self.new (text ++ piece.now)) };
 
-    /// What was found of all that came. Where that is no text, `why` tells from now on why it is refused. An error: there is
-    /// no memory for it.
-    fn end(self, why: &mut Option<Self::Why>) -> Result<Self::Found, AllocError>
-        ensures { (text : List ℕ) → came self text → IfOk result (is_found text) };
+    /// What was found of all that came, and why it is refused, if it is. An error: there is no memory for it.
+    fn end(self) -> Result<(Self::Found, Option<Refusal>), AllocError>
+        ensures { (text : List ℕ) → came self text → IfOk result (λ read. is_found text read.0 × is_refused text (line_of read.1)) };
 }
 
 impl<R: LinesApart> Taker for TextReader<R> {
     type Found = Result<R::Text, u32>;
 
-    type Why = Refusal;
-
     ghost is_found = { λ text found. IsRead R.spells text found };
+
+    ghost is_refused = { λ text line. IsRefusedAt R.spells text line };
 
     ghost came = { λ reader text. CameSoFar R.spells text reader };
 
@@ -72,8 +72,8 @@ impl<R: LinesApart> Taker for TextReader<R> {
         }
     }
 
-    fn end(self, why: &mut Option<Refusal>) -> Result<Result<R::Text, u32>, AllocError> {
-        told(self.finish_or_why(), why)
+    fn end(self) -> Result<(Result<R::Text, u32>, Option<Refusal>), AllocError> {
+        told(self.finish_or_why())
     }
 }
 
@@ -98,9 +98,9 @@ impl<P: Stages> Model for Gathered<P> {
 impl<P: Stages> Taker for Gathered<P> {
     type Found = Result<P::Text, u32>;
 
-    type Why = Refusal;
-
     ghost is_found = { λ text found. IsRead P.spells text found };
+
+    ghost is_refused = { λ text line. IsRefusedAt P.spells text line };
 
     ghost came = { λ gathered text. gathered ≡ text };
 
@@ -123,25 +123,21 @@ impl<P: Stages> Taker for Gathered<P> {
         self.bytes.extend_from_slice(piece)
     }
 
-    fn end(self, why: &mut Option<Refusal>) -> Result<Result<P::Text, u32>, AllocError> {
-        told(read_or_why(self.reader, self.alloc, &self.bytes), why)
+    fn end(self) -> Result<(Result<P::Text, u32>, Option<Refusal>), AllocError> {
+        told(read_or_why(self.reader, self.alloc, &self.bytes))
     }
 }
 
-/// What was read of a text: its value, or the line at which it is refused. `why` tells the reason from now on. An error: memory
-/// ran out as it was read.
-fn told<V: Drop>(
-    read: Result<V, Refusal>,
-    why: &mut Option<Refusal>,
-) -> Result<Result<V, u32>, AllocError>
-    ensures { MatchResult read (λ value. result ≡ Ok (Ok value)) (λ refusal. MatchResult result (λ found. (found ≡ Err refusal.fault.line) × (refusal.fault.kind ≢ FaultKind.Memory)) (λ _. refusal.fault.kind ≡ FaultKind.Memory)) }
+/// What was read of a text: its value, or the line at which it is refused, with the reason. An error: memory ran out as it was
+/// read.
+fn told<V: Drop>(read: Result<V, Refusal>) -> Result<(Result<V, u32>, Option<Refusal>), AllocError>
+    ensures { MatchResult read (λ value. result ≡ Ok (Ok value, None)) (λ refusal. MatchResult result (λ told. (told ≡ (Err refusal.fault.line, Some refusal)) × (refusal.fault.kind ≢ FaultKind.Memory)) (λ _. refusal.fault.kind ≡ FaultKind.Memory)) }
 {
     match read {
-        Ok(value) => Ok(Ok(value)),
+        Ok(value) => Ok((Ok(value), None)),
         Err(refusal) => {
             let line = refusal.fault.refused_line()?;
-            *why = Some(refusal);
-            Ok(Err(line))
+            Ok((Err(line), Some(refusal)))
         }
     }
 }

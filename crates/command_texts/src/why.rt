@@ -1,6 +1,9 @@
 //! Why a text is refused, told with the name that it stands under.
 
-use crate::answer::Fault;
+ghost use Rattle.std.specs.Prelude.{◌≡◌, [], IfOk, option_map};
+ghost use Rattle.command_texts.specs.Reasons.{AreReasons, TellsWhy, line_of, place_of, told_place};
+
+use crate::writing::write_whole;
 use refusal_words::{push_why, push_why_in_full};
 use std::alloc::{AllocError, Global};
 use std::io::Write;
@@ -13,14 +16,14 @@ pub struct Why<'a> {
     pub refusal: Refusal,
 }
 
-/// From now on `first` is there, where it was not, if `later` is.
-pub(crate) fn keep_first<W: Drop>(first: &mut Option<W>, later: Option<W>) {
-    *first = first.take().or(later);
-}
-
-/// From now on `why` tells of the text under this name, where it is refused.
-pub(crate) fn keep_under<'a>(why: &mut Option<Why<'a>>, name: &'a str, refusal: Option<Refusal>) {
-    *why = refusal.map(|refusal| Why { name, refusal });
+/// Why the text under a name is refused, if it is.
+pub(crate) fn under<'a>(name: &'a str, refusal: Option<Refusal>) -> Option<Why<'a>>
+    ensures { option_map told_place result ≡ place_of name.entry.now (line_of refusal) }
+{
+    match refusal {
+        Some(refusal) => Some(Why { name, refusal }),
+        None => None,
+    }
 }
 
 /// How much is told of a text that is refused.
@@ -33,7 +36,9 @@ pub enum Telling {
 }
 
 // The words that tell why a text is refused.
-fn words(alloc: Global, why: &Why<'_>, telling: Telling) -> Result<Vec<u8>, AllocError> {
+fn words(alloc: Global, why: &Why<'_>, telling: Telling) -> Result<Vec<u8>, AllocError>
+    ensures { IfOk result (λ words. AreReasons telling (told_place why.now) words.items) }
+{
     let mut out = Vec::new(alloc);
     match telling {
         Telling::Short => push_why(&mut out, why.name.as_bytes(), &why.refusal)?,
@@ -42,22 +47,15 @@ fn words(alloc: Global, why: &Why<'_>, telling: Telling) -> Result<Vec<u8>, Allo
     Ok(out)
 }
 
-/// Tells why a text is refused, where one is and the answer was written. What is not told, since it is not written or there is
-/// no memory for it, is left out: the answer has the line.
-pub fn tell_why<E: Write>(
-    alloc: Global,
-    why: &Option<Why<'_>>,
-    telling: Telling,
-    written: &Result<u8, Fault<'_>>,
-    errors: &mut E,
-) {
+/// Tells why a text is refused, where one is. What is not told, since it is not written or there is no memory for it, is left
+/// out: the answer has the line.
+pub fn tell_why<E: Write>(alloc: Global, why: &Option<Why<'_>>, telling: Telling, errors: &mut E)
+    ensures { TellsWhy telling (option_map told_place why.now) (E.contents errors.old) (E.contents errors.new) }
+{
     let Some(why) = why else {
         return;
     };
-    if written.is_err() {
-        return;
-    }
     if let Ok(words) = words(alloc, why, telling) {
-        let _ = errors.write_all(words.as_slice());
+        write_whole(errors, words.as_slice());
     }
 }

@@ -1,14 +1,53 @@
-use Rattle.command_texts.specs.Told.{IsNamed}
-use Rattle.command_texts.proofs.WhatIsRead.{few_written, tells}
+use Rattle.std.proofs.Common.{List, ℕ, ◌≡◌, Option, subst}
+use Rattle.std.proofs.lemmas.Result.{err_from_is_err_and}
+use Rattle.command_texts.specs.declared.why.Telling.{Telling}
+use Rattle.command_texts.specs.Reasons.{Place, TellsWhy, place_of}
+use Rattle.command_texts.proofs.Endings.{no_memory, not_read, not_written, text_fault, written_whole}
+use Rattle.command_texts.proofs.Fronts.{front_gains, same_gains, why_gains}
 use Rattle.command_texts.proofs.performing.perform_one.Goals as goal
+
+pub returns-in_err-found-clause-told : goal.returns-in_err-found-clause-told
+returns-in_err-found-clause-told g c =
+    let p = err_from_is_err_and c.from_residual.result c.from_residual.ensures.1 in
+    let h = c.in_err-found.ensures.fault in
+    rw (p.1, p.2) (not_read _ _ _ (λ (n : List ℕ). n ≡ c.args.name.now) _ _ (text_fault (λ (n : List ℕ). n ≡ c.args.name.now) _ h) h)
+
+pub returns-in_err-found-clause-gains : goal.returns-in_err-found-clause-gains
+returns-in_err-found-clause-gains g c = (same_gains _, same_gains _)
+
+pub returns-in_err-answer-clause-told : goal.returns-in_err-answer-clause-told
+returns-in_err-answer-clause-told g c =
+    let p = err_from_is_err_and c.from_residual-in_err-answer.result c.from_residual-in_err-answer.ensures.1 in
+    rw (p.1, p.2) (no_memory _ _ _ _ _ c.in_err-answer.ensures.fault tt)
+
+pub returns-in_err-answer-clause-gains : goal.returns-in_err-answer-clause-gains
+returns-in_err-answer-clause-gains g c = (same_gains _, same_gains _)
+
+pub returns-in_err-status-clause-told : goal.returns-in_err-status-clause-told
+returns-in_err-status-clause-told g c =
+    let n = c.in_ok-found.ensures.named in
+    let p = err_from_is_err_and c.from_residual-in_err-status.result c.from_residual-in_err-status.ensures.1 in
+    rw (p.1, p.2) (not_written _ _ _ n.0 c.in_ok-answer.answer.text.items c.in_ok-answer.answer.status _ _ _ _ c.in_err-status.ensures.fault tt n.1 (c.in_ok-answer.ensures.told n.0 n.2) c.in_err-status.ensures.front)
+
+pub returns-in_err-status-clause-gains : goal.returns-in_err-status-clause-gains
+returns-in_err-status-clause-gains g c = (front_gains _ _ _ c.in_err-status.ensures.front, same_gains _)
 
 pub returns-clause-few : goal.returns-clause-few
 returns-clause-few g c =
     let n = c.in_ok-found.ensures.named in
-    few_written c.written-status.result c.in_ok-answer.answer.status (c.in_ok-answer.ensures.few n.0 n.2) c.written-status.ensures.status
+    rw c.in_ok-status.ensures.status (c.in_ok-answer.ensures.few n.0 n.2)
 
 pub returns-clause-told : goal.returns-clause-told
 returns-clause-told g c =
     let n = c.in_ok-found.ensures.named in
-    tells (IsNamed c.args.name.now (g.S.TextSource.bytes_of c.args.texts.now) (g.I.Read.remaining c.args.input.now)) (g.C.OnOne.is_answer c.args.command.now) _ _ n.0 c.in_ok-answer.answer c.written-status.result n.1
-    (c.in_ok-answer.ensures.told n.0 n.2) c.written-status.ensures.status c.written-status.ensures.text
+    let old = g.E.Write.contents c.args.errors.now in
+    let new = g.E.Write.contents c.tell_why.new.errors in
+    written_whole _ _ _ n.0 c.in_ok-answer.answer _ _ _ c.in_ok-status.ensures.status n.1 (c.in_ok-answer.ensures.told n.0 n.2) c.in_ok-status.ensures.text
+    (record {
+      line = n.3.0;
+      is_line = n.3.1;
+      told = subst (λ (t : Telling). TellsWhy t (place_of c.args.name.now n.3.0) old new) c.telling.ensures (subst (λ (place : Option Place). TellsWhy c.telling.result place old new) n.3.2 c.tell_why.ensures);
+    })
+
+pub returns-clause-gains : goal.returns-clause-gains
+returns-clause-gains g c = (front_gains _ _ _ c.in_ok-status.ensures.front, why_gains c.telling.result _ _ _ c.tell_why.ensures)

@@ -1,15 +1,38 @@
-use Rattle.std.proofs.Common.{refl}
+use Rattle.std.proofs.Common.{refl, subst, Option}
+use Rattle.std.proofs.lemmas.Result.{err_from_is_err_and}
+use Rattle.command_texts.specs.declared.why.Telling.TheVariants.{Short}
+use Rattle.command_texts.specs.Reasons.{Place, TellsWhy}
+use Rattle.command_texts.proofs.Fronts.{same_gains, why_gains}
 use Rattle.command_texts.proofs.Listed.{named_anyhow}
 use Rattle.command_texts.proofs.several.push_one.Goals as goal
 
-pub returns-in-Ok : goal.returns-in-Ok
-returns-in-Ok g c =
+pub returns-in-Ok-clause-gathered : goal.returns-in-Ok-clause-gathered
+returns-in-Ok-clause-gathered g c =
     let n = c.in_ok-found.ensures.named in
     let answer = c.in_ok-answer.answer in
     record {
-      entry = record { name = c.args.name.now; text = n.0; said = answer.text.items; status = answer.status };
+      entry = record { name = c.args.name.now; text = n.0; said = answer.text.items; status = answer.status; line = n.3.0 };
       is_name = refl;
-      is_right = record { is_named = named_anyhow c.args.name.now (g.S.TextSource.bytes_of c.args.texts.now) _ n.0 n.1; is_answer = c.in_ok-answer.ensures.told n.0 n.2 };
+      is_right = record { is_named = named_anyhow c.args.name.now (g.S.TextSource.bytes_of c.args.texts.now) _ n.0 n.1; is_answer = c.in_ok-answer.ensures.told n.0 n.2; is_line = n.3.1 };
       added = c.in-Ok.ensures;
+      told = subst (λ (place : Option Place). TellsWhy Short place (g.E.Write.contents c.args.errors.now) (g.E.Write.contents c.tell_why.new.errors)) n.3.2 c.tell_why.ensures;
       tells = refl;
     }
+
+pub returns-in-Ok-clause-gains : goal.returns-in-Ok-clause-gains
+returns-in-Ok-clause-gains g c = why_gains Short _ _ _ c.tell_why.ensures
+
+pub returns-clause-gains : goal.returns-clause-gains
+returns-clause-gains g c = why_gains Short _ _ _ c.tell_why.ensures
+
+pub returns-in_err-found-clause-gains : goal.returns-in_err-found-clause-gains
+returns-in_err-found-clause-gains g c = same_gains _
+
+pub returns-in_err-answer-clause-gains : goal.returns-in_err-answer-clause-gains
+returns-in_err-answer-clause-gains g c = same_gains _
+
+pub returns-in_err-found-clause-fault : goal.returns-in_err-found-clause-fault
+returns-in_err-found-clause-fault g c = let p = err_from_is_err_and c.from_residual.result c.from_residual.ensures.1 in rw (p.1, p.2) c.in_err-found.ensures.fault
+
+pub returns-in_err-answer-clause-fault : goal.returns-in_err-answer-clause-fault
+returns-in_err-answer-clause-fault g c = let p = err_from_is_err_and c.from_residual-in_err-answer.result c.from_residual-in_err-answer.ensures.1 in rw (p.1, p.2, c.in_err-answer.ensures.fault) tt

@@ -1,0 +1,65 @@
+-- How a command ends.
+use Rattle.std.proofs.Common.{◌≡◌, ◌⊎◌, inl, inr, ℕ, ◌<◌, List, Option, Result, Ok, Err, IfOk, MatchResult, subst, sym}
+use Rattle.std.specs.Prelude.{IfErr}
+use Rattle.std.specs.Io.KnownBytes.{Appends, Keeps}
+use Rattle.std.proofs.KnownBytes.{Keeps-refl}
+use Rattle.command_texts.specs.declared.answer.Answer.{Answer}
+use Rattle.command_texts.specs.declared.answer.Fault.{Fault}
+use Rattle.command_texts.specs.declared.answer.Fault.TheVariants.{File, Link, Output, Memory}
+use Rattle.command_texts.specs.Answers.{IsLinkFault, IsReadFault, IsTextFault}
+use Rattle.command_texts.specs.Told.{CutsShort, Ends, Fails, IsLeft, Tells}
+use Rattle.command_texts.specs.Written.{AppendsFront, Streams}
+
+-- a fault at a text under one of some names is one at a text under one of more
+pub read_fault_in : (P Q : List ℕ → Type 0) → ((name : List ℕ) → P name → Q name) → (fault : Fault) → IsReadFault P fault → IsReadFault Q fault
+read_fault_in P Q more (File name) h = more name.now h
+read_fault_in P Q more Link h = h
+read_fault_in P Q more Output h = h
+read_fault_in P Q more Memory h = h
+
+pub read_faults_in : {V : Type 0} (P Q : List ℕ → Type 0) → ((name : List ℕ) → P name → Q name) → (r : Result V Fault) → IfErr r (IsReadFault P) → IfErr r (IsReadFault Q)
+read_faults_in P Q more (Ok v) h = tt
+read_faults_in P Q more (Err fault) h = read_fault_in P Q more fault h
+
+pub text_fault : (P : List ℕ → Type 0) (fault : Fault) → IsReadFault P fault → IsTextFault P fault
+text_fault P (File name) h = h
+text_fault P Link h = h
+text_fault P Output h = tt
+text_fault P Memory h = h
+
+pub link_fault : (P : List ℕ → Type 0) (fault : Fault) → IsReadFault P fault → IsLinkFault P fault
+link_fault P (File name) h = h
+link_fault P Link h = tt
+link_fault P Output h = tt
+link_fault P Memory h = h
+
+module _ {T : Type 0} (IsFault : Fault → Type 0) (AreTexts : T → Type 0) (IsAnswerTo : T → List ℕ → ℕ → Type 0) where
+  -- the output stays at a fault that is not its own
+  left_alone : (IsName : List ℕ → Type 0) (old : Option (List ℕ)) (IsCut : Type 0) (fault : Fault) → IsReadFault IsName fault → IsLeft fault IsCut (Keeps old old)
+  left_alone IsName old IsCut (File name) h = Keeps-refl old
+  left_alone IsName old IsCut Link h = Keeps-refl old
+  left_alone IsName old IsCut Output h = absurd h
+  left_alone IsName old IsCut Memory h = Keeps-refl old
+
+  -- a text was not read whole
+  pub not_read : (IsName : List ℕ → Type 0) (old : Streams) (fault : Fault) → IsFault fault → IsReadFault IsName fault → Fails IsFault AreTexts IsAnswerTo old old fault
+  not_read IsName old fault is h = record { is_fault = is; output = left_alone IsName old.0 _ fault h; errors = Keeps-refl old.1 }
+
+  -- there was no memory for an answer
+  pub no_memory : (old : Streams) (fault : Fault) → fault ≡ Memory → IsFault Memory → Fails IsFault AreTexts IsAnswerTo old old fault
+  no_memory old fault e is = rw e record { is_fault = is; output = Keeps-refl old.0; errors = Keeps-refl old.1 }
+
+  -- there was no answer, for want of memory or since a link failed
+  pub no_answer : (old : Streams) (fault : Fault) → IsFault Memory → IsFault Link → (fault ≡ Memory) ⊎ (fault ≡ Link) → Fails IsFault AreTexts IsAnswerTo old old fault
+  no_answer old fault memory link (inl e) = no_memory old fault e memory
+  no_answer old fault memory link (inr e) = rw e record { is_fault = link; output = Keeps-refl old.0; errors = Keeps-refl old.1 }
+
+  -- the output failed
+  pub not_written : (texts : T) (text : List ℕ) (status : ℕ) (old new : Option (List ℕ)) (errors : Option (List ℕ)) (fault : Fault) → fault ≡ Output → IsFault Output → AreTexts texts → IsAnswerTo texts text status → AppendsFront old new text → Fails IsFault AreTexts IsAnswerTo (old, errors) (new, errors) fault
+  not_written texts text status old new errors fault e is are is_answer front =
+      rw e record { is_fault = is; output = record { texts = texts; are_texts = are; text = text; status = status; is_answer = is_answer; written = front }; errors = Keeps-refl errors }
+
+-- the answer was written
+pub written_whole : {T : Type 0} (AreTexts : T → Type 0) (IsAnswerTo : T → List ℕ → ℕ → Type 0) (IsBeside : T → Option (List ℕ) → Option (List ℕ) → Type 0) (texts : T) (answer : Answer) (status : ℕ) (old new : Streams) → status ≡ answer.status → AreTexts texts → IsAnswerTo texts answer.text.items answer.status → Appends old.0 new.0 answer.text.items → IsBeside texts old.1 new.1 → Tells AreTexts IsAnswerTo IsBeside old new status
+written_whole AreTexts IsAnswerTo IsBeside texts answer status old new e are is_answer written beside =
+    record { texts = texts; are_texts = are; told = record { text = answer.text.items; is_answer = subst (λ (n : ℕ). IsAnswerTo texts answer.text.items n) (sym e) is_answer; written = written }; beside = beside }

@@ -1,0 +1,69 @@
+-- Why a text is refused, told beside the answer.
+use Rattle.std.specs.Prelude.{◌≡◌, ℕ, List, [], Option, Some, None, option_map}
+use Rattle.std.specs.Option.{option_or}
+use Rattle.std.specs.Io.KnownBytes.{Keeps}
+use Rattle.text_lines.specs.Text.{IsRefusalLine, IsSpelling}
+use Rattle.text_lines.specs.declared.wanted.Refusal.{Refusal}
+use Rattle.refusal_words.specs.Placed.{AddsPlaced, AddsPlacedFirst}
+use Rattle.command_texts.specs.declared.why.Telling.{Telling}
+use Rattle.command_texts.specs.declared.why.Telling.TheVariants.{Short, Full}
+use Rattle.command_texts.specs.declared.why.Why.{Why}
+use Rattle.command_texts.specs.Written.{MayTell}
+
+-- the line at which a text is refused, or none where it is a spelling
+abbrev pub IsRefusedAt : {V : Type 0} → (V → List (List ℕ) → Type 0) → List ℕ → Option ℕ → Type 0
+IsRefusedAt {V} Spells text None = (v : V) × IsSpelling Spells v text
+IsRefusedAt Spells text (Some line) = IsRefusalLine Spells text line
+
+-- of two texts the first is told of that is refused
+pub record IsFirstRefused (IsOneRefused IsOtherRefused : List ℕ → Option ℕ → Type 0) (texts : List ℕ × List ℕ) (line : Option ℕ) : Type 0 where
+  pub one : Option ℕ
+  pub other : Option ℕ
+  pub is_one : IsOneRefused texts.0 one
+  pub is_other : IsOtherRefused texts.1 other
+  pub first : line ≡ option_or one other
+
+-- the line of a refusal
+abbrev pub line_of : Option Refusal → Option ℕ
+line_of refusal = option_map (λ r. r.fault.line) refusal
+
+-- a text's name, and the line at which it is refused
+abbrev pub Place : Type 0
+Place = List ℕ × ℕ
+
+abbrev pub place_of : List ℕ → Option ℕ → Option Place
+place_of name line = option_map (λ n. (name, n)) line
+
+-- the place in the first of two texts, or else in the second
+abbrev pub first_place : List ℕ → List ℕ → Option ℕ → Option ℕ → Option Place
+first_place first second one other = option_or (place_of first one) (place_of second other)
+
+abbrev pub told_place : Why → Place
+told_place why = (why.name.now, why.refusal.fault.line)
+
+-- words that tell why a text is refused: a line that begins with its name and that line, or in full more below it
+abbrev pub AreReasons : Telling → Place → List ℕ → Type 0
+AreReasons Short place words = AddsPlaced place.0 place.1 [] words
+AreReasons Full place words = AddsPlacedFirst place.0 place.1 [] words
+
+-- why a text is refused is told, if one is
+abbrev pub TellsWhy : Telling → Option Place → Option (List ℕ) → Option (List ℕ) → Type 0
+TellsWhy telling None old new = Keeps old new
+TellsWhy telling (Some place) old new = MayTell (AreReasons telling place) old new
+
+-- what is told beside the answer to a text under a name: why it is refused
+pub record TellsWhyOf (IsRefused : List ℕ → Option ℕ → Type 0) (telling : Telling) (name text : List ℕ) (old new : Option (List ℕ)) : Type 0 where
+  pub line : Option ℕ
+  pub is_line : IsRefused text line
+  pub told : TellsWhy telling (place_of name line) old new
+
+-- what is told beside the answer to two texts under their names: why the first is refused, or else the second, and then what
+-- more is told of them, with the name of the second
+pub record TellsBeside (IsFirstRefused IsSecondRefused : List ℕ → Option ℕ → Type 0) (AddsMore : List ℕ × List ℕ → List ℕ → List ℕ → List ℕ → Type 0) (first second : List ℕ) (texts : List ℕ × List ℕ) (old new : Option (List ℕ)) : Type 0 where
+  pub one : Option ℕ
+  pub other : Option ℕ
+  pub is_one : IsFirstRefused texts.0 one
+  pub is_other : IsSecondRefused texts.1 other
+  pub between : Option (List ℕ)
+  pub why : TellsWhy Short (first_place first second one other) old between
+  pub more : MayTell (AddsMore texts second []) between new
