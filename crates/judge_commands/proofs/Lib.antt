@@ -5,3 +5,4 @@ pub mod Judged
 pub mod Lacking
 pub mod Reported
 pub mod Told
+pub mod Misfits

@@ -7,6 +7,7 @@ use Rattle.cert_check.specs.declared.verdict.Verdict.TheVariants.{SessionText, C
 use Rattle.report_text.specs.ReportText.{shape_line}
 use Rattle.report_json.specs.JsonText.{verdict_object}
 use Rattle.judged_texts.specs.declared.wanted.Wanted.{Wanted}
+use Rattle.misfit_words.specs.Misfits.{AddsMisfit}
 use Rattle.command_texts.specs.Answers.{IsAnswer, numbered}
 use Rattle.judge_commands.specs.Judged.{IsJudgedTold}
 use Rattle.judge_commands.specs.Forms.{TellsAllFaults, TellsObject, TellsStory, TellsStoryObject, TellsWanted}
@@ -38,6 +39,10 @@ IsVerdictAnswer session cert = IsVerdictTold verdict_line (session, cert)
 -- `check --format json`: the object of the verdict
 abbrev pub IsVerdictObject : List ℕ × List ℕ → List ℕ → ℕ → Type 0
 IsVerdictObject = IsVerdictTold verdict_object
+
+-- beside the answer of `check`: what of the certificate does not fit the session, by the verdict on the two texts
+abbrev pub AddsMisfitOf : List ℕ × List ℕ → List ℕ → List ℕ → List ℕ → Type 0
+AddsMisfitOf texts name before after = (verdict : Verdict) × IsTextVerdict texts.0 texts.1 verdict × AddsMisfit name verdict before after
 
 -- `audit` and `certify`: what is wanted of the report on the session
 abbrev pub IsAuditAnswer : Wanted → List ℕ → List ℕ → ℕ → Type 0

@@ -77,6 +77,8 @@ impl<R: Threads + Sync, T: TellsReport> OnOne for AuditCommand<'_, R, T> {
 
     ghost is_answer = { λ command. IsJudgedTold (T.tells command.form) };
 
+    ghost how_much = { λ command. T.how_much command.form };
+
     fn telling(&self) -> Telling {
         self.form.telling()
     }

@@ -7,7 +7,7 @@ ghost use Rattle.session_text.specs.Grammar.{SpellsSession};
 ghost use Rattle.cert_text.specs.Grammar.{SpellsCert};
 ghost use Rattle.judged_texts.specs.Checked.{IsTextVerdict};
 ghost use Rattle.command_texts.specs.Answers.{Says};
-ghost use Rattle.judge_commands.specs.Answers.{IsVerdictTold, verdict_line, verdict_status};
+ghost use Rattle.judge_commands.specs.Answers.{AddsMisfitOf, IsVerdictTold, verdict_line, verdict_status};
 
 use crate::forms::TellsVerdict;
 use cert_check::Verdict;
@@ -83,6 +83,10 @@ impl<R: Threads + Sync, T: TellsVerdict> OnTwo for CheckCommand<'_, R, T> {
 
     ghost is_answer = { λ _ texts. IsVerdictTold T.verdict_text texts };
 
+    ghost is_said = { λ _ texts verdict. IsTextVerdict texts.0 texts.1 verdict };
+
+    ghost adds_more = { λ _. AddsMisfitOf };
+
     fn answer(
         &self,
         alloc: Global,
@@ -100,9 +104,12 @@ impl<R: Threads + Sync, T: TellsVerdict> OnTwo for CheckCommand<'_, R, T> {
         cert: &Result<Cert, u32>,
         verdict: Verdict,
     ) -> Result<(), AllocError> {
-        match (session, cert) {
-            (Ok(session), Ok(cert)) => push_misfit(out, name, session, cert, verdict),
-            _ => Ok(()),
+        match session {
+            Ok(session) => match cert {
+                Ok(cert) => push_misfit(out, name, session, cert, verdict),
+                Err(_) => Ok(()),
+            },
+            Err(_) => Ok(()),
         }
     }
 }

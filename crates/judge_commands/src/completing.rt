@@ -95,6 +95,8 @@ impl<C: OnOne<Text = SessionReader>, L: TellsLack> OnOne for Complete<C, L> {
 
     ghost is_answer = { λ complete session. IsCompleteAnswer L.tells (C.is_answer complete.command session) session };
 
+    ghost how_much = { λ complete. C.how_much complete.command };
+
     fn telling(&self) -> Telling {
         self.command.telling()
     }
@@ -116,6 +118,10 @@ impl<C: OnTwo<First = SessionReader>, L: TellsLack> OnTwo for Complete<C, L> {
     ghost ready = { C.ready };
 
     ghost is_answer = { λ complete texts. IsCompleteAnswer L.tells (C.is_answer complete.command texts) texts.0 };
+
+    ghost is_said = { λ complete. C.is_said complete.command };
+
+    ghost adds_more = { λ complete. C.adds_more complete.command };
 
     fn answer(
         &self,

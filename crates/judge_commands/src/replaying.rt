@@ -1,6 +1,6 @@
 //! What becomes of a merging of a session along its runs, as a line and a status.
 
-ghost use Rattle.std.specs.Prelude.{◌≡◌, ◌++◌, ℕ, List, IfOk, OnOk};
+ghost use Rattle.std.specs.Prelude.{◌≡◌, ◌++◌, ℕ, List, IfOk, OnOk, ⊤};
 ghost use Rattle.text_lines.specs.Answer.{IsRead};
 ghost use Rattle.session_text.specs.Grammar.{SpellsSession};
 ghost use Rattle.order_text.specs.Order.{SpellsOrder};
@@ -66,6 +66,10 @@ impl OnTwo for ReplayCommand {
 
     ghost is_answer = { λ _ texts. IsReplayAnswer texts.0 texts.1 };
 
+    ghost is_said = { λ _ _ _. ⊤ };
+
+    ghost adds_more = { λ _ _ _ before after. after ≡ before };
+
     fn answer(
         &self,
         alloc: Global,
@@ -73,5 +77,16 @@ impl OnTwo for ReplayCommand {
         runs: &Result<Seq<Run>, u32>,
     ) -> Result<(Answer, ()), Fault<'static>> {
         given_alone(replay_read(alloc, session, runs))
+    }
+
+    fn push_more(
+        &self,
+        _out: &mut Vec<u8>,
+        _name: &[u8],
+        _session: &Result<Session, u32>,
+        _runs: &Result<Seq<Run>, u32>,
+        _said: (),
+    ) -> Result<(), AllocError> {
+        Ok(())
     }
 }

@@ -6,6 +6,8 @@ ghost use Rattle.faulty_pages.specs.FaultyPages.{AreFaultyPages};
 ghost use Rattle.audit_report.specs.Reports.{IsCleanWith, IsReport, ReportFits};
 ghost use Rattle.report_text.specs.FaultyPagesText.{JudgesPages};
 ghost use Rattle.report_json.specs.JsonText.{all_faults_object};
+ghost use Rattle.command_texts.specs.declared.why.Telling.{Telling as HowMuch};
+ghost use Rattle.command_texts.specs.declared.why.Telling.TheVariants.{Short, Full};
 ghost use Rattle.judge_commands.specs.Judged.{Judged, Refused, Reported};
 ghost use Rattle.judge_commands.specs.Forms.{TellsAllFaults, TellsObject, TellsStory, TellsStoryObject, TellsWanted};
 
@@ -28,9 +30,11 @@ pub trait TellsReport {
     ghost tells: { Self → Judged → List ℕ → Type 0 };
 
     /// How much is told beside the answer of a text that is refused.
-    fn telling(&self) -> Telling {
-        Telling::Short
-    }
+    ghost how_much: { Self → HowMuch };
+
+    /// How much is told beside the answer of a text that is refused.
+    fn telling(&self) -> Telling
+        ensures { result ≡ how_much self.now };
 
     /// Tells the report on a session. An error: there is no memory for it.
     fn tell_report<R: Threads + Sync>(
@@ -52,6 +56,12 @@ pub trait TellsReport {
 
 impl TellsReport for Wanted {
     ghost tells = { TellsWanted };
+
+    ghost how_much = { λ _. Short };
+
+    fn telling(&self) -> Telling {
+        Telling::Short
+    }
 
     fn tell_report<R: Threads + Sync>(
         &self,
@@ -80,6 +90,12 @@ fn refusal_object(alloc: Global, line: u32) -> Result<Vec<u8>, AllocError>
 impl TellsReport for InObject {
     ghost tells = { λ _. TellsObject };
 
+    ghost how_much = { λ _. Short };
+
+    fn telling(&self) -> Telling {
+        Telling::Short
+    }
+
     fn tell_report<R: Threads + Sync>(
         &self,
         _rt: &R,
@@ -99,6 +115,8 @@ impl TellsReport for InObject {
 
 impl TellsReport for Topic {
     ghost tells = { λ _. TellsStory };
+
+    ghost how_much = { λ _. Full };
 
     fn telling(&self) -> Telling {
         Telling::Full
@@ -125,6 +143,12 @@ pub struct StoryObject;
 
 impl TellsReport for StoryObject {
     ghost tells = { λ _. TellsStoryObject };
+
+    ghost how_much = { λ _. Short };
+
+    fn telling(&self) -> Telling {
+        Telling::Short
+    }
 
     fn tell_report<R: Threads + Sync>(
         &self,
@@ -195,6 +219,12 @@ fn all_faults_object(
 
 impl TellsReport for AllFaults {
     ghost tells = { TellsAllFaults };
+
+    ghost how_much = { λ _. Short };
+
+    fn telling(&self) -> Telling {
+        Telling::Short
+    }
 
     fn tell_report<R: Threads + Sync>(
         &self,
