@@ -5,3 +5,6 @@ pub mod Causing
 pub mod Firsts
 pub mod Reaching
 pub mod Circling
+pub mod Placing
+pub mod Joining
+pub mod Knotting

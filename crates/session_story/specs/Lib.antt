@@ -10,5 +10,13 @@ pub mod Subjects
 pub mod Topics
 pub mod Concerned
 pub mod Amended
+pub mod RecordWords
+pub mod KnotWords
+pub mod ShapeWords
+pub mod FaultWords
+pub mod StoryWords
+pub mod CountWords
+pub mod TopicWords
+pub mod MissingWords
 pub mod Told
 pub mod inner

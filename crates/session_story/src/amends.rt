@@ -47,7 +47,7 @@ fn read_value(guest: &[GuestRec], place: usize) -> Option<u64>
 }
 
 /// The value that a record has: a read the one that it gives, a record with contents that of the cell.
-fn value_at(session: &Session, name: Name, cell: u16) -> Option<u64>
+pub(crate) fn value_at(session: &Session, name: Name, cell: u16) -> Option<u64>
     ensures { result ≡ value_at session.now name cell }
 {
     let place = name.1 as usize;

@@ -1,13 +1,9 @@
 //! The text that tells what happened in a session.
 
-ghost use Rattle.std.specs.Prelude.{[], ◌∷◌, IfOk};
-ghost use Rattle.text_lines.specs.Text.{ended};
+ghost use Rattle.std.specs.Prelude.{◌≡◌, ◌++◌, IfOk, OnOk};
 ghost use Rattle.audit_report.specs.Reports.{IsReport};
-ghost use Rattle.report_text.specs.ReportText.{first_line};
 ghost use Rattle.completeness.specs.Complete.{IsFirstMissing};
-ghost use Rattle.report_text.specs.MissingText.{missing_text};
-ghost use Rattle.report_text.specs.RefusalText.{refusal_text};
-ghost use Rattle.session_story.specs.Told.{BeginsWith};
+ghost use Rattle.session_story.specs.Told.{IsExplainedText, IsToldText, lacking_text, no_text, refused_text};
 
 use crate::topics::{Topic, tell};
 use crate::words::{words_of, words_of_missing};
@@ -26,7 +22,7 @@ pub fn print_topic(
     topic: Topic,
 ) -> Result<Vec<u8>, AllocError>
     requires { IsReport session.now report.now }
-    ensures { IfOk result (λ text. BeginsWith (ended (first_line report.now ∷ [])) text.items) }
+    ensures { IfOk result (λ text. IsToldText session.now report.now topic text.items) }
 {
     let told = tell(alloc, session, report, topic)?;
     let words = words_of(alloc, session, report, &told)?;
@@ -42,7 +38,7 @@ pub fn print_explained(
     report: &Report,
 ) -> Result<Vec<u8>, AllocError>
     requires { IsReport session.now report.now }
-    ensures { IfOk result (λ text. BeginsWith (ended (first_line report.now ∷ [])) text.items) }
+    ensures { IfOk result (λ text. IsExplainedText session.now report.now text.items) }
 {
     print_topic(alloc, session, report, Topic::Report)
 }
@@ -55,7 +51,7 @@ pub fn print_missing(
     missing: Missing,
 ) -> Result<Vec<u8>, AllocError>
     requires { IsFirstMissing session.now missing }
-    ensures { IfOk result (λ text. BeginsWith (missing_text session.now missing) text.items) }
+    ensures { IfOk result (λ text. text.items ≡ lacking_text session.now missing) }
 {
     let words = words_of_missing(alloc, session, &missing)?;
     let mut text = Vec::new(alloc);
@@ -64,15 +60,21 @@ pub fn print_missing(
     Ok(text)
 }
 
-/// What it means that a text is refused.
-const NO_TEXT: &[u8] =
-    b"This is no text of a session: no such text begins as this one does up to that line, or this one ends there too early.\n";
+/// Adds what it means that a text is refused.
+#[tactic(auto, unfolding(crate::specs::Told::no_text))]
+fn push_no_text(text: &mut Vec<u8>) -> Result<(), AllocError>
+    ensures { OnOk result (text.new.items ≡ text.old.items ++ no_text) }
+{
+    text.extend_from_slice(
+        b"This is no text of a session: no such text begins as this one does up to that line, or this one ends there too early.\n",
+    )
+}
 
 /// That a text is refused at this line, as an audit tells it, and what that means. An error: there is no memory for it.
 pub fn print_refused(alloc: Global, line: u32) -> Result<Vec<u8>, AllocError>
-    ensures { IfOk result (λ text. BeginsWith (refusal_text line) text.items) }
+    ensures { IfOk result (λ text. text.items ≡ refused_text line) }
 {
     let mut text = print_refused_session(alloc, line)?;
-    text.extend_from_slice(NO_TEXT)?;
+    push_no_text(&mut text)?;
     Ok(text)
 }

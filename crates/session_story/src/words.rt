@@ -1,83 +1,92 @@
 //! What happened in a session, in words.
 
+ghost use Rattle.std.specs.Prelude.{◌≡◌, ◌++◌, OnOk, IfOk, string_bytes};
+ghost use Rattle.session_story.specs.RecordWords.{has_lane};
+ghost use Rattle.session_story.specs.TopicWords.{explained_first, explained_words, fault_words, many_more, more_words, summary_words, told_words};
+
+mod contents;
+mod counts;
 mod faults;
 mod knots;
 mod missing;
 mod reasons;
 mod records;
 mod shapes;
+mod stories;
 mod topics;
+mod writing;
 
-use crate::counting::Counts;
 use crate::explaining::Explanation;
+use crate::faults::FaultStory;
 use crate::topics::Told;
-use crate::words::faults::{push_fault, push_faulty, push_more};
+use crate::words::counts::{push_clean, push_counts};
+use crate::words::faults::{push_cause_and_fault, push_faulty};
 use crate::words::knots::{push_knot, push_no_order};
+use crate::words::reasons::push_order;
 use crate::words::shapes::push_shape_story;
-use crate::words::topics::{push_line, push_line_summary, push_page, push_page_summary};
+use crate::words::stories::push_story;
+use crate::words::topics::{push_line, push_line_first, push_page, push_page_first};
+use crate::words::writing::{push, push_around};
 use audit_report::Report;
 pub use knots::push_wait;
-use migration_types::{Session, Version};
+use migration_types::Session;
 pub(crate) use missing::words_of_missing;
 pub use records::{log_word, push_place, push_record};
 use std::alloc::{AllocError, Global};
 
 /// Whether the lane of a session has records: of other sessions nothing is said of a lane.
-fn has_lane(session: &Session) -> bool {
+fn has_lane(session: &Session) -> bool
+    ensures { result ≡ has_lane session.now }
+{
     !session.lane().is_empty()
 }
 
-/// That no order of a session goes wrong.
-const CLEAN: &str =
-    "In every order of the records each read gives what one machine that never moved would give.\n";
-
-/// Adds how a clean session went.
-fn push_counts(out: &mut String, version: Version, counts: &Counts) -> Result<(), AllocError> {
-    let sent = counts.sent;
-    let zeroed = counts.zeroed;
-    let unmoved = counts.unmoved;
-    let fresh = counts.fresh;
-    let sends = counts.sends;
-    let pushes = counts.pushes;
-    let repeats = counts.repeats;
-    let dropped = counts.dropped;
-    let misses = counts.misses;
-    let waits = counts.waits;
-    let by_lane = counts.by_lane;
-    out.push_str(CLEAN)?;
-    write!(out, "Pages that were sent and placed: {sent}\n")?;
-    write!(out, "Released pages that came back as zeros: {zeroed}\n")?;
-    match version {
-        Version::One => write!(out, "Pages that were not placed: {unmoved}\n")?,
-        Version::Two => {
-            write!(
-                out,
-                "Pages that were released at the target and never placed: {fresh}\n"
-            )?;
-            write!(out, "Other pages that were not placed: {unmoved}\n")?
-        }
-    }
-    write!(
+/// Adds how many other pages have a fault, which are several.
+#[tactic(auto, unfolding(crate::specs::TopicWords::many_more))]
+fn push_many_more(out: &mut String, more: usize) -> Result<(), AllocError>
+    ensures { OnOk result (string_bytes out.new ≡ string_bytes out.old ++ many_more more) }
+{
+    push_around(
         out,
-        "Sendings of a page: {sends}, of which unasked: {pushes}\n"
-    )?;
-    write!(out, "Repeats of a packet: {repeats}\n")?;
-    if by_lane > 0 {
-        write!(out, "Packets that the lane delivered: {by_lane}\n")?;
-    }
-    write!(out, "Packets that the pager dropped: {dropped}\n")?;
-    write!(
-        out,
-        "Misses of the guest: {misses}, of which waited for a page that was asked for before: {waits}\n"
+        "",
+        more,
+        " more pages have a fault; audit --all lists them.\n",
     )
 }
 
+/// Adds how many other pages have a fault, where some have.
+#[tactic(auto, unfolding(crate::specs::TopicWords::more_words))]
+fn push_more(out: &mut String, more: usize) -> Result<(), AllocError>
+    ensures { OnOk result (string_bytes out.new ≡ string_bytes out.old ++ more_words more) }
+{
+    if more == 0 {
+        Ok(())
+    } else if more == 1 {
+        push(out, "1 more page has a fault; audit --all lists them.\n")
+    } else {
+        push_many_more(out, more)
+    }
+}
+
+/// Adds the fault of a page.
+#[tactic(auto, unfolding(crate::specs::TopicWords::fault_words))]
+fn push_fault(out: &mut String, session: &Session, story: &FaultStory) -> Result<(), AllocError>
+    ensures { OnOk result (string_bytes out.new ≡ string_bytes out.old ++ fault_words session.now story.now) }
+{
+    push_cause_and_fault(out, session, story)?;
+    push_order(out, story)?;
+    push_story(out, session, &story.page, &story.handover)
+}
+
 /// Adds what happened in a session.
+#[tactic(auto, unfolding(crate::specs::TopicWords::explained_words))]
 fn push_explanation(
     out: &mut String,
     session: &Session,
     explanation: &Explanation,
-) -> Result<(), AllocError> {
+) -> Result<(), AllocError>
+    ensures { OnOk result (string_bytes out.new ≡ string_bytes out.old ++ explained_words session.now explanation.now) }
+{
     match explanation {
         Explanation::Shape(story) => push_shape_story(out, session, story),
         Explanation::Knot(knot) => push_knot(out, session, knot),
@@ -89,42 +98,63 @@ fn push_explanation(
     }
 }
 
+/// Adds what is told of a session with this report.
+#[tactic(auto, unfolding(crate::specs::TopicWords::told_words))]
+fn push_told(
+    out: &mut String,
+    session: &Session,
+    report: &Report,
+    told: &Told,
+) -> Result<(), AllocError>
+    ensures { OnOk result (string_bytes out.new ≡ string_bytes out.old ++ told_words session.now report.now told.now) }
+{
+    match told {
+        Told::Report(explanation) => push_explanation(out, session, explanation),
+        Told::Page(number, page) => push_page(out, session, report, *number, page),
+        Told::Line(number, line) => push_line(out, session, report, *number, line),
+    }
+}
+
 /// What is told of a session with this report, in words.
 pub(crate) fn words_of(
     alloc: Global,
     session: &Session,
     report: &Report,
     told: &Told,
-) -> Result<String, AllocError> {
+) -> Result<String, AllocError>
+    ensures { IfOk result (λ words. string_bytes words ≡ told_words session.now report.now told.now) }
+{
     let mut out = String::new(alloc);
-    match told {
-        Told::Report(explanation) => push_explanation(&mut out, session, explanation)?,
-        Told::Page(number, page) => push_page(&mut out, session, report, *number, page)?,
-        Told::Line(number, line) => push_line(&mut out, session, report, *number, line)?,
-    }
+    push_told(&mut out, session, report, told)?;
     Ok(out)
 }
 
 /// Adds what is told first of what happened in a session.
-fn push_first_of(
+#[tactic(auto, unfolding(crate::specs::TopicWords::explained_first))]
+fn push_explained_first(
     out: &mut String,
     session: &Session,
     explanation: &Explanation,
-) -> Result<(), AllocError> {
+) -> Result<(), AllocError>
+    ensures { OnOk result (string_bytes out.new ≡ string_bytes out.old ++ explained_first session.now explanation.now) }
+{
     match explanation {
         Explanation::Shape(story) => push_shape_story(out, session, story),
         Explanation::Knot(_) => push_no_order(out),
         Explanation::Faulty { story, .. } => push_faulty(out, session, story),
-        Explanation::Clean(_) => out.push_str(CLEAN),
+        Explanation::Clean(_) => push_clean(out),
     }
 }
 
 /// Adds what is told first, each sentence on a line of its own: what is wrong, or that nothing is. An error: there is no
 /// memory for it.
-pub fn push_summary(out: &mut String, session: &Session, told: &Told) -> Result<(), AllocError> {
+#[tactic(auto, unfolding(crate::specs::TopicWords::summary_words))]
+pub fn push_summary(out: &mut String, session: &Session, told: &Told) -> Result<(), AllocError>
+    ensures { OnOk result (string_bytes out.new ≡ string_bytes out.old ++ summary_words session.now told.now) }
+{
     match told {
-        Told::Report(explanation) => push_first_of(out, session, explanation),
-        Told::Page(number, page) => push_page_summary(out, session, *number, page),
-        Told::Line(number, line) => push_line_summary(out, session, *number, line),
+        Told::Report(explanation) => push_explained_first(out, session, explanation),
+        Told::Page(number, page) => push_page_first(out, session, *number, page),
+        Told::Line(number, line) => push_line_first(out, session, *number, line),
     }
 }

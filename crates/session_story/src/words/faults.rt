@@ -1,393 +1,353 @@
 //! The fault of a page in words.
 
-use super::has_lane;
-use super::reasons::{push_order, push_plain};
-use super::records::{push_place, push_record};
+ghost use Rattle.std.specs.Prelude.{◌≡◌, ◌++◌, OnOk, slice_get, string_bytes};
+ghost use Rattle.session_story.specs.FaultWords.{behind_release, behind_use, cause_and_fault, cause_words, differing_words, early_words, faulty_words, first_wrong, instead_words, late_words, machine_words, over_release, over_words, put_words, read_words, right_instead, seen_words, unlooked, unreached, unseen_words, wrong_record, wrong_words, wrongly_words};
+
+use super::contents::{push_contents, push_giver};
+use super::reasons::push_plain;
+use super::records::{push_placed, push_recorded};
+use super::writing::{push, push_around, push_within};
+use crate::concerns::Name;
 use crate::faults::{Cause, Detail, FaultStory};
 use crate::looks::Look;
-use crate::pages::{Handover, PageStory};
 use crate::values::Held;
-use audit_model::delivery;
-use migration_types::{LogName, PagerRec, Record, Session, SourceRec};
+use migration_types::{LogName, PagerRec, Session};
 use std::alloc::AllocError;
 
-/// Adds which record gave a cell its value.
-fn push_giver(out: &mut String, session: &Session, held: &Held) -> Result<(), AllocError> {
-    let Some(by) = held.by else {
-        return out.push_str("as at the start");
-    };
-    out.push_str("since ")?;
-    push_record(out, session, LogName::Guest, by)
+/// Adds which value one machine has.
+#[tactic(auto, unfolding(crate::specs::FaultWords::machine_words))]
+fn push_machine(out: &mut String, value: u64) -> Result<(), AllocError>
+    ensures { OnOk result (string_bytes out.new ≡ string_bytes out.old ++ machine_words value) }
+{
+    push_around(out, "One machine that never moved has ", value, " there, ")
 }
 
 /// Adds what is wrong with a read.
-fn push_read(out: &mut String, session: &Session, held: &Held) -> Result<(), AllocError> {
-    let value = held.value;
-    write!(out, "One machine that never moved has {value} there, ")?;
-    push_giver(out, session, held)?;
-    out.push_str(".\n")
+#[tactic(auto, unfolding(crate::specs::FaultWords::read_words))]
+fn push_read(out: &mut String, session: &Session, held: &Held) -> Result<(), AllocError>
+    ensures { OnOk result (string_bytes out.new ≡ string_bytes out.old ++ read_words session.now held.now) }
+{
+    push_machine(out, held.value)?;
+    push_giver(out, session, held.by)?;
+    push(out, ".\n")
 }
 
 /// Adds which look before a use reaches furthest.
-fn push_seen(out: &mut String, session: &Session, seen: Option<Look>) -> Result<(), AllocError> {
-    let Some(look) = seen else {
-        return out.push_str("The guest looks at no placement before it.\n");
-    };
-    out.push_str("Of the looks before it this one reaches furthest: ")?;
-    push_record(out, session, LogName::Guest, look.place)?;
-    out.push_str(".\n")
+#[tactic(auto, unfolding(crate::specs::FaultWords::seen_words))]
+fn push_seen(out: &mut String, session: &Session, seen: Option<Look>) -> Result<(), AllocError>
+    ensures { OnOk result (string_bytes out.new ≡ string_bytes out.old ++ seen_words session.now seen) }
+{
+    match seen {
+        Some(look) => push_recorded(
+            out,
+            "Of the looks before it this one reaches furthest: ",
+            session,
+            (LogName::Guest, look.place),
+        ),
+        None => push(out, "The guest looks at no placement before it.\n"),
+    }
 }
 
-/// Adds which look reaches a placement too late, behind what should come after it.
+/// Adds which look reaches a placement too late, after these words.
+#[tactic(auto, unfolding(crate::specs::FaultWords::late_words))]
 fn push_late(
+    out: &mut String,
+    before: &str,
+    session: &Session,
+    look: Option<u32>,
+) -> Result<(), AllocError>
+    ensures { OnOk result (string_bytes out.new ≡ string_bytes out.old ++ late_words before.now session.now look) }
+{
+    match look {
+        Some(look) => push_recorded(out, before, session, (LogName::Guest, look)),
+        None => push(out, "No look at all reaches it.\n"),
+    }
+}
+
+/// Adds which look reaches a placement behind a use.
+#[tactic(auto, unfolding(crate::specs::FaultWords::behind_use))]
+fn push_behind_use(out: &mut String, session: &Session, look: Option<u32>) -> Result<(), AllocError>
+    ensures { OnOk result (string_bytes out.new ≡ string_bytes out.old ++ behind_use session.now look) }
+{
+    push_late(
+        out,
+        "The first look that reaches it stands behind the use: ",
+        session,
+        look,
+    )
+}
+
+/// Adds which look reaches a placement behind a release.
+#[tactic(auto, unfolding(crate::specs::FaultWords::behind_release))]
+fn push_behind_release(
     out: &mut String,
     session: &Session,
     look: Option<u32>,
-    behind: &str,
-) -> Result<(), AllocError> {
-    let Some(look) = look else {
-        return out.push_str("No look at all reaches it.\n");
-    };
-    write!(
+) -> Result<(), AllocError>
+    ensures { OnOk result (string_bytes out.new ≡ string_bytes out.old ++ behind_release session.now look) }
+{
+    push_late(
         out,
-        "The first look that reaches it stands behind the {behind}: "
-    )?;
-    push_record(out, session, LogName::Guest, look)?;
-    out.push_str(".\n")
+        "The first look that reaches it stands behind the release: ",
+        session,
+        look,
+    )
 }
 
-/// Adds what is wrong with an early use.
+/// Adds that no look before an early use reaches a placement.
+#[tactic(auto, unfolding(crate::specs::FaultWords::unreached))]
+fn push_unreached(out: &mut String, session: &Session, placement: u32) -> Result<(), AllocError>
+    ensures { OnOk result (string_bytes out.new ≡ string_bytes out.old ++ unreached session.now placement) }
+{
+    push_placed(
+        out,
+        "The guest is at the target by then, and no look before this use reaches the placement of the page, ",
+        session,
+        (LogName::Pager, placement),
+    )
+}
+
+/// Adds what is wrong with an early use of a page, by its first placement, the look before the use that reaches furthest,
+/// and the first look that reaches the placement.
+#[tactic(auto, unfolding(crate::specs::FaultWords::early_words))]
 fn push_early(
     out: &mut String,
     session: &Session,
-    page: &PageStory,
+    placement: Option<u32>,
     seen: Option<Look>,
-) -> Result<(), AllocError> {
-    let Some(placement) = page.found.placement else {
-        return out.push_str(
+    look: Option<u32>,
+) -> Result<(), AllocError>
+    ensures { OnOk result (string_bytes out.new ≡ string_bytes out.old ++ early_words session.now placement seen look) }
+{
+    match placement {
+        Some(placement) => {
+            push_unreached(out, session, placement)?;
+            push_seen(out, session, seen)?;
+            push_behind_use(out, session, look)
+        }
+        None => push(
+            out,
             "The guest is at the target by then, and the page is never placed there.\n",
-        );
-    };
-    out.push_str(
-        "The guest is at the target by then, and no look before this use reaches the placement of the page, ",
-    )?;
-    push_place(out, session, LogName::Pager, placement)?;
-    out.push_str(".\n")?;
-    push_seen(out, session, seen)?;
-    push_late(out, session, page.found.look, "use")
+        ),
+    }
 }
 
-/// Adds what is wrong with a placement over a release.
-fn push_over(
-    out: &mut String,
-    session: &Session,
-    story: &FaultStory,
-    seen: Option<Look>,
-) -> Result<(), AllocError> {
-    let Some(release) = story.page.found.touch else {
-        return Ok(());
-    };
-    out.push_str(
+/// Adds the release over which a page is placed.
+#[tactic(auto, unfolding(crate::specs::FaultWords::over_release))]
+fn push_release(out: &mut String, session: &Session, release: u32) -> Result<(), AllocError>
+    ensures { OnOk result (string_bytes out.new ≡ string_bytes out.old ++ over_release session.now release) }
+{
+    push_recorded(
+        out,
         "The first use of the page at the target is a release, which makes it zeros there: ",
-    )?;
-    push_record(out, session, LogName::Guest, release)?;
-    out.push_str(
-        ".\nNo look before this release reaches the placement, so that it may come after the release and put ",
-    )?;
-    out.push_str(match session.pager().get(story.fault.place as usize) {
+        session,
+        (LogName::Guest, release),
+    )
+}
+
+/// What a placement may put over what.
+fn put_by(session: &Session, place: u32) -> &'static str
+    ensures { result.now ≡ put_words (slice_get session.now.pager place) }
+{
+    match session.pager().get(place as usize) {
         Some(PagerRec::Zero { .. }) => "zeros over what the guest writes by then",
         _ => "old contents over the zeros",
-    })?;
-    out.push_str(".\n")?;
-    push_seen(out, session, seen)?;
-    push_late(out, session, story.page.found.look, "release")?;
-    out.push_str(
+    }
+}
+
+/// Adds what a placement may put over what, where no look before the release reaches it.
+#[tactic(auto, unfolding(crate::specs::FaultWords::unlooked))]
+fn push_unlooked(out: &mut String, put: &str) -> Result<(), AllocError>
+    ensures { OnOk result (string_bytes out.new ≡ string_bytes out.old ++ unlooked put.now) }
+{
+    push_within(
+        out,
+        "No look before this release reaches the placement, so that it may come after the release and put ",
+        put,
+        ".\n",
+    )
+}
+
+/// Adds what would be right in the place of a placement over a release.
+#[tactic(auto, unfolding(crate::specs::FaultWords::right_instead))]
+fn push_right(out: &mut String) -> Result<(), AllocError>
+    ensures { OnOk result (string_bytes out.new ≡ string_bytes out.old ++ right_instead) }
+{
+    push(
+        out,
         "Right would be a look at this placement before the release, or no placement: the pager skips a page that is released there first.\n",
     )
 }
 
-/// Adds what the page has where the contents of a record, if it has any, are others.
-fn push_other<R: Record>(
+/// Adds what is wrong with a placement of this number over the first use of its page, by the look before this use that
+/// reaches furthest, and the first look that reaches the placement.
+#[tactic(auto, unfolding(crate::specs::FaultWords::over_words))]
+fn push_over(
     out: &mut String,
     session: &Session,
-    held: &Held,
-    done: &str,
-    rec: &R,
-) -> Result<(), AllocError> {
-    let Some(contents) = rec.contents() else {
-        return Ok(());
-    };
-    let cell = held.cell;
-    let value = held.value;
-    let other = match contents.get(cell as usize) {
-        Some(other) => *other,
-        None => 0,
-    };
-    write!(
-        out,
-        "{done} with {other} in cell {cell}, where the page has {value} at the halt, "
-    )?;
-    push_giver(out, session, held)?;
-    out.push_str(".\n")
-}
-
-/// The first sending of what a source's record sends.
-fn first_sending(session: &Session, sending: u32) -> u32 {
-    match session.source().get(sending as usize) {
-        Some(SourceRec::Again { sending }) => *sending,
-        _ => sending,
-    }
-}
-
-/// Adds what was sent in a cell of what came with the pager's record.
-fn push_origin(out: &mut String, session: &Session, got: u32, cell: u16) -> Result<(), AllocError> {
-    let Some(sending) = delivery(session, got) else {
-        return Ok(());
-    };
-    let sending = first_sending(session, sending);
-    if let Some(SourceRec::Send { contents, .. }) = session.source().get(sending as usize) {
-        if let Some(sent) = contents.as_slice().get(cell as usize) {
-            write!(
-                out,
-                "What came with pager {got} was sent with {sent} there: "
-            )?;
-            push_record(out, session, LogName::Source, sending)?;
-            out.push_str(".\n")?;
-        }
-    }
-    Ok(())
-}
-
-/// Adds what is wrong with the contents that a `send` or a placement has.
-fn push_contents(
-    out: &mut String,
-    session: &Session,
-    log: LogName,
     place: u32,
-    held: &Held,
-) -> Result<(), AllocError> {
-    let n = place as usize;
-    if log == LogName::Source {
-        return match session.source().get(n) {
-            Some(rec) => push_other(out, session, held, "The page is sent", rec),
-            None => Ok(()),
-        };
+    release: Option<u32>,
+    seen: Option<Look>,
+    look: Option<u32>,
+) -> Result<(), AllocError>
+    ensures { OnOk result (string_bytes out.new ≡ string_bytes out.old ++ over_words session.now place release seen look) }
+{
+    match release {
+        Some(release) => {
+            push_release(out, session, release)?;
+            push_unlooked(out, put_by(session, place))?;
+            push_seen(out, session, seen)?;
+            push_behind_release(out, session, look)?;
+            push_right(out)
+        }
+        None => Ok(()),
     }
-    let Some(rec) = session.pager().get(n) else {
-        return Ok(());
-    };
-    push_other(out, session, held, "The page is placed", rec)?;
-    match rec {
-        PagerRec::Place { got, .. } => push_origin(out, session, *got, held.cell),
-        _ => Ok(()),
+}
+
+/// Adds what is wrong with an early use, or with a placement over a release.
+#[tactic(auto, unfolding(crate::specs::FaultWords::unseen_words))]
+fn push_unseen(
+    out: &mut String,
+    session: &Session,
+    story: &FaultStory,
+    seen: Option<Look>,
+) -> Result<(), AllocError>
+    ensures { OnOk result (string_bytes out.new ≡ string_bytes out.old ++ unseen_words session.now story.now story.now.fault.log seen) }
+{
+    let found = &story.page.found;
+    match story.fault.log {
+        LogName::Pager => push_over(
+            out,
+            session,
+            story.fault.place,
+            found.touch,
+            seen,
+            found.look,
+        ),
+        _ => push_early(out, session, found.placement, seen, found.look),
+    }
+}
+
+/// Adds what is wrong with a read, by what one machine gives.
+#[tactic(auto, unfolding(crate::specs::FaultWords::instead_words))]
+fn push_instead(
+    out: &mut String,
+    session: &Session,
+    story: &FaultStory,
+    held: Option<Held>,
+) -> Result<(), AllocError>
+    ensures { OnOk result (string_bytes out.new ≡ string_bytes out.old ++ instead_words session.now story.now held) }
+{
+    match held {
+        Some(held) => push_read(out, session, &held),
+        None => push_plain(out, session, story),
+    }
+}
+
+/// Adds what is wrong with contents, by the first cell that differs.
+#[tactic(auto, unfolding(crate::specs::FaultWords::differing_words))]
+fn push_differing(
+    out: &mut String,
+    session: &Session,
+    story: &FaultStory,
+    held: Option<Held>,
+) -> Result<(), AllocError>
+    ensures { OnOk result (string_bytes out.new ≡ string_bytes out.old ++ differing_words session.now story.now held) }
+{
+    match held {
+        Some(held) => {
+            let name = (story.fault.log, story.fault.place);
+            push_contents(out, session, name, &held)
+        }
+        None => push_plain(out, session, story),
     }
 }
 
 /// Adds what is wrong.
-fn push_wrong(out: &mut String, session: &Session, story: &FaultStory) -> Result<(), AllocError> {
+#[tactic(auto, unfolding(crate::specs::FaultWords::wrong_words))]
+fn push_wrong(out: &mut String, session: &Session, story: &FaultStory) -> Result<(), AllocError>
+    ensures { OnOk result (string_bytes out.new ≡ string_bytes out.old ++ wrong_words session.now story.now story.now.detail) }
+{
     match &story.detail {
-        Detail::Instead(Some(held)) => push_read(out, session, held),
-        Detail::Seen(seen) => match story.fault.log {
-            LogName::Pager => push_over(out, session, story, *seen),
-            _ => push_early(out, session, &story.page, *seen),
-        },
-        Detail::Other(Some(held)) => {
-            push_contents(out, session, story.fault.log, story.fault.place, held)
-        }
-        Detail::Instead(None) | Detail::Other(None) | Detail::Plain => {
-            push_plain(out, session, story)
-        }
+        Detail::Instead(held) => push_instead(out, session, story, *held),
+        Detail::Seen(seen) => push_unseen(out, session, story, *seen),
+        Detail::Other(held) => push_differing(out, session, story, *held),
+        Detail::Plain => push_plain(out, session, story),
     }
 }
 
-/// Adds a line of a page's story: a record, or that there is none.
-fn push_step(
-    out: &mut String,
-    session: &Session,
-    log: LogName,
-    place: Option<u32>,
-    is: &str,
-    none: &str,
-) -> Result<(), AllocError> {
-    out.push_str("  ")?;
-    match place {
-        Some(place) => {
-            push_record(out, session, log, place)?;
-            out.push_str(is)?;
-        }
-        None => out.push_str(none)?,
-    }
-    out.push_str("\n")
-}
-
-/// Whether the lane's delivery of a page is told: the pager takes this one, or there is no other.
-fn comes_by_lane(session: &Session, page: &PageStory) -> bool {
-    match page.got {
-        Some(got) => matches!(
-            session.pager().get(got as usize),
-            Some(PagerRec::Pull { .. })
-        ),
-        None => page.delivered.is_none(),
-    }
-}
-
-/// Adds the delivery of a page.
-fn push_delivery(out: &mut String, session: &Session, page: &PageStory) -> Result<(), AllocError> {
-    let (log, place) = if comes_by_lane(session, page) {
-        (LogName::Lane, page.by_lane)
-    } else {
-        (LogName::Link, page.delivered)
-    };
-    let none = if has_lane(session) {
-        "neither the link nor the lane delivers it"
-    } else {
-        "the link does not deliver it"
-    };
-    push_step(out, session, log, place, "", none)
-}
-
-/// Adds a page's story, in the order in which it should happen.
-pub(crate) fn push_story(
-    out: &mut String,
-    session: &Session,
-    page: &PageStory,
-    handover: &Handover,
-) -> Result<(), AllocError> {
-    let number = page.page.number();
-    write!(out, "What the logs say of page {number}:\n")?;
-    push_step(
-        out,
-        session,
-        LogName::Guest,
-        page.changed,
-        ", its last change before the halt",
-        "the guest neither writes nor releases it before the halt",
-    )?;
-    push_step(
-        out,
-        session,
-        LogName::Guest,
-        handover.halt,
-        "",
-        "the guest is not halted",
-    )?;
-    push_step(
-        out,
-        session,
-        LogName::Source,
-        page.sent,
-        "",
-        "the source does not send it",
-    )?;
-    push_delivery(out, session, page)?;
-    push_step(
-        out,
-        session,
-        LogName::Pager,
-        page.got,
-        "",
-        "the pager does not take it",
-    )?;
-    push_step(
-        out,
-        session,
-        LogName::Pager,
-        page.found.placement,
-        "",
-        "the pager does not place it",
-    )?;
-    if page.found.again.is_some() {
-        push_step(
-            out,
-            session,
-            LogName::Pager,
-            page.found.again,
-            ", its second placement",
-            "",
-        )?;
-    }
-    push_step(
-        out,
-        session,
-        LogName::Guest,
-        page.found.look,
-        ", the first look that reaches its placement",
-        "no look of the guest reaches a placement of it",
-    )?;
-    push_step(
-        out,
-        session,
-        LogName::Guest,
-        page.found.touch,
-        if page.found.releases {
-            ", its first use at the target, after which it is there as zeros"
-        } else {
-            ", its first use at the target"
-        },
-        "the guest does not use it at the target",
-    )
-}
-
-/// Adds what went wrong with a page before the guest read it.
-fn push_cause(out: &mut String, session: &Session, cause: &Cause) -> Result<(), AllocError> {
-    out.push_str("First the page went wrong: ")?;
-    let (log, wrong) = match cause {
-        Cause::Sent(wrong) => (LogName::Source, wrong),
-        Cause::Placed(wrong) => (LogName::Pager, wrong),
-        Cause::Unplaced => {
-            return out.push_str(
-                "the pager never places it, and the guest uses it at the target.\n",
-            );
-        }
-    };
-    push_record(out, session, log, wrong.place)?;
-    out.push_str(".\n")?;
-    push_contents(out, session, log, wrong.place, &wrong.held)
+/// Adds which record is faulty.
+#[tactic(auto, unfolding(crate::specs::FaultWords::wrong_record))]
+fn push_wrong_record(out: &mut String, session: &Session, name: Name) -> Result<(), AllocError>
+    ensures { OnOk result (string_bytes out.new ≡ string_bytes out.old ++ wrong_record session.now name) }
+{
+    push_recorded(out, "Wrong is ", session, name)
 }
 
 /// Adds which record is faulty, and what is wrong with it.
+#[tactic(auto, unfolding(crate::specs::FaultWords::faulty_words))]
 pub(crate) fn push_faulty(
     out: &mut String,
     session: &Session,
     story: &FaultStory,
-) -> Result<(), AllocError> {
-    out.push_str("Wrong is ")?;
-    push_record(out, session, story.fault.log, story.fault.place)?;
-    out.push_str(".\n")?;
+) -> Result<(), AllocError>
+    ensures { OnOk result (string_bytes out.new ≡ string_bytes out.old ++ faulty_words session.now story.now) }
+{
+    push_wrong_record(out, session, (story.fault.log, story.fault.place))?;
     push_wrong(out, session, story)
 }
 
+/// Adds with which record a page went wrong first.
+#[tactic(auto, unfolding(crate::specs::FaultWords::first_wrong))]
+fn push_first_wrong(out: &mut String, session: &Session, name: Name) -> Result<(), AllocError>
+    ensures { OnOk result (string_bytes out.new ≡ string_bytes out.old ++ first_wrong session.now name) }
+{
+    push_recorded(out, "First the page went wrong: ", session, name)
+}
+
+/// Adds a record with wrong contents, with which a page went wrong first.
+#[tactic(auto, unfolding(crate::specs::FaultWords::wrongly_words))]
+fn push_wrongly(
+    out: &mut String,
+    session: &Session,
+    name: Name,
+    held: &Held,
+) -> Result<(), AllocError>
+    ensures { OnOk result (string_bytes out.new ≡ string_bytes out.old ++ wrongly_words session.now name held.now) }
+{
+    push_first_wrong(out, session, name)?;
+    push_contents(out, session, name, held)
+}
+
+/// Adds what went wrong with a page before the guest read it, where that is told.
+#[tactic(auto, unfolding(crate::specs::FaultWords::cause_words))]
+fn push_cause(out: &mut String, session: &Session, cause: &Option<Cause>) -> Result<(), AllocError>
+    ensures { OnOk result (string_bytes out.new ≡ string_bytes out.old ++ cause_words session.now cause.now) }
+{
+    match cause {
+        Some(Cause::Sent(wrong)) => {
+            push_wrongly(out, session, (LogName::Source, wrong.place), &wrong.held)
+        }
+        Some(Cause::Placed(wrong)) => {
+            push_wrongly(out, session, (LogName::Pager, wrong.place), &wrong.held)
+        }
+        Some(Cause::Unplaced) => push(
+            out,
+            "First the page went wrong: the pager never places it, and the guest uses it at the target.\n",
+        ),
+        None => Ok(()),
+    }
+}
+
 /// Adds what went wrong with a page first, where that is told, and then its fault.
+#[tactic(auto, unfolding(crate::specs::FaultWords::cause_and_fault))]
 pub(crate) fn push_cause_and_fault(
     out: &mut String,
     session: &Session,
     story: &FaultStory,
-) -> Result<(), AllocError> {
-    if let Some(cause) = &story.cause {
-        push_cause(out, session, cause)?;
-    }
+) -> Result<(), AllocError>
+    ensures { OnOk result (string_bytes out.new ≡ string_bytes out.old ++ cause_and_fault session.now story.now) }
+{
+    push_cause(out, session, &story.cause)?;
     push_faulty(out, session, story)
-}
-
-/// Adds the fault of a page.
-pub(crate) fn push_fault(
-    out: &mut String,
-    session: &Session,
-    story: &FaultStory,
-) -> Result<(), AllocError> {
-    push_cause_and_fault(out, session, story)?;
-    push_order(out, story)?;
-    push_story(out, session, &story.page, &story.handover)
-}
-
-/// Adds how many other pages have a fault, where some have.
-pub(crate) fn push_more(out: &mut String, more: usize) -> Result<(), AllocError> {
-    match more {
-        0 => Ok(()),
-        1 => out.push_str("1 more page has a fault; audit --all lists them.\n"),
-        _ => write!(
-            out,
-            "{more} more pages have a fault; audit --all lists them.\n"
-        ),
-    }
 }
