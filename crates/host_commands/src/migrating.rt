@@ -1,6 +1,6 @@
 //! The migration of a script, as a text and a status.
 
-ghost use Rattle.std.specs.Prelude.{ℕ, List, IfOk, IfErr};
+ghost use Rattle.std.specs.Prelude.{◌≡◌, ◌⊎◌, ℕ, List, IfOk, IfErr};
 ghost use Rattle.text_lines.specs.Answer.{IsRead};
 ghost use Rattle.text_lines.specs.Text.{IsSpelling};
 ghost use Rattle.audit_report.specs.Reports.{ReportFits};
@@ -68,7 +68,8 @@ fn reported(alloc: Global, report: &Report) -> Result<Answer, AllocError>
 /// The answer to a run that was refused.
 fn stopped(alloc: Global, fault: &RunFault) -> Result<Answer, Fault<'static>>
     requires { (s : Scenario) × IsRunFault s fault.now }
-    ensures { (s : Scenario) (text : List ℕ) → IsRunFault s fault.now → IsSpelling SpellsScript s text → IfOk result (λ answer. IsMigrateAnswer text answer.text.items answer.status) }
+    ensures told { (s : Scenario) (text : List ℕ) → IsRunFault s fault.now → IsSpelling SpellsScript s text → IfOk result (λ answer. IsMigrateAnswer text answer.text.items answer.status) }
+    ensures fault { IfErr result (λ fault. (fault ≡ Fault.Memory) ⊎ (fault ≡ Fault.Link)) }
 {
     match fault {
         RunFault::LogFull => given(remark(alloc, b"log-full")),
@@ -86,7 +87,8 @@ fn answer_to<R: Threads + Wait + Sync + Net<Listener = TcpListener, Stream = Tcp
     carrier: Carrier,
     script: &Script,
 ) -> Result<Answer, Fault<'static>>
-    ensures { (text : List ℕ) → IsSpelling SpellsScript script.now text → IfOk result (λ answer. IsMigrateAnswer text answer.text.items answer.status) }
+    ensures told { (text : List ℕ) → IsSpelling SpellsScript script.now text → IfOk result (λ answer. IsMigrateAnswer text answer.text.items answer.status) }
+    ensures fault { IfErr result (λ fault. (fault ≡ Fault.Memory) ⊎ (fault ≡ Fault.Link)) }
 {
     match carried(rt, alloc, carrier, script) {
         Ok(migrated) => {
@@ -106,7 +108,8 @@ pub fn migrate_read<R: Threads + Wait + Sync + Net<Listener = TcpListener, Strea
     carrier: Carrier,
     script: &Result<Script, u32>,
 ) -> Result<Answer, Fault<'static>>
-    ensures { (text : List ℕ) → IsRead SpellsScript text script.now → IfOk result (λ answer. IsMigrateAnswer text answer.text.items answer.status) }
+    ensures told { (text : List ℕ) → IsRead SpellsScript text script.now → IfOk result (λ answer. IsMigrateAnswer text answer.text.items answer.status) }
+    ensures fault { IfErr result (λ fault. (fault ≡ Fault.Memory) ⊎ (fault ≡ Fault.Link)) }
 {
     match script {
         Ok(script) => answer_to(rt, alloc, carrier, script),

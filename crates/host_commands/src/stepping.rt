@@ -1,6 +1,6 @@
 //! The session that events record of a script, as a text and a status.
 
-ghost use Rattle.std.specs.Prelude.{ℕ, List, IfOk};
+ghost use Rattle.std.specs.Prelude.{◌≡◌, ℕ, List, IfOk, ⊤};
 ghost use Rattle.text_lines.specs.Answer.{IsRead};
 ghost use Rattle.text_lines.specs.Text.{ended, IsSpelling};
 ghost use Rattle.session_text.specs.Grammar.{session_lines};
@@ -81,6 +81,10 @@ impl OnTwo for StepsCommand {
 
     ghost is_answer = { λ _ texts. IsStepsAnswer texts.0 texts.1 };
 
+    ghost is_said = { λ _ _ _. ⊤ };
+
+    ghost adds_more = { λ _ _ _ before after. after ≡ before };
+
     fn answer(
         &self,
         alloc: Global,
@@ -88,5 +92,16 @@ impl OnTwo for StepsCommand {
         events: &Result<Seq<Event>, u32>,
     ) -> Result<(Answer, ()), Fault<'static>> {
         given_alone(steps_read(alloc, script, events))
+    }
+
+    fn push_more(
+        &self,
+        _out: &mut Vec<u8>,
+        _name: &[u8],
+        _script: &Result<Script, u32>,
+        _events: &Result<Seq<Event>, u32>,
+        _said: (),
+    ) -> Result<(), AllocError> {
+        Ok(())
     }
 }

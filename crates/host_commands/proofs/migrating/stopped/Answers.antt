@@ -5,9 +5,9 @@ use Rattle.command_texts.proofs.Said.{given_holds}
 use Rattle.host_commands.proofs.Migrated.{migration_told}
 use Rattle.host_commands.proofs.migrating.stopped.Goals as goal
 
-pub returns-in-AuditRefused : goal.returns-in-AuditRefused
-returns-in-AuditRefused c = λ s text fault spells.
+pub returns-in-AuditRefused-clause-told : goal.returns-in-AuditRefused-clause-told
+returns-in-AuditRefused-clause-told c = λ s text fault spells.
     let refused = subst (λ f. IsRunFault s f) c.in-AuditRefused.is fault in
     given_holds (λ a. IsMigrateAnswer text a.text.items a.status) c.reported.result c.given-in-AuditRefused.result
     (migration_told text (AuditRefused c.in-AuditRefused.report) c.reported.result (s, spells, refused.0, refused.1, refused.2) c.reported.ensures)
-    c.given-in-AuditRefused.ensures
+    c.given-in-AuditRefused.ensures.given
