@@ -11,6 +11,8 @@ mod gates;
 #[cfg(test)]
 mod lanes;
 #[cfg(test)]
+mod limits;
+#[cfg(test)]
 mod relays;
 #[cfg(test)]
 mod releases;

@@ -80,6 +80,8 @@ send 3 0x00000000000000010000000000000002
 8: found "0x00000000000000010000000000000002" in "send 3 0x00000000000000010000000000000002"; expected HEX, 32 digits for 2 cells, each 0 to 9 or a to f, as in "send P HEX"; contents have no 0x
 send 3 00g00000000000000000000000000000
 10: found "g" in "send 3 00g00000000000000000000000000000"; expected HEX, 32 digits for 2 cells, each 0 to 9 or a to f, as in "send P HEX"
+send 3 0123456789abcdeffedcba987654321g
+39: found "g" in "send 3 0123456789abcdeffedcba987654321g"; expected HEX, 32 digits for 2 cells, each 0 to 9 or a to f, as in "send P HEX"
 send 3 0000000000000000000000000000000000000000000000000000000000000000
 8: found "000000000000000000000000000000000000000000000000000000000000".. in "send 3 00000000000000000000000000000000000000000000000000000"..; expected HEX, 32 digits for 2 cells, each 0 to 9 or a to f, as in "send P HEX"; these are 64
 "#,
@@ -247,7 +249,7 @@ knot line 9
 ];
 
 /// Lines of other bytes, and with spaces at an end.
-pub static BYTES: [Case; 15] = [
+pub static BYTES: [Case; 16] = [
     Case(
         At::ThirdOfGuest,
         9,
@@ -306,6 +308,12 @@ pub static BYTES: [Case; 15] = [
         At::SessionHead,
         1,
         b"\xff\xfep\0o\0",
+        r#"1: this is UTF-16; texts are ASCII, a byte for each character"#,
+    ),
+    Case(
+        At::SessionHead,
+        1,
+        b"\xfe\xff\0p\0o",
         r#"1: this is UTF-16; texts are ASCII, a byte for each character"#,
     ),
     Case(
@@ -441,7 +449,7 @@ pub static LAST: [Case; 16] = [
 ];
 
 /// Lines with all that is said of them.
-pub static IN_FULL: [Case; 5] = [
+pub static IN_FULL: [Case; 6] = [
     Case(
         At::Guest,
         9,
@@ -489,6 +497,15 @@ its form:
         r#"session:1:1: this is a gzip file; unpack it first
   \x1f\x8b
   ^
+"#,
+    ),
+    Case(
+        At::Guest,
+        9,
+        b"\xc3\xb6\r",
+        r#"session:9:3: found a carriage return at the end of the line; lines end with a line feed alone (dos2unix mends a file)
+  \xc3\xb6\x0d
+          ^
 "#,
     ),
     Case(

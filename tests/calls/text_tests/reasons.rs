@@ -247,6 +247,19 @@ fn the_mark_may_stand_behind_the_line(rt: HostRuntime) -> Result<(), Fail> {
     Ok(())
 }
 
+#[test]
+fn as_many_fates_as_there_may_be_fit(rt: HostRuntime) -> Result<(), Fail> {
+    let letters = "d".repeat(rt.alloc(), 4_096)?;
+    let line = format!(in rt.alloc(); "down {letters}")?;
+    let mut refusal = refusal(rt.alloc(), &Case(At::Down, 9, b"", ""), true)?;
+    refusal.line = line.as_bytes().to_vec(rt.alloc())?;
+    let said = said(rt.alloc(), &refusal)?;
+    let wanted =
+        "session:9:4102: the text ends in the middle of a line; expected a line feed after ";
+    assert!(rt; said.as_str().starts_with(wanted), "{said}");
+    Ok(())
+}
+
 /// Which item of a list is wanted.
 fn promised(alloc: Global, number: u32) -> Result<String, AllocError> {
     let mut refusal = refusal(alloc, &Case(At::Source, 7, b"", ""), true)?;
