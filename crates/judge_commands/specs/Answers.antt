@@ -10,6 +10,7 @@ use Rattle.judged_texts.specs.declared.wanted.Wanted.{Wanted}
 use Rattle.misfit_words.specs.Misfits.{AddsMisfit}
 use Rattle.command_texts.specs.Answers.{IsAnswer, numbered}
 use Rattle.judge_commands.specs.Judged.{IsJudgedTold}
+use Rattle.session_story.specs.declared.topics.Topic.{Topic}
 use Rattle.judge_commands.specs.Forms.{TellsAllFaults, TellsObject, TellsStory, TellsStoryObject, TellsWanted}
 use Rattle.judge_commands.specs.declared.reports.AllFaults.{AllFaults}
 
@@ -60,6 +61,6 @@ IsAllFaultsAnswer form = IsJudgedTold (TellsAllFaults form)
 abbrev pub IsExplainObject : List ℕ → List ℕ → ℕ → Type 0
 IsExplainObject = IsJudgedTold TellsStoryObject
 
--- `explain`: the report with what happened, after its first line
-abbrev pub IsExplainAnswer : List ℕ → List ℕ → ℕ → Type 0
-IsExplainAnswer = IsJudgedTold TellsStory
+-- `explain`: the first line of the report with what is told on this topic in words
+abbrev pub IsExplainAnswer : Topic → List ℕ → List ℕ → ℕ → Type 0
+IsExplainAnswer topic = IsJudgedTold (TellsStory topic)

@@ -7,7 +7,7 @@ use Rattle.completeness.specs.Complete.{IsComplete, IsFirstMissing}
 use Rattle.completeness.specs.declared.missing.Missing.{Missing}
 use Rattle.report_text.specs.MissingText.{missing_text}
 use Rattle.report_json.specs.JsonText.{missing_object}
-use Rattle.session_story.specs.Told.{BeginsWith}
+use Rattle.session_story.specs.Told.{lacking_text}
 use Rattle.judged_texts.specs.Checked.{OfSpelled}
 
 -- the ways to tell that a session lacks something: a line, an object, and the line with words after it
@@ -18,7 +18,7 @@ abbrev pub TellsInObject : Recorded → Missing → List ℕ → Type 0
 TellsInObject s m text = text ≡ missing_object s m
 
 abbrev pub TellsInWords : Recorded → Missing → List ℕ → Type 0
-TellsInWords s m text = BeginsWith (missing_text s m) text
+TellsInWords s m text = text ≡ lacking_text s m
 
 -- a text of these is added
 pub record Adds (IsText : List ℕ → Type 0) (old new : List ℕ) : Type 0 where

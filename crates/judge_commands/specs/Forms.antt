@@ -1,19 +1,18 @@
 -- How it is told what is judged of a session's text.
-use Rattle.std.specs.Prelude.{◌≡◌, ℕ, List, [], ◌∷◌, codes}
-use Rattle.text_lines.specs.Text.{ended}
+use Rattle.std.specs.Prelude.{◌≡◌, ℕ, List, codes}
 use Rattle.migration_types.specs.Sessions.{Recorded}
 use Rattle.faulty_pages.specs.declared.FaultyPage.{FaultyPage}
 use Rattle.faulty_pages.specs.FaultyPages.{AreFaultyPages}
 use Rattle.audit_report.specs.declared.report.Report.{Report}
 use Rattle.report_text.specs.FaultyPagesText.{JudgesPages, all_faults_text}
 use Rattle.report_text.specs.RefusalText.{refusal_text}
-use Rattle.report_text.specs.ReportText.{first_line}
 use Rattle.report_json.specs.JsonText.{all_faults_object, at_line, report_object}
 use Rattle.judged_texts.specs.AuditedText.{wanted_text}
 use Rattle.judged_texts.specs.declared.wanted.Wanted.{Wanted}
 use Rattle.report_json.specs.RecordsText.{explained_object}
 use Rattle.session_story.specs.Explained.{IsExplanation}
-use Rattle.session_story.specs.Told.{BeginsWith}
+use Rattle.session_story.specs.Told.{IsToldText, refused_text}
+use Rattle.session_story.specs.declared.topics.Topic.{Topic}
 use Rattle.session_story.specs.declared.explaining.Explanation.{Explanation}
 use Rattle.judge_commands.specs.Judged.{Judged, Refused, Reported}
 use Rattle.judge_commands.specs.declared.reports.AllFaults.{AllFaults}
@@ -29,10 +28,10 @@ abbrev pub TellsObject : Judged → List ℕ → Type 0
 TellsObject (Refused line) text = text ≡ at_line (codes "session-text") line
 TellsObject (Reported s report) text = text ≡ report_object s report
 
--- with what happened, after the first line
-abbrev pub TellsStory : Judged → List ℕ → Type 0
-TellsStory (Refused line) text = BeginsWith (refusal_text line) text
-TellsStory (Reported s report) text = BeginsWith (ended (first_line report ∷ [])) text
+-- with what is told on this topic in words, after the first line
+abbrev pub TellsStory : Topic → Judged → List ℕ → Type 0
+TellsStory topic (Refused line) text = text ≡ refused_text line
+TellsStory topic (Reported s report) text = IsToldText s report topic text
 
 -- in an object, with the records of what happened
 pub record TellsRecords (s : Recorded) (report : Report) (text : List ℕ) : Type 0 where

@@ -114,7 +114,7 @@ impl TellsReport for InObject {
 }
 
 impl TellsReport for Topic {
-    ghost tells = { λ _. TellsStory };
+    ghost tells = { TellsStory };
 
     ghost how_much = { λ _. Full };
 
