@@ -16,7 +16,7 @@ use Rattle.completeness.specs.Complete.{IsComplete, IsFirstMissing}
 use Rattle.report_text.specs.MissingText.{missing_text}
 use Rattle.judged_texts.specs.declared.auditing.Audited.{Audited}
 use Rattle.judged_texts.specs.declared.auditing.Audited.TheVariants.{Refused, Reported}
-use Rattle.session_story.specs.Told.{BeginsWith}
+use Rattle.session_story.specs.Told.{IsToldText, refused_text}
 use Rattle.order_picture.specs.Svg.{IsSvg}
 use Rattle.postcopy_c.specs.declared.answer.PostcopyAnswer.{PostcopyAnswer}
 use Rattle.postcopy_c.specs.declared.showing.ShownAs.{ShownAs}
@@ -25,10 +25,10 @@ use Rattle.postcopy_c.specs.declared.showing.Showing.{Showing}
 use Rattle.postcopy_c.specs.Numbers.{audited_numbers, numbers}
 use Rattle.postcopy_c.specs.Answers.{IsPut, WantsMemory}
 
--- what the text is that shows that a text is refused at this line: the line that says so, with more words behind it where a
+-- what the text is that shows that a text is refused at this line: the line that says so, with what it means behind it where a
 -- session is shown in words
 abbrev pub IsShownRefusal : ShownAs → ℕ → List ℕ → Type 0
-IsShownRefusal (Words topic) line text = BeginsWith (refusal_text line) text
+IsShownRefusal (Words topic) line text = text ≡ refused_text line
 IsShownRefusal (Picture topic) line text = text ≡ refusal_text line
 IsShownRefusal AllFaults line text = text ≡ refusal_text line
 IsShownRefusal Lack line text = text ≡ refusal_text line
@@ -48,10 +48,10 @@ IsLackByReport s (report.Shape fault) text = text ≡ ended (first_line (report.
 IsLackByReport s (report.Knot left found) text = text ≡ ended (first_line (report.Knot left found) ∷ [])
 IsLackByReport s (report.Faulty line fault order) text = text ≡ ended (first_line (report.Faulty line fault order) ∷ [])
 
--- what the text is that shows a session by its report: words after the first line of the report, a picture, all faults, or
--- what it lacks
+-- what the text is that shows a session by its report: what is told on the topic in words, a picture, all faults, or what it
+-- lacks
 abbrev pub IsShownReport : ShownAs → Recorded → Report → List ℕ → Type 0
-IsShownReport (Words topic) s report text = BeginsWith (ended (first_line report ∷ [])) text
+IsShownReport (Words topic) s report text = IsToldText s report topic text
 IsShownReport (Picture topic) s report text = IsSvg text
 IsShownReport AllFaults s report text = IsAllFaultsText s report text
 IsShownReport Lack s report text = IsLackByReport s report text
