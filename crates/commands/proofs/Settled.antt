@@ -1,28 +1,83 @@
 -- What was done and settled.
-use Rattle.std.proofs.Common.{◌≡◌, ◌≢◌, ℕ, ◌<◌, ◌≤◌, List, ◌∷◌, length, suc-le-suc, Result, Ok, Err, MatchResult, IfOk, arith, Option, Some, None, subst, refl}
-use Rattle.std.specs.Prelude.{IfSome}
+use Rattle.std.proofs.Common.{◌≡◌, ℕ, ◌<◌, ◌≤◌, List, ◌∷◌, length, suc-le-suc, Result, Ok, Err, MatchResult, IfOk, arith, Option, Some, None, inl, inr, subst, refl}
+use Rattle.std.specs.Prelude.{IfErr, IfSome}
+use Rattle.std.specs.Io.KnownBytes.{Keeps}
+use Rattle.std.proofs.KnownBytes.{Keeps-refl}
 use Rattle.clap.specs.Words.{Text}
+use Rattle.clap.specs.declared.error.kind.ErrorKind.{ErrorKind}
 use Rattle.command_words.specs.declared.asked.Asked.{Asked}
+use Rattle.command_words.specs.declared.asked.Asked.TheVariants.{One, Two, Migrate, Draw}
+use Rattle.command_words.specs.declared.asked.Audits.{Audits}
 use Rattle.command_texts.specs.declared.answer.Fault.{Fault}
-use Rattle.command_texts.specs.declared.answer.Fault.TheVariants.{File, Link, Output, Memory}
-use Rattle.command_texts.specs.Answers.{fault_status}
+use Rattle.command_texts.specs.declared.answer.Fault.TheVariants.{Output, Memory}
+use Rattle.command_texts.specs.Answers.{IsTextFault, fault_line, fault_status}
+use Rattle.command_texts.specs.Several.{IsOneOf}
+use Rattle.command_texts.specs.Written.{AppendsFront, BothGain, Gains, Streams}
+use Rattle.command_texts.proofs.Fronts.{both_gain, front_gains, kept_gains, same_gains}
+use Rattle.commands.specs.Refused.{IsRefusalOf, IsStarved}
+use Rattle.commands.specs.Told.{EndsAsked, EndsSeveral, IsFaultTold, IsSettled, TellsSeveralAsked}
 
--- what was done and settled: the status is not 2, and below that it is the answer's own
-pub settled : (done : Result ℕ Fault) (status : ℕ) (P : ℕ → Type 0) → MatchResult done (λ s. status ≡ s) (λ fault. status ≡ fault_status fault) → IfOk done (λ s. s < 2) → IfOk done P → (status ≢ 2) × (status < 2 → P status)
-settled (Ok s) status P e few p = (λ two. absurd (omega arith), λ lt. rw e p)
-settled (Err (File name)) status P h few p = (λ two. absurd (omega arith), λ lt. absurd (omega arith))
-settled (Err Link) status P h few p = (λ two. absurd (omega arith), λ lt. absurd (omega arith))
-settled (Err Output) status P h few p = (λ two. absurd (omega arith), λ lt. absurd (omega arith))
-settled (Err Memory) status P h few p = (λ two. absurd (omega arith), λ lt. absurd (omega arith))
+-- what was done is settled in a status
+pub settled : (EndsSo : Streams → Result ℕ Fault → Type 0) (done : Result ℕ Fault) (status : ℕ) (output errors new : Option (List ℕ)) → IfOk done (λ s. s < 2) → EndsSo (output, errors) done
+    → MatchResult done (λ s. (status ≡ s) × (new ≡ errors)) (λ fault. (status ≡ fault_status fault) × AppendsFront errors new (fault_line fault))
+    → IsSettled EndsSo (output, new) status
+settled EndsSo (Ok s) status output errors new few ends e = inl (rw e.0 few, rw (e.0, e.1) ends)
+settled EndsSo (Err fault) status output errors new few ends e = inr record { fault = fault; is_status = e.0; before = errors; ends = ends; told = e.1 }
+
+-- a fault that was told behind what was gained
+pub told_after : (a b c : Option (List ℕ)) (status : ℕ) → Gains a b → IsFaultTold b c status → IsFaultTold a c status
+told_after a b c status gains h = record { fault = h.fault; is_status = h.is_status; before = h.before; gained = both_gain a b h.before gains h.gained; told = h.told }
+
+-- how the audits of several sessions end
+pub ends_several : (several : Audits × List Text) (files : List ℕ → Option (List ℕ)) (old new : Streams) (done : Result ℕ Fault) → IfOk done (TellsSeveralAsked several files old new) → IfErr done (IsTextFault (IsOneOf several.1)) → BothGain old new → EndsSeveral several files old new done
+ends_several several files old new (Ok s) told fault gains = told
+ends_several several files old new (Err f) told fault gains = record { is_fault = fault; gains = gains }
+
+-- where there is no memory nothing is done
+pub starved : (job : Asked Text) (files : List ℕ → Option (List ℕ)) (input : Option (List ℕ)) (old new : Streams) (status : ℕ) → IsStarved old new status → IsSettled (EndsAsked job files input old) new status
+starved (One task name) files input old new status h = inr record { fault = Memory; is_status = h.is_status; before = old.1; ends = record { is_fault = tt; output = h.output; errors = Keeps-refl old.1 }; told = h.errors }
+starved (Two task first second) files input old new status h = inr record { fault = Memory; is_status = h.is_status; before = old.1; ends = record { is_fault = tt; output = h.output; errors = Keeps-refl old.1 }; told = h.errors }
+starved (Migrate carrier name) files input old new status h = inr record { fault = Memory; is_status = h.is_status; before = old.1; ends = record { is_fault = tt; output = h.output; errors = Keeps-refl old.1 }; told = h.errors }
+starved (Draw topic name None) files input old new status h = inr record { fault = Memory; is_status = h.is_status; before = old.1; ends = record { is_fault = tt; output = h.output; errors = Keeps-refl old.1 }; told = h.errors }
+starved (Draw topic name (Some second)) files input old new status h = inr record { fault = Memory; is_status = h.is_status; before = old.1; ends = record { is_fault = tt; output = h.output; errors = Keeps-refl old.1 }; told = h.errors }
+
+pub starved_several : (several : Audits × List Text) (files : List ℕ → Option (List ℕ)) (old new : Streams) (status : ℕ) → IsStarved old new status → IsSettled (EndsSeveral several files old) new status
+starved_several several files old new status h = inr record { fault = Memory; is_status = h.is_status; before = old.1; ends = record { is_fault = tt; gains = (kept_gains old.0 new.0 h.output, same_gains old.1) }; told = h.errors }
+
+-- ---- words that are refused
+
+module _ (kind : ErrorKind) (old new : Streams) (status : ℕ) where
+  pub refusal_known : IsRefusalOf kind old new status → status ≤ 4
+  refusal_known (inl h) = rw h.is_status (omega arith)
+  refusal_known (inr (inl h)) = rw h.is_status (omega arith)
+  refusal_known (inr (inr (inl h))) = rw h.is_status (omega arith)
+  refusal_known (inr (inr (inr h))) = rw h.is_status (omega arith)
+
+  pub refusal_gains : IsRefusalOf kind old new status → BothGain old new
+  refusal_gains (inl h) = (kept_gains old.0 new.0 h.output, h.errors)
+  refusal_gains (inr (inl h)) = (h.output, kept_gains old.1 new.1 h.errors)
+  refusal_gains (inr (inr (inl h))) = (h.output, front_gains old.1 new.1 _ h.errors)
+  refusal_gains (inr (inr (inr h))) = (kept_gains old.0 new.0 h.output, front_gains old.1 new.1 _ h.errors)
+
+  pub refusal_misuse : IsRefusalOf kind old new status → status ≡ 2 → Keeps old.0 new.0
+  refusal_misuse (inl h) two = h.output
+  refusal_misuse (inr (inl h)) two = absurd (omega (arith, h.is_status))
+  refusal_misuse (inr (inr (inl h))) two = absurd (omega (arith, h.is_status))
+  refusal_misuse (inr (inr (inr h))) two = h.output
+
+  pub refusal_fault : IsRefusalOf kind old new status → 2 < status → IsFaultTold old.1 new.1 status
+  refusal_fault (inl h) lt = absurd (omega (arith, h.is_status))
+  refusal_fault (inr (inl h)) lt = absurd (omega (arith, h.is_status))
+  refusal_fault (inr (inr (inl h))) lt = record { fault = Output; is_status = h.is_status; before = old.1; gained = same_gains old.1; told = h.errors }
+  refusal_fault (inr (inr (inr h))) lt = record { fault = Memory; is_status = h.is_status; before = old.1; gained = same_gains old.1; told = h.errors }
 
 -- a fact of what is there, of this that is there
 pub some_given : {X : Type 0} (found : Option X) (x : X) (P : X → Type 0) → found ≡ Some x → IfSome found P → P x
 some_given found x P e h = subst (λ (o : Option _). IfSome o P) e h
 
--- a fact of what is found under a premise, of what is asked
-pub some_told : {X : Type 0} (found asked : Option X) (Q : Type 0) (P : X → Type 0) → found ≡ asked → IfSome found (λ x. Q → P x) → Q → IfSome asked P
-some_told None asked Q P e h q = subst (λ (o : Option _). IfSome o P) e tt
-some_told (Some x) asked Q P e h q = subst (λ (o : Option _). IfSome o P) e (h q)
+-- a fact of what is found, of what is asked
+pub some_told : {X : Type 0} (found asked : Option X) (P : X → Type 0) → found ≡ asked → IfSome found P → IfSome asked P
+some_told found asked P e h = subst (λ (o : Option _). IfSome o P) e h
 
 -- a fact of what is there, given that it is there
 pub if_some : {X : Type 0} (found : Option X) (P : X → Type 0) → ((x : X) → found ≡ Some x → P x) → IfSome found P

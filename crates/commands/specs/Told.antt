@@ -1,5 +1,5 @@
 -- What the program tells of the texts that the words name.
-use Rattle.std.specs.Prelude.{ℕ, List, Option, Some, None, codes}
+use Rattle.std.specs.Prelude.{◌≡◌, ◌<◌, ◌⊎◌, ℕ, List, Option, Some, None, Result, Ok, Err, MatchResult, codes}
 use Rattle.command_words.specs.declared.asked.Asked.{Asked}
 use Rattle.command_words.specs.declared.asked.Asked.TheVariants.{One, Two, Migrate, Draw}
 use Rattle.command_words.specs.declared.asked.Demand.{Demand}
@@ -23,9 +23,20 @@ use Rattle.judged_texts.specs.declared.wanted.Wanted.TheVariants as wanted
 use Rattle.command_words.specs.Table.{plain}
 use Rattle.migration_types.specs.Sessions.{Recorded}
 use Rattle.completeness.specs.declared.missing.Missing.{Missing}
-use Rattle.command_texts.specs.Several.{Style, TellsSeveral}
-use Rattle.command_texts.specs.Told.{AreNamed, IsNamed, Tells}
-use Rattle.judge_commands.specs.Answers.{IsAllFaultsAnswer, IsAuditAnswer, IsAuditObject, IsExplainAnswer, IsExplainObject, IsVerdictAnswer, IsVerdictObject}
+use Rattle.session_text.specs.Grammar.{SpellsSession}
+use Rattle.cert_text.specs.Grammar.{SpellsCert}
+use Rattle.order_text.specs.Order.{SpellsOrder}
+use Rattle.script_text.specs.Events.{SpellsEvents}
+use Rattle.script_text.specs.Scripts.{SpellsScript}
+use Rattle.command_texts.specs.declared.answer.Fault.{Fault}
+use Rattle.command_texts.specs.declared.why.Telling.{Telling}
+use Rattle.command_texts.specs.declared.why.Telling.TheVariants.{Short, Full}
+use Rattle.command_texts.specs.Answers.{IsLinkFault, IsTextFault, fault_line, fault_status}
+use Rattle.command_texts.specs.Reasons.{IsRefusedAt, TellsBeside, TellsWhyOf}
+use Rattle.command_texts.specs.Several.{IsOneOf, Style, TellsSeveral}
+use Rattle.command_texts.specs.Told.{AreNamed, AreOfInput, Ends, IsNamed}
+use Rattle.command_texts.specs.Written.{AppendsFront, BothGain, Gains, Streams}
+use Rattle.judge_commands.specs.Answers.{AddsMisfitOf, IsAllFaultsAnswer, IsAuditAnswer, IsAuditObject, IsExplainAnswer, IsExplainObject, IsVerdictAnswer, IsVerdictObject}
 use Rattle.judge_commands.specs.Completed.{IsCompleteAnswer, TellsInLine, TellsInObject, TellsInWords}
 use Rattle.judge_commands.specs.Replayed.{IsReplayAnswer}
 use Rattle.host_commands.specs.Steps.{IsStepsAnswer}
@@ -62,6 +73,11 @@ TellsLack Json = TellsInObject
 abbrev pub answered : Demand → (List ℕ → ℕ → Type 0) → (List ℕ → ℕ → Type 0) → List ℕ → ℕ → Type 0
 answered Safety IsPlain IsWhole = IsPlain
 answered Completeness IsPlain IsWhole = IsWhole
+
+-- the one where a safe session is asked for, and the other where a complete one is
+abbrev pub chosen : Demand → Type 0 → Type 0 → Type 0
+chosen Safety Plain Whole = Plain
+chosen Completeness Plain Whole = Whole
 
 -- the answer to what is asked of a session, by how it is told what it lacks, and what is answered without asking more
 abbrev pub IsDemanded : Demand → (Recorded → Missing → List ℕ → Type 0) → (List ℕ → ℕ → Type 0) → List ℕ → List ℕ → ℕ → Type 0
@@ -105,13 +121,74 @@ IsTwoAnswer Steps texts = IsStepsAnswer texts.0 texts.1
 abbrev pub IsPlainCheck : List ℕ × List ℕ → List ℕ → ℕ → Type 0
 IsPlainCheck = IsTwoAnswer (Check plain)
 
--- what a command asks for was told of the texts under its names
-abbrev pub TellsAsked : Asked (List ℕ) → (List ℕ → Option (List ℕ)) → Option (List ℕ) → Option (List ℕ) → Option (List ℕ) → ℕ → Type 0
-TellsAsked (One task name) files input = Tells (IsNamed name files input) (IsOneAnswer task)
-TellsAsked (Two task first second) files input = Tells (AreNamed first second files input) (IsTwoAnswer task)
-TellsAsked (Migrate carrier name) files input = Tells (IsNamed name files input) IsMigrateAnswer
-TellsAsked (Draw topic name None) files input = Tells (IsNamed name files input) IsDrawAnswer
-TellsAsked (Draw topic first (Some second)) files input = Tells (AreNamed first second files input) IsDrawAlongAnswer
+-- how much `explain` tells in this form of a text that is refused
+abbrev pub how_much_in : Form → Telling
+how_much_in Text = Full
+how_much_in Line = Full
+how_much_in Json = Short
+
+abbrev pub how_much : OneText → Telling
+how_much (Explain explains) = how_much_in explains.asking.form
+how_much other = Short
+
+-- what is told beside the answer of a command on one text: why it is refused
+abbrev pub IsBesideOne : OneText → List ℕ → List ℕ → Option (List ℕ) → Option (List ℕ) → Type 0
+IsBesideOne task name = TellsWhyOf (IsRefusedAt SpellsSession) (how_much task) name
+
+-- nothing more is told of two texts
+abbrev pub AddsNothing : List ℕ × List ℕ → List ℕ → List ℕ → List ℕ → Type 0
+AddsNothing texts name before after = after ≡ before
+
+-- what is told beside the answer of a command on two texts: why one is refused, and of `check` what of the certificate does not
+-- fit the session
+abbrev pub IsBesideTwo : TwoTexts → List ℕ → List ℕ → List ℕ × List ℕ → Option (List ℕ) → Option (List ℕ) → Type 0
+IsBesideTwo (Check asking) = TellsBeside (IsRefusedAt SpellsSession) (IsRefusedAt SpellsCert) AddsMisfitOf
+IsBesideTwo Replay = TellsBeside (IsRefusedAt SpellsSession) (IsRefusedAt SpellsOrder) AddsNothing
+IsBesideTwo Steps = TellsBeside (IsRefusedAt SpellsScript) (IsRefusedAt SpellsEvents) AddsNothing
+
+-- the faults of a command on the text under a name, and on the texts under two
+abbrev pub IsFaultOf : List ℕ → Fault → Type 0
+IsFaultOf name = IsTextFault (λ n. n ≡ name)
+
+abbrev pub IsFaultOfTwo : List ℕ → List ℕ → Fault → Type 0
+IsFaultOfTwo first second = IsTextFault (λ n. (n ≡ first) ⊎ (n ≡ second))
+
+-- what a command asks for was told of the texts under its names, or it came to a fault
+abbrev pub EndsAsked : Asked (List ℕ) → (List ℕ → Option (List ℕ)) → Option (List ℕ) → Streams → Streams → Result ℕ Fault → Type 0
+EndsAsked (One task name) files input =
+    Ends (IsFaultOf name) (IsNamed name files input) (IsOneAnswer task) (IsBesideOne task name)
+EndsAsked (Two task first second) files input =
+    Ends (IsFaultOfTwo first second) (AreNamed first second files input) (IsTwoAnswer task) (IsBesideTwo task first second)
+EndsAsked (Migrate carrier name) files input =
+    Ends (IsLinkFault (λ n. n ≡ name)) (IsNamed name files input) IsMigrateAnswer (TellsWhyOf (IsRefusedAt SpellsScript) Short name)
+EndsAsked (Draw topic name None) files input =
+    Ends (IsFaultOf name) (IsNamed name files input) IsDrawAnswer (TellsWhyOf (IsRefusedAt SpellsSession) Short name)
+EndsAsked (Draw topic first (Some second)) files input =
+    Ends (IsFaultOfTwo first second) (AreNamed first second files input) IsDrawAlongAnswer (TellsBeside (IsRefusedAt SpellsSession) (IsRefusedAt SpellsOrder) AddsNothing first second)
+
+-- something came to a fault, which the errors tell then, with its status
+pub record TellsFault (EndsSo : Streams → Result ℕ Fault → Type 0) (new : Streams) (status : ℕ) : Type 0 where
+  pub fault : Fault
+  pub is_status : status ≡ fault_status fault
+  pub before : Option (List ℕ)
+  pub ends : EndsSo (new.0, before) (Err fault)
+  pub told : AppendsFront before new.1 (fault_line fault)
+
+-- the status of something that ends so: its own, which is 0 or 1, or that of a fault
+abbrev pub IsSettled : (Streams → Result ℕ Fault → Type 0) → Streams → ℕ → Type 0
+IsSettled EndsSo new status = ((status < 2) × EndsSo new (Ok status)) ⊎ TellsFault EndsSo new status
+
+-- at a status above 2 the errors tell a fault that has it, behind what they told before
+pub record IsFaultTold (old new : Option (List ℕ)) (status : ℕ) : Type 0 where
+  pub fault : Fault
+  pub is_status : status ≡ fault_status fault
+  pub before : Option (List ℕ)
+  pub gained : Gains old before
+  pub told : AppendsFront before new (fault_line fault)
+
+-- where there are no words: the answer of `check` to the two texts of the input
+abbrev pub EndsBare : Option (List ℕ) → Streams → Streams → Result ℕ Fault → Type 0
+EndsBare input = Ends (IsFaultOfTwo (codes "-") (codes "-")) (AreOfInput input) IsPlainCheck (IsBesideTwo (Check plain) (codes "-") (codes "-"))
 
 -- of several sessions each is told by the first line, where it is told in lines
 abbrev pub in_list : Form → Form
@@ -138,5 +215,13 @@ abbrev pub IsAskedOfEach : Asking → Faults → List ℕ → List ℕ → ℕ �
 IsAskedOfEach asking faults = IsAsked (record asking { form = in_list asking.form }) faults
 
 -- the audits of the sessions under these names were told, as this is asked
-abbrev pub TellsSeveralAsked : Audits × List (List ℕ) → (List ℕ → Option (List ℕ)) → Option (List ℕ) → Option (List ℕ) → ℕ → Type 0
-TellsSeveralAsked several files = TellsSeveral files (IsAskedOfEach several.0.asking several.0.faults) (list_style several.0.asking.form) several.1
+abbrev pub TellsSeveralAsked : Audits × List (List ℕ) → (List ℕ → Option (List ℕ)) → Streams → Streams → ℕ → Type 0
+TellsSeveralAsked several files = TellsSeveral files (IsAskedOfEach several.0.asking several.0.faults) (IsRefusedAt SpellsSession) (list_style several.0.asking.form) several.1
+
+-- or it came to a fault, and the errors may tell why texts before it are refused
+pub record FailsSeveral (names : List (List ℕ)) (old new : Streams) (fault : Fault) : Type 0 where
+  pub is_fault : IsTextFault (IsOneOf names) fault
+  pub gains : BothGain old new
+
+abbrev pub EndsSeveral : Audits × List (List ℕ) → (List ℕ → Option (List ℕ)) → Streams → Streams → Result ℕ Fault → Type 0
+EndsSeveral several files old new done = MatchResult done (TellsSeveralAsked several files old new) (FailsSeveral several.1 old new)

@@ -1,10 +1,15 @@
 //! Who answers to what is asked: an arm for each command.
 
-ghost use Rattle.std.specs.Prelude.{◌<◌, IfOk};
+ghost use Rattle.std.specs.Prelude.{◌≡◌, ◌⊎◌, ◌<◌, IfOk};
+ghost use Rattle.script_text.specs.Scripts.{SpellsScript};
 ghost use Rattle.command_words.specs.Table.{asked_names};
-ghost use Rattle.command_texts.specs.Told.{AreNamed, IsNamed, Tells};
+ghost use Rattle.command_texts.specs.declared.why.Telling.TheVariants.{Short};
+ghost use Rattle.command_texts.specs.Answers.{IsLinkFault, IsTextFault};
+ghost use Rattle.command_texts.specs.Reasons.{IsRefusedAt, TellsWhyOf};
+ghost use Rattle.command_texts.specs.Told.{AreNamed, Ends, IsNamed};
+ghost use Rattle.command_texts.specs.Written.{BothGain};
 ghost use Rattle.host_commands.specs.Migrations.{IsMigrateAnswer};
-ghost use Rattle.commands.specs.Told.{IsOneAnswer, IsTwoAnswer, TellsAsked};
+ghost use Rattle.commands.specs.Told.{EndsAsked, IsBesideOne, IsBesideTwo, IsOneAnswer, IsTwoAnswer};
 
 use crate::drawing::{DrawAlongCommand, DrawCommand};
 use crate::judging::{asked_audit, asked_check, asked_explain};
@@ -35,7 +40,8 @@ fn asked_one<'a, R: Threads + Sync, S: TextSource, I: Read + Send, O: Write, E: 
     errors: &mut E,
 ) -> Result<u8, Fault<'a>>
     ensures few { IfOk result (λ status. status < 2) }
-    ensures told { IfOk result (Tells (IsNamed name.entry.now (S.bytes_of texts.now) (I.remaining input.old)) (IsOneAnswer task) (O.contents output.old) (O.contents output.new)) }
+    ensures told { Ends (IsTextFault (λ n. n ≡ name.entry.now)) (IsNamed name.entry.now (S.bytes_of texts.now) (I.remaining input.old)) (IsOneAnswer task) (IsBesideOne task name.entry.now) (O.contents output.old, E.contents errors.old) (O.contents output.new, E.contents errors.new) result }
+    ensures gains { BothGain (O.contents output.old, E.contents errors.old) (O.contents output.new, E.contents errors.new) }
 {
     match task {
         OneText::Certify => {
@@ -67,7 +73,8 @@ fn asked_two<'a, R: Threads + Sync, S: TextSource, I: Read + Send, O: Write, E: 
     errors: &mut E,
 ) -> Result<u8, Fault<'a>>
     ensures few { IfOk result (λ status. status < 2) }
-    ensures told { IfOk result (Tells (AreNamed first.entry.now second.entry.now (S.bytes_of texts.now) (I.remaining input.old)) (IsTwoAnswer task) (O.contents output.old) (O.contents output.new)) }
+    ensures told { Ends (IsTextFault (λ n. (n ≡ first.entry.now) ⊎ (n ≡ second.entry.now))) (AreNamed first.entry.now second.entry.now (S.bytes_of texts.now) (I.remaining input.old)) (IsTwoAnswer task) (IsBesideTwo task first.entry.now second.entry.now) (O.contents output.old, E.contents errors.old) (O.contents output.new, E.contents errors.new) result }
+    ensures gains { BothGain (O.contents output.old, E.contents errors.old) (O.contents output.new, E.contents errors.new) }
 {
     match task {
         TwoTexts::Check(asking) => {
@@ -119,16 +126,16 @@ fn asked_migrate<
     errors: &mut E,
 ) -> Result<u8, Fault<'a>>
     ensures few { IfOk result (λ status. status < 2) }
-    ensures told { IfOk result (Tells (IsNamed name.entry.now (S.bytes_of texts.now) (I.remaining input.old)) IsMigrateAnswer (O.contents output.old) (O.contents output.new)) }
+    ensures told { Ends (IsLinkFault (λ n. n ≡ name.entry.now)) (IsNamed name.entry.now (S.bytes_of texts.now) (I.remaining input.old)) IsMigrateAnswer (TellsWhyOf (IsRefusedAt SpellsScript) Short name.entry.now) (O.contents output.old, E.contents errors.old) (O.contents output.new, E.contents errors.new) result }
+    ensures gains { BothGain (O.contents output.old, E.contents errors.old) (O.contents output.new, E.contents errors.new) }
 {
-    let mut why = None;
-    let script = read_named::<Gathered<ScriptParts>, R, S, I>(
-        rt, alloc, name, texts, input, &mut why,
+    let (script, why) = read_named::<Gathered<ScriptParts>, R, S, I>(
+        rt, alloc, name, texts, input,
     )?;
     let answer = migrate_read(rt, alloc, carrier, &script)?;
-    let status = written(&answer, output);
-    tell_why(alloc, &why, Telling::Short, &status, errors);
-    status
+    let status = written(&answer, output)?;
+    tell_why(alloc, &why, Telling::Short, errors);
+    Ok(status)
 }
 
 // Draws the session under a name, along the runs under a further one where there is one.
@@ -144,7 +151,8 @@ fn asked_draw<'a, R: Threads + Sync, S: TextSource, I: Read + Send, O: Write, E:
     errors: &mut E,
 ) -> Result<u8, Fault<'a>>
     ensures few { IfOk result (λ status. status < 2) }
-    ensures told { IfOk result (TellsAsked (asked_names (Asked.Draw asked name.entry further.entry)) (S.bytes_of texts.now) (I.remaining input.old) (O.contents output.old) (O.contents output.new)) }
+    ensures told { EndsAsked (asked_names (Asked.Draw asked name.entry further.entry)) (S.bytes_of texts.now) (I.remaining input.old) (O.contents output.old, E.contents errors.old) (O.contents output.new, E.contents errors.new) result }
+    ensures gains { BothGain (O.contents output.old, E.contents errors.old) (O.contents output.new, E.contents errors.new) }
 {
     let topic = told_topic(asked);
     match further {
@@ -190,7 +198,8 @@ pub fn perform<
     errors: &mut E,
 ) -> Result<u8, Fault<'a>>
     ensures few { IfOk result (λ status. status < 2) }
-    ensures told { IfOk result (TellsAsked (asked_names job.entry) (S.bytes_of texts.now) (I.remaining input.old) (O.contents output.old) (O.contents output.new)) }
+    ensures told { EndsAsked (asked_names job.entry) (S.bytes_of texts.now) (I.remaining input.old) (O.contents output.old, E.contents errors.old) (O.contents output.new, E.contents errors.new) result }
+    ensures gains { BothGain (O.contents output.old, E.contents errors.old) (O.contents output.new, E.contents errors.new) }
 {
     match job {
         Asked::One(task, name) => asked_one(rt, alloc, task, name, texts, input, output, errors),

@@ -1,18 +1,19 @@
 //! The picture of a session, as a text and a status.
 
-ghost use Rattle.std.specs.Prelude.{ℕ, List, IfOk};
+ghost use Rattle.std.specs.Prelude.{◌≡◌, ℕ, List, IfOk, ⊤};
 ghost use Rattle.std.specs.Thread.{IsSync};
 ghost use Rattle.text_lines.specs.Answer.{IsRead};
 ghost use Rattle.session_text.specs.Grammar.{SpellsSession};
 ghost use Rattle.order_text.specs.Order.{SpellsOrder};
 ghost use Rattle.order_picture.specs.Svg.{IsSvg};
 ghost use Rattle.report_text.specs.RefusalText.{refusal_text};
+ghost use Rattle.command_texts.specs.declared.why.Telling.TheVariants.{Short};
 ghost use Rattle.command_texts.specs.Answers.{Says};
 ghost use Rattle.commands.specs.Drawings.{IsDrawAnswer, IsDrawAlongAnswer};
 
 use audit_report::audit;
 use command_texts::{
-    ACCEPTED, Answer, Fault, Given, OnOne, OnTwo, REFUSED, given, given_alone, refused,
+    ACCEPTED, Answer, Fault, Given, OnOne, OnTwo, REFUSED, Telling, given, given_alone, refused,
 };
 use migration_types::{Run, Seq, Session};
 use order_picture::{print_picture_along, print_picture_on};
@@ -121,6 +122,12 @@ impl<R: Threads + Sync> OnOne for DrawCommand<'_, R> {
 
     ghost is_answer = { λ _. IsDrawAnswer };
 
+    ghost how_much = { λ _. Short };
+
+    fn telling(&self) -> Telling {
+        Telling::Short
+    }
+
     fn answer(&self, alloc: Global, session: &Result<Session, u32>) -> Given {
         given(draw_read(self.rt, alloc, self.topic, session))
     }
@@ -145,6 +152,10 @@ impl<R: Threads + Sync> OnTwo for DrawAlongCommand<'_, R> {
 
     ghost is_answer = { λ _. IsDrawAlongAnswer };
 
+    ghost is_said = { λ _ _ _. ⊤ };
+
+    ghost adds_more = { λ _ _ _ before after. after ≡ before };
+
     fn answer(
         &self,
         alloc: Global,
@@ -152,5 +163,16 @@ impl<R: Threads + Sync> OnTwo for DrawAlongCommand<'_, R> {
         runs: &Result<Seq<Run>, u32>,
     ) -> Result<(Answer, ()), Fault<'static>> {
         given_alone(draw_along_read(self.rt, alloc, self.topic, session, runs))
+    }
+
+    fn push_more(
+        &self,
+        _out: &mut Vec<u8>,
+        _name: &[u8],
+        _session: &Result<Session, u32>,
+        _runs: &Result<Seq<Run>, u32>,
+        _said: (),
+    ) -> Result<(), AllocError> {
+        Ok(())
     }
 }

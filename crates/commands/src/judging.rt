@@ -1,8 +1,15 @@
 //! The commands that judge a session, as they are asked: how it is told, and whether the session has to be complete.
 
-ghost use Rattle.std.specs.Prelude.{◌<◌, IfOk};
-ghost use Rattle.command_texts.specs.Told.{AreNamed, IsNamed, Tells};
-ghost use Rattle.commands.specs.Told.{answered, IsAsked, IsChecked, IsExplained};
+ghost use Rattle.std.specs.Prelude.{◌≡◌, ◌⊎◌, ◌<◌, IfOk};
+ghost use Rattle.session_text.specs.Grammar.{SpellsSession};
+ghost use Rattle.cert_text.specs.Grammar.{SpellsCert};
+ghost use Rattle.command_texts.specs.declared.why.Telling.TheVariants.{Short, Full};
+ghost use Rattle.command_texts.specs.Answers.{IsTextFault};
+ghost use Rattle.command_texts.specs.Reasons.{IsRefusedAt, TellsBeside, TellsWhyOf};
+ghost use Rattle.command_texts.specs.Told.{AreNamed, Ends, IsNamed};
+ghost use Rattle.command_texts.specs.Written.{BothGain};
+ghost use Rattle.judge_commands.specs.Answers.{AddsMisfitOf};
+ghost use Rattle.commands.specs.Told.{answered, chosen, IsAsked, IsChecked, IsExplained, how_much_in};
 
 use crate::topics::told_topic;
 use command_texts::{Fault, OnOne, OnTwo, TextSource, perform_one, perform_two};
@@ -40,7 +47,8 @@ fn demanded_one<
     requires ready_plain { A.ready }
     requires ready_whole { B.ready }
     ensures few { IfOk result (λ status. status < 2) }
-    ensures told { IfOk result (Tells (IsNamed name.entry.now (S.bytes_of texts.now) (I.remaining input.old)) (λ text. answered demand (A.is_answer plain.now text) (B.is_answer whole.now text)) (O.contents output.old) (O.contents output.new)) }
+    ensures told { Ends (IsTextFault (λ n. n ≡ name.entry.now)) (IsNamed name.entry.now (S.bytes_of texts.now) (I.remaining input.old)) (λ text. answered demand (A.is_answer plain.now text) (B.is_answer whole.now text)) (λ text old new. chosen demand (TellsWhyOf A.Text.is_refused (A.how_much plain.now) name.entry.now text old new) (TellsWhyOf B.Text.is_refused (B.how_much whole.now) name.entry.now text old new)) (O.contents output.old, E.contents errors.old) (O.contents output.new, E.contents errors.new) result }
+    ensures gains { BothGain (O.contents output.old, E.contents errors.old) (O.contents output.new, E.contents errors.new) }
 {
     match demand {
         Demand::Safety => perform_one(rt, alloc, plain, name, texts, input, output, errors),
@@ -74,7 +82,8 @@ fn demanded_two<
     requires ready_plain { A.ready }
     requires ready_whole { B.ready }
     ensures few { IfOk result (λ status. status < 2) }
-    ensures told { IfOk result (Tells (AreNamed first.entry.now second.entry.now (S.bytes_of texts.now) (I.remaining input.old)) (λ read. answered demand (A.is_answer plain.now read) (B.is_answer whole.now read)) (O.contents output.old) (O.contents output.new)) }
+    ensures told { Ends (IsTextFault (λ n. (n ≡ first.entry.now) ⊎ (n ≡ second.entry.now))) (AreNamed first.entry.now second.entry.now (S.bytes_of texts.now) (I.remaining input.old)) (λ read. answered demand (A.is_answer plain.now read) (B.is_answer whole.now read)) (λ read old new. chosen demand (TellsBeside A.First.is_refused A.Second.is_refused (A.adds_more plain.now) first.entry.now second.entry.now read old new) (TellsBeside B.First.is_refused B.Second.is_refused (B.adds_more whole.now) first.entry.now second.entry.now read old new)) (O.contents output.old, E.contents errors.old) (O.contents output.new, E.contents errors.new) result }
+    ensures gains { BothGain (O.contents output.old, E.contents errors.old) (O.contents output.new, E.contents errors.new) }
 {
     match demand {
         Demand::Safety => perform_two(
@@ -98,7 +107,8 @@ pub(crate) fn asked_audit<'a, R: Threads + Sync, S: TextSource, I: Read + Send, 
     errors: &mut E,
 ) -> Result<u8, Fault<'a>>
     ensures few { IfOk result (λ status. status < 2) }
-    ensures told { IfOk result (Tells (IsNamed name.entry.now (S.bytes_of texts.now) (I.remaining input.old)) (IsAsked audits.asking audits.faults) (O.contents output.old) (O.contents output.new)) }
+    ensures told { Ends (IsTextFault (λ n. n ≡ name.entry.now)) (IsNamed name.entry.now (S.bytes_of texts.now) (I.remaining input.old)) (IsAsked audits.asking audits.faults) (TellsWhyOf (IsRefusedAt SpellsSession) Short name.entry.now) (O.contents output.old, E.contents errors.old) (O.contents output.new, E.contents errors.new) result }
+    ensures gains { BothGain (O.contents output.old, E.contents errors.old) (O.contents output.new, E.contents errors.new) }
 {
     let demand = audits.asking.demand;
     match audits.asking.form {
@@ -224,7 +234,8 @@ fn words_of<'a, R: Threads + Sync, S: TextSource, I: Read + Send, O: Write, E: W
     errors: &mut E,
 ) -> Result<u8, Fault<'a>>
     ensures few { IfOk result (λ status. status < 2) }
-    ensures told { IfOk result (Tells (IsNamed name.entry.now (S.bytes_of texts.now) (I.remaining input.old)) (IsExplained demand Form.Text) (O.contents output.old) (O.contents output.new)) }
+    ensures told { Ends (IsTextFault (λ n. n ≡ name.entry.now)) (IsNamed name.entry.now (S.bytes_of texts.now) (I.remaining input.old)) (IsExplained demand Form.Text) (TellsWhyOf (IsRefusedAt SpellsSession) Full name.entry.now) (O.contents output.old, E.contents errors.old) (O.contents output.new, E.contents errors.new) result }
+    ensures gains { BothGain (O.contents output.old, E.contents errors.old) (O.contents output.new, E.contents errors.new) }
 {
     let asked = Complete {
         command: AuditCommand {
@@ -266,7 +277,8 @@ pub(crate) fn asked_explain<
     errors: &mut E,
 ) -> Result<u8, Fault<'a>>
     ensures few { IfOk result (λ status. status < 2) }
-    ensures told { IfOk result (Tells (IsNamed name.entry.now (S.bytes_of texts.now) (I.remaining input.old)) (IsExplained explains.asking.demand explains.asking.form) (O.contents output.old) (O.contents output.new)) }
+    ensures told { Ends (IsTextFault (λ n. n ≡ name.entry.now)) (IsNamed name.entry.now (S.bytes_of texts.now) (I.remaining input.old)) (IsExplained explains.asking.demand explains.asking.form) (TellsWhyOf (IsRefusedAt SpellsSession) (how_much_in explains.asking.form) name.entry.now) (O.contents output.old, E.contents errors.old) (O.contents output.new, E.contents errors.new) result }
+    ensures gains { BothGain (O.contents output.old, E.contents errors.old) (O.contents output.new, E.contents errors.new) }
 {
     let demand = explains.asking.demand;
     match explains.asking.form {
@@ -329,7 +341,8 @@ pub(crate) fn asked_check<'a, R: Threads + Sync, S: TextSource, I: Read + Send, 
     errors: &mut E,
 ) -> Result<u8, Fault<'a>>
     ensures few { IfOk result (λ status. status < 2) }
-    ensures told { IfOk result (Tells (AreNamed first.entry.now second.entry.now (S.bytes_of texts.now) (I.remaining input.old)) (IsChecked asking) (O.contents output.old) (O.contents output.new)) }
+    ensures told { Ends (IsTextFault (λ n. (n ≡ first.entry.now) ⊎ (n ≡ second.entry.now))) (AreNamed first.entry.now second.entry.now (S.bytes_of texts.now) (I.remaining input.old)) (IsChecked asking) (TellsBeside (IsRefusedAt SpellsSession) (IsRefusedAt SpellsCert) AddsMisfitOf first.entry.now second.entry.now) (O.contents output.old, E.contents errors.old) (O.contents output.new, E.contents errors.new) result }
+    ensures gains { BothGain (O.contents output.old, E.contents errors.old) (O.contents output.new, E.contents errors.new) }
 {
     let demand = asking.demand;
     let line = Complete {

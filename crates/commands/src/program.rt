@@ -1,20 +1,22 @@
 //! The program, from its words to its status.
 
 ghost use Rattle.std.specs.Prelude.{◌≡◌, ◌≢◌, ◌<◌, ◌≤◌, ℕ, List, IfOk, IfSome, MatchResult, Some, length, true};
+ghost use Rattle.std.specs.Io.KnownBytes.{Keeps};
 ghost use Rattle.clap.specs.Words.{kind_of, takes};
 ghost use Rattle.command_words.specs.Table.{job_of, several_of};
 ghost use Rattle.command_words.specs.Words.{IsPlain, asked, asked_by, output_named, postcopy_words, several_asked, word_texts};
-ghost use Rattle.command_texts.specs.Answers.{fault_status};
-ghost use Rattle.command_texts.specs.Told.{AreOfInput, Tells};
-ghost use Rattle.commands.specs.Told.{IsPlainCheck, TellsAsked, TellsSeveralAsked};
+ghost use Rattle.command_texts.specs.Answers.{fault_line, fault_status};
+ghost use Rattle.command_texts.specs.Written.{AppendsFront, BothGain, Gains};
+ghost use Rattle.commands.specs.Refused.{IsRefusalOf, IsStarved};
+ghost use Rattle.commands.specs.Told.{EndsAsked, EndsBare, EndsSeveral, IsFaultTold, IsSettled};
 
 use crate::answering::perform;
 use crate::several::asked_several;
 use clap::error::ErrorKind;
-use command_texts::{Fault, TextSource, USAGE, perform_two, tell};
+use command_texts::{ACCEPTED, Fault, TextSource, USAGE, perform_two, tell, write_whole};
 use command_words::{Wish, read_output, read_words};
 use judge_commands::{CheckCommand, InLine};
-use std::alloc::Global;
+use std::alloc::{AllocError, Global};
 use std::io::{Read, Write};
 use std::net::{Net, TcpListener, TcpStream};
 use std::sync::Wait;
@@ -30,7 +32,8 @@ fn check_input<R: Threads + Sync, S: TextSource, I: Read + Send, O: Write, E: Wr
     errors: &mut E,
 ) -> Result<u8, Fault<'static>>
     ensures few { IfOk result (λ status. status < 2) }
-    ensures told { IfOk result (Tells (AreOfInput (I.remaining input.old)) IsPlainCheck (O.contents output.old) (O.contents output.new)) }
+    ensures told { EndsBare (I.remaining input.old) (O.contents output.old, E.contents errors.old) (O.contents output.new, E.contents errors.new) result }
+    ensures gains { BothGain (O.contents output.old, E.contents errors.old) (O.contents output.new, E.contents errors.new) }
 {
     perform_two(
         rt,
@@ -47,7 +50,11 @@ fn check_input<R: Threads + Sync, S: TextSource, I: Read + Send, O: Write, E: Wr
 
 // The status of a job, whose fault is told.
 fn settle<E: Write>(done: Result<u8, Fault<'_>>, errors: &mut E) -> u8
-    ensures { MatchResult done.entry (λ status. result ≡ status) (λ fault. result ≡ fault_status fault) }
+    requires { IfOk done (λ status. status < 2) }
+    ensures settled { MatchResult done.entry (λ status. (result ≡ status) × (E.contents errors.new ≡ E.contents errors.old)) (λ fault. (result ≡ fault_status fault) × AppendsFront (E.contents errors.old) (E.contents errors.new) (fault_line fault)) }
+    ensures known { (result ≢ 2) × (result ≤ 4) }
+    ensures gains { Gains (E.contents errors.old) (E.contents errors.new) }
+    ensures fault { 2 < result → IsFaultTold (E.contents errors.old) (E.contents errors.new) result }
 {
     match done {
         Ok(status) => status,
@@ -55,22 +62,49 @@ fn settle<E: Write>(done: Result<u8, Fault<'_>>, errors: &mut E) -> u8
     }
 }
 
+// What clap tells of words.
+fn told_text(alloc: Global, error: &clap::Error) -> Result<String, AllocError> {
+    let mut text = String::new(alloc);
+    write!(text, "{error}")?;
+    Ok(text)
+}
+
+// Tells of words that were refused, or shows the help or the version, in this text.
+fn tell_words<O: Write, E: Write>(
+    error: &clap::Error,
+    text: &str,
+    output: &mut O,
+    errors: &mut E,
+) -> u8
+    ensures { IsRefusalOf (kind_of error.now) (O.contents output.old, E.contents errors.old) (O.contents output.new, E.contents errors.new) result }
+{
+    if error.use_stderr() {
+        write_whole(errors, text.as_bytes());
+        return USAGE;
+    }
+    if write_whole(output, text.as_bytes()) {
+        ACCEPTED
+    } else {
+        tell(Fault::Output, errors)
+    }
+}
+
 // Tells of words that were refused, or shows the help or the version.
-fn refuse<O: Write, E: Write>(error: clap::Error, output: &mut O, errors: &mut E) -> u8
-    ensures memory { kind_of error ≡ ErrorKind.OutOfMemory → result ≡ 4 }
-    ensures known { result ≤ 4 }
+fn refuse<O: Write, E: Write>(
+    alloc: Global,
+    error: &clap::Error,
+    output: &mut O,
+    errors: &mut E,
+) -> u8
+    ensures memory { kind_of error.now ≡ ErrorKind.OutOfMemory → IsStarved (O.contents output.old, E.contents errors.old) (O.contents output.new, E.contents errors.new) result }
+    ensures told { IsRefusalOf (kind_of error.now) (O.contents output.old, E.contents errors.old) (O.contents output.new, E.contents errors.new) result }
 {
     if error.kind() == ErrorKind::OutOfMemory {
         return tell(Fault::Memory, errors);
     }
-    if error.use_stderr() {
-        let _ = write!(errors, "{error}");
-        return USAGE;
-    }
-    if write!(output, "{error}").is_ok() {
-        0
-    } else {
-        tell(Fault::Output, errors)
+    match told_text(alloc, error) {
+        Ok(text) => tell_words(error, text.as_str(), output, errors),
+        Err(_) => tell(Fault::Memory, errors),
     }
 }
 
@@ -91,19 +125,39 @@ fn grant<
     errors: &mut E,
 ) -> u8
     ensures known { (result ≢ 2) × (result ≤ 4) }
-    ensures job { IfSome (job_of wish.entry) (λ job. result < 2 → TellsAsked job (S.bytes_of texts.now) (I.remaining input.old) (O.contents output.old) (O.contents output.new) result) }
-    ensures several { IfSome (several_of wish.entry) (λ asked. result < 2 → TellsSeveralAsked asked (S.bytes_of texts.now) (O.contents output.old) (O.contents output.new) result) }
+    ensures fault { 2 < result → IsFaultTold (E.contents errors.old) (E.contents errors.new) result }
+    ensures job { IfSome (job_of wish.entry) (λ job. IsSettled (EndsAsked job (S.bytes_of texts.now) (I.remaining input.old) (O.contents output.old, E.contents errors.old)) (O.contents output.new, E.contents errors.new) result) }
+    ensures several { IfSome (several_of wish.entry) (λ asked. IsSettled (EndsSeveral asked (S.bytes_of texts.now) (O.contents output.old, E.contents errors.old)) (O.contents output.new, E.contents errors.new) result) }
+    ensures gains { BothGain (O.contents output.old, E.contents errors.old) (O.contents output.new, E.contents errors.new) }
 {
     match wish {
-        Wish::Job(job) => settle(
-            perform(rt, alloc, job, texts, input, output, errors),
-            errors,
-        ),
-        Wish::Several(several) => settle(
-            asked_several(rt, alloc, &several, texts, input, output, errors),
-            errors,
-        ),
+        Wish::Job(job) => {
+            let done = perform(rt, alloc, job, texts, input, output, errors);
+            settle(done, errors)
+        }
+        Wish::Several(several) => {
+            let done = asked_several(rt, alloc, &several, texts, input, output, errors);
+            settle(done, errors)
+        }
     }
+}
+
+// Judges the two texts of the input, where there are no words.
+fn check_bare<R: Threads + Sync, S: TextSource, I: Read + Send, O: Write, E: Write>(
+    rt: &R,
+    alloc: Global,
+    texts: &S,
+    input: &mut I,
+    output: &mut O,
+    errors: &mut E,
+) -> u8
+    ensures known { (result ≢ 2) × (result ≤ 4) }
+    ensures fault { 2 < result → IsFaultTold (E.contents errors.old) (E.contents errors.new) result }
+    ensures told { IsSettled (EndsBare (I.remaining input.old) (O.contents output.old, E.contents errors.old)) (O.contents output.new, E.contents errors.new) result }
+    ensures gains { BothGain (O.contents output.old, E.contents errors.old) (O.contents output.new, E.contents errors.new) }
+{
+    let done = check_input(rt, alloc, texts, input, output, errors);
+    settle(done, errors)
 }
 
 /// The program: it reads the texts that the words name, writes what the command answers to them, and answers its status.
@@ -134,20 +188,23 @@ pub fn run<
     errors: &mut E,
 ) -> u8
     ensures known { result ≤ 4 }
+    ensures gains { BothGain (O.contents output.old, E.contents errors.old) (O.contents output.new, E.contents errors.new) }
+    ensures fault { 2 < result → IsFaultTold (E.contents errors.old) (E.contents errors.new) result }
+    ensures misuse { result ≡ 2 → Keeps (O.contents output.old) (O.contents output.new) }
     ensures bare_usage { length words.entry.now ≤ 1 → result ≢ 2 }
-    ensures bare { length words.entry.now ≤ 1 → result < 2 → Tells (AreOfInput (I.remaining input.old)) IsPlainCheck (O.contents output.old) (O.contents output.new) result }
+    ensures bare { length words.entry.now ≤ 1 → IsSettled (EndsBare (I.remaining input.old) (O.contents output.old, E.contents errors.old)) (O.contents output.new, E.contents errors.new) result }
     ensures usage { takes postcopy_words (word_texts words.entry.now) ≡ true → result ≢ 2 }
-    ensures told { takes postcopy_words (word_texts words.entry.now) ≡ true → result < 2 → IfSome (asked (word_texts words.entry.now)) (λ job. TellsAsked job (S.bytes_of texts.now) (I.remaining input.old) (O.contents output.old) (O.contents output.new) result) }
-    ensures several { takes postcopy_words (word_texts words.entry.now) ≡ true → result < 2 → IfSome (several_asked (word_texts words.entry.now)) (λ asked. TellsSeveralAsked asked (S.bytes_of texts.now) (O.contents output.old) (O.contents output.new) result) }
-    ensures plain { (name : List ℕ) (names : List (List ℕ)) → IsPlain (word_texts words.entry.now) name names → IfSome (asked_by name names) (λ job. (result ≢ 2) × (result < 2 → TellsAsked job (S.bytes_of texts.now) (I.remaining input.old) (O.contents output.old) (O.contents output.new) result)) }
+    ensures told { takes postcopy_words (word_texts words.entry.now) ≡ true → IfSome (asked (word_texts words.entry.now)) (λ job. IsSettled (EndsAsked job (S.bytes_of texts.now) (I.remaining input.old) (O.contents output.old, E.contents errors.old)) (O.contents output.new, E.contents errors.new) result) }
+    ensures several { takes postcopy_words (word_texts words.entry.now) ≡ true → IfSome (several_asked (word_texts words.entry.now)) (λ asked. IsSettled (EndsSeveral asked (S.bytes_of texts.now) (O.contents output.old, E.contents errors.old)) (O.contents output.new, E.contents errors.new) result) }
+    ensures plain { (name : List ℕ) (names : List (List ℕ)) → IsPlain (word_texts words.entry.now) name names → IfSome (asked_by name names) (λ job. (result ≢ 2) × IsSettled (EndsAsked job (S.bytes_of texts.now) (I.remaining input.old) (O.contents output.old, E.contents errors.old)) (O.contents output.new, E.contents errors.new) result) }
 {
     if words.len() <= 1 {
-        return settle(check_input(rt, alloc, texts, input, output, errors), errors);
+        return check_bare(rt, alloc, texts, input, output, errors);
     }
     match read_words(alloc, words) {
         Ok(Some(wish)) => grant(rt, alloc, wish, texts, input, output, errors),
-        Ok(None) => settle(check_input(rt, alloc, texts, input, output, errors), errors),
-        Err(error) => refuse(error, output, errors),
+        Ok(None) => check_bare(rt, alloc, texts, input, output, errors),
+        Err(error) => refuse(alloc, &error, output, errors),
     }
 }
 

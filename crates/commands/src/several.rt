@@ -1,9 +1,13 @@
 //! The audit of several sessions: a line for each, after its name, and how many are clean; or an object for each.
 
-ghost use Rattle.std.specs.Prelude.{◌<◌, IfOk};
-ghost use Rattle.command_texts.specs.Several.{TellsSeveral, names_of, style_of};
+ghost use Rattle.std.specs.Prelude.{◌<◌, IfOk, IfErr};
+ghost use Rattle.session_text.specs.Grammar.{SpellsSession};
+ghost use Rattle.command_texts.specs.Answers.{IsTextFault};
+ghost use Rattle.command_texts.specs.Reasons.{IsRefusedAt};
+ghost use Rattle.command_texts.specs.Several.{IsOneOf, TellsSeveral, names_of, style_of};
+ghost use Rattle.command_texts.specs.Written.{BothGain};
 ghost use Rattle.command_words.specs.Table.{several_names};
-ghost use Rattle.commands.specs.Told.{answered, IsAsked, TellsSeveralAsked, lines_asked, lines_style};
+ghost use Rattle.commands.specs.Told.{answered, chosen, IsAsked, TellsSeveralAsked, lines_asked, lines_style};
 
 use command_texts::{Fault, Listing, OnOne, TextSource, perform_several};
 use command_words::{Audits, Demand, Faults, Form, Several};
@@ -42,7 +46,9 @@ fn demanded_several<
     requires ready_plain { A.ready }
     requires ready_whole { B.ready }
     ensures few { IfOk result (λ status. status < 2) }
-    ensures told { IfOk result (TellsSeveral (S.bytes_of texts.now) (λ text. answered demand (A.is_answer plain.now text) (B.is_answer whole.now text)) (style_of listing.entry) (names_of names.now) (O.contents output.old) (O.contents output.new)) }
+    ensures told { IfOk result (TellsSeveral (S.bytes_of texts.now) (λ text. answered demand (A.is_answer plain.now text) (B.is_answer whole.now text)) (λ text line. chosen demand (A.Text.is_refused text line) (B.Text.is_refused text line)) (style_of listing.entry) (names_of names.now) (O.contents output.old, E.contents errors.old) (O.contents output.new, E.contents errors.new)) }
+    ensures fault { IfErr result (IsTextFault (IsOneOf (names_of names.now))) }
+    ensures gains { BothGain (O.contents output.old, E.contents errors.old) (O.contents output.new, E.contents errors.new) }
 {
     match demand {
         Demand::Safety => perform_several(
@@ -66,7 +72,9 @@ fn line_each<'a, R: Threads + Sync, S: TextSource, I: Read + Send, O: Write, E: 
     errors: &mut E,
 ) -> Result<u8, Fault<'a>>
     ensures few { IfOk result (λ status. status < 2) }
-    ensures told { IfOk result (TellsSeveral (S.bytes_of texts.now) (IsAsked (lines_asked demand) Faults.First) lines_style (names_of names.now) (O.contents output.old) (O.contents output.new)) }
+    ensures told { IfOk result (TellsSeveral (S.bytes_of texts.now) (IsAsked (lines_asked demand) Faults.First) (IsRefusedAt SpellsSession) lines_style (names_of names.now) (O.contents output.old, E.contents errors.old) (O.contents output.new, E.contents errors.new)) }
+    ensures fault { IfErr result (IsTextFault (IsOneOf (names_of names.now))) }
+    ensures gains { BothGain (O.contents output.old, E.contents errors.old) (O.contents output.new, E.contents errors.new) }
 {
     let asked = Complete {
         command: AuditCommand {
@@ -109,7 +117,9 @@ pub(crate) fn asked_several<
     errors: &mut E,
 ) -> Result<u8, Fault<'a>>
     ensures few { IfOk result (λ status. status < 2) }
-    ensures told { IfOk result (TellsSeveralAsked (several_names several.now) (S.bytes_of texts.now) (O.contents output.old) (O.contents output.new)) }
+    ensures told { IfOk result (TellsSeveralAsked (several_names several.now) (S.bytes_of texts.now) (O.contents output.old, E.contents errors.old) (O.contents output.new, E.contents errors.new)) }
+    ensures fault { IfErr result (IsTextFault (IsOneOf (several_names several.now).1)) }
+    ensures gains { BothGain (O.contents output.old, E.contents errors.old) (O.contents output.new, E.contents errors.new) }
 {
     let Audits { asking, faults } = several.audits;
     let demand = asking.demand;

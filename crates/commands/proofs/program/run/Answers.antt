@@ -6,18 +6,18 @@ use Rattle.command_words.specs.declared.asked.Audits.{Audits}
 use Rattle.command_words.specs.Table.{job_of, several_of}
 use Rattle.command_words.specs.Words.{asked, asked_by, several_asked, word_texts}
 use Rattle.command_words.proofs.Plain.{taken_plain, bare_not_taken}
-use Rattle.commands.specs.Told.{TellsAsked, TellsSeveralAsked}
-use Rattle.commands.proofs.Settled.{if_some, some_given, some_told, two_words}
+use Rattle.commands.specs.Told.{EndsAsked, EndsSeveral, IsSettled}
+use Rattle.commands.proofs.Settled.{if_some, refusal_fault, refusal_gains, refusal_known, refusal_misuse, some_given, some_told, starved, starved_several, two_words}
 use Rattle.commands.proofs.program.run.Goals as goal
 
 pub returns-then-words-le1-clause-told : goal.returns-then-words-le1-clause-told
-returns-then-words-le1-clause-told g c = λ taken lt.
+returns-then-words-le1-clause-told g c = λ taken.
     let words = c.args.words.now in
     let none = bare_not_taken (word_texts words) (omega (arith, length-map words (λ (w : Bor Text). w.now), c.if-words-le1.true)) in
     absurd cc
 
 pub returns-then-words-le1-clause-several : goal.returns-then-words-le1-clause-several
-returns-then-words-le1-clause-several g c = λ taken lt.
+returns-then-words-le1-clause-several g c = λ taken.
     let words = c.args.words.now in
     let none = bare_not_taken (word_texts words) (omega (arith, length-map words (λ (w : Bor Text). w.now), c.if-words-le1.true)) in
     absurd cc
@@ -28,17 +28,17 @@ returns-then-words-le1-clause-plain g c = λ name names plain.
     absurd (two_words (word_texts words) plain.program name names plain.words_are (omega (arith, length-map words (λ (w : Bor Text). w.now), c.if-words-le1.true)))
 
 pub returns-in-Ok-Some-clause-told : goal.returns-in-Ok-Some-clause-told
-returns-in-Ok-Some-clause-told g c = λ taken lt. some_told (job_of c.in-Ok-Some.wish) (asked (word_texts c.args.words.now)) (c.grant.result < 2) (λ (job : Asked Text). TellsAsked job (g.S.TextSource.bytes_of c.args.texts.now) (g.I.Read.remaining c.args.input.now) (g.O.Write.contents c.args.output.now) (g.O.Write.contents c.grant.new.output) c.grant.result)
-    (ap (option_and_then job_of) (sym c.in-Ok-Some.field-0-is) ∙ c.in-Ok-Some.ensures.job) c.grant.ensures.job lt
+returns-in-Ok-Some-clause-told g c = λ taken. some_told (job_of c.in-Ok-Some.wish) (asked (word_texts c.args.words.now)) (λ (job : Asked Text). IsSettled (EndsAsked job (g.S.TextSource.bytes_of c.args.texts.now) (g.I.Read.remaining c.args.input.now) (g.O.Write.contents c.args.output.now, g.E.Write.contents c.args.errors.now)) (g.O.Write.contents c.grant.new.output, g.E.Write.contents c.grant.new.errors) c.grant.result)
+    (ap (option_and_then job_of) (sym c.in-Ok-Some.field-0-is) ∙ c.in-Ok-Some.ensures.job) c.grant.ensures.job
 
 pub returns-in-Ok-Some-clause-several : goal.returns-in-Ok-Some-clause-several
-returns-in-Ok-Some-clause-several g c = λ taken lt. some_told (several_of c.in-Ok-Some.wish) (several_asked (word_texts c.args.words.now)) (c.grant.result < 2) (λ (several : Audits × List Text). TellsSeveralAsked several (g.S.TextSource.bytes_of c.args.texts.now) (g.O.Write.contents c.args.output.now) (g.O.Write.contents c.grant.new.output) c.grant.result)
-    (ap (option_and_then several_of) (sym c.in-Ok-Some.field-0-is) ∙ c.in-Ok-Some.ensures.several) c.grant.ensures.several lt
+returns-in-Ok-Some-clause-several g c = λ taken. some_told (several_of c.in-Ok-Some.wish) (several_asked (word_texts c.args.words.now)) (λ (several : Audits × List Text). IsSettled (EndsSeveral several (g.S.TextSource.bytes_of c.args.texts.now) (g.O.Write.contents c.args.output.now, g.E.Write.contents c.args.errors.now)) (g.O.Write.contents c.grant.new.output, g.E.Write.contents c.grant.new.errors) c.grant.result)
+    (ap (option_and_then several_of) (sym c.in-Ok-Some.field-0-is) ∙ c.in-Ok-Some.ensures.several) c.grant.ensures.several
 
 pub returns-in-Ok-Some-clause-plain : goal.returns-in-Ok-Some-clause-plain
 returns-in-Ok-Some-clause-plain g c = λ name names plain. if_some (asked_by name names) _ (λ job e. (
   c.grant.ensures.known.0,
-  some_given (job_of c.in-Ok-Some.wish) job (λ (job : Asked Text). c.grant.result < 2 → TellsAsked job (g.S.TextSource.bytes_of c.args.texts.now) (g.I.Read.remaining c.args.input.now) (g.O.Write.contents c.args.output.now) (g.O.Write.contents c.grant.new.output) c.grant.result)
+  some_given (job_of c.in-Ok-Some.wish) job (λ (job : Asked Text). IsSettled (EndsAsked job (g.S.TextSource.bytes_of c.args.texts.now) (g.I.Read.remaining c.args.input.now) (g.O.Write.contents c.args.output.now, g.E.Write.contents c.args.errors.now)) (g.O.Write.contents c.grant.new.output, g.E.Write.contents c.grant.new.errors) c.grant.result)
       (ap (option_and_then job_of) (sym c.in-Ok-Some.field-0-is) ∙ c.in-Ok-Some.ensures.job ∙ (taken_plain (word_texts c.args.words.now) name names job plain e).given) c.grant.ensures.job,
 ))
 
@@ -47,7 +47,30 @@ returns-in-Ok-None-clause-plain g c = λ name names plain. if_some (asked_by nam
     let none : None ≡ Some job = ap (option_and_then job_of) (sym c.in-Ok-None.field-0-is) ∙ c.in-Ok-None.ensures.job ∙ (taken_plain (word_texts c.args.words.now) name names job plain e).given in
     absurd cc)
 
+pub returns-in-Err-clause-known : goal.returns-in-Err-clause-known
+returns-in-Err-clause-known g c = refusal_known _ _ _ c.refuse.result c.refuse.ensures.told
+
+pub returns-in-Err-clause-gains : goal.returns-in-Err-clause-gains
+returns-in-Err-clause-gains g c = refusal_gains _ _ _ c.refuse.result c.refuse.ensures.told
+
+pub returns-in-Err-clause-fault : goal.returns-in-Err-clause-fault
+returns-in-Err-clause-fault g c = refusal_fault _ _ _ c.refuse.result c.refuse.ensures.told
+
+pub returns-in-Err-clause-misuse : goal.returns-in-Err-clause-misuse
+returns-in-Err-clause-misuse g c = refusal_misuse _ _ _ c.refuse.result c.refuse.ensures.told
+
+pub returns-in-Err-clause-usage : goal.returns-in-Err-clause-usage
+returns-in-Err-clause-usage g c = λ taken two.
+    let h = c.refuse.ensures.memory (c.in-Err.ensures.err taken) in
+    absurd (omega (arith, h.is_status))
+
+pub returns-in-Err-clause-told : goal.returns-in-Err-clause-told
+returns-in-Err-clause-told g c = λ taken. if_some (asked (word_texts c.args.words.now)) _ (λ job e. starved job _ _ _ _ c.refuse.result (c.refuse.ensures.memory (c.in-Err.ensures.err taken)))
+
+pub returns-in-Err-clause-several : goal.returns-in-Err-clause-several
+returns-in-Err-clause-several g c = λ taken. if_some (several_asked (word_texts c.args.words.now)) _ (λ several e. starved_several several _ _ _ c.refuse.result (c.refuse.ensures.memory (c.in-Err.ensures.err taken)))
+
 pub returns-in-Err-clause-plain : goal.returns-in-Err-clause-plain
 returns-in-Err-clause-plain g c = λ name names plain. if_some (asked_by name names) _ (λ job e.
-    let more : c.refuse.result ≡ 4 = c.refuse.ensures.memory (c.in-Err.ensures.err (taken_plain (word_texts c.args.words.now) name names job plain e).taken) in
-    (λ two. absurd (omega arith), λ lt. absurd (omega arith)))
+    let h = c.refuse.ensures.memory (c.in-Err.ensures.err (taken_plain (word_texts c.args.words.now) name names job plain e).taken) in
+    (λ two. absurd (omega (arith, h.is_status)), starved job _ _ _ _ c.refuse.result h))

@@ -1,0 +1,21 @@
+-- What is told beside an answer, whether or not a complete session is asked for.
+use Rattle.std.proofs.Common.{ℕ, List, Option, Result, IfOk}
+use Rattle.command_words.specs.declared.asked.Demand.{Demand}
+use Rattle.command_words.specs.declared.asked.Demand.TheVariants.{Safety, Completeness}
+use Rattle.command_texts.specs.declared.answer.Fault.{Fault}
+use Rattle.command_texts.specs.Several.{Style, TellsSeveral}
+use Rattle.command_texts.specs.Told.{Ends}
+use Rattle.command_texts.specs.Written.{Streams}
+use Rattle.commands.specs.Told.{chosen}
+
+pub same_beside : {T : Type 0} (IsBeside : T → Option (List ℕ) → Option (List ℕ) → Type 0) (demand : Demand) (IsFault : Fault → Type 0) (AreTexts : T → Type 0) (IsAnswerTo : T → List ℕ → ℕ → Type 0) (old new : Streams) (done : Result ℕ Fault)
+    → Ends IsFault AreTexts IsAnswerTo (λ texts before after. chosen demand (IsBeside texts before after) (IsBeside texts before after)) old new done
+    → Ends IsFault AreTexts IsAnswerTo IsBeside old new done
+same_beside IsBeside Safety IsFault AreTexts IsAnswerTo old new done h = h
+same_beside IsBeside Completeness IsFault AreTexts IsAnswerTo old new done h = h
+
+pub several_told : (IsRefused : List ℕ → Option ℕ → Type 0) (demand : Demand) (files : List ℕ → Option (List ℕ)) (IsAnswer : List ℕ → List ℕ → ℕ → Type 0) (style : Style) (names : List (List ℕ)) (old new : Streams) (done : Result ℕ Fault)
+    → IfOk done (TellsSeveral files IsAnswer (λ text line. chosen demand (IsRefused text line) (IsRefused text line)) style names old new)
+    → IfOk done (TellsSeveral files IsAnswer IsRefused style names old new)
+several_told IsRefused Safety files IsAnswer style names old new done h = h
+several_told IsRefused Completeness files IsAnswer style names old new done h = h

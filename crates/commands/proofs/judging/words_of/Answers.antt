@@ -1,0 +1,8 @@
+use Rattle.session_text.specs.Grammar.{SpellsSession}
+use Rattle.command_texts.specs.declared.why.Telling.TheVariants.{Full}
+use Rattle.command_texts.specs.Reasons.{IsRefusedAt, TellsWhyOf}
+use Rattle.commands.proofs.Beside.{same_beside}
+use Rattle.commands.proofs.judging.words_of.Goals as goal
+
+pub returns-clause-told : goal.returns-clause-told
+returns-clause-told g c = same_beside (TellsWhyOf (IsRefusedAt SpellsSession) Full c.args.name.now) c.args.demand _ _ _ _ _ _ c.demanded_one.ensures.told

@@ -1,0 +1,45 @@
+-- What becomes of words that are refused.
+use Rattle.std.specs.Prelude.{◌≡◌, ◌≢◌, ◌⊎◌, ℕ}
+use Rattle.std.specs.Io.KnownBytes.{Keeps}
+use Rattle.clap.specs.declared.error.kind.ErrorKind.{ErrorKind}
+use Rattle.clap.specs.declared.error.kind.ErrorKind.TheVariants.{DisplayHelp, DisplayVersion}
+use Rattle.command_texts.specs.declared.answer.Fault.TheVariants.{Memory, Output}
+use Rattle.command_texts.specs.Answers.{fault_line}
+use Rattle.command_texts.specs.Written.{AppendsFront, Gains, Streams}
+
+-- the help or the version was asked for
+abbrev pub IsAsking : ErrorKind → Type 0
+IsAsking kind = (kind ≡ DisplayHelp) ⊎ (kind ≡ DisplayVersion)
+
+-- the words are no command: the output stays, and the errors gain what is wrong with them
+pub record IsMisuse (kind : ErrorKind) (old new : Streams) (status : ℕ) : Type 0 where
+  pub no_help : kind ≢ DisplayHelp
+  pub no_version : kind ≢ DisplayVersion
+  pub is_status : status ≡ 2
+  pub output : Keeps old.0 new.0
+  pub errors : Gains old.1 new.1
+
+-- the output gained the help or the version that was asked for, and the errors stay
+pub record IsShown (kind : ErrorKind) (old new : Streams) (status : ℕ) : Type 0 where
+  pub asked : IsAsking kind
+  pub is_status : status ≡ 0
+  pub output : Gains old.0 new.0
+  pub errors : Keeps old.1 new.1
+
+-- or it was asked for and the output failed, which the errors tell
+pub record IsUnshown (kind : ErrorKind) (old new : Streams) (status : ℕ) : Type 0 where
+  pub asked : IsAsking kind
+  pub is_status : status ≡ 3
+  pub output : Gains old.0 new.0
+  pub errors : AppendsFront old.1 new.1 (fault_line Output)
+
+-- there was no memory, which the errors tell
+pub record IsStarved (old new : Streams) (status : ℕ) : Type 0 where
+  pub is_status : status ≡ 4
+  pub output : Keeps old.0 new.0
+  pub errors : AppendsFront old.1 new.1 (fault_line Memory)
+
+-- what becomes of words that are refused with this kind
+abbrev pub IsRefusalOf : ErrorKind → Streams → Streams → ℕ → Type 0
+IsRefusalOf kind old new status =
+    IsMisuse kind old new status ⊎ (IsShown kind old new status ⊎ (IsUnshown kind old new status ⊎ IsStarved old new status))
