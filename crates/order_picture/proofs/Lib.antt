@@ -1,2 +1,4 @@
 pub mod Built
 pub mod Names
+pub mod Headings
+pub mod Behinds

@@ -1,7 +1,15 @@
 pub mod Marks
+pub mod Layout
+pub mod Shapes
 pub mod Labels
+pub mod Counts
 pub mod Drawn
 pub mod Rows
 pub mod Pictures
+pub mod Behind
+pub mod Seen
+pub mod LegendText
+pub mod RowsText
+pub mod HeadingText
 pub mod Svg
 pub mod inner

@@ -1,2 +1,3 @@
 -- What serves proofs alone.
 pub mod Built
+pub mod Words

@@ -2,9 +2,11 @@
 
 ghost use Rattle.std.specs.Prelude.{◌≡◌, ◌++◌, OnOk};
 ghost use Rattle.migration_types.specs.Rows.{row_of};
-ghost use Rattle.order_picture.specs.Labels.{field_label, fields_label, guest_at, label_of, said_word};
+ghost use Rattle.order_picture.specs.Labels.{amended_cell, amended_label, done_of, drawn_label, field_label, fields_label, guest_at, label_of, said_word};
 
+use crate::focus::Mark;
 use crate::records::Name;
+use crate::shapes::Look;
 use migration_types::{Field, GuestRec, LogName, Session};
 use session_story::Amended;
 use std::alloc::AllocError;
@@ -71,7 +73,7 @@ fn said_word(rec: Option<GuestRec>, word: &'static [u8]) -> &'static [u8]
 }
 
 /// Adds the label of a record.
-pub(crate) fn push_label(out: &mut Vec<u8>, session: &Session, name: Name) -> Result<(), AllocError>
+fn push_label(out: &mut Vec<u8>, session: &Session, name: Name) -> Result<(), AllocError>
     ensures { OnOk result (out.new.items ≡ out.old.items ++ label_of session.now name) }
 {
     match session.row(name) {
@@ -83,19 +85,56 @@ pub(crate) fn push_label(out: &mut Vec<u8>, session: &Session, name: Name) -> Re
     }
 }
 
-/// Adds the label of a record with a wrong value: what was done, to which cell, with the wrong value and the right one.
-pub(crate) fn push_amended(
-    out: &mut Vec<u8>,
-    session: &Session,
-    name: Name,
-    amended: &Amended,
-) -> Result<(), AllocError> {
-    if let Some(row) = session.row(name) {
-        out.extend_from_slice(said_word(guest_at(session, name), row.word()))?;
+/// Adds what was done, of the label of a record.
+#[tactic(auto, unfolding(crate::specs::Labels::done_of))]
+fn push_done(out: &mut Vec<u8>, session: &Session, name: Name) -> Result<(), AllocError>
+    ensures { OnOk result (out.new.items ≡ out.old.items ++ done_of session.now name) }
+{
+    match session.row(name) {
+        Some(row) => out.extend_from_slice(said_word(guest_at(session, name), row.word())),
+        None => Ok(()),
     }
+}
+
+/// Adds the cell with the wrong value, and the right one.
+#[tactic(auto, unfolding(crate::specs::Labels::amended_cell))]
+fn push_amended_cell(out: &mut Vec<u8>, amended: &Amended) -> Result<(), AllocError>
+    ensures { OnOk result (out.new.items ≡ out.old.items ++ amended_cell amended.now) }
+{
     push_field(out, Field::Page(amended.page))?;
     push_field(out, Field::Cell(amended.cell))?;
     push_field(out, Field::Value(amended.wrong))?;
     out.extend_from_slice(b", right: ")?;
     push_number(out, amended.right)
+}
+
+/// Adds the label of a record with a wrong value: what was done, to which cell, with the wrong value and the right one.
+#[tactic(auto, unfolding(crate::specs::Labels::amended_label))]
+fn push_amended(
+    out: &mut Vec<u8>,
+    session: &Session,
+    name: Name,
+    amended: &Amended,
+) -> Result<(), AllocError>
+    ensures { OnOk result (out.new.items ≡ out.old.items ++ amended_label session.now name amended.now) }
+{
+    push_done(out, session, name)?;
+    push_amended_cell(out, amended)
+}
+
+/// Adds the label of a record that is drawn so.
+#[tactic(auto, unfolding(crate::specs::Labels::drawn_label))]
+pub(crate) fn push_drawn_label(
+    out: &mut Vec<u8>,
+    session: &Session,
+    amended: &Option<Amended>,
+    name: Name,
+    look: Look,
+) -> Result<(), AllocError>
+    ensures { OnOk result (out.new.items ≡ out.old.items ++ drawn_label session.now amended.now name look) }
+{
+    match (amended, look) {
+        (Some(amended), Look::Marked(Mark::Faulty)) => push_amended(out, session, name, amended),
+        _ => push_label(out, session, name),
+    }
 }

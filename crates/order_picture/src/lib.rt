@@ -3,15 +3,20 @@
 #![tactic(auto)]
 
 mod behind;
+mod columns;
+mod drawn_rows;
 mod focus;
 mod heading;
 mod keeping;
 mod labels;
+mod layout;
 mod legend;
 mod order;
 mod picture;
+mod received;
 mod records;
 mod rows;
+mod seen;
 mod shapes;
 mod svg;
 mod words;

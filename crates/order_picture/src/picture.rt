@@ -62,7 +62,7 @@ fn is_row_of(name: Name, row: &Row) -> bool
 }
 
 /// The record that the row's record is a receipt for.
-fn row_receipt(session: &Session, row: &Row) -> Option<Name>
+pub(crate) fn row_receipt(session: &Session, row: &Row) -> Option<Name>
     ensures { result ≡ row_receipt session.now row.now }
 {
     match row {

@@ -1,22 +1,19 @@
-//! The shapes of a picture: boxes, arrows, and where they stand.
+//! The shapes of a picture as text: boxes, arrows, columns and folds, each with its place.
+
+ghost use Rattle.std.specs.Prelude.{◌≡◌, ◌++◌, length, OnOk};
+ghost use Rattle.order_picture.specs.Shapes.{arrow_drawn, attribute, box_drawn, box_place, column_line, cross, diamond, fold_begun, fold_drawn, fold_frame, fold_middle, fold_opening, fold_rect, fold_width, height_at, in_margin, label_begun, line_begun, margin_begun, moved_to, paint, row_class, sign, sign_place, stroke, stub, stub_from};
 
 use crate::focus::Mark;
+use crate::layout::{Columns, LEFT, LETTER, Seat, TOP, is_left_of, middle_of, top_of};
 use crate::words::{push, push_with};
-use merge_runs::Taken;
-use migration_types::{LOG_COUNT, LOGS, LogName, Session, Version, logs};
+use migration_types::LogName;
 use std::alloc::AllocError;
-
-/// Where the first row begins, in pixels, as all lengths here.
-pub(crate) const TOP: u64 = 136;
-
-/// The height of a row.
-pub(crate) const ROW: u64 = 26;
 
 /// The height of a record's box.
 const BOX: u64 = 20;
 
 /// How a record is drawn.
-#[derive(Clone, Copy)]
+#[derive(Clone, Copy, PartialEq, Eq)]
 pub(crate) enum Look {
     Marked(Mark),
     /// It waits for another that waits.
@@ -25,158 +22,11 @@ pub(crate) enum Look {
     Stuck,
 }
 
-/// Where the first column begins.
-const LEFT: u64 = 72;
-
-/// What is free right of the last column.
-const RIGHT: u64 = 6;
-
-/// What is free between two columns.
-const GAP: u64 = 24;
-
-/// The width of a letter, at most.
-const LETTER: u64 = 7;
-
-/// What a box has beside its letters: a margin on each side, what is free between number and label, and the sign.
-const BESIDE: u64 = 44;
-
-/// The columns of a picture: one for each log, for a log that not every version has only where it has records.
-#[derive(Clone, Copy)]
-pub(crate) struct Columns {
-    has: [bool; LOG_COUNT],
-    /// Half the width of the boxes of each log.
-    halves: [u64; LOG_COUNT],
-}
-
-impl Columns {
-    /// The columns for the logs of a session, in whose boxes at most so many letters stand.
-    pub(crate) fn of(session: &Session, letters: &Taken) -> Self {
-        let mut has = [true; LOG_COUNT];
-        let mut halves = [0; LOG_COUNT];
-        for log in logs() {
-            has[log.index()] = log.is_in(Version::One) || session.len(log) > 0;
-            halves[log.index()] = half_for(log, letters.of(log) as u64);
-        }
-        Columns { has, halves }
-    }
-
-    /// Whether there is one for this log.
-    pub(crate) fn has(self, log: LogName) -> bool {
-        self.has[log.index()]
-    }
-
-    /// Half the width of a box in a log's column.
-    fn half(self, log: LogName) -> u64 {
-        self.halves[log.index()]
-    }
-
-    /// The width of a log's column, with what is free right of it.
-    fn room(self, log: LogName) -> u64 {
-        self.half(log).saturating_mul(2).saturating_add(GAP)
-    }
-
-    /// Where the column begins that follows the first so many logs.
-    fn behind(self, count: usize) -> u64 {
-        let mut x = LEFT;
-        for log in LOGS.iter().take(count) {
-            if self.has(*log) {
-                x = x.saturating_add(self.room(*log));
-            }
-        }
-        x
-    }
-
-    /// The width of the picture.
-    pub(crate) fn width(self) -> u64 {
-        self.behind(LOG_COUNT).saturating_add(RIGHT)
-    }
-
-    /// The middle of a log's column.
-    pub(crate) fn middle(self, log: LogName) -> u64 {
-        self.left(log).saturating_add(self.half(log))
-    }
-
-    /// The left edge of a box in a log's column.
-    fn left(self, log: LogName) -> u64 {
-        self.behind(log.index())
-    }
-
-    /// The right edge of a box in a log's column.
-    fn right(self, log: LogName) -> u64 {
-        self.middle(log).saturating_add(self.half(log))
-    }
-
-    /// Whether the one log's column is left of the other's.
-    fn are_in_order(self, one: LogName, other: LogName) -> bool {
-        one.index() < other.index()
-    }
-
-    /// Where an arrow meets a log's box on the side of another log.
-    fn side(self, log: LogName, other: LogName) -> u64 {
-        if self.are_in_order(other, log) {
-            self.left(log)
-        } else {
-            self.right(log)
-        }
-    }
-}
-
-/// Where a record's box is: in the column of its log, in a row.
-#[derive(Clone, Copy)]
-pub(crate) struct Seat {
-    pub columns: Columns,
-    pub log: LogName,
-    pub row: usize,
-}
-
-impl Seat {
-    /// The left edge of the box.
-    fn left(self) -> u64 {
-        self.columns.left(self.log)
-    }
-
-    /// Where an arrow meets the box on the side of another log.
-    fn side(self, other: LogName) -> u64 {
-        self.columns.side(self.log, other)
-    }
-
-    /// The upper edge of the row.
-    fn top(self) -> u64 {
-        top_of(self.row)
-    }
-
-    /// The middle of the row.
-    fn middle(self) -> u64 {
-        middle_of(self.row)
-    }
-}
-
-/// Half the width of a box in a log's column, in which so many letters stand.
-fn half_for(log: LogName, letters: u64) -> u64 {
-    let least = match log {
-        LogName::Guest => 122,
-        _ => 80,
-    };
-    let wanted = letters.saturating_mul(LETTER).saturating_add(BESIDE) / 2;
-    if wanted < least { least } else { wanted }
-}
-
-/// The upper edge of a row.
-pub(crate) fn top_of(row: usize) -> u64 {
-    (row as u64).saturating_mul(ROW).saturating_add(TOP)
-}
-
-/// The middle of a row.
-fn middle_of(row: usize) -> u64 {
-    top_of(row).saturating_add(ROW / 2)
-}
-
 /// Adds an attribute with a number.
-pub(crate) fn push_attribute(
-    out: &mut Vec<u8>,
-    name: &[u8],
-    number: u64,
-) -> Result<(), AllocError> {
+#[tactic(auto, unfolding(crate::specs::Shapes::attribute))]
+pub(crate) fn push_attribute(out: &mut Vec<u8>, name: &[u8], number: u64) -> Result<(), AllocError>
+    ensures { OnOk result (out.new.items ≡ out.old.items ++ attribute name.now number) }
+{
     push(out, b" ")?;
     push(out, name)?;
     push_with(out, b"='", number)?;
@@ -184,7 +34,10 @@ pub(crate) fn push_attribute(
 }
 
 /// The class of a record's row.
-pub(crate) fn row_class(look: Look) -> &'static [u8] {
+#[tactic(auto, unfolding(crate::specs::Shapes::row_class))]
+pub(crate) fn row_class(look: Look) -> &'static [u8]
+    ensures { result.now ≡ row_class look }
+{
     match look {
         Look::Marked(Mark::Faulty) | Look::Tied => b"row record faulty",
         Look::Marked(Mark::Concerned) => b"row record concerned",
@@ -195,7 +48,10 @@ pub(crate) fn row_class(look: Look) -> &'static [u8] {
 }
 
 /// How a record's box is painted.
-fn paint(look: Look) -> &'static [u8] {
+#[tactic(auto, unfolding(crate::specs::Shapes::paint))]
+fn paint(look: Look) -> &'static [u8]
+    ensures { result.now ≡ paint look }
+{
     match look {
         Look::Marked(Mark::Faulty) | Look::Tied => {
             b" class='box-faulty' fill='#ffe3dc' stroke='#c21e1e' stroke-width='3.5'"
@@ -213,30 +69,83 @@ fn paint(look: Look) -> &'static [u8] {
     }
 }
 
+/// Begins what stands at a point.
+#[tactic(auto, unfolding(crate::specs::Shapes::moved_to))]
+pub(crate) fn begin_at(out: &mut Vec<u8>, x: u64, y: u64) -> Result<(), AllocError>
+    ensures { OnOk result (out.new.items ≡ out.old.items ++ moved_to x y) }
+{
+    push_with(out, b"<g transform='translate(", x)?;
+    push_with(out, b" ", y)?;
+    push(out, b")'>")
+}
+
+/// Begins the sign of a box, at its right.
+#[tactic(auto, unfolding(crate::specs::Shapes::sign_place))]
+fn begin_sign(out: &mut Vec<u8>, seat: Seat) -> Result<(), AllocError>
+    ensures { OnOk result (out.new.items ≡ out.old.items ++ sign_place seat) }
+{
+    let x = seat.columns.right(seat.log).saturating_sub(12);
+    begin_at(out, x, middle_of(seat.row))
+}
+
+/// Adds a cross.
+#[tactic(auto, unfolding(crate::specs::Shapes::cross))]
+fn push_cross(out: &mut Vec<u8>) -> Result<(), AllocError>
+    ensures { OnOk result (out.new.items ≡ out.old.items ++ cross) }
+{
+    push(
+        out,
+        b"<path class='cross' d='M-4 -4L4 4M-4 4L4 -4' fill='none' stroke='#c21e1e' stroke-width='2.5'/></g>",
+    )
+}
+
+/// Adds a diamond.
+#[tactic(auto, unfolding(crate::specs::Shapes::diamond))]
+fn push_diamond(out: &mut Vec<u8>) -> Result<(), AllocError>
+    ensures { OnOk result (out.new.items ≡ out.old.items ++ diamond) }
+{
+    push(
+        out,
+        b"<path class='diamond' d='M0 -5L5 0L0 5L-5 0z' fill='#9a6700'/></g>",
+    )
+}
+
 /// Adds the sign of the faulty record, a cross, or of what it concerns, a diamond, at the right of its box.
-fn push_sign(out: &mut Vec<u8>, seat: Seat, look: Look) -> Result<(), AllocError> {
-    let sign: &[u8] = match look {
+#[tactic(auto, unfolding(crate::specs::Shapes::sign))]
+fn push_sign(out: &mut Vec<u8>, seat: Seat, look: Look) -> Result<(), AllocError>
+    ensures { OnOk result (out.new.items ≡ out.old.items ++ sign seat look) }
+{
+    match look {
         Look::Marked(Mark::Faulty) | Look::Tied => {
-            b")'><path class='cross' d='M-4 -4L4 4M-4 4L4 -4' fill='none' stroke='#c21e1e' stroke-width='2.5'/></g>"
+            begin_sign(out, seat)?;
+            push_cross(out)
         }
         Look::Marked(Mark::Concerned) => {
-            b")'><path class='diamond' d='M0 -5L5 0L0 5L-5 0z' fill='#9a6700'/></g>"
+            begin_sign(out, seat)?;
+            push_diamond(out)
         }
-        _ => return Ok(()),
-    };
-    let x = seat.columns.right(seat.log).saturating_sub(12);
-    push_with(out, b"<g transform='translate(", x)?;
-    push_with(out, b" ", seat.middle())?;
-    push(out, sign)
+        _ => Ok(()),
+    }
+}
+
+/// Adds where a record's box is.
+#[tactic(auto, unfolding(crate::specs::Shapes::box_place))]
+fn push_box_place(out: &mut Vec<u8>, seat: Seat) -> Result<(), AllocError>
+    ensures { OnOk result (out.new.items ≡ out.old.items ++ box_place seat) }
+{
+    push_attribute(out, b"x", seat.columns.left(seat.log))?;
+    push_attribute(out, b"y", top_of(seat.row).saturating_add(3))?;
+    push_attribute(out, b"width", seat.columns.half(seat.log).saturating_mul(2))?;
+    push_attribute(out, b"height", BOX)
 }
 
 /// Adds a record's box, with its sign.
-pub(crate) fn push_box(out: &mut Vec<u8>, seat: Seat, look: Look) -> Result<(), AllocError> {
+#[tactic(auto, unfolding(crate::specs::Shapes::box_drawn))]
+pub(crate) fn push_box(out: &mut Vec<u8>, seat: Seat, look: Look) -> Result<(), AllocError>
+    ensures { OnOk result (out.new.items ≡ out.old.items ++ box_drawn seat look) }
+{
     push(out, b"<rect")?;
-    push_attribute(out, b"x", seat.left())?;
-    push_attribute(out, b"y", seat.top().saturating_add(3))?;
-    push_attribute(out, b"width", seat.columns.half(seat.log).saturating_mul(2))?;
-    push_attribute(out, b"height", BOX)?;
+    push_box_place(out, seat)?;
     push(out, b" rx='4'")?;
     push(out, paint(look))?;
     push(out, b"/>")?;
@@ -244,54 +153,123 @@ pub(crate) fn push_box(out: &mut Vec<u8>, seat: Seat, look: Look) -> Result<(), 
 }
 
 /// Begins a text at the left of a record's box.
-pub(crate) fn begin_label(out: &mut Vec<u8>, seat: Seat) -> Result<(), AllocError> {
+#[tactic(auto, unfolding(crate::specs::Shapes::label_begun))]
+pub(crate) fn begin_label(out: &mut Vec<u8>, seat: Seat) -> Result<(), AllocError>
+    ensures { OnOk result (out.new.items ≡ out.old.items ++ label_begun seat) }
+{
     push(out, b"<text class='ink' fill='#1f2328'")?;
-    push_attribute(out, b"x", seat.left().saturating_add(7))?;
-    push_attribute(out, b"y", seat.top().saturating_add(17))?;
+    push_attribute(out, b"x", seat.columns.left(seat.log).saturating_add(7))?;
+    push_attribute(out, b"y", top_of(seat.row).saturating_add(17))?;
     push(out, b">")
 }
 
-/// Begins a text at the left of a row.
-pub(crate) fn begin_margin(out: &mut Vec<u8>, row: usize) -> Result<(), AllocError> {
+/// Begins a text in the margin.
+#[tactic(auto, unfolding(crate::specs::Shapes::in_margin))]
+pub(crate) fn push_in_margin(out: &mut Vec<u8>) -> Result<(), AllocError>
+    ensures { OnOk result (out.new.items ≡ out.old.items ++ in_margin) }
+{
     push(
         out,
         b"<text class='soft' fill='#59636e' text-anchor='end' x='62'",
-    )?;
+    )
+}
+
+/// Begins a text at the left of a row.
+#[tactic(auto, unfolding(crate::specs::Shapes::margin_begun))]
+pub(crate) fn begin_margin(out: &mut Vec<u8>, row: usize) -> Result<(), AllocError>
+    ensures { OnOk result (out.new.items ≡ out.old.items ++ margin_begun row) }
+{
+    push_in_margin(out)?;
+    push_attribute(out, b"y", top_of(row).saturating_add(17))?;
+    push(out, b">")
+}
+
+/// The middle of the rows of what is folded.
+#[tactic(auto, unfolding(crate::specs::Shapes::fold_middle))]
+fn fold_middle(columns: Columns) -> u64
+    ensures { result ≡ fold_middle columns }
+{
+    LEFT.saturating_add(columns.width()) / 2
+}
+
+/// The width of the row of what is folded, with so many letters.
+#[tactic(auto, unfolding(crate::specs::Shapes::fold_width))]
+fn fold_width(letters: usize) -> u64
+    ensures { result ≡ fold_width letters }
+{
+    (letters as u64).saturating_mul(LETTER).saturating_add(40)
+}
+
+/// Begins the frame of what is folded.
+#[tactic(auto, unfolding(crate::specs::Shapes::fold_rect))]
+fn push_fold_rect(out: &mut Vec<u8>) -> Result<(), AllocError>
+    ensures { OnOk result (out.new.items ≡ out.old.items ++ fold_rect) }
+{
+    push(
+        out,
+        b"<rect class='fold' height='18' rx='9' fill='#ffffff' stroke='#818b98' stroke-dasharray='1 3'",
+    )
+}
+
+/// Adds the frame of what is folded.
+#[tactic(auto, unfolding(crate::specs::Shapes::fold_frame))]
+fn push_fold_frame(
+    out: &mut Vec<u8>,
+    columns: Columns,
+    row: usize,
+    width: u64,
+) -> Result<(), AllocError>
+    ensures { OnOk result (out.new.items ≡ out.old.items ++ fold_frame columns row width) }
+{
+    push_fold_rect(out)?;
+    push_attribute(out, b"x", fold_middle(columns).saturating_sub(width / 2))?;
+    push_attribute(out, b"width", width)?;
+    push_attribute(out, b"y", top_of(row).saturating_add(4))
+}
+
+/// Ends the frame of what is folded, and begins its text.
+#[tactic(auto, unfolding(crate::specs::Shapes::fold_opening))]
+fn push_fold_opening(out: &mut Vec<u8>) -> Result<(), AllocError>
+    ensures { OnOk result (out.new.items ≡ out.old.items ++ fold_opening) }
+{
+    push(
+        out,
+        b"/><text class='soft' fill='#59636e' text-anchor='middle'",
+    )
+}
+
+/// Begins the text of what is folded, behind its frame.
+#[tactic(auto, unfolding(crate::specs::Shapes::fold_begun))]
+fn begin_fold(out: &mut Vec<u8>, columns: Columns, row: usize) -> Result<(), AllocError>
+    ensures { OnOk result (out.new.items ≡ out.old.items ++ fold_begun columns row) }
+{
+    push_fold_opening(out)?;
+    push_attribute(out, b"x", fold_middle(columns))?;
     push_attribute(out, b"y", top_of(row).saturating_add(17))?;
     push(out, b">")
 }
 
 /// Adds the row of what is folded, with this text.
+#[tactic(auto, unfolding(crate::specs::Shapes::fold_drawn))]
 pub(crate) fn push_fold(
     out: &mut Vec<u8>,
     columns: Columns,
     row: usize,
     text: &[u8],
-) -> Result<(), AllocError> {
-    let middle = LEFT.saturating_add(columns.width()) / 2;
-    let width = (text.len() as u64)
-        .saturating_mul(LETTER)
-        .saturating_add(40);
-    push(
-        out,
-        b"<rect class='fold' height='18' rx='9' fill='#ffffff' stroke='#818b98' stroke-dasharray='1 3'",
-    )?;
-    push_attribute(out, b"x", middle.saturating_sub(width / 2))?;
-    push_attribute(out, b"width", width)?;
-    push_attribute(out, b"y", top_of(row).saturating_add(4))?;
-    push(
-        out,
-        b"/><text class='soft' fill='#59636e' text-anchor='middle'",
-    )?;
-    push_attribute(out, b"x", middle)?;
-    push_attribute(out, b"y", top_of(row).saturating_add(17))?;
-    push(out, b">")?;
+) -> Result<(), AllocError>
+    ensures { OnOk result (out.new.items ≡ out.old.items ++ fold_drawn columns row text.now) }
+{
+    push_fold_frame(out, columns, row, fold_width(text.len()))?;
+    begin_fold(out, columns, row)?;
     push(out, text)?;
     push(out, b"</text>")
 }
 
 /// Begins a line.
-fn begin_line(out: &mut Vec<u8>, x1: u64, y1: u64, x2: u64, y2: u64) -> Result<(), AllocError> {
+#[tactic(auto, unfolding(crate::specs::Shapes::line_begun))]
+fn begin_line(out: &mut Vec<u8>, x1: u64, y1: u64, x2: u64, y2: u64) -> Result<(), AllocError>
+    ensures { OnOk result (out.new.items ≡ out.old.items ++ line_begun x1 y1 x2 y2) }
+{
     push(out, b"<line")?;
     push_attribute(out, b"x1", x1)?;
     push_attribute(out, b"y1", y1)?;
@@ -300,9 +278,12 @@ fn begin_line(out: &mut Vec<u8>, x1: u64, y1: u64, x2: u64, y2: u64) -> Result<(
 }
 
 /// Adds the line down a log's column, as far as a row behind all others.
-pub(crate) fn push_column(out: &mut Vec<u8>, end: Seat) -> Result<(), AllocError> {
+#[tactic(auto, unfolding(crate::specs::Shapes::column_line))]
+pub(crate) fn push_column(out: &mut Vec<u8>, end: Seat) -> Result<(), AllocError>
+    ensures { OnOk result (out.new.items ≡ out.old.items ++ column_line end) }
+{
     let x = end.columns.middle(end.log);
-    begin_line(out, x, TOP - 6, x, end.top())?;
+    begin_line(out, x, TOP - 6, x, top_of(end.row))?;
     push(out, b" class='life' stroke='#d1d9e0'/>")
 }
 
@@ -320,7 +301,10 @@ pub(crate) enum Arrow {
 }
 
 /// How an arrow is painted.
-fn stroke(arrow: Arrow) -> &'static [u8] {
+#[tactic(auto, unfolding(crate::specs::Shapes::stroke))]
+fn stroke(arrow: Arrow) -> &'static [u8]
+    ensures { result.now ≡ stroke arrow }
+{
     match arrow {
         Arrow::Received => {
             b" class='arrow' stroke='#6e7781' stroke-width='1.2' marker-end='url(#head)'/>"
@@ -341,39 +325,63 @@ fn stroke(arrow: Arrow) -> &'static [u8] {
 /// from one that goes back.
 const APART: u64 = 5;
 
-/// The heights at which an arrow begins and ends.
-fn heights(from: Seat, to: Seat, arrow: Arrow) -> (u64, u64) {
-    let (y1, y2) = (from.middle(), to.middle());
+/// The height of an arrow at a row.
+#[tactic(auto, unfolding(crate::specs::Shapes::height_at))]
+fn height_at(from: Seat, to: Seat, arrow: Arrow, row: usize) -> u64
+    ensures { result ≡ height_at from to arrow row }
+{
     match arrow {
-        Arrow::Received | Arrow::OfPage => (y1, y2),
-        Arrow::Tied | Arrow::TiedBehind if from.row < to.row => {
-            (y1.saturating_add(APART), y2.saturating_add(APART))
+        Arrow::Received | Arrow::OfPage => middle_of(row),
+        Arrow::Tied | Arrow::TiedBehind => {
+            if from.row < to.row {
+                middle_of(row).saturating_add(APART)
+            } else {
+                middle_of(row).saturating_sub(APART)
+            }
         }
-        Arrow::Tied | Arrow::TiedBehind => (y1.saturating_sub(APART), y2.saturating_sub(APART)),
     }
 }
 
 /// Adds an arrow from one record to another.
+#[tactic(auto, unfolding(crate::specs::Shapes::arrow_drawn))]
 pub(crate) fn push_arrow(
     out: &mut Vec<u8>,
     from: Seat,
     to: Seat,
     arrow: Arrow,
-) -> Result<(), AllocError> {
-    let (y1, y2) = heights(from, to, arrow);
-    begin_line(out, from.side(to.log), y1, to.side(from.log), y2)?;
+) -> Result<(), AllocError>
+    ensures { OnOk result (out.new.items ≡ out.old.items ++ arrow_drawn from to arrow) }
+{
+    begin_line(
+        out,
+        from.side(to.log),
+        height_at(from, to, arrow, from.row),
+        to.side(from.log),
+        height_at(from, to, arrow, to.row),
+    )?;
     push(out, stroke(arrow))
 }
 
-/// Adds the end of an arrow from a record that has no row.
-pub(crate) fn push_stub(out: &mut Vec<u8>, seat: Seat, sender: LogName) -> Result<(), AllocError> {
+/// Where the end of an arrow begins that comes from the side of another log.
+#[tactic(auto, unfolding(crate::specs::Shapes::stub_from))]
+fn stub_from(seat: Seat, sender: LogName) -> u64
+    ensures { result ≡ stub_from seat sender }
+{
     let x = seat.side(sender);
-    let from = if seat.columns.are_in_order(sender, seat.log) {
+    if is_left_of(sender, seat.log) {
         x.saturating_sub(22)
     } else {
         x.saturating_add(22)
-    };
-    begin_line(out, from, seat.middle(), x, seat.middle())?;
+    }
+}
+
+/// Adds the end of an arrow from a record that has no row.
+#[tactic(auto, unfolding(crate::specs::Shapes::stub))]
+pub(crate) fn push_stub(out: &mut Vec<u8>, seat: Seat, sender: LogName) -> Result<(), AllocError>
+    ensures { OnOk result (out.new.items ≡ out.old.items ++ stub seat sender) }
+{
+    let y = middle_of(seat.row);
+    begin_line(out, stub_from(seat, sender), y, seat.side(sender), y)?;
     push(
         out,
         b" class='arrow' stroke='#6e7781' stroke-width='1.2' stroke-dasharray='3 2' marker-end='url(#head)'/>",

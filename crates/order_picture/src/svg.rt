@@ -1,29 +1,31 @@
 //! The text of a picture.
 
-ghost use Rattle.std.specs.Prelude.{IfOk};
+ghost use Rattle.std.specs.Prelude.{◌≡◌, ◌++◌, length, nat_lt, IfOk, OnOk};
 ghost use Rattle.audit_report.specs.Reports.{IsReport};
-ghost use Rattle.order_picture.specs.Svg.{IsSvg};
+ghost use Rattle.order_picture.specs.HeadingText.{beyond};
+ghost use Rattle.order_picture.specs.Layout.{width_of};
+ghost use Rattle.order_picture.specs.Svg.{arrow_heads, body, columns_of, dark_colours, font_told, front, height_with, inside, inside_with, moved_down, namespace_told, paper, picture_svg, row_count, size_told, view_begun, view_told, IsPictureText, IsPictureTextAlong, IsSvg};
 
-use crate::behind::{look_behind, names_behind, push_why, waited_for};
-use crate::focus::Mark;
+use crate::behind::names_behind;
+use crate::columns::push_columns;
+use crate::drawn_rows::{push_behind, push_rows, push_ties};
 use crate::heading::{Shown, heading_of};
-use crate::labels::{push_amended, push_label};
-use crate::legend::{Occurring, legend_height, push_legend};
-use crate::picture::{Picture, Row, plan_along, plan_on};
-use crate::records::{Name, is_one};
-use crate::shapes::{
-    Arrow, Columns, Look, Seat, begin_label, begin_margin, push_arrow, push_attribute, push_box,
-    push_column, push_fold, push_stub, row_class, top_of,
-};
-use crate::words::{push, push_counts, push_log, push_many, push_record_title, push_with, sum_of};
+use crate::layout::{Columns, top_of};
+use crate::legend::{Entry, entries_in, legend_height, push_legend};
+use crate::picture::{Picture, plan_along, plan_on};
+use crate::received::push_arrows;
+use crate::records::Name;
+use crate::seen::{all_letters, seen_in};
+use crate::shapes::push_attribute;
+use crate::words::{push, push_with};
 use audit_report::Report;
-use merge_runs::Taken;
-use migration_types::{Run, Session, logs};
+use migration_types::{LOG_COUNT, LogName, Run, Session};
 use report_text::push_first_line;
-use session_story::{Amended, Topic, amended_by, line_at};
+use session_story::{Amended, Topic, amended_by};
 use std::alloc::{AllocError, Global};
+use text_lines::push_number;
 
-/// What is drawn.
+/// What is drawn below the heading.
 #[derive(Clone, Copy)]
 struct Scene<'a> {
     session: &'a Session,
@@ -33,6 +35,8 @@ struct Scene<'a> {
     /// The wrong value of the faulty record, and the right one.
     amended: Option<Amended>,
     columns: Columns,
+    /// What the legend has.
+    found: &'a [Entry],
 }
 
 const OPENING: &[u8] = b"<svg ";
@@ -51,372 +55,217 @@ const STYLE: &[u8] = b"<style>
 .arrow-tied { stroke: #ff7b72 } .tip-tied { fill: #ff7b72 }
 }
 </style>
-<defs>
+";
+
+const DEFS: &[u8] = b"<defs>
 <marker id='head' viewBox='0 0 8 8' refX='8' refY='4' markerWidth='9' markerHeight='9' markerUnits='userSpaceOnUse' orient='auto'><path class='tip' d='M0 0L8 4L0 8z' fill='#6e7781'/></marker>
 <marker id='head-page' viewBox='0 0 8 8' refX='8' refY='4' markerWidth='10' markerHeight='10' markerUnits='userSpaceOnUse' orient='auto'><path class='tip-page' d='M0 0L8 4L0 8z' fill='#0969da'/></marker>
 <marker id='head-tied' viewBox='0 0 8 8' refX='8' refY='4' markerWidth='10' markerHeight='10' markerUnits='userSpaceOnUse' orient='auto'><path class='tip-tied' d='M0 0L8 4L0 8z' fill='#c21e1e'/></marker>
 </defs>
 ";
 
-/// Ends a text.
-fn end_text(out: &mut Vec<u8>) -> Result<(), AllocError> {
-    push(out, b"</text>\n")
+/// Adds which language the picture is written in.
+#[tactic(auto, unfolding(crate::specs::Svg::namespace_told))]
+fn push_namespace(out: &mut Vec<u8>) -> Result<(), AllocError>
+    ensures { OnOk result (out.new.items ≡ out.old.items ++ namespace_told) }
+{
+    push(out, b"xmlns='http://www.w3.org/2000/svg'")
 }
 
-/// Adds a column's name, and the line down it.
-fn push_column_of(out: &mut Vec<u8>, end: Seat) -> Result<(), AllocError> {
-    push(
-        out,
-        b"<text class='ink' fill='#1f2328' font-weight='bold' text-anchor='middle' y='120'",
-    )?;
-    push_attribute(out, b"x", end.columns.middle(end.log))?;
-    push(out, b">")?;
-    push_log(out, end.log)?;
-    end_text(out)?;
-    push_column(out, end)?;
-    push(out, b"\n")
+/// Begins which part of the plane is seen.
+#[tactic(auto, unfolding(crate::specs::Svg::view_begun))]
+fn begin_view(out: &mut Vec<u8>) -> Result<(), AllocError>
+    ensures { OnOk result (out.new.items ≡ out.old.items ++ view_begun) }
+{
+    push(out, b" viewBox='0 0 ")
 }
 
-/// Adds the columns' names, and the lines down them.
-fn push_columns(out: &mut Vec<u8>, columns: Columns, rows: usize) -> Result<(), AllocError> {
-    push(
-        out,
-        b"<text class='soft' fill='#59636e' text-anchor='end' x='62' y='120'>line</text>\n",
-    )?;
-    for log in logs() {
-        if columns.has(log) {
-            let row = rows;
-            push_column_of(out, Seat { columns, log, row })?;
-        }
-    }
-    Ok(())
+/// Adds which part of the plane is seen.
+#[tactic(auto, unfolding(crate::specs::Svg::view_told))]
+fn push_view(out: &mut Vec<u8>, width: u64, height: u64) -> Result<(), AllocError>
+    ensures { OnOk result (out.new.items ≡ out.old.items ++ view_told width height) }
+{
+    begin_view(out)?;
+    push_number(out, width)?;
+    push(out, b" ")?;
+    push_number(out, height)
 }
 
-/// Whether a row's record is about the page.
-fn stands_out(row: Option<&Row>) -> bool {
-    match row {
-        Some(Row::Record { mark, .. }) => !matches!(mark, Mark::Plain),
-        _ => false,
-    }
-}
-
-/// Where the record of a row is, if the row has one.
-fn seat_of(columns: Columns, rows: &[Row], row: usize) -> Option<Seat> {
-    match rows.get(row) {
-        Some(Row::Record { log, .. }) => Some(Seat {
-            columns,
-            log: *log,
-            row,
-        }),
-        _ => None,
-    }
-}
-
-/// Adds the arrow to the record of a row, if it receives one, and sees it.
-fn push_received(
-    out: &mut Vec<u8>,
-    scene: &Scene<'_>,
-    place: usize,
-    row: &Row,
-    occurring: &mut Occurring,
-) -> Result<(), AllocError> {
-    let picture = scene.picture;
-    let Row::Record {
-        log,
-        place: number,
-        ..
-    } = row
-    else {
-        return Ok(());
-    };
-    let Some(sent) = scene.session.named((*log, *number)) else {
-        return Ok(());
-    };
-    let seat = Seat {
-        columns: scene.columns,
-        log: *log,
-        row: place,
-    };
-    let sender = picture.senders.get(place).copied().unwrap_or(None);
-    match sender {
-        Some(from) => {
-            occurring.arrow = true;
-            let of_page = stands_out(Some(row)) && stands_out(picture.rows.get(from));
-            let arrow = if of_page {
-                Arrow::OfPage
-            } else {
-                Arrow::Received
-            };
-            match seat_of(seat.columns, &picture.rows, from) {
-                Some(from) => push_arrow(out, from, seat, arrow)?,
-                None => {}
-            }
-        }
-        None => {
-            occurring.stub = true;
-            push_stub(out, seat, sent.0)?
-        }
-    }
-    push(out, b"\n")
-}
-
-/// Adds the label of a record that is drawn so.
-fn push_label_of(
-    out: &mut Vec<u8>,
-    session: &Session,
-    amended: &Option<Amended>,
-    name: Name,
-    look: Look,
-) -> Result<(), AllocError> {
-    match (look, amended) {
-        (Look::Marked(Mark::Faulty), Some(amended)) => push_amended(out, session, name, amended),
-        _ => push_label(out, session, name),
-    }
-}
-
-/// Adds the box of a record, with its line and its label.
-fn push_seat(
-    out: &mut Vec<u8>,
-    scene: &Scene<'_>,
-    seat: Seat,
-    name: Name,
-    look: Look,
-) -> Result<(), AllocError> {
-    if let Some(line) = line_at(scene.session, name.0, name.1) {
-        begin_margin(out, seat.row)?;
-        push_with(out, b"", u64::from(line))?;
-        push(out, b"</text>")?;
-    }
-    push_box(out, seat, look)?;
-    begin_label(out, seat)?;
-    push_with(
-        out,
-        b"<tspan class='soft' fill='#59636e'>",
-        u64::from(name.1),
-    )?;
-    push(out, b"</tspan><tspan dx='7'>")?;
-    push_label_of(out, scene.session, &scene.amended, name, look)?;
-    push(out, b"</tspan></text></g>\n")
-}
-
-/// Adds the row of a record, with a note behind its title.
-fn push_record_row(
-    out: &mut Vec<u8>,
-    scene: &Scene<'_>,
-    name: Name,
-    look: Look,
-    row: usize,
-    note: &[u8],
-) -> Result<(), AllocError> {
-    push(out, b"<g class='")?;
-    push(out, row_class(look))?;
-    if !note.is_empty() {
-        push(out, b" behind")?;
-    }
-    push(out, b"'><title>")?;
-    push_record_title(out, scene.session, name)?;
-    push(out, note)?;
-    push(out, b"</title>")?;
-    let seat = Seat {
-        columns: scene.columns,
-        log: name.0,
-        row,
-    };
-    push_seat(out, scene, seat, name, look)
-}
-
-/// Adds the row of what is folded.
-fn push_fold_row(
-    out: &mut Vec<u8>,
-    columns: Columns,
-    counts: &Taken,
-    row: usize,
-) -> Result<(), AllocError> {
-    let mut text = Vec::new(*out.allocator());
-    push_many(&mut text, sum_of(counts), b" record")?;
-    push_counts(&mut text, counts)?;
-    push(out, b"<g class='row fold-row'>")?;
-    push_fold(out, columns, row, &text)?;
-    push(out, b"</g>\n")
-}
-
-/// Adds the rows of the order, and sees what occurs in them.
-fn push_rows(
-    out: &mut Vec<u8>,
-    scene: &Scene<'_>,
-    occurring: &mut Occurring,
-) -> Result<(), AllocError> {
-    let picture = scene.picture;
-    for (place, row) in picture.rows.iter().enumerate() {
-        push_received(out, scene, place, row, occurring)?;
-    }
-    for (at, row) in picture.rows.iter().enumerate() {
-        match row {
-            Row::Record { log, place, mark } => {
-                let look = Look::Marked(*mark);
-                occurring.see(look);
-                push_record_row(out, scene, (*log, *place), look, at, b"")?
-            }
-            Row::Fold(counts) => push_fold_row(out, scene.columns, counts, at)?,
-        }
-    }
-    Ok(())
-}
-
-/// Where the row of a record behind the order is.
-fn seat_behind(scene: &Scene<'_>, name: Name) -> Option<Seat> {
-    let place = scene
-        .behind
-        .iter()
-        .position(|other| is_one(Some(name), *other))?;
-    Some(Seat {
-        columns: scene.columns,
-        log: name.0,
-        row: scene.picture.rows.len().saturating_add(place),
-    })
-}
-
-/// Adds the arrow to a record that waits for another that does, and sees it.
-fn push_tie(
-    out: &mut Vec<u8>,
-    scene: &Scene<'_>,
-    name: Name,
-    occurring: &mut Occurring,
-) -> Result<(), AllocError> {
-    let Some((next, is_received)) = waited_for(&scene.picture.told, name) else {
-        return Ok(());
-    };
-    let arrow = if is_received {
-        occurring.tie = true;
-        Arrow::Tied
-    } else {
-        occurring.tie_behind = true;
-        Arrow::TiedBehind
-    };
-    match (seat_behind(scene, next), seat_behind(scene, name)) {
-        (Some(from), Some(to)) => {
-            push_arrow(out, from, to, arrow)?;
-            push(out, b"\n")
-        }
-        _ => Ok(()),
-    }
-}
-
-/// Adds the rows of the records behind the order, and sees what occurs in them.
-fn push_behind(
-    out: &mut Vec<u8>,
-    scene: &Scene<'_>,
-    occurring: &mut Occurring,
-) -> Result<(), AllocError> {
-    for name in scene.behind.iter() {
-        push_tie(out, scene, *name, occurring)?;
-    }
-    let mut row = scene.picture.rows.len();
-    for name in scene.behind.iter() {
-        let look = look_behind(scene.picture, *name);
-        occurring.see(look);
-        let mut why = String::new(*out.allocator());
-        push_why(&mut why, scene.session, scene.picture, *name)?;
-        push_record_row(out, scene, *name, look, row, why.as_bytes())?;
-        row = row.saturating_add(1);
-    }
-    Ok(())
-}
-
-/// Counts the letters of a record's box, and keeps the greatest count of its log.
-fn count_letters(
-    alloc: Global,
-    session: &Session,
-    amended: &Option<Amended>,
-    name: Name,
-    look: Look,
-    letters: &mut Taken,
-) -> Result<(), AllocError> {
-    let mut label = Vec::new(alloc);
-    push_with(&mut label, b"", u64::from(name.1))?;
-    push_label_of(&mut label, session, amended, name, look)?;
-    if letters.of(name.0) < label.len() {
-        *letters = letters.with(name.0, label.len());
-    }
-    Ok(())
-}
-
-/// The most letters that a box of each log has.
-fn letters_of(
-    alloc: Global,
-    session: &Session,
-    picture: &Picture,
-    behind: &[Name],
-    amended: &Option<Amended>,
-) -> Result<Taken, AllocError> {
-    let mut letters = Taken::nothing();
-    for row in picture.rows.iter() {
-        match row {
-            Row::Record { log, place, mark } => {
-                let look = Look::Marked(*mark);
-                count_letters(alloc, session, amended, (*log, *place), look, &mut letters)?
-            }
-            Row::Fold(_) => {}
-        }
-    }
-    for name in behind.iter() {
-        let look = look_behind(picture, *name);
-        count_letters(alloc, session, amended, *name, look, &mut letters)?;
-    }
-    Ok(letters)
-}
-
-/// Adds the element's attributes, and what stands before the heading.
-fn push_front(
-    out: &mut Vec<u8>,
-    report: &Report,
-    width: u64,
-    height: u64,
-) -> Result<(), AllocError> {
-    push(out, b"xmlns='http://www.w3.org/2000/svg'")?;
+/// Adds how large the picture is.
+#[tactic(auto, unfolding(crate::specs::Svg::size_told))]
+fn push_size(out: &mut Vec<u8>, width: u64, height: u64) -> Result<(), AllocError>
+    ensures { OnOk result (out.new.items ≡ out.old.items ++ size_told width height) }
+{
     push_attribute(out, b"width", width)?;
     push_attribute(out, b"height", height)?;
-    push_with(out, b" viewBox='0 0 ", width)?;
-    push_with(out, b" ", height)?;
+    push_view(out, width, height)
+}
+
+/// Adds the font, and begins the title.
+#[tactic(auto, unfolding(crate::specs::Svg::font_told))]
+fn push_font(out: &mut Vec<u8>) -> Result<(), AllocError>
+    ensures { OnOk result (out.new.items ≡ out.old.items ++ font_told) }
+{
     push(
         out,
         b"' font-family='system-ui, sans-serif' font-size='12'>\n<title>",
-    )?;
-    push_first_line(out, report)?;
-    push(out, b"</title>\n")?;
-    push(out, STYLE)?;
+    )
+}
+
+/// Adds the colours on a dark page.
+#[tactic(auto, unfolding(crate::specs::Svg::dark_colours))]
+fn push_colours(out: &mut Vec<u8>) -> Result<(), AllocError>
+    ensures { OnOk result (out.new.items ≡ out.old.items ++ dark_colours) }
+{
+    push(out, STYLE)
+}
+
+/// Adds the heads of the arrows.
+#[tactic(auto, unfolding(crate::specs::Svg::arrow_heads))]
+fn push_heads(out: &mut Vec<u8>) -> Result<(), AllocError>
+    ensures { OnOk result (out.new.items ≡ out.old.items ++ arrow_heads) }
+{
+    push(out, DEFS)
+}
+
+/// Adds what is behind all.
+#[tactic(auto, unfolding(crate::specs::Svg::paper))]
+fn push_paper(out: &mut Vec<u8>) -> Result<(), AllocError>
+    ensures { OnOk result (out.new.items ≡ out.old.items ++ paper) }
+{
     push(
         out,
         b"<rect class='paper' fill='#ffffff' width='100%' height='100%'/>\n",
     )
 }
 
+/// Adds the element's attributes, and what stands before the heading.
+#[tactic(auto, unfolding(crate::specs::Svg::front))]
+fn push_front(out: &mut Vec<u8>, report: &Report, width: u64, height: u64) -> Result<(), AllocError>
+    ensures { OnOk result (out.new.items ≡ out.old.items ++ front report.now width height) }
+{
+    push_namespace(out)?;
+    push_size(out, width, height)?;
+    push_font(out)?;
+    push_first_line(out, report)?;
+    push(out, b"</title>\n")?;
+    push_colours(out)?;
+    push_heads(out)?;
+    push_paper(out)
+}
+
+/// The number of the rows of the order and of those behind it.
+fn row_count(picture: &Picture, behind: &[Name]) -> usize
+    ensures { result ≡ row_count picture.now behind.now }
+{
+    picture.rows.len().saturating_add(behind.len())
+}
+
+/// Adds the columns, the arrows, the rows of the order, those behind it, and the legend.
+#[tactic(auto, unfolding(crate::specs::Svg::body))]
+fn push_body(out: &mut Vec<u8>, scene: &Scene<'_>) -> Result<(), AllocError>
+    ensures { OnOk result (out.new.items ≡ out.old.items ++ body scene.now.session.now scene.now.picture.now scene.now.behind.now scene.now.amended scene.now.columns scene.now.found.now) }
+{
+    let picture = scene.picture;
+    let columns = scene.columns;
+    let rows = row_count(picture, scene.behind);
+    push_columns(out, columns, rows)?;
+    push_arrows(out, scene.session, columns, &picture.rows, &picture.senders)?;
+    push_rows(out, scene.session, &scene.amended, columns, &picture.rows)?;
+    push_ties(out, columns, picture, scene.behind)?;
+    push_behind(
+        out,
+        scene.session,
+        &scene.amended,
+        columns,
+        picture,
+        scene.behind,
+    )?;
+    push_legend(out, scene.found, top_of(rows).saturating_add(24))
+}
+
+/// How high a picture is whose heading takes so much more room than one line for what is told.
+#[tactic(auto, unfolding(crate::specs::Svg::height_with))]
+fn height_with(rows: usize, found: usize, more: u64) -> u64
+    ensures { result ≡ height_with rows found more }
+{
+    top_of(rows)
+        .saturating_add(legend_height(found))
+        .saturating_add(more)
+}
+
+/// Adds what stands below the heading, moved down by as much.
+#[tactic(auto, unfolding(crate::specs::Svg::moved_down))]
+fn push_moved_down(out: &mut Vec<u8>, more: u64, scene: &Scene<'_>) -> Result<(), AllocError>
+    ensures { OnOk result (out.new.items ≡ out.old.items ++ moved_down more (body scene.now.session.now scene.now.picture.now scene.now.behind.now scene.now.amended scene.now.columns scene.now.found.now)) }
+{
+    push_with(out, b"<g transform='translate(0 ", more)?;
+    push(out, b")'>\n")?;
+    push_body(out, scene)?;
+    push(out, b"</g>\n")
+}
+
 /// Adds what stands between the opening and the closing tag.
+#[tactic(auto, unfolding(crate::specs::Svg::inside, crate::specs::HeadingText::beyond))]
 fn push_inside(
     out: &mut Vec<u8>,
     scene: &Scene<'_>,
     report: &Report,
     shown: Shown,
-) -> Result<(), AllocError> {
+) -> Result<(), AllocError>
+    ensures { OnOk result (out.new.items ≡ out.old.items ++ inside scene.now.session.now report.now scene.now.picture.now shown scene.now.behind.now scene.now.amended scene.now.columns scene.now.found.now) }
+{
     let alloc = *out.allocator();
-    let rows = scene.picture.rows.len().saturating_add(scene.behind.len());
     let width = scene.columns.width();
     let heading = heading_of(alloc, scene.session, report, scene.picture, shown, width)?;
-    let mut body = Vec::new(alloc);
-    let mut occurring = Occurring::nothing();
-    push_columns(&mut body, scene.columns, rows)?;
-    push_rows(&mut body, scene, &mut occurring)?;
-    push_behind(&mut body, scene, &mut occurring)?;
-    push_legend(&mut body, &occurring, top_of(rows).saturating_add(24))?;
-    let height = top_of(rows)
-        .saturating_add(legend_height(&occurring))
-        .saturating_add(heading.beyond());
-    push_front(out, report, width, height)?;
+    let more = heading.beyond();
+    let rows = row_count(scene.picture, scene.behind);
+    push_front(
+        out,
+        report,
+        width,
+        height_with(rows, scene.found.len(), more),
+    )?;
     push(out, &heading.text)?;
-    push_with(out, b"<g transform='translate(0 ", heading.beyond())?;
-    push(out, b")'>\n")?;
-    push(out, &body)?;
-    push(out, b"</g>\n")
+    push_moved_down(out, more, scene)
+}
+
+/// The columns of a picture with these records behind the order, of which the boxes have at most so many letters.
+fn columns_with(session: &Session, letters: [usize; LOG_COUNT]) -> Columns
+    ensures { result ≡ record { lane = nat_lt 0 (length session.now.lane); letters = letters } }
+{
+    Columns {
+        lane: session.len(LogName::Lane) > 0,
+        letters,
+    }
+}
+
+/// Adds all between the tags, with these records behind the order.
+#[tactic(auto, unfolding(crate::specs::Svg::inside_with, crate::specs::Svg::columns_of))]
+fn push_inside_with(
+    out: &mut Vec<u8>,
+    session: &Session,
+    report: &Report,
+    picture: &Picture,
+    shown: Shown,
+    behind: &[Name],
+) -> Result<(), AllocError>
+    ensures { OnOk result (out.new.items ≡ out.old.items ++ inside_with session.now report.now picture.now shown behind.now) }
+{
+    let alloc = *out.allocator();
+    let amended = amended_by(session, &picture.told);
+    let seen = seen_in(alloc, picture, behind)?;
+    let letters = all_letters(alloc, session, &amended, &seen)?;
+    let found = entries_in(alloc, session, picture, behind, &seen)?;
+    let scene = Scene {
+        session,
+        picture,
+        behind,
+        amended,
+        columns: columns_with(session, letters),
+        found: &found,
+    };
+    push_inside(out, &scene, report, shown)
 }
 
 /// The text of a picture of this session, with the report's first line above it: SVG without scripts, in light colours
@@ -428,20 +277,12 @@ pub fn picture_text(
     picture: &Picture,
     shown: Shown,
 ) -> Result<Vec<u8>, AllocError>
-    ensures { IfOk result (λ text. IsSvg text.items) }
+    ensures svg { IfOk result (λ text. IsSvg text.items) }
+    ensures text { IfOk result (λ text. text.items ≡ picture_svg session.now report.now picture.now shown) }
 {
-    let mut inside = Vec::new(alloc);
     let behind = names_behind(alloc, session, picture)?;
-    let amended = amended_by(session, &picture.told);
-    let letters = letters_of(alloc, session, picture, &behind, &amended)?;
-    let scene = Scene {
-        session,
-        picture,
-        behind: &behind,
-        amended,
-        columns: Columns::of(session, &letters),
-    };
-    push_inside(&mut inside, &scene, report, shown)?;
+    let mut inside = Vec::new(alloc);
+    push_inside_with(&mut inside, session, report, picture, shown, &behind)?;
     let mut text = Vec::new(alloc);
     text.extend_from_slice(OPENING)?;
     text.extend_from_slice(&inside)?;
@@ -458,7 +299,8 @@ pub fn print_picture_on(
     topic: Topic,
 ) -> Result<Vec<u8>, AllocError>
     requires { IsReport session.now report.now }
-    ensures { IfOk result (λ text. IsSvg text.items) }
+    ensures svg { IfOk result (λ text. IsSvg text.items) }
+    ensures text { IfOk result (λ text. IsPictureText session.now report.now topic text.items) }
 {
     let picture = plan_on(alloc, session, report, topic)?;
     picture_text(alloc, session, report, &picture, Shown::Reported)
@@ -471,7 +313,8 @@ pub fn print_picture(
     report: &Report,
 ) -> Result<Vec<u8>, AllocError>
     requires { IsReport session.now report.now }
-    ensures { IfOk result (λ text. IsSvg text.items) }
+    ensures svg { IfOk result (λ text. IsSvg text.items) }
+    ensures text { IfOk result (λ text. IsPictureText session.now report.now Topic.Report text.items) }
 {
     print_picture_on(alloc, session, report, Topic::Report)
 }
@@ -485,7 +328,8 @@ pub fn print_picture_along(
     runs: &[Run],
 ) -> Result<Vec<u8>, AllocError>
     requires { IsReport session.now report.now }
-    ensures { IfOk result (λ text. IsSvg text.items) }
+    ensures svg { IfOk result (λ text. IsSvg text.items) }
+    ensures text { IfOk result (λ text. IsPictureTextAlong session.now report.now topic runs.now text.items) }
 {
     let picture = plan_along(alloc, session, report, topic, runs)?;
     picture_text(alloc, session, report, &picture, Shown::Given)

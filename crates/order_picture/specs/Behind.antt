@@ -1,0 +1,76 @@
+-- The records that have a row behind the order: of those that it does not take the next of each log, the faulty one, the one
+-- that its fault concerns, and those that wait for one another.
+use Rattle.std.specs.Prelude.{ℕ, ◌-◌, ◌==◌, ◌||◌, Bool, List, Option, Some, None, codes, filter, flat_map, is_some, position, slice_get, if◌then◌else◌}
+use Rattle.migration_types.specs.declared.records.LogName.{LogName}
+use Rattle.migration_types.specs.Receipts.{Name, logs}
+use Rattle.migration_types.specs.Sessions.{Recorded}
+use Rattle.audit_model.specs.Names.{log_length, receipt}
+use Rattle.audit_model.specs.Mergings.{run_names}
+use Rattle.audit_model.specs.FoundOrder.{is_received}
+use Rattle.merge_runs.specs.Taken.{cursors_of}
+use Rattle.session_story.specs.declared.explaining.Explanation.TheVariants as explained
+use Rattle.session_story.specs.declared.topics.Told.{Told}
+use Rattle.session_story.specs.declared.topics.Told.TheVariants as told
+use Rattle.session_story.specs.declared.waits.Knot.{Knot}
+use Rattle.session_story.specs.declared.waits.Waiting.{Waiting}
+use Rattle.session_story.specs.KnotWords.{wait_words}
+use Rattle.session_story.specs.Waits.{next_in}
+use Rattle.order_picture.specs.declared.behind.Wait.{Wait}
+use Rattle.order_picture.specs.declared.focus.Mark.TheVariants.{Faulty, Concerned}
+use Rattle.order_picture.specs.declared.picture.Picture.{Picture}
+use Rattle.order_picture.specs.declared.shapes.Look.{Look}
+use Rattle.order_picture.specs.declared.shapes.Look.TheVariants.{Marked, Tied, Stuck}
+use Rattle.order_picture.specs.Marks.{is_one}
+
+-- the place of a record among those that wait for one another
+abbrev pub place_in : Knot → Name → Option ℕ
+place_in k name = position (λ w. is_one (Some (w.log, w.place)) name) k.waits.items
+
+abbrev pub tie : Option Waiting → Option Waiting → Option Wait
+tie None next = None
+tie (Some waiting) None = None
+tie (Some waiting) (Some next) = Some (record { waiting = waiting; next = next })
+
+abbrev pub tie_at : Knot → Option ℕ → Option Wait
+tie_at k None = None
+tie_at k (Some n) = tie (slice_get k.waits.items n) (next_in k n)
+
+-- a record that waits for another that does, and that one, where it is one of those that wait for one another
+abbrev pub tie_of : Told → Name → Option Wait
+tie_of (told.Report (explained.Knot knot)) name = tie_at knot (place_in knot name)
+tie_of t name = None
+
+-- whether a record has a row even where the order does not come to it
+abbrev pub stands_out : Picture → Name → Bool
+stands_out p name = is_one p.focus.fault name || (is_one p.focus.concerned name || is_some (tie_of p.told name))
+
+-- whether a record that the order does not take has a row
+abbrev pub is_behind : Picture → Name → Bool
+is_behind p name = name.1 == cursors_of p.taken name.0 || stands_out p name
+
+-- the records of a log that have a row behind the order
+abbrev pub log_behind : Recorded → Picture → LogName → List Name
+log_behind s p log = filter (is_behind p) (run_names log (cursors_of p.taken log) (log_length s log - cursors_of p.taken log))
+
+unfoldable pub names_behind : Recorded → Picture → List Name
+names_behind s p = flat_map (log_behind s p) logs
+
+-- how a record behind the order is drawn
+unfoldable pub look_behind : Picture → Name → Look
+look_behind p name =
+    if is_one p.focus.fault name then Marked Faulty
+    else if is_some (tie_of p.told name) then Tied
+    else if is_one p.focus.concerned name then Marked Concerned
+    else Stuck
+
+-- of a record that waits for none of those: what it receives was not taken, or nothing keeps it
+unfoldable pub why_alone : Recorded → Picture → Name → List ℕ
+why_alone s p name = if is_received (cursors_of p.taken) (receipt s name) then codes "; not taken" else codes "; cannot be taken: what it receives was not"
+
+abbrev pub why_by : Recorded → Picture → Name → Option Wait → List ℕ
+why_by s p name (Some t) = wait_words s t.waiting t.next
+why_by s p name None = why_alone s p name
+
+-- why the order does not take a record: it waits for another that waits, or else by itself
+unfoldable pub why : Recorded → Picture → Name → List ℕ
+why s p name = why_by s p name (tie_of p.told name)
