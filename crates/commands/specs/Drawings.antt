@@ -5,7 +5,10 @@ use Rattle.migration_types.specs.declared.cert.Run.{Run}
 use Rattle.migration_types.specs.Sessions.{Recorded}
 use Rattle.session_text.specs.Grammar.{SpellsSession}
 use Rattle.order_text.specs.Order.{SpellsOrder}
-use Rattle.order_picture.specs.Svg.{IsSvg}
+use Rattle.audit_report.specs.declared.report.Report.{Report}
+use Rattle.audit_report.specs.Reports.{IsReport}
+use Rattle.session_story.specs.declared.topics.Topic.{Topic}
+use Rattle.order_picture.specs.Svg.{IsPictureText, IsPictureTextAlong}
 use Rattle.command_texts.specs.Answers.{IsAnswer, numbered}
 
 -- a text is refused at this line, or this is the picture
@@ -14,17 +17,25 @@ pub data Drawing : Type 0 where
   RunsText : ℕ → Drawing
   Drawn : List ℕ → Drawing
 
+-- the text is that of a picture on this topic in the order of the session's report
+abbrev pub IsDrawn : Topic → Recorded → List ℕ → Type 0
+IsDrawn topic s text = (r : Report) × IsReport s r × IsPictureText s r topic text
+
+-- or along these runs, with the report above it
+abbrev pub IsDrawnAlong : Topic → List Run → Recorded → List ℕ → Type 0
+IsDrawnAlong topic runs s text = (r : Report) × IsReport s r × IsPictureTextAlong s r topic runs text
+
 -- what becomes of the text of a session
-abbrev pub IsDrawing : List ℕ → Drawing → Type 0
-IsDrawing session (SessionText line) = IsRefusalLine SpellsSession session line
-IsDrawing session (RunsText line) = ⊥
-IsDrawing session (Drawn text) = (s : Recorded) × IsSpelling SpellsSession s session × IsSvg text
+abbrev pub IsDrawing : Topic → List ℕ → Drawing → Type 0
+IsDrawing topic session (SessionText line) = IsRefusalLine SpellsSession session line
+IsDrawing topic session (RunsText line) = ⊥
+IsDrawing topic session (Drawn text) = (s : Recorded) × IsSpelling SpellsSession s session × IsDrawn topic s text
 
 -- what becomes of the texts of a session and of an order, of which the session is judged first
-abbrev pub IsDrawingAlong : List ℕ → List ℕ → Drawing → Type 0
-IsDrawingAlong session runs (SessionText line) = IsRefusalLine SpellsSession session line
-IsDrawingAlong session runs (RunsText line) = (s : Recorded) × IsSpelling SpellsSession s session × IsRefusalLine SpellsOrder runs line
-IsDrawingAlong session runs (Drawn text) = (s : Recorded) × (order : List Run) × IsSpelling SpellsSession s session × IsSpelling SpellsOrder order runs × IsSvg text
+abbrev pub IsDrawingAlong : Topic → List ℕ → List ℕ → Drawing → Type 0
+IsDrawingAlong topic session runs (SessionText line) = IsRefusalLine SpellsSession session line
+IsDrawingAlong topic session runs (RunsText line) = (s : Recorded) × IsSpelling SpellsSession s session × IsRefusalLine SpellsOrder runs line
+IsDrawingAlong topic session runs (Drawn text) = (s : Recorded) × (order : List Run) × IsSpelling SpellsSession s session × IsSpelling SpellsOrder order runs × IsDrawnAlong topic order s text
 
 abbrev pub drawing_text : Drawing → List ℕ
 drawing_text (SessionText line) = numbered (codes "session-text line ") line
@@ -36,10 +47,10 @@ abbrev pub drawing_status : Drawing → ℕ
 drawing_status (Drawn text) = 0
 drawing_status other = 1
 
--- `draw` with a session: what becomes of it
-abbrev pub IsDrawAnswer : List ℕ → List ℕ → ℕ → Type 0
-IsDrawAnswer session = IsAnswer (IsDrawing session) drawing_text drawing_status
+-- `draw` with a session, on this topic: what becomes of it
+abbrev pub IsDrawAnswer : Topic → List ℕ → List ℕ → ℕ → Type 0
+IsDrawAnswer topic session = IsAnswer (IsDrawing topic session) drawing_text drawing_status
 
--- `draw` with a session and runs: what becomes of them
-abbrev pub IsDrawAlongAnswer : List ℕ × List ℕ → List ℕ → ℕ → Type 0
-IsDrawAlongAnswer texts = IsAnswer (IsDrawingAlong texts.0 texts.1) drawing_text drawing_status
+-- `draw` with a session and runs, on this topic: what becomes of them
+abbrev pub IsDrawAlongAnswer : Topic → List ℕ × List ℕ → List ℕ → ℕ → Type 0
+IsDrawAlongAnswer topic texts = IsAnswer (IsDrawingAlong topic texts.0 texts.1) drawing_text drawing_status

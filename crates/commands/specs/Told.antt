@@ -87,25 +87,25 @@ IsDemanded demand Tells IsPlain session = answered demand IsPlain (IsCompleteAns
 abbrev pub IsAsked : Asking → Faults → List ℕ → List ℕ → ℕ → Type 0
 IsAsked asking faults session = IsDemanded asking.demand (TellsLack asking.form) (IsAuditIn asking.form faults session) session
 
--- the answer of `explain`, in this form, and how it is told what a session lacks
-abbrev pub IsExplainIn : Form → List ℕ → List ℕ → ℕ → Type 0
-IsExplainIn Text = IsExplainAnswer
-IsExplainIn Line = IsExplainAnswer
-IsExplainIn Json = IsExplainObject
+-- the answer of `explain`, in this form and on this topic (an object is of the report), and how it is told what a session lacks
+abbrev pub IsExplainIn : Form → Topic → List ℕ → List ℕ → ℕ → Type 0
+IsExplainIn Text topic = IsExplainAnswer topic
+IsExplainIn Line topic = IsExplainAnswer topic
+IsExplainIn Json topic = IsExplainObject
 
 abbrev pub TellsLackOf : Form → Recorded → Missing → List ℕ → Type 0
 TellsLackOf Text = TellsInWords
 TellsLackOf Line = TellsInWords
 TellsLackOf Json = TellsInObject
 
-abbrev pub IsExplained : Demand → Form → List ℕ → List ℕ → ℕ → Type 0
-IsExplained demand form session = IsDemanded demand (TellsLackOf form) (IsExplainIn form session) session
+abbrev pub IsExplained : Demand → Form → Topic → List ℕ → List ℕ → ℕ → Type 0
+IsExplained demand form topic session = IsDemanded demand (TellsLackOf form) (IsExplainIn form topic session) session
 
 -- the answer of a command on one text
 abbrev pub IsOneAnswer : OneText → List ℕ → List ℕ → ℕ → Type 0
 IsOneAnswer Certify session = IsAuditAnswer wanted.Certificate session
 IsOneAnswer (Audit audits) session = IsAsked audits.asking audits.faults session
-IsOneAnswer (Explain explains) session = IsExplained explains.asking.demand explains.asking.form session
+IsOneAnswer (Explain explains) session = IsExplained explains.asking.demand explains.asking.form (told_topic explains.topic) session
 
 -- the answer of `check`, as this is asked
 abbrev pub IsChecked : Asking → List ℕ × List ℕ → List ℕ → ℕ → Type 0
@@ -162,9 +162,9 @@ EndsAsked (Two task first second) files input =
 EndsAsked (Migrate carrier name) files input =
     Ends (IsLinkFault (λ n. n ≡ name)) (IsNamed name files input) IsMigrateAnswer (TellsWhyOf (IsRefusedAt SpellsScript) Short name)
 EndsAsked (Draw topic name None) files input =
-    Ends (IsFaultOf name) (IsNamed name files input) IsDrawAnswer (TellsWhyOf (IsRefusedAt SpellsSession) Short name)
+    Ends (IsFaultOf name) (IsNamed name files input) (IsDrawAnswer (told_topic topic)) (TellsWhyOf (IsRefusedAt SpellsSession) Short name)
 EndsAsked (Draw topic first (Some second)) files input =
-    Ends (IsFaultOfTwo first second) (AreNamed first second files input) IsDrawAlongAnswer (TellsBeside (IsRefusedAt SpellsSession) (IsRefusedAt SpellsOrder) AddsNothing first second)
+    Ends (IsFaultOfTwo first second) (AreNamed first second files input) (IsDrawAlongAnswer (told_topic topic)) (TellsBeside (IsRefusedAt SpellsSession) (IsRefusedAt SpellsOrder) AddsNothing first second)
 
 -- something came to a fault, which the errors tell then, with its status
 pub record TellsFault (EndsSo : Streams → Result ℕ Fault → Type 0) (new : Streams) (status : ℕ) : Type 0 where

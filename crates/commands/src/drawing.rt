@@ -5,11 +5,10 @@ ghost use Rattle.std.specs.Thread.{IsSync};
 ghost use Rattle.text_lines.specs.Answer.{IsRead};
 ghost use Rattle.session_text.specs.Grammar.{SpellsSession};
 ghost use Rattle.order_text.specs.Order.{SpellsOrder};
-ghost use Rattle.order_picture.specs.Svg.{IsSvg};
 ghost use Rattle.report_text.specs.RefusalText.{refusal_text};
 ghost use Rattle.command_texts.specs.declared.why.Telling.TheVariants.{Short};
 ghost use Rattle.command_texts.specs.Answers.{Says};
-ghost use Rattle.commands.specs.Drawings.{IsDrawAnswer, IsDrawAlongAnswer};
+ghost use Rattle.commands.specs.Drawings.{IsDrawAnswer, IsDrawAlongAnswer, IsDrawn, IsDrawnAlong};
 
 use audit_report::audit;
 use command_texts::{
@@ -35,16 +34,18 @@ fn refused_session(alloc: Global, line: u32) -> Result<Answer, AllocError>
 }
 
 /// The picture of a session in the order of its report, about this topic.
+#[tactic(auto, using(crate::proofs::Drawn::is_drawn))]
 fn drawn<R: Threads + Sync>(
     rt: &R,
     alloc: Global,
     topic: Topic,
     session: &Session,
 ) -> Result<Vec<u8>, AllocError>
-    ensures { IfOk result (λ text. IsSvg text.items) }
+    ensures { IfOk result (λ text. IsDrawn topic session.now text.items) }
 {
     let report = audit(rt, alloc, session)?;
-    print_picture_on(alloc, session, &report, topic)
+    let text = print_picture_on(alloc, session, &report, topic)?;
+    Ok(text)
 }
 
 /// The picture of a session along runs, about this topic.
@@ -53,12 +54,13 @@ fn drawn_along<R: Threads + Sync>(
     alloc: Global,
     topic: Topic,
     session: &Session,
-    runs: &[Run],
+    runs: &Seq<Run>,
 ) -> Result<Vec<u8>, AllocError>
-    ensures { IfOk result (λ text. IsSvg text.items) }
+    ensures { IfOk result (λ text. IsDrawnAlong topic runs.now session.now text.items) }
 {
     let report = audit(rt, alloc, session)?;
-    print_picture_along(alloc, session, &report, topic, runs)
+    let text = print_picture_along(alloc, session, &report, topic, runs.as_slice())?;
+    Ok(text)
 }
 
 /// The picture of a session, by what was read of its text.
@@ -68,7 +70,7 @@ fn draw_read<R: Threads + Sync>(
     topic: Topic,
     session: &Result<Session, u32>,
 ) -> Result<Answer, AllocError>
-    ensures { (text : List ℕ) → IsRead SpellsSession text session.now → IfOk result (λ answer. IsDrawAnswer text answer.text.items answer.status) }
+    ensures { (text : List ℕ) → IsRead SpellsSession text session.now → IfOk result (λ answer. IsDrawAnswer topic text answer.text.items answer.status) }
 {
     match session {
         Ok(session) => {
@@ -90,12 +92,12 @@ fn draw_along_read<R: Threads + Sync>(
     session: &Result<Session, u32>,
     runs: &Result<Seq<Run>, u32>,
 ) -> Result<Answer, AllocError>
-    ensures { (first second : List ℕ) → IsRead SpellsSession first session.now → IsRead SpellsOrder second runs.now → IfOk result (λ answer. IsDrawAlongAnswer (first, second) answer.text.items answer.status) }
+    ensures { (first second : List ℕ) → IsRead SpellsSession first session.now → IsRead SpellsOrder second runs.now → IfOk result (λ answer. IsDrawAlongAnswer topic (first, second) answer.text.items answer.status) }
 {
     match session {
         Ok(session) => match runs {
             Ok(runs) => {
-                let text = drawn_along(rt, alloc, topic, session, runs.as_slice())?;
+                let text = drawn_along(rt, alloc, topic, session, runs)?;
                 Ok(Answer {
                     text,
                     status: ACCEPTED,
@@ -120,7 +122,7 @@ impl<R: Threads + Sync> OnOne for DrawCommand<'_, R> {
 
     ghost ready = { IsSync R.row };
 
-    ghost is_answer = { λ _. IsDrawAnswer };
+    ghost is_answer = { λ self. IsDrawAnswer self.topic };
 
     ghost how_much = { λ _. Short };
 
@@ -150,7 +152,7 @@ impl<R: Threads + Sync> OnTwo for DrawAlongCommand<'_, R> {
 
     ghost ready = { IsSync R.row };
 
-    ghost is_answer = { λ _. IsDrawAlongAnswer };
+    ghost is_answer = { λ self. IsDrawAlongAnswer self.topic };
 
     ghost is_said = { λ _ _ _. ⊤ };
 

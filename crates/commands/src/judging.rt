@@ -9,7 +9,7 @@ ghost use Rattle.command_texts.specs.Reasons.{IsRefusedAt, TellsBeside, TellsWhy
 ghost use Rattle.command_texts.specs.Told.{AreNamed, Ends, IsNamed};
 ghost use Rattle.command_texts.specs.Written.{BothGain};
 ghost use Rattle.judge_commands.specs.Answers.{AddsMisfitOf};
-ghost use Rattle.commands.specs.Told.{answered, chosen, IsAsked, IsChecked, IsExplained, how_much_in};
+ghost use Rattle.commands.specs.Told.{answered, chosen, IsAsked, IsChecked, IsExplained, how_much_in, told_topic};
 
 use crate::topics::told_topic;
 use command_texts::{Fault, OnOne, OnTwo, TextSource, perform_one, perform_two};
@@ -234,7 +234,7 @@ fn words_of<'a, R: Threads + Sync, S: TextSource, I: Read + Send, O: Write, E: W
     errors: &mut E,
 ) -> Result<u8, Fault<'a>>
     ensures few { IfOk result (λ status. status < 2) }
-    ensures told { Ends (IsTextFault (λ n. n ≡ name.entry.now)) (IsNamed name.entry.now (S.bytes_of texts.now) (I.remaining input.old)) (IsExplained demand Form.Text) (TellsWhyOf (IsRefusedAt SpellsSession) Full name.entry.now) (O.contents output.old, E.contents errors.old) (O.contents output.new, E.contents errors.new) result }
+    ensures told { Ends (IsTextFault (λ n. n ≡ name.entry.now)) (IsNamed name.entry.now (S.bytes_of texts.now) (I.remaining input.old)) (IsExplained demand Form.Text (told_topic topic)) (TellsWhyOf (IsRefusedAt SpellsSession) Full name.entry.now) (O.contents output.old, E.contents errors.old) (O.contents output.new, E.contents errors.new) result }
     ensures gains { BothGain (O.contents output.old, E.contents errors.old) (O.contents output.new, E.contents errors.new) }
 {
     let asked = Complete {
@@ -277,7 +277,7 @@ pub(crate) fn asked_explain<
     errors: &mut E,
 ) -> Result<u8, Fault<'a>>
     ensures few { IfOk result (λ status. status < 2) }
-    ensures told { Ends (IsTextFault (λ n. n ≡ name.entry.now)) (IsNamed name.entry.now (S.bytes_of texts.now) (I.remaining input.old)) (IsExplained explains.asking.demand explains.asking.form) (TellsWhyOf (IsRefusedAt SpellsSession) (how_much_in explains.asking.form) name.entry.now) (O.contents output.old, E.contents errors.old) (O.contents output.new, E.contents errors.new) result }
+    ensures told { Ends (IsTextFault (λ n. n ≡ name.entry.now)) (IsNamed name.entry.now (S.bytes_of texts.now) (I.remaining input.old)) (IsExplained explains.asking.demand explains.asking.form (told_topic explains.topic)) (TellsWhyOf (IsRefusedAt SpellsSession) (how_much_in explains.asking.form) name.entry.now) (O.contents output.old, E.contents errors.old) (O.contents output.new, E.contents errors.new) result }
     ensures gains { BothGain (O.contents output.old, E.contents errors.old) (O.contents output.new, E.contents errors.new) }
 {
     let demand = explains.asking.demand;

@@ -17,7 +17,7 @@ use Rattle.report_text.specs.MissingText.{missing_text}
 use Rattle.judged_texts.specs.declared.auditing.Audited.{Audited}
 use Rattle.judged_texts.specs.declared.auditing.Audited.TheVariants.{Refused, Reported}
 use Rattle.session_story.specs.Told.{IsToldText, refused_text}
-use Rattle.order_picture.specs.Svg.{IsSvg}
+use Rattle.order_picture.specs.Svg.{IsPictureText}
 use Rattle.postcopy_c.specs.declared.answer.PostcopyAnswer.{PostcopyAnswer}
 use Rattle.postcopy_c.specs.declared.showing.ShownAs.{ShownAs}
 use Rattle.postcopy_c.specs.declared.showing.ShownAs.TheVariants.{Words, Picture, AllFaults, Lack}
@@ -52,7 +52,7 @@ IsLackByReport s (report.Faulty line fault order) text = text ≡ ended (first_l
 -- lacks
 abbrev pub IsShownReport : ShownAs → Recorded → Report → List ℕ → Type 0
 IsShownReport (Words topic) s report text = IsToldText s report topic text
-IsShownReport (Picture topic) s report text = IsSvg text
+IsShownReport (Picture topic) s report text = IsPictureText s report topic text
 IsShownReport AllFaults s report text = IsAllFaultsText s report text
 IsShownReport Lack s report text = IsLackByReport s report text
 
