@@ -45,7 +45,7 @@ UNUSED = ("is_miss", "goes_down", "link_named", "lane_named")
 ALSO = (
     (GUARANTEES, r"a page is covered where", r"released", "pages that the guest released at the target are covered too"),
     (GUARANTEES, r"a record's receipt is", r"LaneRec::named", "the lane's records have receipts"),
-    (GUARANTEES, r"clause `told`: \*TellsAsked\*", r"\*takes\*.*version", "told is asked only where the command line takes the words"),
+    (GUARANTEES, r"clause `told`: \*EndsAsked\*", r"\*takes\*.*version", "told is asked only where the command line takes the words"),
     *((GUARANTEES, r"used by none of these laws", rf"\*{it}\*", "this rule is used by no law, too") for it in UNUSED),
     (GUARANTEES, r"^\| every function returns", r"once their threads have ended", "those that start threads wait for them"),
     (GUARANTEES, r"A released page comes back as zeros' stands for", r"not sent", "the headline's last claim has an exact clause"),
