@@ -200,27 +200,32 @@ class MadeSessions:
                 with open(f"{folder}/by-{size}/{name}", encoding="ascii") as file:
                     self.tests.same(f"the window {name} of {size} pages", file.read(), self.script(folder, "--window", name).stdout)
 
-    def of_larger_machines(self):
-        """A machine with more pages than a session's, and a log with more records: two pages are moved, of which one is read
-        again and again, and the other is read wrongly in the end."""
-        pages, reads = 66000, 1048576
+    def larger_machine(self, pages, reads):
+        """The files of a machine of which two pages are moved: one is read again and again, and the last is read wrongly in the end."""
         folder = self.folder()
         os.makedirs(folder)
+        last = pages - 1
         logs = {
-            "machine": [f"pages {pages} 1", "page 7 0000000000000005", f"page {pages - 1} 0000000000000006"],
-            "source": ["halted 0", "state", "send 7 0000000000000005", f"send {pages - 1} 0000000000000006"],
-            "pager": ["got-sent 1", "ready", "got-sent 2", "place 7 2 0000000000000005", "got-sent 3", f"place {pages - 1} 4 0000000000000006"],
-            "guest": ["halt", "resume 1", "see 3", *["r 0 7 0 5"] * reads, "see 5", f"r 0 {pages - 1} 0 9"],
+            "machine": [f"pages {pages} 1", "page 7 0000000000000005", f"page {last} 0000000000000006"],
+            "source": ["halted 0", "state", "send 7 0000000000000005", f"send {last} 0000000000000006"],
+            "pager": ["got-sent 1", "ready", "got-sent 2", "place 7 2 0000000000000005", "got-sent 3", f"place {last} 4 0000000000000006"],
+            "guest": ["halt", "resume 1", "see 3", *["r 0 7 0 5"] * reads, "see 5", f"r 0 {last} 0 9"],
         }
         for log, records in logs.items():
             with open(f"{folder}/{log}.1.0", "w", encoding="ascii") as file:
                 file.writelines(f"{number} {record}\n" for number, record in enumerate(records))
+        return folder
+
+    def of_larger_machines(self):
+        """A machine with more pages than a session's, and a log with more records."""
+        folder = self.larger_machine(66000, 1048576)
         made = self.script(folder, "--windows", "60000", "-o", f"{folder}/windows")
         many = f"{folder}/windows/0-59999: guest: 3 records left out: a session's log has 1048576 records at most"
         self.tests.same("what is said of windows", (made.stderr, made.returncode), (f"session: {many}\n", 0))
         verdicts = [self.tests.audit(text_of(f"{folder}/windows/{name}")) for name in ("0-59999", "60000-65999")]
         self.tests.same("the verdicts through windows", verdicts, ["clean", "faulty line 10 read"])
-        made = self.script(folder, "--window", f"{pages - 2}-{pages - 1}")
+        folder = self.larger_machine(66000, 1)
+        made = self.script(folder, "--window", "65998-65999")
         self.tests.same("the window of the last pages", self.tests.audit(made.stdout), "faulty line 10 read")
         made = self.script(folder)
         self.tests.same("such a machine in one session", (made.stdout, made.returncode, "66000 pages of 1 cells are too many" in made.stderr), ("", 2, True))

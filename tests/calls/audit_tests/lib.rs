@@ -9,6 +9,8 @@ mod compared;
 #[cfg(test)]
 mod complete;
 #[cfg(test)]
+mod errors;
+#[cfg(test)]
 mod explained;
 #[cfg(test)]
 mod facts;

@@ -1,6 +1,8 @@
 //! Tests of packets and of the parties' books.
 
 #[cfg(test)]
+mod errors;
+#[cfg(test)]
 mod guests;
 #[cfg(test)]
 mod lanes;

@@ -4,6 +4,8 @@
 #[cfg(test)]
 mod bubbles;
 #[cfg(test)]
+mod errors;
+#[cfg(test)]
 mod machines;
 #[cfg(test)]
 mod queues;
