@@ -14,8 +14,10 @@ from __future__ import annotations
 import re
 from typing import Dict, Iterator, NamedTuple, Optional, Tuple, Union
 
-__all__ = ["Field", "Kind", "LOGS", "LOST", "MOST_CELLS", "MOST_IN_ALL", "MOST_PAGES", "MOST_RECORDS", "RECEIVED", "RECORDS", "Record", "named", "page_in", "page_of", "read_record",
-           "spelled"]
+__all__ = [
+    "Field", "Kind", "LOGS", "LOST", "MOST_CELLS", "MOST_IN_ALL", "MOST_PAGES", "MOST_RECORDS", "RECEIVED", "RECORDS",
+    "Record", "named", "page_in", "page_of", "read_record", "spelled",
+]
 
 Record = Tuple[Union[str, int], ...]
 

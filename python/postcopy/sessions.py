@@ -9,7 +9,20 @@ from collections import Counter
 from dataclasses import dataclass, field
 from typing import Callable, Dict, Iterator, List, Tuple
 
-from .records import LOGS, LOST, MOST_CELLS, MOST_IN_ALL, MOST_PAGES, MOST_RECORDS, RECEIVED, RECORDS, Record, named, page_of, spelled
+from .records import (
+    LOGS,
+    LOST,
+    MOST_CELLS,
+    MOST_IN_ALL,
+    MOST_PAGES,
+    MOST_RECORDS,
+    RECEIVED,
+    RECORDS,
+    Record,
+    named,
+    page_of,
+    spelled,
+)
 
 __all__ = ["Session"]
 
@@ -111,12 +124,15 @@ class Session:
 
     def _seen(self, first: int, size: int, end: int) -> Iterator["Session"]:
         """The windows of so many pages from one on, up to that in front of the end."""
-        homes = self._homes(lambda page: (page - first) // size if first <= page < end else _NONE)
+        def window_of(page: int) -> int:
+            return (page - first) // size if first <= page < end else _NONE
+
+        homes = self._homes(window_of)
         kept = {log: _by_home(homes[log]) for log in LOGS}
         looks = self._looks(homes["pager"])
         initial: Dict[int, Dict[int, str]] = {}
         for page, contents in self.initial.items():
-            initial.setdefault((page - first) // size if first <= page < end else _NONE, {})[page] = contents
+            initial.setdefault(window_of(page), {})[page] = contents
         for window, start in enumerate(range(first, end, size)):
             numbers = {log: sorted(kept[log].get(_ALL, []) + kept[log].get(window, [])) for log in LOGS}
             seen = looks.get(window, {})
