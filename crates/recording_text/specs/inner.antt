@@ -1,0 +1,4 @@
+-- What serves proofs alone.
+pub mod Held
+pub mod Stands
+pub mod Goings

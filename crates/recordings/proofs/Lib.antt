@@ -1,0 +1,4 @@
+pub mod Fitting
+pub mod Lines
+pub mod Small
+pub mod Tells

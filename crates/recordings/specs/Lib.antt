@@ -1,0 +1,4 @@
+pub mod Lines
+pub mod Recordings
+pub mod Seen
+pub mod Wide

@@ -1,0 +1,87 @@
+-- Recordings: sessions of machines of any size. Their text is a session's, and its numbers have no limit but 2^63.
+use Rattle.std.specs.Prelude.{◌≡◌, ℕ, ◌<◌, ◌≤◌, ◌^◌, List, length}
+use Rattle.std.specs.List.{AllByRecursion}
+use Rattle.migration_types.specs.declared.version.Version.{Version}
+use Rattle.migration_types.specs.declared.records.GuestRec.{GuestRec}
+use Rattle.migration_types.specs.declared.records.GuestRec.TheVariants.{Read, Write, Release, Miss, Halt, Resume, See}
+use Rattle.migration_types.specs.declared.records.SourceRec.{SourceRec}
+use Rattle.migration_types.specs.declared.records.SourceRec.TheVariants.{Halted, State, Send, Again, Ask, Done}
+use Rattle.migration_types.specs.declared.records.LinkRec.{LinkRec}
+use Rattle.migration_types.specs.declared.records.LinkRec.TheVariants.{Down, Up}
+use Rattle.migration_types.specs.declared.records.LaneRec.{LaneRec}
+use Rattle.migration_types.specs.declared.records.LaneRec.TheVariants.{Down as LaneDown}
+use Rattle.migration_types.specs.declared.records.PagerRec.{PagerRec}
+use Rattle.migration_types.specs.declared.records.PagerRec.TheVariants.{Got, Pull, Ready, Fault, Join, Want, Place, Zero, Skip, All}
+use Rattle.migration_types.specs.Contents.{IsContent}
+use Rattle.migration_types.specs.Extents.{Extent}
+use Rattle.migration_types.specs.Limits.{vcpus, most_cells}
+use Rattle.migration_types.specs.Pages.{AreInitPages}
+use Rattle.migration_types.specs.Sessions.{Recorded, HasLane}
+use Rattle.session_text.specs.Grammar.{session_lines}
+
+-- a number of pages, of records, or of a page or a record
+abbrev pub IsCount : ℕ → Type 0
+IsCount n = n < 2 ^ 63
+
+-- a machine: of any number of pages, each with as many cells as a page may have
+pub record IsMachine (e : Extent) : Type 0 where
+  pub some_pages : 1 ≤ e.pages
+  pub few_pages : IsCount e.pages
+  pub some_cells : 1 ≤ e.cells
+  pub few_cells : e.cells ≤ most_cells
+
+-- a record's numbers are those of a machine of this extent
+abbrev pub IsGuestRecOf : Extent → GuestRec → Type 0
+IsGuestRecOf e (Read vcpu page cell value) = (vcpu < vcpus) × (page < e.pages) × (cell < e.cells) × (value < 2 ^ 64)
+IsGuestRecOf e (Write vcpu page cell value) = (vcpu < vcpus) × (page < e.pages) × (cell < e.cells) × (value < 2 ^ 64)
+IsGuestRecOf e (Release vcpu page) = (vcpu < vcpus) × (page < e.pages)
+IsGuestRecOf e (Miss vcpu page) = (vcpu < vcpus) × (page < e.pages)
+IsGuestRecOf e Halt = Unit {0}
+IsGuestRecOf e (Resume ready) = IsCount ready
+IsGuestRecOf e (See placement) = IsCount placement
+
+abbrev pub IsSourceRecOf : Extent → SourceRec → Type 0
+IsSourceRecOf e (Halted halt) = IsCount halt
+IsSourceRecOf e State = Unit {0}
+IsSourceRecOf e (Send page contents) = (page < e.pages) × IsContent e.cells contents
+IsSourceRecOf e (Again sending) = IsCount sending
+IsSourceRecOf e (Ask up) = IsCount up
+IsSourceRecOf e Done = Unit {0}
+
+abbrev pub IsLinkRecOf : LinkRec → Type 0
+IsLinkRecOf (Down sending) = IsCount sending
+IsLinkRecOf (Up asking) = IsCount asking
+
+abbrev pub IsLaneRecOf : Version → LaneRec → Type 0
+IsLaneRecOf version (LaneDown sending) = HasLane version × IsCount sending
+
+abbrev pub IsPagerRecOf : Version → Extent → PagerRec → Type 0
+IsPagerRecOf version e (Got down) = IsCount down
+IsPagerRecOf version e (Pull down) = HasLane version × IsCount down
+IsPagerRecOf version e Ready = Unit {0}
+IsPagerRecOf version e (Fault miss) = IsCount miss
+IsPagerRecOf version e (Join want) = IsCount want
+IsPagerRecOf version e (Want page) = page < e.pages
+IsPagerRecOf version e (Place page got contents) = (page < e.pages) × IsCount got × IsContent e.cells contents
+IsPagerRecOf version e (Zero page) = page < e.pages
+IsPagerRecOf version e (Skip got) = IsCount got
+IsPagerRecOf version e All = Unit {0}
+
+-- a session of a machine of any size
+pub record IsRecording (s : Recorded) : Type 0 where
+  pub machine : IsMachine s.geometry
+  pub init : AreInitPages s.geometry s.init
+  pub few_guest : IsCount (length s.guest)
+  pub few_source : IsCount (length s.source)
+  pub few_link : IsCount (length s.link)
+  pub few_lane : IsCount (length s.lane)
+  pub few_pager : IsCount (length s.pager)
+  pub guest : AllByRecursion (IsGuestRecOf s.geometry) s.guest
+  pub source : AllByRecursion (IsSourceRecOf s.geometry) s.source
+  pub link : AllByRecursion IsLinkRecOf s.link
+  pub lane : AllByRecursion (IsLaneRecOf s.version) s.lane
+  pub pager : AllByRecursion (IsPagerRecOf s.version s.geometry) s.pager
+
+-- these are the lines of this recording's text
+abbrev pub SpellsRecording : Recorded → List (List ℕ) → Type 0
+SpellsRecording s lines = IsRecording s × (lines ≡ session_lines s)

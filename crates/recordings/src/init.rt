@@ -1,0 +1,71 @@
+//! Lines of the pages that do not begin as zeros.
+
+ghost use Rattle.std.specs.Prelude.{◌≡◌, ◌≢◌, ◌∷◌, [], ◌++◌, ◌↔◌, List, ℕ, IsTrue, IfOk, IfErr, OnOk};
+ghost use Rattle.migration_types.specs.declared.pages.InitPage.{InitPage};
+ghost use Rattle.migration_types.specs.Pages.{AreZeros, InitPageFits};
+ghost use Rattle.text_lines.specs.Contents.{contents_text};
+ghost use Rattle.session_text.specs.Grammar.{page_line};
+ghost use Rattle.session_text.specs.inner.InitPages.{IsInitContent};
+ghost use Rattle.recordings.specs.Recordings.{IsMachine};
+ghost use Rattle.recordings.specs.Wide.{extent_of, init_of};
+
+use crate::contents::read_page_contents;
+use crate::machine::Machine;
+use crate::wide::WideInit;
+use crate::writing::push_page;
+use migration_types::Contents;
+use std::alloc::{AllocError, Global};
+use text_lines::{FaultKind, after_key, number_then};
+
+const PAGE_KEY: &[u8] = b"page ";
+
+/// Whether all cells are zero.
+fn are_zeros(cells: &[u64]) -> bool
+    ensures { IsTrue result ↔ AreZeros cells.now }
+{
+    cells.iter().all(|&value| value == 0)
+}
+
+/// The values of a page's cells, not all of them zero, that a text spells.
+fn read_init_contents(alloc: Global, text: &[u8], cells: u32) -> Result<Contents, FaultKind>
+    ensures found { IfOk result (λ xs. IsInitContent cells xs × (text.now ≡ contents_text xs)) }
+    ensures refused { IfErr result (λ kind. kind ≢ FaultKind.Memory → (xs : List ℕ) → IsInitContent cells xs → text.now ≢ contents_text xs) }
+{
+    let values = read_page_contents(alloc, text, cells)?;
+    if are_zeros(values.as_slice()) {
+        return Err(FaultKind::Form);
+    }
+    Ok(values)
+}
+
+impl WideInit {
+    /// The page that does not begin as zeros that a line spells.
+    ///
+    /// # Errors
+    ///
+    /// The number of its page is out of its range, it has not the form of such a line, or there is no memory for the contents.
+    pub fn read(alloc: Global, machine: &Machine, line: &[u8]) -> Result<WideInit, FaultKind>
+        requires { IsMachine (extent_of machine.now) }
+        ensures found { IfOk result (λ p. InitPageFits (extent_of machine.now) (init_of p) × (line.now ≡ page_line (init_of p))) }
+        ensures refused { IfErr result (λ kind. kind ≢ FaultKind.Memory → (p : InitPage) → InitPageFits (extent_of machine.now) p → line.now ≢ page_line p) }
+    {
+        let Some(rest) = after_key(line, PAGE_KEY) else {
+            return Err(FaultKind::Form);
+        };
+        let Some((page, text)) = number_then(rest, u64::MAX) else {
+            return Err(FaultKind::Form);
+        };
+        if page >= machine.pages {
+            return Err(FaultKind::Range);
+        }
+        let cells = read_init_contents(alloc, text, machine.cells)?;
+        Ok(WideInit { page, cells })
+    }
+
+    /// Adds its line, with the line feed. An error: there is no memory for it.
+    pub fn push(&self, out: &mut Vec<u8>) -> Result<(), AllocError>
+        ensures { OnOk result (out.new.items ≡ out.old.items ++ (page_line (init_of self.now) ++ 10 ∷ [])) }
+    {
+        push_page(out, PAGE_KEY, self.page, self.cells.as_slice())
+    }
+}

@@ -1,0 +1,39 @@
+//! Lines of the lane's records.
+
+ghost use Rattle.std.specs.Prelude.{◌≡◌, ◌≢◌, ◌∷◌, [], ◌++◌, IfOk, IfErr, OnOk};
+ghost use Rattle.migration_types.specs.declared.records.LaneRec.{LaneRec};
+ghost use Rattle.session_text.specs.Records.{lane_line};
+ghost use Rattle.recordings.specs.Recordings.{IsLaneRecOf};
+ghost use Rattle.recordings.specs.Wide.{lane_of};
+
+use crate::fields::lane_number;
+use crate::link::DOWN_KEY;
+use crate::machine::Machine;
+use crate::wide::WideLane;
+use std::alloc::AllocError;
+use text_lines::{FaultKind, push_keyed};
+
+impl WideLane {
+    /// The record of the lane that a line spells, which the second version alone has.
+    ///
+    /// # Errors
+    ///
+    /// It spells none.
+    pub fn read(machine: &Machine, line: &[u8]) -> Result<WideLane, FaultKind>
+        ensures found { IfOk result (λ r. IsLaneRecOf machine.now.version (lane_of r) × (line.now ≡ lane_line (lane_of r))) }
+        ensures refused { IfErr result (λ kind. kind ≢ FaultKind.Memory → (r : LaneRec) → IsLaneRecOf machine.now.version r → line.now ≢ lane_line r) }
+    {
+        match lane_number(machine.version, line, DOWN_KEY) {
+            Some(sending) => Ok(WideLane::Down { sending }),
+            None => Err(FaultKind::Form),
+        }
+    }
+
+    /// Adds its line, with the line feed. An error: there is no memory for it.
+    pub fn push(&self, out: &mut Vec<u8>) -> Result<(), AllocError>
+        ensures { OnOk result (out.new.items ≡ out.old.items ++ (lane_line (lane_of self.now) ++ 10 ∷ [])) }
+    {
+        let WideLane::Down { sending } = *self;
+        push_keyed(out, DOWN_KEY, sending)
+    }
+}

@@ -1,0 +1,108 @@
+//! Lines of the source's records.
+
+ghost use Rattle.std.specs.Prelude.{◌≡◌, ◌≢◌, ◌<◌, ◌∷◌, [], ◌++◌, List, ℕ, IfOk, IfErr, IfSome, IfNone, OnOk};
+ghost use Rattle.migration_types.specs.Contents.{IsContent};
+ghost use Rattle.migration_types.specs.Extents.{Extent};
+ghost use Rattle.migration_types.specs.declared.records.SourceRec.{SourceRec};
+ghost use Rattle.session_text.specs.Records.{page_text, source_line};
+ghost use Rattle.recordings.specs.Recordings.{IsMachine, IsSourceRecOf};
+ghost use Rattle.recordings.specs.Wide.{extent_of, source_of};
+ghost use Rattle.session_text.specs.inner.Forms.{IsStep};
+
+use crate::contents::read_page_contents;
+use crate::fields::keyed_whole;
+use crate::machine::{BEYOND, Machine};
+use crate::wide::WideSource;
+use crate::writing::push_page;
+use migration_types::Contents;
+use std::alloc::{AllocError, Global};
+use text_lines::{FaultKind, after_key, is_line, number_then, push_keyed, push_line};
+
+const HALTED_KEY: &[u8] = b"halted ";
+
+const STATE: &[u8] = b"state";
+
+const SEND_KEY: &[u8] = b"send ";
+
+const AGAIN_KEY: &[u8] = b"again ";
+
+const ASK_KEY: &[u8] = b"ask ";
+
+const DONE: &[u8] = b"done";
+
+/// The page and the contents that a text is.
+fn sent_whole(alloc: Global, machine: &Machine, text: &[u8]) -> Result<(u64, Contents), FaultKind>
+    requires { IsMachine (extent_of machine.now) }
+    ensures found { IfOk result (λ a. (a.0 < machine.now.pages) × IsContent machine.now.cells a.1 × (text.now ≡ page_text a.0 a.1)) }
+    ensures refused { IfErr result (λ kind. kind ≢ FaultKind.Memory → (p : ℕ) (xs : List ℕ) → p < machine.now.pages → IsContent machine.now.cells xs → text.now ≢ page_text p xs) }
+{
+    let Some((page, rest)) = number_then(text, machine.pages - 1) else {
+        return Err(FaultKind::Form);
+    };
+    let contents = read_page_contents(alloc, rest, machine.cells)?;
+    Ok((page, contents))
+}
+
+/// The record that is no sending that a line spells.
+fn read_step(line: &[u8]) -> Option<WideSource>
+    ensures found { IfSome result (λ r. ((e : Extent) → IsSourceRecOf e (source_of r)) × (line.now ≡ source_line (source_of r))) }
+    ensures none { IfNone result ((e : Extent) (r : SourceRec) → IsStep r → IsSourceRecOf e r → line.now ≢ source_line r) }
+{
+    if let Some(up) = keyed_whole(line, ASK_KEY, BEYOND) {
+        return Some(WideSource::Ask { up });
+    }
+    if let Some(sending) = keyed_whole(line, AGAIN_KEY, BEYOND) {
+        return Some(WideSource::Again { sending });
+    }
+    if let Some(halt) = keyed_whole(line, HALTED_KEY, BEYOND) {
+        return Some(WideSource::Halted { halt });
+    }
+    if is_line(line, STATE) {
+        return Some(WideSource::State);
+    }
+    if !is_line(line, DONE) {
+        return None;
+    }
+    Some(WideSource::Done)
+}
+
+impl WideSource {
+    /// The record of the source that a line spells.
+    ///
+    /// # Errors
+    ///
+    /// It spells none, or there is no memory for the contents.
+    pub fn read(alloc: Global, machine: &Machine, line: &[u8]) -> Result<WideSource, FaultKind>
+        requires { IsMachine (extent_of machine.now) }
+        ensures found { IfOk result (λ r. IsSourceRecOf (extent_of machine.now) (source_of r) × (line.now ≡ source_line (source_of r))) }
+        ensures refused { IfErr result (λ kind. kind ≢ FaultKind.Memory → (r : SourceRec) → IsSourceRecOf (extent_of machine.now) r → line.now ≢ source_line r) }
+    {
+        if let Some(text) = after_key(line, SEND_KEY) {
+            let (page, contents) = sent_whole(alloc, machine, text)?;
+            return Ok(WideSource::Send { page, contents });
+        }
+        match read_step(line) {
+            Some(rec) => Ok(rec),
+            None => Err(FaultKind::Form),
+        }
+    }
+
+    /// Adds its line, with the line feed. An error: there is no memory for it.
+    pub fn push(&self, out: &mut Vec<u8>) -> Result<(), AllocError>
+        ensures { OnOk result (out.new.items ≡ out.old.items ++ (source_line (source_of self.now) ++ 10 ∷ [])) }
+    {
+        match self {
+            WideSource::Halted { halt } => push_keyed(out, HALTED_KEY, *halt),
+            WideSource::State => push_line(out, STATE),
+            WideSource::Send { page, contents } => push_page(
+                out,
+                SEND_KEY,
+                *page,
+                contents.as_slice(),
+            ),
+            WideSource::Again { sending } => push_keyed(out, AGAIN_KEY, *sending),
+            WideSource::Ask { up } => push_keyed(out, ASK_KEY, *up),
+            WideSource::Done => push_line(out, DONE),
+        }
+    }
+}
