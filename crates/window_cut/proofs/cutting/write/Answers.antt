@@ -1,0 +1,15 @@
+use Rattle.window_cut.proofs.Read.{cut_read, told_by, told_read}
+use Rattle.window_cut.proofs.Windowed.{refused_by}
+use Rattle.window_cut.proofs.cutting.write.Goals as goal
+
+pub returns-in-Ok-clause-cut : goal.returns-in-Ok-clause-cut
+returns-in-Ok-clause-cut g c = cut_read g.W.Way.guide c.walk.new.visitor c.args.window c.args.known (g.R.Read.remaining c.args.reader.now) c.window_text.result c.requires c.in-Ok.ensures.walked c.window_text.ensures.cut
+
+pub returns-in-Ok-clause-refused : goal.returns-in-Ok-clause-refused
+returns-in-Ok-clause-refused g c = refused_by g.W.Way.guide c.walk.new.visitor c.args.window c.args.known (g.R.Read.remaining c.args.reader.now) c.window_text.result c.requires c.in-Ok.ensures.walked c.window_text.ensures.refused
+
+pub returns-in-Ok-clause-told : goal.returns-in-Ok-clause-told
+returns-in-Ok-clause-told g c = told_read g.W.Way.guide c.walk.new.visitor c.args.window c.args.known (g.R.Read.remaining c.args.reader.now) c.window_text.result c.requires c.in-Ok.ensures.walked c.window_text.ensures.refused
+
+pub returns-clause-told : goal.returns-clause-told
+returns-clause-told g c = told_by c.args.window (g.R.Read.remaining c.args.reader.now) c.in-Err.fault c.in-Err.ensures.refused

@@ -1,0 +1,68 @@
+-- What cutting a window out of a recording comes to.
+use Rattle.std.specs.Prelude.{◌≡◌, ℕ, ◌+◌, ◌<◌, ◌≤◌, ◌⊎◌, List, Some, Option, IfSome}
+use Rattle.migration_types.specs.Sessions.{Recorded}
+use Rattle.text_lines.specs.Text.{ended, IsSpelling}
+use Rattle.session_text.specs.Grammar.{session_lines}
+use Rattle.recordings.specs.Recordings.{SpellsRecording}
+use Rattle.recording_text.specs.Walking.{IsRefusedBy}
+use Rattle.audit_model.specs.Windows.{window}
+use Rattle.window_cut.specs.declared.faults.CutFault.{CutFault}
+use Rattle.window_cut.specs.declared.faults.CutFault.TheVariants.{Recording, Outside, Changed}
+use Rattle.window_cut.specs.declared.pages.Window.{Window}
+use Rattle.window_cut.specs.declared.session.WindowText.{WindowText}
+use Rattle.window_cut.specs.Pages.{numbers_of}
+use Rattle.window_cut.specs.Origins.{origins}
+
+-- there are pages, and so many of a machine
+abbrev pub IsOf : Window → ℕ → Type 0
+IsOf w pages = (1 ≤ w.count) × (w.first + w.count ≤ pages)
+
+-- there are none, or such as the machine has not
+abbrev pub IsBeyond : Window → ℕ → Type 0
+IsBeyond w pages = (w.count ≡ 0) ⊎ (pages < w.first + w.count)
+
+-- this is the text of a session's window, and where its lines stand in the session's text
+pub record IsWindowOf (w : Window) (s : Recorded) (out : WindowText) : Type 0 where
+  pub within : IsOf w s.geometry.pages
+  pub text_is : out.text.items ≡ ended (session_lines (window (numbers_of w) w.count s))
+  pub lines_are : out.lines.items ≡ origins (numbers_of w) s
+
+-- the text is a recording's, and this is its window
+pub record IsCutOf (w : Window) (text : List ℕ) (out : WindowText) : Type 0 where
+  pub s : Recorded
+  pub spelled : IsSpelling SpellsRecording s text
+  pub cut : IsWindowOf w s out
+
+-- the text is a recording's, and its machine has not these pages
+pub record IsOutside (w : Window) (text : List ℕ) : Type 0 where
+  pub s : Recorded
+  pub spelled : IsSpelling SpellsRecording s text
+  pub outside : IsBeyond w s.geometry.pages
+
+-- Why there is no window of this text. Where it changed while it was read, the readers had not the same text.
+abbrev pub IsNotCutBy : Window → List ℕ → CutFault → Type 0
+IsNotCutBy w text (Recording fault) = IsRefusedBy (Some text) fault
+IsNotCutBy w text Outside = IsOutside w text
+IsNotCutBy w text Changed = ⊥
+
+-- What is told of a text where there is no window, whatever the readers gave: of one that changed, nothing.
+abbrev pub IsTold : Window → List ℕ → CutFault → Type 0
+IsTold w text (Recording fault) = IsNotCutBy w text (Recording fault)
+IsTold w text Outside = IsNotCutBy w text Outside
+IsTold w text Changed = Unit {0}
+
+-- this holds of a text that was read, which is what was there where that is known
+pub record OfRead (known : Option (List ℕ)) (Holds : List ℕ → Type 0) : Type 0 where
+  pub text : List ℕ
+  pub is_known : IfSome known (λ xs. text ≡ xs)
+  pub holds : Holds text
+
+-- what is known of one of four
+abbrev pub IsOneOf : Option (List ℕ) → Option (List ℕ) → Option (List ℕ) → Option (List ℕ) → Option (List ℕ) → Type 0
+IsOneOf one two three four known = (known ≡ one) ⊎ (known ≡ two) ⊎ (known ≡ three) ⊎ (known ≡ four)
+
+-- and of a text that one of four readers gave
+pub record OfOneRead (one two three four : Option (List ℕ)) (Holds : List ℕ → Type 0) : Type 0 where
+  pub known : Option (List ℕ)
+  pub is_one : IsOneOf one two three four known
+  pub read : OfRead known Holds

@@ -1,0 +1,4 @@
+pub mod Pages
+pub mod Origins
+pub mod Cuts
+pub mod inner

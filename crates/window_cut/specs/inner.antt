@@ -1,0 +1,6 @@
+-- What serves proofs alone.
+pub mod Guided
+pub mod Marks
+pub mod Met
+pub mod Parts
+pub mod Settled

@@ -1,0 +1,36 @@
+-- What a pass comes to.
+use Rattle.std.specs.Prelude.{ℕ, List}
+use Rattle.migration_types.specs.Sessions.{Recorded}
+use Rattle.text_lines.specs.Text.{IsSpelling}
+use Rattle.recordings.specs.Recordings.{SpellsRecording}
+use Rattle.window_cut.specs.declared.faults.CutFault.{CutFault}
+use Rattle.window_cut.specs.declared.faults.CutFault.TheVariants.{Recording, Outside, Changed}
+use Rattle.window_cut.specs.declared.marking.Marks.{Marks}
+use Rattle.window_cut.specs.declared.pages.Window.{Window}
+use Rattle.window_cut.specs.declared.visiting.Writing.{Writing}
+use Rattle.window_cut.specs.Cuts.{IsNotCutBy}
+use Rattle.window_cut.specs.Pages.{numbers_of}
+use Rattle.window_cut.specs.inner.Met.{AreSame, Found, Written}
+
+-- a pass that writes met this much of a recording
+pub record Meets {W : Type 0} (writing : Writing W) (d : Recorded) : Type 0 where
+  pub found : Found (numbers_of writing.guide.window) writing.guide.known writing.found d
+  pub written : Written (numbers_of writing.guide.window) writing.guide.known writing.sections d
+
+-- what a pass that goes by known marks finds in a text's recording
+pub record IsFoundIn (w : Window) (known found : Marks) (text : List ℕ) : Type 0 where
+  pub s : Recorded
+  pub spelled : IsSpelling SpellsRecording s text
+  pub is_found : Found (numbers_of w) known found s
+
+-- what it finds is not what it goes by
+pub record FindsOthers (w : Window) (known : Marks) (text : List ℕ) : Type 0 where
+  pub found : Marks
+  pub is_found : IsFoundIn w known found text
+  pub others : ¬ AreSame known found
+
+-- Why a pass that goes by known marks writes no window of this text.
+abbrev pub IsNotWrittenBy : Window → Marks → List ℕ → CutFault → Type 0
+IsNotWrittenBy w known text (Recording fault) = IsNotCutBy w text (Recording fault)
+IsNotWrittenBy w known text Outside = IsNotCutBy w text Outside
+IsNotWrittenBy w known text Changed = FindsOthers w known text

@@ -1,0 +1,85 @@
+//! Cutting a window out of a recording.
+
+ghost use Rattle.std.specs.Prelude.{◌≡◌, ℕ, List, Some, IfOk, IfErr};
+ghost use Rattle.window_cut.specs.Cuts.{IsCutOf, IsNotCutBy, IsTold, OfOneRead, OfRead};
+ghost use Rattle.window_cut.specs.inner.Settled.{IsFoundIn, IsNotWrittenBy};
+
+use crate::faults::CutFault;
+use crate::marking::Marks;
+use crate::pages::Window;
+use crate::session::WindowText;
+use crate::visiting::{Marking, Way, Writing};
+use recording_text::walk;
+use std::alloc::Global;
+use std::io::Read;
+use std::marker::Brand;
+
+/// The session of these pages of a recording, which the four readers give alike: its text, and where each of its lines
+/// stands in the recording's. It is the window of what the fourth gives, whatever the others do. Memory is taken for what is
+/// of the window alone, and for a piece of the text.
+///
+/// # Errors
+///
+/// Where `walk` has no recording, its fault; `Outside` where there is no page in the window, or one that the machine has not;
+/// and `Changed` where the readers did not give one text, so that what is kept by the last differs from what the others told.
+pub fn cut<R: Read>(
+    alloc: Global,
+    window: Window,
+    one: &mut R,
+    two: &mut R,
+    three: &mut R,
+    four: &mut R,
+) -> Result<WindowText, CutFault>
+    ensures cut { IfOk result (λ out. OfRead (R.remaining four.old) (λ text. IsCutOf window text out)) }
+    ensures told { IfErr result (λ fault. OfOneRead (R.remaining one.old) (R.remaining two.old) (R.remaining three.old) (R.remaining four.old) (λ text. IsTold window text fault)) }
+    ensures refused { IfErr result (λ fault. (text : List ℕ) → R.remaining one.old ≡ Some text → R.remaining two.old ≡ Some text → R.remaining three.old ≡ Some text → R.remaining four.old ≡ Some text → IsNotCutBy window text fault) }
+{
+    let first = mark::<R, Brand>(alloc, window, Marks::new(alloc), one)?;
+    let second = mark::<R, Brand>(alloc, window, first, two)?;
+    let third = mark::<R, Brand>(alloc, window, second, three)?;
+    write::<R, Brand>(alloc, window, third, four)
+}
+
+/// Finds what is kept, by what the pass before found.
+#[tactic(auto, using(crate::proofs::Read::marked_told))]
+fn mark<R: Read, W: Way>(
+    alloc: Global,
+    window: Window,
+    known: Marks,
+    reader: &mut R,
+) -> Result<Marks, CutFault>
+    requires { W.guide ≡ record { window = window; known = known } }
+    ensures found { IfOk result (λ found. (text : List ℕ) → R.remaining reader.old ≡ Some text → IsFoundIn window known found text) }
+    ensures refused { IfErr result (λ fault. (text : List ℕ) → R.remaining reader.old ≡ Some text → IsNotCutBy window text fault) }
+    ensures told { IfErr result (λ fault. OfRead (R.remaining reader.old) (λ text. IsTold window text fault)) }
+{
+    let mut marking = Marking::<W>::new(alloc, window, known);
+    match walk(alloc, reader, &mut marking) {
+        Ok(()) => {}
+        Err(fault) => return Err(CutFault::Recording(fault)),
+    }
+    if window.is_of(marking.found.machine.pages) {
+        Ok(marking.found)
+    } else {
+        Err(CutFault::Outside)
+    }
+}
+
+/// Writes what is kept, by what the pass before found.
+fn write<R: Read, W: Way>(
+    alloc: Global,
+    window: Window,
+    known: Marks,
+    reader: &mut R,
+) -> Result<WindowText, CutFault>
+    requires { W.guide ≡ record { window = window; known = known } }
+    ensures cut { IfOk result (λ out. OfRead (R.remaining reader.old) (λ text. IsCutOf window text out)) }
+    ensures refused { IfErr result (λ fault. (text : List ℕ) → R.remaining reader.old ≡ Some text → IsNotWrittenBy window known text fault) }
+    ensures told { IfErr result (λ fault. OfRead (R.remaining reader.old) (λ text. IsTold window text fault)) }
+{
+    let mut writing = Writing::<W>::new(alloc, window, known);
+    match walk(alloc, reader, &mut writing) {
+        Ok(()) => writing.window_text(alloc, window),
+        Err(fault) => Err(CutFault::Recording(fault)),
+    }
+}

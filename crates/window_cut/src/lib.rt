@@ -1,0 +1,23 @@
+//! Windows of recordings: the session of some pages alone, cut out of a recording's text in four passes over it.
+#![tactic(auto)]
+
+mod anew;
+mod cutting;
+mod faults;
+mod keeping;
+mod laws;
+mod marking;
+mod origins;
+mod pages;
+mod places;
+mod sections;
+mod session;
+mod settling;
+mod visiting;
+mod writing;
+
+pub use cutting::cut;
+pub use faults::CutFault;
+pub use laws::origins_are_told;
+pub use pages::Window;
+pub use session::WindowText;

@@ -1,0 +1,43 @@
+//! The pages of a window.
+
+ghost use Rattle.std.specs.Prelude.{◌≡◌, MatchBool};
+ghost use Rattle.audit_model.specs.Windows.{is_seen, new_page};
+
+/// Pages that stand next to each other: the number of the first, and how many they are.
+#[derive(Clone, Copy, Debug, PartialEq, Eq)]
+pub struct Window {
+    pub first: u64,
+    pub count: u64,
+}
+
+impl Window {
+    ghost use Rattle.window_cut.specs.Pages.{numbers_of};
+    ghost use Rattle.window_cut.specs.Cuts.{IsOf, IsBeyond};
+
+    /// Whether a page is one of them.
+    #[tactic(auto, using(crate::proofs::Numbered::seen_within, crate::proofs::Numbered::seen_outside))]
+    pub(crate) fn has(&self, page: u64) -> bool
+        ensures { result ≡ is_seen (numbers_of self.now page) }
+    {
+        page >= self.first && page - self.first < self.count
+    }
+
+    /// A page's number among them; nothing rests on that of another.
+    #[tactic(auto, using(crate::proofs::Numbered::number_within, crate::proofs::Numbered::number_outside))]
+    pub(crate) fn number(&self, page: u64) -> u64
+        ensures { result ≡ new_page (numbers_of self.now page) }
+    {
+        if self.has(page) {
+            page.saturating_sub(self.first)
+        } else {
+            0
+        }
+    }
+
+    /// Whether there are pages in it, and all are of a machine that has so many.
+    pub(crate) fn is_of(&self, pages: u64) -> bool
+        ensures { MatchBool result (IsOf self.now pages) (IsBeyond self.now pages) }
+    {
+        self.count > 0 && self.first <= pages && self.count <= pages - self.first
+    }
+}

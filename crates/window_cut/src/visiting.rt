@@ -1,0 +1,175 @@
+//! What goes through a recording, to mark what is kept and to write it.
+
+ghost use Rattle.std.specs.Prelude.{◌≡◌, length, OnOk};
+ghost use Rattle.migration_types.specs.Sessions.{Recorded};
+ghost use Rattle.recordings.specs.Seen.{with_init, with_guest, with_source, with_link, with_lane, with_pager};
+ghost use Rattle.recordings.specs.Wide.{init_of, guest_of, source_of, link_of, lane_of, pager_of};
+
+use crate::marking::{Guide, Marks};
+use crate::pages::Window;
+use crate::sections::Sections;
+use recordings::{
+    Machine, Visitor, WideGuest, WideInit, WideLane, WideLink, WidePager, WideSource,
+};
+use std::alloc::{AllocError, Global};
+use std::marker::{Brand, PhantomData};
+
+/// What one pass goes by, which stays the same from its beginning to its end. It is for proofs alone.
+pub(crate) trait Way {
+    ghost use Rattle.window_cut.specs.declared.marking.Guide.{Guide};
+
+    ghost guide: { Guide };
+}
+
+impl Way for Brand {
+    ghost use Rattle.window_cut.specs.inner.Met.{no_guide};
+
+    ghost guide = { no_guide };
+}
+
+/// Marks what is kept.
+#[derive(Drop)]
+pub(crate) struct Marking<W> {
+    pub(crate) guide: Guide,
+    pub(crate) found: Marks,
+    of: PhantomData<W>,
+}
+
+impl<W> Marking<W> {
+    ghost use Rattle.window_cut.specs.inner.Met.{IsNothing};
+
+    /// Of nothing yet, by the marks of the pass before.
+    pub(crate) fn new(alloc: Global, window: Window, known: Marks) -> Self
+        ensures found { IsNothing result.found }
+        ensures guide { result.guide ≡ record { window = window; known = known } }
+    {
+        Marking {
+            guide: Guide { window, known },
+            found: Marks::new(alloc),
+            of: PhantomData,
+        }
+    }
+}
+
+impl<W: Way> Visitor for Marking<W> {
+    ghost use Rattle.window_cut.specs.Pages.{numbers_of};
+    ghost use Rattle.window_cut.specs.inner.Met.{IsNothing, Found};
+
+    ghost IsNew = { λ a. IsNothing a.found × (a.guide ≡ W.guide) };
+
+    ghost Met = { λ a d. (a.guide ≡ W.guide) × Found (numbers_of a.guide.window) a.guide.known a.found d };
+
+    fn machine(&mut self, machine: &Machine) -> Result<(), AllocError> {
+        self.found.machine = *machine;
+        Ok(())
+    }
+
+    fn init(&mut self, page: WideInit) -> Result<(), AllocError> {
+        self.found.note_init(&self.guide, &page)
+    }
+
+    fn guest(&mut self, number: u64, rec: WideGuest) -> Result<(), AllocError> {
+        let _ = number;
+        self.found.note_guest(&self.guide, &rec)
+    }
+
+    fn source(&mut self, number: u64, rec: WideSource) -> Result<(), AllocError> {
+        let _ = number;
+        self.found.note_source(&self.guide, &rec)
+    }
+
+    fn link(&mut self, number: u64, rec: WideLink) -> Result<(), AllocError> {
+        let _ = number;
+        self.found.note_link(&self.guide, &rec)
+    }
+
+    fn lane(&mut self, number: u64, rec: WideLane) -> Result<(), AllocError> {
+        let _ = number;
+        self.found.note_lane(&rec)
+    }
+
+    fn pager(&mut self, number: u64, rec: WidePager) -> Result<(), AllocError> {
+        let _ = number;
+        self.found.note_pager(&self.guide, &rec)
+    }
+}
+
+/// Writes what is kept by marks that are known, and marks what is, by which it shows whether they were right.
+#[derive(Drop)]
+pub(crate) struct Writing<W> {
+    pub(crate) guide: Guide,
+    pub(crate) found: Marks,
+    pub(crate) sections: Sections,
+    of: PhantomData<W>,
+}
+
+impl<W> Writing<W> {
+    ghost use Rattle.window_cut.specs.inner.Met.{IsNothing, IsBlank};
+
+    /// Of nothing yet, by the marks of the pass before.
+    pub(crate) fn new(alloc: Global, window: Window, known: Marks) -> Self
+        ensures found { IsNothing result.found }
+        ensures blank { IsBlank result.sections }
+        ensures guide { result.guide ≡ record { window = window; known = known } }
+    {
+        Writing {
+            guide: Guide { window, known },
+            found: Marks::new(alloc),
+            sections: Sections::new(alloc),
+            of: PhantomData,
+        }
+    }
+}
+
+impl<W: Way> Visitor for Writing<W> {
+    ghost use Rattle.window_cut.specs.inner.Met.{IsNothing, IsBlank};
+    ghost use Rattle.window_cut.specs.inner.Settled.{Meets};
+
+    ghost IsNew = { λ a. IsNothing a.found × IsBlank a.sections × (a.guide ≡ W.guide) };
+
+    ghost Met = { λ a d. (a.guide ≡ W.guide) × Meets a d };
+
+    fn machine(&mut self, machine: &Machine) -> Result<(), AllocError> {
+        self.found.machine = *machine;
+        Ok(())
+    }
+
+    fn init(&mut self, page: WideInit) -> Result<(), AllocError> {
+        self.found.note_init(&self.guide, &page)?;
+        self.guide.write_init(&mut self.sections.init, page)?;
+        Ok(())
+    }
+
+    fn guest(&mut self, number: u64, rec: WideGuest) -> Result<(), AllocError> {
+        self.found.note_guest(&self.guide, &rec)?;
+        self.guide
+            .write_guest(&mut self.sections.guest, number, rec)?;
+        Ok(())
+    }
+
+    fn source(&mut self, number: u64, rec: WideSource) -> Result<(), AllocError> {
+        self.found.note_source(&self.guide, &rec)?;
+        self.guide
+            .write_source(&mut self.sections.source, number, rec)?;
+        Ok(())
+    }
+
+    fn link(&mut self, number: u64, rec: WideLink) -> Result<(), AllocError> {
+        self.found.note_link(&self.guide, &rec)?;
+        self.guide.write_link(&mut self.sections.link, number, rec)?;
+        Ok(())
+    }
+
+    fn lane(&mut self, number: u64, rec: WideLane) -> Result<(), AllocError> {
+        self.found.note_lane(&rec)?;
+        self.guide.write_lane(&mut self.sections.lane, number, rec)?;
+        Ok(())
+    }
+
+    fn pager(&mut self, number: u64, rec: WidePager) -> Result<(), AllocError> {
+        self.found.note_pager(&self.guide, &rec)?;
+        self.guide
+            .write_pager(&mut self.sections.pager, number, rec)?;
+        Ok(())
+    }
+}
