@@ -1,0 +1,4 @@
+pub mod Words
+pub mod Written
+pub mod Told
+pub mod Joined
