@@ -19,7 +19,7 @@ pub use answer::{
     status_where, tell, written,
 };
 pub use closing::Closable;
-pub use naming::read_named;
+pub use naming::{opened, read_named};
 pub use performing::{OnOne, OnTwo, perform_one, perform_two};
 pub use reading::TextSource;
 pub use several::{Listing, perform_several};

@@ -1,6 +1,6 @@
 //! The texts under names.
 
-ghost use Rattle.std.specs.Prelude.{◌≡◌, ◌⊎◌, ◌&&◌, ℕ, List, Option, false, IfOk, IfErr, option_map};
+ghost use Rattle.std.specs.Prelude.{◌≡◌, ◌⊎◌, ◌&&◌, ℕ, List, Option, Some, false, IfOk, IfErr, IfSome, option_map};
 ghost use Rattle.command_texts.specs.Answers.{IsReadFault};
 ghost use Rattle.command_texts.specs.Reasons.{IsFirstRefused, first_place, line_of, place_of, told_place};
 ghost use Rattle.command_texts.specs.Told.{AreNamed, AreOfInput, AreRead, IsNamed, is_dash};
@@ -41,6 +41,17 @@ fn read_from<'a, T: Taker, R: Threads + Sync, I: Read + Send>(
     }
 }
 
+/// Opens the text under a name that is not the input's.
+pub fn opened<'a, S: TextSource>(texts: &S, name: &'a str) -> Result<S::Text, Fault<'a>>
+    ensures text { IfOk result (λ t. IfSome (S.bytes_of texts.now name.entry.now) (λ xs. S.Text.remaining t ≡ Some xs)) }
+    ensures fault { IfErr result (IsReadFault (λ n. n ≡ name.entry.now)) }
+{
+    match texts.text(name) {
+        Ok(text) => Ok(text),
+        Err(error) => Err(fault_at(name, fault_of(&error))),
+    }
+}
+
 // What is found of the text under a name, and why it is refused, if it is.
 fn read_under<'a, T: Taker, R: Threads + Sync, S: TextSource, I: Read + Send>(
     rt: &R,
@@ -56,9 +67,9 @@ fn read_under<'a, T: Taker, R: Threads + Sync, S: TextSource, I: Read + Send>(
     if name == "-" {
         return read_from::<T, R, I>(rt, alloc, name, input);
     }
-    match texts.text(name) {
+    match opened(texts, name) {
         Ok(mut text) => read_from::<T, R, S::Text>(rt, alloc, name, &mut text),
-        Err(error) => Err(fault_at(name, fault_of(&error))),
+        Err(fault) => Err(fault),
     }
 }
 

@@ -1,5 +1,5 @@
 -- What the command line takes of plain names.
-use Rattle.std.proofs.Common.{◌≡◌, ◌∙◌, ◌==◌, ◌≤◌, ℕ, Bool, true, false, List, [], ◌∷◌, ◌++◌, map, length, inl, inr, Some, None, refl, ap, subst, arith, codes, cond, option_and_then}
+use Rattle.std.proofs.Common.{◌≡◌, ◌∙◌, ◌==◌, ◌≤◌, ℕ, Bool, true, false, List, [], ◌∷◌, ◌++◌, map, length, inl, inr, Some, None, refl, sym, ap, subst, arith, codes, cond, option_and_then}
 use Rattle.std.specs.List.{AllByRecursion}
 use Rattle.std.specs.Str.{bytes_eq}
 use Rattle.std.proofs.lemmas.Bool.{ne_eqb}
@@ -10,14 +10,14 @@ use Rattle.clap.specs.declared.parser.matches.ValueSource.{ValueSource}
 use Rattle.clap.specs.declared.parser.matches.ValueSource.TheVariants.{CommandLine, DefaultValue}
 use Rattle.clap.proofs.OnLiterals.{clap_on_literals}
 use Rattle.command_words.specs.declared.asked.Asked.{Asked}
-use Rattle.command_words.specs.declared.asked.Asked.TheVariants.{One, Two, Migrate, Draw}
+use Rattle.command_words.specs.declared.asked.Asked.TheVariants.{One, Two, Migrate, Draw, Window}
 use Rattle.command_words.specs.declared.asked.Carrier.TheVariants.{Memory}
 use Rattle.command_words.specs.declared.asked.OneText.{OneText}
 use Rattle.command_words.specs.declared.asked.OneText.TheVariants.{Certify, Audit, Explain}
 use Rattle.command_words.specs.declared.asked.TwoTexts.{TwoTexts}
 use Rattle.command_words.specs.declared.asked.TwoTexts.TheVariants.{Check, Replay, Steps}
 use Rattle.command_words.specs.declared.asked.Topic.TheVariants.{Report}
-use Rattle.command_words.specs.Table.{plain as asked_plainly, plain_audit, plain_explanation}
+use Rattle.command_words.specs.Table.{plain as asked_plainly, plain_audit, plain_explanation, no_pages}
 use Rattle.command_words.specs.Words.{IsPlain, IsPlainName, asked, asked_by, asked_in, postcopy_words, with_names}
 
 -- a name of one of three forms
@@ -173,28 +173,36 @@ draw_taken program word further (first ∷ second ∷ []) job plain e =
     subst (IsTaken (program ∷ codes "draw" ∷ first ∷ second ∷ [])) same (taken_draw_along program first second (form_of first plain.0) (form_of second plain.1.0))
 draw_taken program word further (name ∷ other ∷ third ∷ rest) job plain e = let none : None ≡ Some job = e in absurd cc
 
+-- of a window nothing is said
+no_window : (word : Text) (names : List Text) → with_names names (Window no_pages word None) ≡ None
+no_window word [] = refl
+no_window word (name ∷ []) = refl
+no_window word (name ∷ other ∷ []) = refl
+no_window word (name ∷ other ∷ third ∷ rest) = refl
+
 -- the row of a name is the first that has it
 row_taken : (program name : Text) (names : List Text) (job : Asked Text) → AllByRecursion IsPlainName names
-    → (check certify audit explain replay steps migrate draw : Bool)
+    → (check certify audit explain replay steps migrate draw window : Bool)
     → (check ≡ true → codes "check" ≡ name) → (certify ≡ true → codes "certify" ≡ name) → (audit ≡ true → codes "audit" ≡ name) → (explain ≡ true → codes "explain" ≡ name) → (replay ≡ true → codes "replay" ≡ name) → (steps ≡ true → codes "steps" ≡ name) → (migrate ≡ true → codes "migrate" ≡ name) → (draw ≡ true → codes "draw" ≡ name)
-    → option_and_then (λ (row : Text × Asked Text). with_names names row.1) (cond check (Some (codes "check", Two (Check asked_plainly) (codes "SESSION") (codes "CERT"))) (cond certify (Some (codes "certify", One Certify (codes "SESSION"))) (cond audit (Some (codes "audit", One (Audit plain_audit) (codes "SESSION"))) (cond explain (Some (codes "explain", One (Explain plain_explanation) (codes "SESSION"))) (cond replay (Some (codes "replay", Two Replay (codes "SESSION") (codes "RUNS"))) (cond steps (Some (codes "steps", Two Steps (codes "SCRIPT") (codes "EVENTS"))) (cond migrate (Some (codes "migrate", Migrate Memory (codes "SCRIPT"))) (cond draw (Some (codes "draw", Draw Report (codes "SESSION") (Some (codes "RUNS")))) None)))))))) ≡ Some job
+    → option_and_then (λ (row : Text × Asked Text). with_names names row.1) (cond check (Some (codes "check", Two (Check asked_plainly) (codes "SESSION") (codes "CERT"))) (cond certify (Some (codes "certify", One Certify (codes "SESSION"))) (cond audit (Some (codes "audit", One (Audit plain_audit) (codes "SESSION"))) (cond explain (Some (codes "explain", One (Explain plain_explanation) (codes "SESSION"))) (cond replay (Some (codes "replay", Two Replay (codes "SESSION") (codes "RUNS"))) (cond steps (Some (codes "steps", Two Steps (codes "SCRIPT") (codes "EVENTS"))) (cond migrate (Some (codes "migrate", Migrate Memory (codes "SCRIPT"))) (cond draw (Some (codes "draw", Draw Report (codes "SESSION") (Some (codes "RUNS")))) (cond window (Some (codes "window", Window no_pages (codes "RECORDING") None)) None))))))))) ≡ Some job
     → IsTaken (program ∷ name ∷ names) job
-row_taken program name names job plain true certify audit explain replay steps migrate draw a b c d f g h i e = subst (λ (x : Text). IsTaken (program ∷ x ∷ names) job) (a refl) (two_taken (Check asked_plainly) (codes "check") taken_check program _ _ names job plain e)
-row_taken program name names job plain false true audit explain replay steps migrate draw a b c d f g h i e = subst (λ (x : Text). IsTaken (program ∷ x ∷ names) job) (b refl) (one_taken Certify (codes "certify") taken_certify program _ names job plain e)
-row_taken program name names job plain false false true explain replay steps migrate draw a b c d f g h i e = subst (λ (x : Text). IsTaken (program ∷ x ∷ names) job) (c refl) (one_taken (Audit plain_audit) (codes "audit") taken_audit program _ names job plain e)
-row_taken program name names job plain false false false true replay steps migrate draw a b c d f g h i e = subst (λ (x : Text). IsTaken (program ∷ x ∷ names) job) (d refl) (one_taken (Explain plain_explanation) (codes "explain") taken_explain program _ names job plain e)
-row_taken program name names job plain false false false false true steps migrate draw a b c d f g h i e = subst (λ (x : Text). IsTaken (program ∷ x ∷ names) job) (f refl) (two_taken Replay (codes "replay") taken_replay program _ _ names job plain e)
-row_taken program name names job plain false false false false false true migrate draw a b c d f g h i e = subst (λ (x : Text). IsTaken (program ∷ x ∷ names) job) (g refl) (two_taken Steps (codes "steps") taken_steps program _ _ names job plain e)
-row_taken program name names job plain false false false false false false true draw a b c d f g h i e = subst (λ (x : Text). IsTaken (program ∷ x ∷ names) job) (h refl) (migrate_taken program _ names job plain e)
-row_taken program name names job plain false false false false false false false true a b c d f g h i e = subst (λ (x : Text). IsTaken (program ∷ x ∷ names) job) (i refl) (draw_taken program _ _ names job plain e)
-row_taken program name names job plain false false false false false false false false a b c d f g h i e = let none : None ≡ Some job = e in absurd cc
+row_taken program name names job plain true certify audit explain replay steps migrate draw window a b c d f g h i e = subst (λ (x : Text). IsTaken (program ∷ x ∷ names) job) (a refl) (two_taken (Check asked_plainly) (codes "check") taken_check program _ _ names job plain e)
+row_taken program name names job plain false true audit explain replay steps migrate draw window a b c d f g h i e = subst (λ (x : Text). IsTaken (program ∷ x ∷ names) job) (b refl) (one_taken Certify (codes "certify") taken_certify program _ names job plain e)
+row_taken program name names job plain false false true explain replay steps migrate draw window a b c d f g h i e = subst (λ (x : Text). IsTaken (program ∷ x ∷ names) job) (c refl) (one_taken (Audit plain_audit) (codes "audit") taken_audit program _ names job plain e)
+row_taken program name names job plain false false false true replay steps migrate draw window a b c d f g h i e = subst (λ (x : Text). IsTaken (program ∷ x ∷ names) job) (d refl) (one_taken (Explain plain_explanation) (codes "explain") taken_explain program _ names job plain e)
+row_taken program name names job plain false false false false true steps migrate draw window a b c d f g h i e = subst (λ (x : Text). IsTaken (program ∷ x ∷ names) job) (f refl) (two_taken Replay (codes "replay") taken_replay program _ _ names job plain e)
+row_taken program name names job plain false false false false false true migrate draw window a b c d f g h i e = subst (λ (x : Text). IsTaken (program ∷ x ∷ names) job) (g refl) (two_taken Steps (codes "steps") taken_steps program _ _ names job plain e)
+row_taken program name names job plain false false false false false false true draw window a b c d f g h i e = subst (λ (x : Text). IsTaken (program ∷ x ∷ names) job) (h refl) (migrate_taken program _ names job plain e)
+row_taken program name names job plain false false false false false false false true window a b c d f g h i e = subst (λ (x : Text). IsTaken (program ∷ x ∷ names) job) (i refl) (draw_taken program _ _ names job plain e)
+row_taken program name names job plain false false false false false false false false true a b c d f g h i e = let none : None ≡ Some job = sym (no_window (codes "RECORDING") names) ∙ e in absurd cc
+row_taken program name names job plain false false false false false false false false false a b c d f g h i e = let none : None ≡ Some job = e in absurd cc
 
 same_text : (a b : Text) → bytes_eq a b ≡ true → a ≡ b
 same_text a b e = (bytes_eq-Decides a b).0 e
 
 -- plain words of a command are taken, and ask for it
 pub taken_plain : (words : List Text) (name : Text) (names : List Text) (job : Asked Text) → IsPlain words name names → asked_by name names ≡ Some job → IsTaken words job
-taken_plain words name names job h e = rw h.words_are (row_taken h.program name names job h.plain _ _ _ _ _ _ _ _ (same_text (codes "check") name) (same_text (codes "certify") name) (same_text (codes "audit") name) (same_text (codes "explain") name) (same_text (codes "replay") name) (same_text (codes "steps") name) (same_text (codes "migrate") name) (same_text (codes "draw") name) e)
+taken_plain words name names job h e = rw h.words_are (row_taken h.program name names job h.plain _ _ _ _ _ _ _ _ _ (same_text (codes "check") name) (same_text (codes "certify") name) (same_text (codes "audit") name) (same_text (codes "explain") name) (same_text (codes "replay") name) (same_text (codes "steps") name) (same_text (codes "migrate") name) (same_text (codes "draw") name) e)
 
 -- a word or none is not taken, as a command has to be there
 pub bare_not_taken : (words : List Text) → length words ≤ 1 → takes postcopy_words words ≡ false

@@ -4,7 +4,8 @@ use Rattle.std.specs.Str.{bytes_eq}
 use Rattle.std.specs.Borrow.{Bor}
 use Rattle.clap.specs.Words.{Text}
 use Rattle.command_words.specs.declared.asked.Asked.{Asked}
-use Rattle.command_words.specs.declared.asked.Asked.TheVariants.{One, Two, Migrate, Draw}
+use Rattle.command_words.specs.declared.asked.Asked.TheVariants.{One, Two, Migrate, Draw, Window}
+use Rattle.command_words.specs.declared.asked.Pages.{Pages}
 use Rattle.command_words.specs.declared.asked.Carrier.{Carrier}
 use Rattle.command_words.specs.declared.asked.Carrier.TheVariants.{Memory, Tcp}
 use Rattle.command_words.specs.declared.asked.Asking.{Asking}
@@ -36,8 +37,13 @@ plain_audit = record { asking = plain; faults = faults.First }
 abbrev pub plain_explanation : Explains
 plain_explanation = record { asking = plain; topic = topic.Report }
 
+-- the pages of a window, in the place of those that its words tell
+abbrev pub no_pages : Pages
+no_pages = record { first = 0; count = 0 }
+
 -- `check SESSION CERT`, `certify SESSION`, `audit SESSION`, `explain SESSION`, `replay SESSION RUNS`,
--- `steps SCRIPT EVENTS`, `migrate SCRIPT`, `draw SESSION`, `draw SESSION RUNS`; with no option, this is asked
+-- `steps SCRIPT EVENTS`, `migrate SCRIPT`, `draw SESSION`, `draw SESSION RUNS`, `window RECORDING FIRST COUNT`; with no option,
+-- this is asked
 abbrev pub table : List (Text × Asked Text)
 table =
     (codes "check", Two (Check plain) (codes "SESSION") (codes "CERT")) ∷
@@ -47,7 +53,8 @@ table =
     (codes "replay", Two Replay (codes "SESSION") (codes "RUNS")) ∷
     (codes "steps", Two Steps (codes "SCRIPT") (codes "EVENTS")) ∷
     (codes "migrate", Migrate Memory (codes "SCRIPT")) ∷
-    (codes "draw", Draw topic.Report (codes "SESSION") (Some (codes "RUNS"))) ∷ []
+    (codes "draw", Draw topic.Report (codes "SESSION") (Some (codes "RUNS"))) ∷
+    (codes "window", Window no_pages (codes "RECORDING") None) ∷ []
 
 -- the name of what carries a migration
 abbrev pub carrier_name : Carrier → Text
@@ -82,6 +89,7 @@ asked_map f (One task word) = One task (f word)
 asked_map f (Two task first second) = Two task (f first) (f second)
 asked_map f (Migrate carrier word) = Migrate carrier (f word)
 asked_map f (Draw topic word further) = Draw topic (f word) (option_map f further)
+asked_map f (Window pages word lines) = Window pages (f word) (option_map f lines)
 
 -- what is asked for, with the names of its texts
 abbrev pub asked_names : Asked (Bor Text) → Asked Text

@@ -8,7 +8,8 @@ use Rattle.clap.specs.Simple.{on_top}
 use Rattle.clap.specs.ValueTests.{is_unsigned_in}
 use Rattle.clap.specs.Words.{App, Row, Rule, Text, all_of, first_of, new_app, new_rule, subcommand_of, with_rule, with_subcommand}
 use Rattle.command_words.specs.declared.asked.Asked.{Asked}
-use Rattle.command_words.specs.declared.asked.Asked.TheVariants.{One, Two, Migrate, Draw}
+use Rattle.command_words.specs.declared.asked.Asked.TheVariants.{One, Two, Migrate, Draw, Window}
+use Rattle.command_words.specs.declared.asked.Pages.{Pages}
 use Rattle.clap.specs.declared.builder.value_parser.ValueParser.{ValueParser}
 use Rattle.clap.specs.declared.builder.value_parser.ValueParser.TheVariants as parser
 use Rattle.command_words.specs.declared.asked.Carrier.{Carrier}
@@ -27,6 +28,7 @@ use Rattle.command_words.specs.declared.asked.OneText.{OneText}
 use Rattle.command_words.specs.declared.asked.OneText.TheVariants.{Certify, Audit, Explain}
 use Rattle.command_words.specs.declared.asked.TwoTexts.{TwoTexts}
 use Rattle.command_words.specs.declared.asked.TwoTexts.TheVariants.{Check, Replay, Steps}
+use Rattle.command_words.specs.declared.asked.TwoTexts.TheVariants as two
 use Rattle.clap.specs.declared.builder.action.ArgAction.TheVariants.{Append, SetTrue}
 use Rattle.command_words.specs.declared.building.Choices.{Choices}
 use Rattle.command_words.specs.Table.{carriers, carrier_name, carrier_named, form_name, form_named, forms, plain_audit, table}
@@ -34,6 +36,10 @@ use Rattle.command_words.specs.Table.{carriers, carrier_name, carrier_named, for
 -- a word that has to be there
 abbrev pub needed : Text → Rule
 needed id = record (new_rule id) { required = true }
+
+-- a word that has to be there, and tells a number of pages
+abbrev pub count_rule : Text → Rule
+count_rule id = record (needed id) { parser = Some (parser.Unsigned 0 9223372036854775807) }
 
 -- a word that has to be there, and may be there more than once
 abbrev pub repeated : Text → Rule
@@ -73,6 +79,10 @@ with_line app = with_rule app (number_rule (codes "line"))
 abbrev pub with_output : App → App
 with_output app = with_rule app (record (new_rule (codes "output")) { short = Some 111; long = Some (codes "output"); value_names = 1 })
 
+-- a command with the option that names the file of a recording's lines
+abbrev pub with_lines : App → App
+with_lines app = with_rule app (record (new_rule (codes "lines")) { long = Some (codes "lines"); value_names = 1 })
+
 -- a command with the option that asks for a complete session
 abbrev pub with_demand : App → App
 with_demand app = with_rule app (flag_rule (codes "complete"))
@@ -89,12 +99,13 @@ with_quiet app = with_rule app (flag_rule (codes "quiet"))
 abbrev pub with_one : ValueParser → OneText → App → App
 with_one parser (Audit audits) app = with_format parser audits.asking.form (with_quiet (with_all (with_demand app)))
 with_one parser Certify app = app
-with_one parser (Explain explains) app = with_format parser explains.asking.form (with_line (with_page (with_demand app)))
+with_one parser (Explain explains) app = with_format parser explains.asking.form (with_lines (with_line (with_page (with_demand app))))
 
 abbrev pub with_two : ValueParser → TwoTexts → App → App
 with_two parser (Check asking) app = with_format parser asking.form (with_demand app)
 with_two parser Replay app = app
 with_two parser Steps app = with_output app
+with_two parser (two.Explain explains) app = app
 
 -- a command with a further word, which may be there
 abbrev pub with_further : App → Option Text → App
@@ -107,6 +118,7 @@ with_words choices app (One task word) = with_one choices.forms task (with_rule 
 with_words choices app (Two task first second) = with_two choices.forms task (with_rule (with_rule app (needed first)) (needed second))
 with_words choices app (Migrate carrier word) = with_output (with_rule (with_rule app (needed word)) (choice_rule (codes "link") choices.carriers (carrier_name carrier)))
 with_words choices app (Draw topic word further) = with_page (with_further (with_rule app (needed word)) further)
+with_words choices app (Window pages word lines) = with_output (with_lines (with_rule (with_rule (with_rule app (needed word)) (count_rule (codes "FIRST"))) (count_rule (codes "COUNT"))))
 
 -- the command of a row of the table
 abbrev pub command_words : Choices → Text × Asked Text → App
@@ -202,6 +214,27 @@ number_of text = if is_unsigned_in 0 4294967295 text then Some (digits_value 10 
 abbrev pub number_in : Text → List Row → Option ℕ
 number_in option rows = option_and_then number_of (first_of option rows)
 
+-- the number of pages that a text tells, if it does
+abbrev pub count_of : Text → Option ℕ
+count_of text = if is_unsigned_in 0 18446744073709551615 text then Some (digits_value 10 (without_leading_plus text)) else None
+
+-- the number of pages among what was given for a word
+abbrev pub count_in : Text → List Row → Option ℕ
+count_in word rows = option_and_then count_of (first_of word rows)
+
+abbrev pub pages_of : ℕ → ℕ → Pages
+pages_of first count = record { first = first; count = count }
+
+-- the window of these pages of the recording of this name, where all is there, with the file for its lines, if there is one
+abbrev pub window_given : Option Text → Option Text → Option ℕ → Option ℕ → Option (Asked Text)
+window_given lines None first count = None
+window_given lines (Some name) None count = None
+window_given lines (Some name) (Some first) None = None
+window_given lines (Some name) (Some first) (Some count) = Some (Window (pages_of first count) name lines)
+
+abbrev pub window_in : List Row → Text → Option (Asked Text)
+window_in rows word = window_given (first_of (codes "lines") rows) (first_of word rows) (count_in (codes "FIRST") rows) (count_in (codes "COUNT") rows)
+
 -- what is told: the page that is named among what was given, or else this
 abbrev pub page_in : List Row → Topic → Topic
 page_in rows otherwise = unwrap_or (option_map Page (number_in (codes "page") rows)) otherwise
@@ -224,6 +257,14 @@ abbrev pub two_in : List Row → TwoTexts → TwoTexts
 two_in rows (Check asking) = Check (asking_in rows asking)
 two_in rows Replay = Replay
 two_in rows Steps = Steps
+two_in rows (two.Explain explains) = two.Explain explains
+
+-- a command on one text; an explanation is one on two where the file of a recording's lines is named
+abbrev pub told_with : Option Text → OneText → Text → Asked Text
+told_with None task name = One task name
+told_with (Some lines) (Explain explains) name = Two (two.Explain explains) name lines
+told_with (Some lines) (Audit audits) name = One (Audit audits) name
+told_with (Some lines) Certify name = One Certify name
 
 -- what was given for a further word
 abbrev pub further_in : List Row → Option Text → Option Text
@@ -231,10 +272,11 @@ further_in rows word = option_and_then (λ id. first_of id rows) word
 
 -- what a command asks for with the names among what it was given
 abbrev pub given_in : List Row → Asked Text → Option (Asked Text)
-given_in rows (One task word) = option_map (λ name. One (one_in rows task) name) (only_of word rows)
+given_in rows (One task word) = option_map (λ name. told_with (first_of (codes "lines") rows) (one_in rows task) name) (only_of word rows)
 given_in rows (Two task first second) = both_names (two_in rows task) (first_of first rows) (first_of second rows)
 given_in rows (Migrate carrier word) = option_map (λ name. Migrate (carrier_in rows carrier) name) (first_of word rows)
 given_in rows (Draw topic word further) = option_map (λ name. Draw (page_in rows topic) name (further_in rows further)) (first_of word rows)
+given_in rows (Window pages word lines) = window_in rows word
 
 -- what a command and what it was given ask for, by the table
 abbrev pub asked_in : Text × List Row → Option (Asked Text)
@@ -271,7 +313,7 @@ output_named words = option_and_then (λ given. first_of (codes "output") given.
 abbrev pub IsPlainName : Text → Type 0
 IsPlainName name = (name ≡ codes "-") ⊎ ((rest : Text) → name ≢ codes "-" ++ rest)
 
--- a command, where it has so many texts, with their names
+-- a command, where it has so many texts, with their names; of a window nothing is said, since its numbers may be none
 abbrev pub with_names : List Text → Asked Text → Option (Asked Text)
 with_names (name ∷ []) (One task word) = Some (One task name)
 with_names (first ∷ second ∷ []) (Two task word other) = Some (Two task first second)

@@ -97,6 +97,9 @@ pub enum TwoTexts {
     Replay,
     /// The session that events record of a script.
     Steps,
+    /// What happened in a session that is a window, where this is asked, told by the lines of its recording. The second text
+    /// has them.
+    Explain(Explains),
 }
 
 /// What carries the packets of a migration.
@@ -120,6 +123,15 @@ impl Carrier {
     }
 }
 
+/// The pages of a window.
+#[derive(Clone, Copy)]
+pub struct Pages {
+    /// The first page.
+    pub first: u64,
+    /// How many pages there are.
+    pub count: u64,
+}
+
 /// A command, with a word for each of its texts.
 #[derive(Clone, Copy)]
 pub enum Asked<W> {
@@ -129,6 +141,9 @@ pub enum Asked<W> {
     Migrate(Carrier, W),
     /// The picture of a session, of this topic, along runs where these are named.
     Draw(Topic, W, Option<W>),
+    /// The session of these pages of a recording, and which line of the recording each of its lines was, where a file is named
+    /// for them.
+    Window(Pages, W, Option<W>),
 }
 
 /// What the words ask for, with the names of its texts.

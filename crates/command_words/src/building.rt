@@ -2,18 +2,24 @@
 
 ghost use Rattle.std.specs.Prelude.{◌≡◌, IfOk, false};
 ghost use Rattle.command_words.specs.Table.{further_name, row_of};
-ghost use Rattle.command_words.specs.Words.{choice_rule, command_words, flag_rule, line_words, needed, number_rule, program_words, with_all, with_demand, with_format, with_further, with_line, with_one, with_output, with_page, with_quiet, with_two, text_word};
+ghost use Rattle.command_words.specs.Words.{choice_rule, command_words, flag_rule, line_words, needed, number_rule, program_words, with_all, with_demand, with_format, with_further, with_line, with_lines, with_one, with_output, with_page, with_quiet, with_two, count_rule, text_word};
 ghost use Rattle.clap.specs.Words.{app_of, rule_of, with_rule};
 ghost use Rattle.clap.specs.declared.builder.command.Command.TheViews.{out-Command as fields_of};
 
 use crate::asked::{Asked, Form, OneText, TwoTexts};
-use crate::table::{ALL, COMPLETE, FORMAT, LINE, LINK, OUTPUT, PAGE, QUIET, Row, Word, commands};
+use crate::table::{
+    ALL, COMPLETE, COUNT, FIRST, FORMAT, LINE, LINES, LINK, OUTPUT, PAGE, QUIET, Row, Word,
+    commands,
+};
 use clap::builder::ValueParser;
 use clap::{Arg, ArgAction, Command};
 use std::alloc::{AllocError, Global};
 
 /// The greatest number that an option may have.
 const MOST_NUMBER: u64 = 4_294_967_295;
+
+/// The greatest number of pages, or of a page.
+const MOST_PAGES: u64 = 9_223_372_036_854_775_807;
 
 const VERSION: &str = "1.0.0";
 
@@ -41,6 +47,9 @@ const ALL_HELP: &str =
 const PAGE_HELP: &str = "Tells of this page, whether it has a fault or not";
 
 const LINE_HELP: &str = "Tells of the record at this line of the session, and of its page";
+
+const LINES_HELP: &str =
+    "The file of which line of the recording each line of its window was: a window writes it, and explain tells these lines";
 
 const OUTPUT_HELP: &str =
     "Writes the answer to this file, which is there complete or not at all; else to standard output";
@@ -87,6 +96,23 @@ fn with_word<'a>(
     ensures local { IfOk result (λ c. (fields_of c).has_globals ≡ false) }
 {
     let arg = Arg::new(alloc, word.name).required(true).help(word.help);
+    command.arg(arg)
+}
+
+// The command with one more word that has to be there, and tells a number of pages.
+fn with_count<'a>(
+    alloc: Global,
+    command: Command<'a>,
+    word: &Word,
+) -> Result<Command<'a>, AllocError>
+    requires { (fields_of command).has_globals ≡ false }
+    ensures app { IfOk result (λ c. app_of c ≡ with_rule (app_of command.entry) (count_rule word.now.name.now)) }
+    ensures local { IfOk result (λ c. (fields_of c).has_globals ≡ false) }
+{
+    let arg = Arg::new(alloc, word.name)
+        .required(true)
+        .help(word.help)
+        .value_parser(ValueParser::Unsigned(0, MOST_PAGES));
     command.arg(arg)
 }
 
@@ -200,6 +226,19 @@ fn with_line<'a>(alloc: Global, command: Command<'a>) -> Result<Command<'a>, All
     with_number(alloc, command, LINE, LINE_HELP)
 }
 
+// The command with the option that names the file of a recording's lines.
+fn with_lines<'a>(alloc: Global, command: Command<'a>) -> Result<Command<'a>, AllocError>
+    requires { (fields_of command).has_globals ≡ false }
+    ensures app { IfOk result (λ c. app_of c ≡ with_lines (app_of command.entry)) }
+    ensures local { IfOk result (λ c. (fields_of c).has_globals ≡ false) }
+{
+    let arg = Arg::new(alloc, LINES)
+        .long(LINES)
+        .value_name("FILE")
+        .help(LINES_HELP);
+    command.arg(arg)
+}
+
 // The command with the option that names the file of its answer.
 fn with_output<'a>(alloc: Global, command: Command<'a>) -> Result<Command<'a>, AllocError>
     requires { (fields_of command).has_globals ≡ false }
@@ -282,6 +321,7 @@ fn with_one<'a>(
             let command = with_demand(alloc, command)?;
             let command = with_page(alloc, command)?;
             let command = with_line(alloc, command)?;
+            let command = with_lines(alloc, command)?;
             with_format(alloc, command, forms, explains.asking.form)
         }
         OneText::Certify => Ok(command),
@@ -305,7 +345,7 @@ fn with_two<'a>(
             with_format(alloc, command, forms, asking.form)
         }
         TwoTexts::Steps => with_output(alloc, command),
-        TwoTexts::Replay => Ok(command),
+        TwoTexts::Replay | TwoTexts::Explain(_) => Ok(command),
     }
 }
 
@@ -340,6 +380,13 @@ fn command_of<'a>(alloc: Global, choices: Choices<'a>, row: &Row) -> Result<Comm
             let command = with_word(alloc, command, word)?;
             let command = with_further_word(alloc, command, further)?;
             with_page(alloc, command)
+        }
+        Asked::Window(_, word, _) => {
+            let command = with_word(alloc, command, word)?;
+            let command = with_count(alloc, command, &FIRST)?;
+            let command = with_count(alloc, command, &COUNT)?;
+            let command = with_lines(alloc, command)?;
+            with_output(alloc, command)
         }
     }
 }

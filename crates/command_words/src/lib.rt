@@ -7,7 +7,7 @@ mod matching;
 mod table;
 
 pub use asked::{
-    Asked, Asking, Audits, Carrier, Demand, Explains, Faults, Form, Job, OneText, Several, Topic,
-    TwoTexts, Wish,
+    Asked, Asking, Audits, Carrier, Demand, Explains, Faults, Form, Job, OneText, Pages, Several,
+    Topic, TwoTexts, Wish,
 };
 pub use matching::{read_output, read_words};

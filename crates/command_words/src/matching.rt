@@ -3,17 +3,17 @@
 ghost use Rattle.std.specs.Prelude.{◌≡◌, IfOk, IfErr, codes, option_and_then, option_map, true, find};
 ghost use Rattle.std.specs.Str.{bytes_eq};
 ghost use Rattle.command_words.specs.Table.{asked_names, further_name, job_of, several_names, several_of, word_names};
-ghost use Rattle.command_words.specs.Words.{asked, asked_in, asking_in, audits_in, carrier_in, demand_in, explains_in, faults_in, form_in, format_in, further_in, given_in, is_set, number_in, number_of, one_in, only_of, output_named, page_in, postcopy_words, several_among, several_asked, several_found, several_in, shortened, topic_in, two_in, word_texts};
+ghost use Rattle.command_words.specs.Words.{asked, asked_in, asking_in, audits_in, carrier_in, count_in, count_of, demand_in, explains_in, faults_in, form_in, format_in, further_in, given_in, is_set, number_in, number_of, one_in, only_of, output_named, page_in, postcopy_words, several_among, several_asked, several_found, several_in, shortened, told_with, topic_in, two_in, window_in, word_texts};
 ghost use Rattle.clap.specs.Words.{all_of, first_of, found_of, kind_of, rows_of, subcommand_of, subcommand_rows_of, takes};
 
 use crate::asked::{
-    Asked, Asking, Audits, Carrier, Demand, Explains, Faults, Form, Job, OneText, Several, Topic,
-    TwoTexts, Wish,
+    Asked, Asking, Audits, Carrier, Demand, Explains, Faults, Form, Job, OneText, Pages, Several,
+    Topic, TwoTexts, Wish,
 };
 use crate::building::{Choices, command_line};
 use crate::table::{
-    ALL, COMPLETE, FORMAT, LINE, LINK, OUTPUT, PAGE, PLAIN_AUDIT, QUIET, Row, SESSION, Word,
-    carrier_named, carrier_names, commands, form_named, form_names,
+    ALL, COMPLETE, COUNT, FIRST, FORMAT, LINE, LINES, LINK, OUTPUT, PAGE, PLAIN_AUDIT, QUIET, Row,
+    SESSION, Word, carrier_named, carrier_names, commands, form_named, form_names,
 };
 use clap::ArgMatches;
 use clap::builder::ValueParser;
@@ -155,6 +155,34 @@ fn number_given(option: &str, matches: &ArgMatches<'_>) -> Option<u32>
     }
 }
 
+// The number of pages that a text tells, if it does.
+fn count_of(text: &str) -> Option<u64>
+    ensures { result ≡ count_of text.now }
+{
+    text.parse::<u64>().ok()
+}
+
+// The number of pages that was given for a word.
+fn count_given(word: &str, matches: &ArgMatches<'_>) -> Option<u64>
+    ensures { result ≡ count_in word.now (rows_of (found_of matches.now)) }
+{
+    match name_given(word, matches) {
+        Some(text) => count_of(text),
+        None => None,
+    }
+}
+
+// The window that was given.
+fn window_given<'a>(word: &Word, matches: &ArgMatches<'a>) -> Option<Job<'a>>
+    ensures { option_map asked_names result ≡ window_in (rows_of (found_of matches.now)) word.now.name.now }
+{
+    let name = name_given(word.name, matches)?;
+    let first = count_given(FIRST.name, matches)?;
+    let count = count_given(COUNT.name, matches)?;
+    let lines = name_given(LINES, matches);
+    Some(Asked::Window(Pages { first, count }, name, lines))
+}
+
 // What is told: the page that an option names, or else this.
 fn page_given(otherwise: Topic, matches: &ArgMatches<'_>) -> Topic
     ensures { result ≡ page_in (rows_of (found_of matches.now)) otherwise }
@@ -202,7 +230,19 @@ fn two_given(task: TwoTexts, matches: &ArgMatches<'_>) -> TwoTexts
 {
     match task {
         TwoTexts::Check(asking) => TwoTexts::Check(asking_given(asking, matches)),
-        TwoTexts::Replay | TwoTexts::Steps => task,
+        TwoTexts::Replay | TwoTexts::Steps | TwoTexts::Explain(_) => task,
+    }
+}
+
+// A command on one text; an explanation is one on two where the file of a recording's lines is named.
+fn told_with<'a>(lines: Option<&'a str>, task: OneText, name: &'a str) -> Job<'a>
+    ensures { asked_names result ≡ told_with (option_map (λ name. name.now) lines.entry) task name.now }
+{
+    match (task, lines) {
+        (OneText::Explain(explains), Some(lines)) => {
+            Asked::Two(TwoTexts::Explain(explains), name, lines)
+        }
+        _ => Asked::One(task, name),
     }
 }
 
@@ -223,7 +263,8 @@ fn given<'a>(asks: &Asked<Word>, matches: &ArgMatches<'a>) -> Option<Job<'a>>
     match asks {
         Asked::One(task, word) => {
             let name = only_given(word.name, matches)?;
-            Some(Asked::One(one_given(*task, matches), name))
+            let lines = name_given(LINES, matches);
+            Some(told_with(lines, one_given(*task, matches), name))
         }
         Asked::Two(task, first, second) => {
             let first = name_given(first.name, matches)?;
@@ -239,6 +280,7 @@ fn given<'a>(asks: &Asked<Word>, matches: &ArgMatches<'a>) -> Option<Job<'a>>
             let further = further_given(further, matches);
             Some(Asked::Draw(page_given(*topic, matches), name, further))
         }
+        Asked::Window(_, word, _) => window_given(word, matches),
     }
 }
 

@@ -4,7 +4,7 @@ ghost use Rattle.std.specs.Prelude.{◌≡◌, map};
 ghost use Rattle.command_words.specs.Table.{carriers, carrier_name, carrier_named, form_name, form_named, forms, rows_of, table};
 
 use crate::asked::{
-    Asked, Asking, Audits, Carrier, Demand, Explains, Faults, Form, OneText, Topic, TwoTexts,
+    Asked, Asking, Audits, Carrier, Demand, Explains, Faults, Form, OneText, Pages, Topic, TwoTexts,
 };
 
 /// A word of the command line that names a text.
@@ -51,6 +51,23 @@ const EVENTS: Word = Word {
     help: "The file of a list of events; - is standard input",
 };
 
+const RECORDING: Word = Word {
+    name: "RECORDING",
+    help: "The recording's file, of any size. It is read four times, so it cannot be -",
+};
+
+/// The word for the first page of a window.
+pub const FIRST: Word = Word {
+    name: "FIRST",
+    help: "The first page",
+};
+
+/// The word for how many pages a window has.
+pub const COUNT: Word = Word {
+    name: "COUNT",
+    help: "How many pages",
+};
+
 /// The option that names what carries a migration.
 pub const LINK: &str = "link";
 
@@ -72,6 +89,9 @@ pub const PAGE: &str = "page";
 /// The option that names a line of a session's text.
 pub const LINE: &str = "line";
 
+/// The option that names the file of which line of a recording each line of its window was.
+pub const LINES: &str = "lines";
+
 /// The option that names the file that an answer goes to.
 pub const OUTPUT: &str = "output";
 
@@ -86,6 +106,9 @@ pub const PLAIN_AUDIT: Audits = Audits {
     asking: PLAIN,
     faults: Faults::First,
 };
+
+/// The pages of a window, in the place of those that its words tell.
+const NO_PAGES: Pages = Pages { first: 0, count: 0 };
 
 static FORMS: [Form; 2] = [Form::Text, Form::Json];
 
@@ -126,7 +149,7 @@ pub fn carrier_named(name: &str) -> Option<Carrier>
         .copied()
 }
 
-static COMMANDS: [Row; 8] = [
+static COMMANDS: [Row; 9] = [
     Row {
         name: "check",
         about: "Judges the certificate of a session, as in: postcopy check session cert",
@@ -172,6 +195,11 @@ static COMMANDS: [Row; 8] = [
         name: "draw",
         about: "Writes a picture of a session's records, in the order of its report or along runs, as in: postcopy draw session > picture.svg",
         asked: Asked::Draw(Topic::Report, SESSION, Some(RUNS)),
+    },
+    Row {
+        name: "window",
+        about: "Writes the session of some pages of a recording, as in: postcopy window recording 4096 1024 > session",
+        asked: Asked::Window(NO_PAGES, RECORDING, None),
     },
 ];
 

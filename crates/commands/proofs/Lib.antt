@@ -3,3 +3,4 @@ pub mod Judged
 pub mod Recorded
 pub mod Drawn
 pub mod Beside
+pub mod Lined

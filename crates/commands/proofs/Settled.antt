@@ -6,7 +6,7 @@ use Rattle.std.proofs.KnownBytes.{Keeps-refl}
 use Rattle.clap.specs.Words.{Text}
 use Rattle.clap.specs.declared.error.kind.ErrorKind.{ErrorKind}
 use Rattle.command_words.specs.declared.asked.Asked.{Asked}
-use Rattle.command_words.specs.declared.asked.Asked.TheVariants.{One, Two, Migrate, Draw}
+use Rattle.command_words.specs.declared.asked.Asked.TheVariants.{One, Two, Migrate, Draw, Window}
 use Rattle.command_words.specs.declared.asked.Audits.{Audits}
 use Rattle.command_texts.specs.declared.answer.Fault.{Fault}
 use Rattle.command_texts.specs.declared.answer.Fault.TheVariants.{Output, Memory}
@@ -40,6 +40,7 @@ starved (Two task first second) files input old new status h = inr record { faul
 starved (Migrate carrier name) files input old new status h = inr record { fault = Memory; is_status = h.is_status; before = old.1; ends = record { is_fault = tt; output = h.output; errors = Keeps-refl old.1 }; told = h.errors }
 starved (Draw topic name None) files input old new status h = inr record { fault = Memory; is_status = h.is_status; before = old.1; ends = record { is_fault = tt; output = h.output; errors = Keeps-refl old.1 }; told = h.errors }
 starved (Draw topic name (Some second)) files input old new status h = inr record { fault = Memory; is_status = h.is_status; before = old.1; ends = record { is_fault = tt; output = h.output; errors = Keeps-refl old.1 }; told = h.errors }
+starved (Window pages name lines) files input old new status h = inr record { fault = Memory; is_status = h.is_status; before = old.1; ends = record { is_fault = tt; output = h.output; errors = Keeps-refl old.1 }; told = h.errors }
 
 pub starved_several : (several : Audits × List Text) (files : List ℕ → Option (List ℕ)) (old new : Streams) (status : ℕ) → IsStarved old new status → IsSettled (EndsSeveral several files old) new status
 starved_several several files old new status h = inr record { fault = Memory; is_status = h.is_status; before = old.1; ends = record { is_fault = tt; gains = (kept_gains old.0 new.0 h.output, same_gains old.1) }; told = h.errors }

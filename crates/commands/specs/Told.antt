@@ -1,7 +1,10 @@
 -- What the program tells of the texts that the words name.
-use Rattle.std.specs.Prelude.{◌≡◌, ◌<◌, ◌⊎◌, ℕ, List, Option, Some, None, Result, Ok, Err, MatchResult, codes}
+use Rattle.std.specs.Prelude.{◌≡◌, ◌<◌, ◌⊎◌, ℕ, List, Option, Some, None, Result, Ok, Err, MatchResult, codes, is_some, option_and_then}
 use Rattle.command_words.specs.declared.asked.Asked.{Asked}
-use Rattle.command_words.specs.declared.asked.Asked.TheVariants.{One, Two, Migrate, Draw}
+use Rattle.command_words.specs.declared.asked.Asked.TheVariants.{One, Two, Migrate, Draw, Window}
+use Rattle.command_words.specs.declared.asked.Pages.{Pages}
+use Rattle.window_cut.specs.declared.pages.Window.{Window as CutWindow}
+use Rattle.window_commands.specs.Windows.{EndsWindow}
 use Rattle.command_words.specs.declared.asked.Demand.{Demand}
 use Rattle.command_words.specs.declared.asked.Demand.TheVariants.{Safety, Completeness}
 use Rattle.command_words.specs.declared.asked.Form.{Form}
@@ -14,6 +17,11 @@ use Rattle.command_words.specs.declared.asked.OneText.{OneText}
 use Rattle.command_words.specs.declared.asked.OneText.TheVariants.{Certify, Audit, Explain}
 use Rattle.command_words.specs.declared.asked.TwoTexts.{TwoTexts}
 use Rattle.command_words.specs.declared.asked.TwoTexts.TheVariants.{Check, Replay, Steps}
+use Rattle.command_words.specs.declared.asked.TwoTexts.TheVariants as two
+use Rattle.line_table.specs.Tables.{SpellsTable}
+use Rattle.window_commands.specs.declared.relining.LinesIn.{LinesIn}
+use Rattle.window_commands.specs.declared.relining.LinesIn.TheVariants.{Words, Object}
+use Rattle.window_commands.specs.Relining.{IsRelinedAnswer}
 use Rattle.command_words.specs.declared.asked.Topic.{Topic as Named}
 use Rattle.command_words.specs.declared.asked.Topic.TheVariants as named
 use Rattle.session_story.specs.declared.topics.Topic.{Topic}
@@ -111,11 +119,22 @@ IsOneAnswer (Explain explains) session = IsExplained explains.asking.demand expl
 abbrev pub IsChecked : Asking → List ℕ × List ℕ → List ℕ → ℕ → Type 0
 IsChecked asking texts = IsDemanded asking.demand (TellsLack asking.form) (IsCheckIn asking.form texts) texts.0
 
+-- where `explain` tells lines in this form
+abbrev pub lines_in : Form → LinesIn
+lines_in Text = Words
+lines_in Line = Words
+lines_in Json = Object
+
+-- the answer of `explain`, as this is asked, with its lines told by the table that a second text spells
+abbrev pub IsRetold : Demand → Form → Topic → List ℕ × List ℕ → List ℕ → ℕ → Type 0
+IsRetold demand form topic = IsRelinedAnswer (IsExplained demand form topic) (lines_in form)
+
 -- the answer of a command on two texts
 abbrev pub IsTwoAnswer : TwoTexts → List ℕ × List ℕ → List ℕ → ℕ → Type 0
 IsTwoAnswer (Check asking) texts = IsChecked asking texts
 IsTwoAnswer Replay texts = IsReplayAnswer texts.0 texts.1
 IsTwoAnswer Steps texts = IsStepsAnswer texts.0 texts.1
+IsTwoAnswer (two.Explain explains) texts = IsRetold explains.asking.demand explains.asking.form (told_topic explains.topic) texts
 
 -- the answer where there are no words: the one of `check` that no option changes
 abbrev pub IsPlainCheck : List ℕ × List ℕ → List ℕ → ℕ → Type 0
@@ -145,6 +164,7 @@ abbrev pub IsBesideTwo : TwoTexts → List ℕ → List ℕ → List ℕ × List
 IsBesideTwo (Check asking) = TellsBeside (IsRefusedAt SpellsSession) (IsRefusedAt SpellsCert) AddsMisfitOf
 IsBesideTwo Replay = TellsBeside (IsRefusedAt SpellsSession) (IsRefusedAt SpellsOrder) AddsNothing
 IsBesideTwo Steps = TellsBeside (IsRefusedAt SpellsScript) (IsRefusedAt SpellsEvents) AddsNothing
+IsBesideTwo (two.Explain explains) = TellsBeside (IsRefusedAt SpellsSession) (IsRefusedAt SpellsTable) AddsNothing
 
 -- the faults of a command on the text under a name, and on the texts under two
 abbrev pub IsFaultOf : List ℕ → Fault → Type 0
@@ -152,6 +172,21 @@ IsFaultOf name = IsTextFault (λ n. n ≡ name)
 
 abbrev pub IsFaultOfTwo : List ℕ → List ℕ → Fault → Type 0
 IsFaultOfTwo first second = IsTextFault (λ n. (n ≡ first) ⊎ (n ≡ second))
+
+-- the pages that a window has
+abbrev pub window_of : Pages → CutWindow
+window_of pages = record { first = pages.first; count = pages.count }
+
+-- the file for the lines of a window, where one is asked for
+abbrev pub lines_file_of : Asked (List ℕ) → Option (List ℕ)
+lines_file_of (Window pages name lines) = lines
+lines_file_of (One task name) = None
+lines_file_of (Two task first second) = None
+lines_file_of (Migrate carrier name) = None
+lines_file_of (Draw topic name further) = None
+
+abbrev pub lines_file : Option (Asked (List ℕ)) → Option (List ℕ)
+lines_file asked = option_and_then lines_file_of asked
 
 -- what a command asks for was told of the texts under its names, or it came to a fault
 abbrev pub EndsAsked : Asked (List ℕ) → (List ℕ → Option (List ℕ)) → Option (List ℕ) → Streams → Streams → Result ℕ Fault → Type 0
@@ -165,6 +200,7 @@ EndsAsked (Draw topic name None) files input =
     Ends (IsFaultOf name) (IsNamed name files input) (IsDrawAnswer (told_topic topic)) (TellsWhyOf (IsRefusedAt SpellsSession) Short name)
 EndsAsked (Draw topic first (Some second)) files input =
     Ends (IsFaultOfTwo first second) (AreNamed first second files input) (IsDrawAlongAnswer (told_topic topic)) (TellsBeside (IsRefusedAt SpellsSession) (IsRefusedAt SpellsOrder) AddsNothing first second)
+EndsAsked (Window pages name lines) files input = EndsWindow (window_of pages) (is_some lines) name files
 
 -- something came to a fault, which the errors tell then, with its status
 pub record TellsFault (EndsSo : Streams → Result ℕ Fault → Type 0) (new : Streams) (status : ℕ) : Type 0 where

@@ -1,6 +1,6 @@
 //! Who answers to what is asked: an arm for each command.
 
-ghost use Rattle.std.specs.Prelude.{◌≡◌, ◌⊎◌, ◌<◌, IfOk};
+ghost use Rattle.std.specs.Prelude.{◌≡◌, ◌⊎◌, ◌<◌, IfOk, is_some};
 ghost use Rattle.script_text.specs.Scripts.{SpellsScript};
 ghost use Rattle.command_words.specs.Table.{asked_names};
 ghost use Rattle.command_texts.specs.declared.why.Telling.TheVariants.{Short};
@@ -9,15 +9,17 @@ ghost use Rattle.command_texts.specs.Reasons.{IsRefusedAt, TellsWhyOf};
 ghost use Rattle.command_texts.specs.Told.{AreNamed, Ends, IsNamed};
 ghost use Rattle.command_texts.specs.Written.{BothGain};
 ghost use Rattle.host_commands.specs.Migrations.{IsMigrateAnswer};
-ghost use Rattle.commands.specs.Told.{EndsAsked, IsBesideOne, IsBesideTwo, IsOneAnswer, IsTwoAnswer};
+ghost use Rattle.window_commands.specs.Windows.{EndsWindow};
+ghost use Rattle.commands.specs.Told.{EndsAsked, IsBesideOne, IsBesideTwo, IsOneAnswer, IsTwoAnswer, window_of};
 
 use crate::drawing::{DrawAlongCommand, DrawCommand};
 use crate::judging::{asked_audit, asked_check, asked_explain};
+use crate::retelling::asked_retold;
 use crate::topics::told_topic;
 use command_texts::{
     Fault, Gathered, Telling, TextSource, perform_one, perform_two, read_named, tell_why, written,
 };
-use command_words::{Asked, Carrier, Job, OneText, Topic, TwoTexts};
+use command_words::{Asked, Carrier, Job, OneText, Pages, Topic, TwoTexts};
 use host_commands::{StepsCommand, migrate_read};
 use judge_commands::{AuditCommand, ReplayCommand};
 use judged_texts::Wanted;
@@ -27,6 +29,8 @@ use std::io::{Read, Write};
 use std::net::{Net, TcpListener, TcpStream};
 use std::sync::Wait;
 use std::thread::Threads;
+use window_commands::perform_window;
+use window_cut::Window;
 
 // Does a command on the text under a name.
 fn asked_one<'a, R: Threads + Sync, S: TextSource, I: Read + Send, O: Write, E: Write>(
@@ -104,6 +108,9 @@ fn asked_two<'a, R: Threads + Sync, S: TextSource, I: Read + Send, O: Write, E: 
             output,
             errors,
         ),
+        TwoTexts::Explain(explains) => asked_retold(
+            rt, alloc, explains, first, second, texts, input, output, errors,
+        ),
     }
 }
 
@@ -180,6 +187,28 @@ fn asked_draw<'a, R: Threads + Sync, S: TextSource, I: Read + Send, O: Write, E:
     }
 }
 
+// Cuts the window of these pages out of the recording under a name, with its lines where a file is named for them.
+fn asked_window<'a, S: TextSource, O: Write, E: Write>(
+    alloc: Global,
+    pages: Pages,
+    name: &'a str,
+    lines: Option<&'a str>,
+    texts: &S,
+    output: &mut O,
+    errors: &E,
+) -> Result<u8, Fault<'a>>
+    ensures few { IfOk result (λ status. status < 2) }
+    ensures told { EndsWindow (window_of pages) (is_some lines.entry) name.entry.now (S.bytes_of texts.now) (O.contents output.old, E.contents errors.now) (O.contents output.new, E.contents errors.now) result }
+    ensures gains { BothGain (O.contents output.old, E.contents errors.now) (O.contents output.new, E.contents errors.now) }
+{
+    let window = Window {
+        first: pages.first,
+        count: pages.count,
+    };
+    let _ = errors;
+    perform_window(alloc, window, lines.is_some(), name, texts, output)
+}
+
 /// Does what the words ask for.
 pub fn perform<
     'a,
@@ -212,5 +241,8 @@ pub fn perform<
         Asked::Draw(topic, name, further) => asked_draw(
             rt, alloc, topic, name, further, texts, input, output, errors,
         ),
+        Asked::Window(pages, name, lines) => {
+            asked_window(alloc, pages, name, lines, texts, output, errors)
+        }
     }
 }

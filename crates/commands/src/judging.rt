@@ -56,8 +56,8 @@ fn demanded_one<
     }
 }
 
-// Does one of two commands on the texts under two names: the second where a complete session is asked for.
-fn demanded_two<
+/// Does one of two commands on the texts under two names: the second where a complete session is asked for.
+pub(crate) fn demanded_two<
     'a,
     A: OnTwo,
     B: OnTwo,

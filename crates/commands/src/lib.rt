@@ -6,8 +6,9 @@ mod drawing;
 mod judging;
 mod laws;
 mod program;
+mod retelling;
 mod several;
 mod topics;
 
 pub use laws::{migrations_are_judged_yes, recorded_sessions_are_clean};
-pub use program::{output_named, run};
+pub use program::{lines_named, output_named, run};

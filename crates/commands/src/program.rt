@@ -8,13 +8,13 @@ ghost use Rattle.command_words.specs.Words.{IsPlain, asked, asked_by, output_nam
 ghost use Rattle.command_texts.specs.Answers.{fault_line, fault_status};
 ghost use Rattle.command_texts.specs.Written.{AppendsFront, BothGain, Gains};
 ghost use Rattle.commands.specs.Refused.{IsRefusalOf, IsStarved};
-ghost use Rattle.commands.specs.Told.{EndsAsked, EndsBare, EndsSeveral, IsFaultTold, IsSettled};
+ghost use Rattle.commands.specs.Told.{EndsAsked, EndsBare, EndsSeveral, IsFaultTold, IsSettled, lines_file};
 
 use crate::answering::perform;
 use crate::several::asked_several;
 use clap::error::ErrorKind;
 use command_texts::{ACCEPTED, Fault, TextSource, USAGE, perform_two, tell, write_whole};
-use command_words::{Wish, read_output, read_words};
+use command_words::{Asked, Wish, read_output, read_words};
 use judge_commands::{CheckCommand, InLine};
 use std::alloc::{AllocError, Global};
 use std::io::{Read, Write};
@@ -205,6 +205,17 @@ pub fn run<
         Ok(Some(wish)) => grant(rt, alloc, wish, texts, input, output, errors),
         Ok(None) => check_bare(rt, alloc, texts, input, output, errors),
         Err(error) => refuse(alloc, &error, output, errors),
+    }
+}
+
+/// The file that the words name for the lines of a window, where they ask for a window. The answer has them after the session.
+/// None also where memory for reading the words ran out, which [`run`] tells.
+pub fn lines_named<'a>(alloc: Global, words: &'a [&'a str]) -> Option<&'a str>
+    ensures { IfSome result (λ name. lines_file (asked (word_texts words.entry.now)) ≡ Some name.now) }
+{
+    match read_words(alloc, words) {
+        Ok(Some(Wish::Job(Asked::Window(_, _, lines)))) => lines,
+        _ => None,
     }
 }
 

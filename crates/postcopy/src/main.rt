@@ -4,20 +4,21 @@
 //! of a session, `audit SESSION` the report on it, `explain SESSION` in words what the report's first line comes from, and
 //! `replay SESSION RUNS` what becomes of a merging. `draw SESSION` draws a session's records. `steps SCRIPT EVENTS` writes the
 //! session that events record of a script, and `migrate SCRIPT` migrates the script's guest in threads and writes the session
-//! that was recorded, and its certificate after it; with `-o FILE` these two write a file. A file named `-` is standard input;
+//! that was recorded, and its certificate after it; `window RECORDING FIRST COUNT` writes the session of some pages of a recording
+//! of any size. With `-o FILE` these three write a file. A file named `-` is standard input;
 //! where two are, the first text ends with the first line `end`. With no word it does `check - -`. The status is 0 where all is
 //! well, 1 for another answer, 2 for words that are no command, 3 for a file, a link or an output that failed, and 4 where
 //! memory ran out. Standard error tells what failed, why a text is refused, and what of a certificate does not fit. An output
 //! whose reader goes away, as `head` does, has not failed: the rest is dropped.
 #![tactic(auto)]
 
-ghost use Rattle.std.specs.Prelude.{◌≤◌};
+ghost use Rattle.std.specs.Prelude.{◌≤◌, length};
 
 mod saving;
 
 use crate::saving::save;
 use command_texts::{ACCEPTED, Closable, Fault, TextSource, USAGE, tell};
-use commands::{output_named, run};
+use commands::{lines_named, output_named, run};
 use std::alloc::{AllocError, Global};
 use std::io::{ErrorKind, Input, Write};
 use std::net::{Net, TcpListener, TcpStream};
@@ -26,6 +27,9 @@ use std::rt::{Env, Files};
 use std::sync::Wait;
 use std::thread::Threads;
 use std::{env, fs, io};
+
+/// The closing line of a text, with the line feeds around it.
+const END: &[u8] = b"\nend\n";
 
 /// The files of the system.
 #[derive(Drop)]
@@ -80,6 +84,67 @@ where
     run(rt, alloc, words, &files, &mut rt.reader(), output, errors)
 }
 
+// Puts a text into the file of this name, or else to the output.
+fn put<R: Files, O: Write>(
+    rt: &R,
+    alloc: Global,
+    name: Option<&str>,
+    text: &[u8],
+    output: &mut O,
+) -> io::Result<()> {
+    match name {
+        Some(name) => save(rt, alloc, name, text),
+        None => output.write_all(text),
+    }
+}
+
+// The status once an answer was put where it goes: its own, or that of a fault, which is told.
+fn settled<E: Write>(put: io::Result<()>, status: u8, errors: &mut E) -> u8 {
+    match put {
+        Ok(()) => status,
+        Err(error) if error.kind() == ErrorKind::OutOfMemory => tell(Fault::Memory, errors),
+        Err(_) => tell(Fault::Output, errors),
+    }
+}
+
+// The place after the session that a text begins with, where one does: after its closing line.
+fn end_of_session(text: &[u8]) -> usize
+    ensures { result ≤ length text.now }
+{
+    match text.windows(END.len()).position(|bytes| bytes == END) {
+        Some(at) => text.len().min(at.saturating_add(END.len())),
+        None => text.len(),
+    }
+}
+
+// Answers to the words, which ask for a window. Where all is well its session goes to the file of the second name, if there is
+// one, and its lines to that of the first.
+fn answer_lined<R, O: Write, E: Write>(
+    rt: &R,
+    alloc: Global,
+    words: &[&str],
+    lines: &str,
+    name: Option<&str>,
+    output: &mut O,
+    errors: &mut E,
+) -> u8
+where
+    R: Threads + Wait + Sync + Net<Listener = TcpListener, Stream = TcpStream> + Files + Input,
+    R::File: Send,
+    R::Reader: Send,
+{
+    let mut text = Vec::new(alloc);
+    let status = answer(rt, alloc, words, &mut text, errors);
+    if status != ACCEPTED {
+        return settled(output.write_all(text.as_slice()), status, errors);
+    }
+    let (session, table) = text.as_slice().split_at(end_of_session(text.as_slice()));
+    match save(rt, alloc, lines, table) {
+        Ok(()) => settled(put(rt, alloc, name, session, output), status, errors),
+        Err(error) => settled(Err(error), status, errors),
+    }
+}
+
 // Answers to the words. Where all is well the answer goes to the file of this name, and else to the output.
 fn answer_into<R, O: Write, E: Write>(
     rt: &R,
@@ -96,16 +161,12 @@ where
 {
     let mut text = Vec::new(alloc);
     let status = answer(rt, alloc, words, &mut text, errors);
-    let put = if status == ACCEPTED {
-        save(rt, alloc, name, text.as_slice())
-    } else {
-        output.write_all(text.as_slice())
-    };
-    match put {
-        Ok(()) => status,
-        Err(error) if error.kind() == ErrorKind::OutOfMemory => tell(Fault::Memory, errors),
-        Err(_) => tell(Fault::Output, errors),
-    }
+    let file = if status == ACCEPTED { Some(name) } else { None };
+    settled(
+        put(rt, alloc, file, text.as_slice(), output),
+        status,
+        errors,
+    )
 }
 
 fn main(rt: HostRuntime) -> ExitCode {
@@ -120,9 +181,12 @@ fn main(rt: HostRuntime) -> ExitCode {
     };
     let words = words.as_slice();
     let mut output = Closable::new(rt.stdout());
-    let status = match output_named(alloc, words) {
-        Some(name) => answer_into(&rt, alloc, words, name, &mut output, &mut errors),
-        None => answer(&rt, alloc, words, &mut output, &mut errors),
+    let status = match (lines_named(alloc, words), output_named(alloc, words)) {
+        (Some(lines), name) => {
+            answer_lined(&rt, alloc, words, lines, name, &mut output, &mut errors)
+        }
+        (None, Some(name)) => answer_into(&rt, alloc, words, name, &mut output, &mut errors),
+        (None, None) => answer(&rt, alloc, words, &mut output, &mut errors),
     };
     ExitCode::from(status)
 }

@@ -1,0 +1,16 @@
+use Rattle.std.proofs.Common.{subst}
+use Rattle.text_lines.specs.Text.{IsRefusalLine}
+use Rattle.recordings.specs.Recordings.{SpellsRecording}
+use Rattle.command_texts.proofs.Said.{given_holds}
+use Rattle.window_cut.specs.declared.faults.CutFault.TheVariants.{Recording}
+use Rattle.window_cut.specs.Cuts.{IsTold}
+use Rattle.window_commands.specs.Windows.{IsWindowAnswer, RecordingText}
+use Rattle.window_commands.proofs.Told.{windowed_told}
+use Rattle.window_commands.proofs.windowing.unread.Goals as goal
+
+pub returns-in-Line-clause-told : goal.returns-in-Line-clause-told
+returns-in-Line-clause-told c = λ window recording fault lined.
+    let refused = subst (λ f. IsTold window recording (Recording f)) c.in-Line.is fault in
+    given_holds (λ a. IsWindowAnswer window lined recording a.text.items a.status) c.refused_at.result c.given.result
+    (windowed_told window lined recording (RecordingText c.in-Line.line) c.refused_at.result (subst (λ text. IsRefusalLine SpellsRecording text c.in-Line.line) refused.is_known refused.refused) c.refused_at.ensures)
+    c.given.ensures.given

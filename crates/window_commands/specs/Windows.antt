@@ -1,0 +1,57 @@
+-- What becomes of a recording of which a window is asked for.
+use Rattle.std.specs.Prelude.{◌≡◌, ℕ, Bool, true, false, List, [], ◌∷◌, ◌++◌, Option, Result, IfSome, codes}
+use Rattle.std.specs.Io.KnownBytes.{Keeps}
+use Rattle.text_lines.specs.Text.{IsRefusalLine}
+use Rattle.line_table.specs.Tables.{table_text}
+use Rattle.recordings.specs.Recordings.{SpellsRecording}
+use Rattle.window_cut.specs.declared.pages.Window.{Window}
+use Rattle.window_cut.specs.declared.session.WindowText.{WindowText}
+use Rattle.window_cut.specs.Cuts.{IsCutOf, IsOutside}
+use Rattle.command_texts.specs.declared.answer.Fault.{Fault}
+use Rattle.command_texts.specs.Answers.{IsAnswer, IsTextFault, numbered}
+use Rattle.command_texts.specs.Told.{Ends}
+use Rattle.command_texts.specs.Written.{Streams}
+
+-- a text is refused at this line, its machine has not these pages, or this is their session, with the lines of the recording
+-- that its lines are
+pub data Windowed : Type 0 where
+  RecordingText : ℕ → Windowed
+  NoSuchPages : Windowed
+  Seen : WindowText → Windowed
+
+-- what becomes of the text of a recording
+abbrev pub IsWindowed : Window → List ℕ → Windowed → Type 0
+IsWindowed w recording (RecordingText line) = IsRefusalLine SpellsRecording recording line
+IsWindowed w recording NoSuchPages = IsOutside w recording
+IsWindowed w recording (Seen cut) = IsCutOf w recording cut
+
+-- the lines stand behind the session, where they are asked for
+abbrev pub with_lines : Bool → List ℕ → List ℕ → List ℕ
+with_lines false text lines = text
+with_lines true text lines = text ++ table_text lines
+
+abbrev pub windowed_text : Bool → Windowed → List ℕ
+windowed_text lined (RecordingText line) = numbered (codes "recording-text line ") line
+windowed_text lined NoSuchPages = codes "no-such-pages\n"
+windowed_text lined (Seen cut) = with_lines lined cut.text.items cut.lines.items
+
+abbrev pub windowed_status : Windowed → ℕ
+windowed_status (RecordingText line) = 1
+windowed_status NoSuchPages = 1
+windowed_status (Seen cut) = 0
+
+-- the answer of `window`
+abbrev pub IsWindowAnswer : Window → Bool → List ℕ → List ℕ → ℕ → Type 0
+IsWindowAnswer w lined recording = IsAnswer (IsWindowed w recording) (windowed_text lined) windowed_status
+
+-- nothing is told beside it
+abbrev pub TellsNothing : List ℕ → Option (List ℕ) → Option (List ℕ) → Type 0
+TellsNothing recording old new = Keeps old new
+
+-- a text that was read under a name, of any length: where it is known what stands there, it is that
+abbrev pub IsReadUnder : List ℕ → (List ℕ → Option (List ℕ)) → List ℕ → Type 0
+IsReadUnder name files text = IfSome (files name) (λ xs. text ≡ xs)
+
+-- the answer of `window` to what stands under a name was told, or it came to a fault
+abbrev pub EndsWindow : Window → Bool → List ℕ → (List ℕ → Option (List ℕ)) → Streams → Streams → Result ℕ Fault → Type 0
+EndsWindow w lined name files = Ends (IsTextFault (λ n. n ≡ name)) (IsReadUnder name files) (IsWindowAnswer w lined) TellsNothing
