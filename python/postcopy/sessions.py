@@ -57,13 +57,26 @@ class Session:
                 f"{self.pages} pages of {self.cells} cells are too many: a session has at most {MOST_PAGES} pages, {MOST_CELLS} cells a page "
                 f"and {MOST_IN_ALL} cells in all; a window shows some of the pages"
             )
+        return "".join(self.lines())
+
+    def lines(self) -> Iterator[str]:
+        """The lines of the text, each with its line feed, of a machine and of logs of any size: those of a recording, of which the
+        program's command `window` cuts sessions. Raises ValueError where a page has more cells than one may have."""
+        if self.cells > MOST_CELLS:
+            raise ValueError(f"{self.cells} cells are too many: a page has at most {MOST_CELLS}")
         version = self.version()
-        lines = [f"postcopy-session {version}", f"pages {self.pages}", f"cells {self.cells}", f"init {len(self.initial)}"]
-        lines += [f"page {page} {self.initial[page]}" for page in sorted(self.initial)]
+        yield f"postcopy-session {version}\n"
+        yield f"pages {self.pages}\n"
+        yield f"cells {self.cells}\n"
+        yield f"init {len(self.initial)}\n"
+        for page in sorted(self.initial):
+            yield f"page {page} {self.initial[page]}\n"
         for log in LOGS:
             if log != "lane" or version == 2:
-                lines += [f"{log} {len(self.logs[log])}", *map(spelled, self.logs[log])]
-        return "\n".join([*lines, "end", ""])
+                yield f"{log} {len(self.logs[log])}\n"
+                for record in self.logs[log]:
+                    yield f"{spelled(record)}\n"
+        yield "end\n"
 
     def deliver(self) -> None:
         """Makes the logs of the link and the lane where those who received wrote which message came.
@@ -114,7 +127,7 @@ class Session:
     def window(self, first: int, last: int) -> "Session":
         """The session seen through some of its pages, which are numbered from 0: what tells of another page is left out, and
         what names such a record. A look tells of the newest placement that is kept, and goes where an earlier one told as much.
-        No record of this session names one that is not there."""
+        The version stays. No record of this session names one that is not there."""
         return next(self._seen(first, last - first + 1, last + 1))
 
     def windows(self, size: int) -> Iterator["Session"]:
@@ -127,7 +140,7 @@ class Session:
         def window_of(page: int) -> int:
             return (page - first) // size if first <= page < end else _NONE
 
-        homes = self._homes(window_of)
+        homes, is_second = self._homes(window_of), self.version() == 2
         kept = {log: _by_home(homes[log]) for log in LOGS}
         looks = self._looks(homes["pager"])
         initial: Dict[int, Dict[int, str]] = {}
@@ -137,10 +150,12 @@ class Session:
             numbers = {log: sorted(kept[log].get(_ALL, []) + kept[log].get(window, [])) for log in LOGS}
             seen = looks.get(window, {})
             numbers["guest"] = sorted(numbers["guest"] + list(seen))
-            yield self._of_records(numbers, seen, start, min(size, end - start), initial.get(window, {}))
+            logs = self._renumbered(numbers, seen, start)
+            pages = {page - start: contents for page, contents in initial.get(window, {}).items()}
+            yield Session(min(size, end - start), self.cells, pages, logs, is_second)
 
-    def _of_records(self, kept: Dict[str, List[int]], looks: Dict[int, int], first: int, pages: int, initial: Dict[int, str]) -> "Session":
-        """The session of these records and looks, told by their numbers; a look tells of this placement."""
+    def _renumbered(self, kept: Dict[str, List[int]], looks: Dict[int, int], first: int) -> Dict[str, List[Record]]:
+        """These records and looks, told by their numbers, with their pages numbered from this one on; a look tells of this placement."""
         places = {log: {number: place for place, number in enumerate(kept[log])} for log in LOGS}
 
         def moved(log: str, number: int) -> Record:
@@ -154,8 +169,7 @@ class Session:
                     record[place] = int(record[place]) - first
             return tuple(record)
 
-        logs = {log: [moved(log, number) for number in kept[log]] for log in LOGS}
-        return Session(pages, self.cells, {page - first: contents for page, contents in initial.items()}, logs, self.has_lane)
+        return {log: [moved(log, number) for number in kept[log]] for log in LOGS}
 
     def _homes(self, window_of: Callable[[int], int]) -> Dict[str, List[int]]:
         """The window that keeps each record: that of its page, and of each record that it names. Looks are kept by another rule."""
