@@ -9,6 +9,7 @@ import subprocess
 import sys
 
 from session_text import LOGS, SessionText
+from window_model import window
 
 TOP = os.path.dirname(os.path.dirname(os.path.abspath(__file__)))
 sys.path.insert(0, f"{TOP}/python")
@@ -227,6 +228,11 @@ class MadeSessions:
         folder = self.larger_machine(66000, 1)
         made = self.script(folder, "--window", "65998-65999")
         self.tests.same("the window of the last pages", self.tests.audit(made.stdout), "faulty line 10 read")
+        ran = self.script(folder, "--recording", "-o", f"{folder}/recording")
+        self.tests.same("the recording of such a machine", (ran.stdout, ran.stderr, ran.returncode), ("", "", 0))
+        recording = text_of(f"{folder}/recording")
+        self.tests.same("a window of that recording", window(recording, 65998, 2)[0], made.stdout)
+        self.tests.same("how large it is", recording.split("\n")[1], "pages 66000")
         made = self.script(folder)
         self.tests.same("such a machine in one session", (made.stdout, made.returncode, "66000 pages of 1 cells are too many" in made.stderr), ("", 2, True))
 
@@ -284,13 +290,16 @@ class MadeSessions:
         for log in ("guest", "pager"):
             os.rename(f"{first}/{log}.1.0", f"{second}/{log}.1.0")
         wanted = read(f"{TRACES}/session")
-        ran = self.script(both)
-        self.tests.same("a session", (ran.stdout, ran.stderr, ran.returncode), (wanted, "", 0))
+        for words in ([], ["--recording"]):
+            ran = self.script(both, *words)
+            self.tests.same(f"a session {words}", (ran.stdout, ran.stderr, ran.returncode), (wanted, "", 0))
         ran = self.script(first, second, "-o", f"{both}/session")
         with open(f"{both}/session", encoding="ascii") as file:
             self.tests.same("a session of two folders", (ran.stdout, ran.returncode, file.read()), ("", 0, wanted))
         ran = self.script(first, "--whole")
         self.tests.same("a part, where the whole is wanted", (ran.stdout, ran.returncode), ("", 1))
+        ran = self.script(first, "--whole", "--recording")
+        self.tests.same("a part, where the whole recording is wanted", (ran.stdout, ran.returncode), ("", 1))
         for words, said in (
             ([second], "session: no file tells how many pages and cells the machine has\n"),
             ([both, "--window", "2-4"], "session: the machine has 4 pages\n"),
@@ -298,5 +307,6 @@ class MadeSessions:
         ):
             ran = self.script(*words)
             self.tests.same(f"session {words}", (ran.stdout, ran.stderr, ran.returncode), ("", said, 2))
-        for words in (["--window", "3-2"], ["--windows", "2"], ["--windows", "0", "-o", f"{both}/by"], ["--window", "0-1", "--windows", "1", "-o", f"{both}/by"]):
+        for words in (["--window", "3-2"], ["--windows", "2"], ["--windows", "0", "-o", f"{both}/by"], ["--window", "0-1", "--windows", "1", "-o", f"{both}/by"],
+                      ["--window", "0-1", "--recording"], ["--windows", "1", "--recording", "-o", f"{both}/by"]):
             self.tests.same(f"words that are none, {words}", self.script(both, *words).returncode, 2)

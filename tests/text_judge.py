@@ -1,10 +1,26 @@
 """At which line a text is refused, slowly and plainly: by the tables of docs/FORMATS.md, line by line and word by word."""
 import itertools
 import re
+from typing import Callable, NamedTuple
 
 from session_text import logs_of
 
 MOST_RECORDS = 2**20
+MOST_LINES = 2**24
+
+
+class Limits(NamedTuple):
+    """How many pages a machine may have, how many cells a page by that, how many records a log, and the greatest number of one."""
+
+    pages: int
+    cells: Callable[[int], int]
+    records: int
+    number: int
+
+
+SESSION = Limits(65536, lambda pages: min(512, 2**20 // pages), MOST_RECORDS, MOST_RECORDS - 1)
+RECORDING = Limits(2**63 - 1, lambda pages: 512, 2**63 - 1, 2**63 - 1)
+
 NUMBER = re.compile("0|[1-9][0-9]*")
 
 # What stands after a record's kind: a virtual processor, a page, a cell, a value, a record's number, a page's contents.
@@ -48,25 +64,25 @@ def contents(word, cells):
     demand(len(word) == 16 * cells and re.fullmatch("[0-9a-f]*", word))
 
 
-def field(kind, word, pages, cells):
+def field(kind, word, pages, cells, limits):
     if kind == "h":
         contents(word, cells)
     else:
-        number(word, 0, {"v": 63, "p": pages - 1, "c": cells - 1, "x": 2**64 - 1, "n": MOST_RECORDS - 1}[kind])
+        number(word, 0, {"v": 63, "p": pages - 1, "c": cells - 1, "x": 2**64 - 1, "n": limits.number}[kind])
 
 
-def fielded(line, kinds, pages, cells):
+def fielded(line, kinds, pages, cells, limits=SESSION):
     """A line whose first word is one of these kinds, with the fields of that kind."""
     kind, *words = line.split(" ")
     demand(kind in kinds and len(words) == len(kinds[kind]))
     for which, word in zip(kinds[kind], words):
-        field(which, word, pages, cells)
+        field(which, word, pages, cells, limits)
 
 
-def machine(line):
+def machine(line, limits=SESSION):
     """The lines of a machine with its initial pages. What comes back is its pages and cells."""
-    pages = keyed(line(), "pages", 1, 65536)
-    cells = keyed(line(), "cells", 1, min(512, 2**20 // pages))
+    pages = keyed(line(), "pages", 1, limits.pages)
+    cells = keyed(line(), "cells", 1, limits.cells(pages))
     least = 0
     for to_come in reversed(range(keyed(line(), "init", 0, pages))):
         words = line().split(" ")
@@ -77,13 +93,17 @@ def machine(line):
     return pages, cells
 
 
-def session(line):
+def session(line, limits=SESSION):
     version = keyed(line(), "postcopy-session", 1, 2)
-    pages, cells = machine(line)
+    pages, cells = machine(line, limits)
     for log in logs_of(version):
         kinds = {kind: fields for kind, fields in RECORDS[log].items() if version == 2 or kind not in LATER}
-        for _ in range(keyed(line(), log, 0, MOST_RECORDS)):
-            fielded(line(), kinds, pages, cells)
+        for _ in range(keyed(line(), log, 0, limits.records)):
+            fielded(line(), kinds, pages, cells, limits)
+
+
+def recording(line):
+    session(line, RECORDING)
 
 
 def runs(line, version):
@@ -161,7 +181,7 @@ def events(line):
             keyed(event, "guest", 0, 63)
 
 
-TEXTS = {"session": session, "certificate": certificate, "runs": order, "script": script, "events": events}
+TEXTS = {"session": session, "recording": recording, "certificate": certificate, "runs": order, "script": script, "events": events}
 
 
 def refusal_line(kind, text):
@@ -181,3 +201,15 @@ def refusal_line(kind, text):
     except Refused:
         return at
     return None if at == len(ended) and rest == "" else at + 1
+
+
+def lines_refusal(text):
+    """The line at which a table of lines is refused, of which each has a number of 64 bits alone; or None."""
+    *ended, rest = text.decode("latin-1").split("\n")
+    for at, line in enumerate(ended, 1):
+        try:
+            demand(at <= MOST_LINES)
+            number(line, 0, 2**64 - 1)
+        except Refused:
+            return at
+    return None if rest == "" else len(ended) + 1

@@ -7,7 +7,7 @@ use std::sync::Wait;
 use std::thread::Threads;
 
 // Words that are no command.
-static NO_COMMANDS: [&[&str]; 12] = [
+static NO_COMMANDS: [&[&str]; 15] = [
     &["postcopy", "check", "session"],
     &["postcopy", "check", "session", "cert", "cert"],
     &["postcopy", "send", "session", "cert"],
@@ -20,6 +20,9 @@ static NO_COMMANDS: [&[&str]; 12] = [
     &["postcopy", "draw", "--page", "first", "session"],
     &["postcopy", "explain", "--line", "4294967296", "session"],
     &["postcopy", "audit", "-o", "out", "session"],
+    &["postcopy", "window", "recording", "0"],
+    &["postcopy", "window", "recording", "first", "1"],
+    &["postcopy", "window", "recording", "0", "9223372036854775808"],
 ];
 
 fn is_refused<
@@ -49,13 +52,14 @@ fn usage(rt: HostRuntime) {
 }
 
 // Words that ask for help.
-static HELPS: [&[&str]; 6] = [
+static HELPS: [&[&str]; 7] = [
     &["postcopy", "--help"],
     &["postcopy", "-h"],
     &["postcopy", "help"],
     &["postcopy", "check", "--help"],
     &["postcopy", "migrate", "--help"],
     &["postcopy", "draw", "--help"],
+    &["postcopy", "window", "--help"],
 ];
 
 fn is_helped<
@@ -82,7 +86,7 @@ fn help(rt: HostRuntime) {
 }
 
 // What the help tells.
-static TOLD: [&str; 14] = [
+static TOLD: [&str; 15] = [
     "0  all is well",
     "1  another answer",
     "2  words that are no command",
@@ -97,6 +101,7 @@ static TOLD: [&str; 14] = [
     "postcopy steps script events",
     "postcopy migrate script",
     "postcopy draw session",
+    "postcopy window recording 4096 1024",
 ];
 
 // What a help does not tell.
