@@ -13,6 +13,8 @@ use Rattle.migration_types.specs.declared.cert.Entry.{Entry}
 use Rattle.migration_types.specs.declared.cert.Entry.TheVariants.{Source}
 use Rattle.migration_types.specs.Certs.{Certified}
 use Rattle.migration_types.specs.declared.version.Version.TheVariants.{One}
+use Rattle.migration_types.specs.declared.size.Size.TheVariants.{Small}
+use Rattle.migration_types.specs.Limits.{limits}
 use Rattle.migration_types.specs.Sessions.{Recorded, IsSession}
 use Rattle.audit_model.specs.Names.{log_length}
 use Rattle.audit_model.specs.Mergings.{IsMerging, spelled, at_start}
@@ -21,12 +23,12 @@ use Rattle.audit_model.specs.Shape.{IsRightShape}
 use Rattle.audit_model.specs.Certificates.{IsRightCertificate, IsRightEntry}
 use Rattle.audit_model.specs.Laws.{IsCertified, CertifiedFromSource}
 use Rattle.audit_model.proofs.Walked.{walk_merges}
-use Rattle.audit_model.proofs.WrittenOut.{shape_by_tests, walks_by_test, honest_by_tests, only_by_test, first_by_test}
+use Rattle.audit_model.proofs.WrittenOut.{each_few, shape_by_tests, walks_by_test, honest_by_tests, only_by_test, first_by_test}
 
 abbrev session_a : Recorded
 session_a = record {
   version = One;
-  geometry = record { pages = 2; cells = 1 };
+  geometry = record { size = Small; pages = 2; cells = 1 };
   init = record { page = 0; cells = 5 ∷ [] } ∷ [];
   guest = Write 0 1 0 7 ∷ Halt ∷ Resume 1 ∷ Miss 0 0 ∷ See 5 ∷ Read 0 0 0 5 ∷ See 7 ∷ Write 0 1 0 9 ∷ Read 0 1 0 9 ∷ [];
   source = Halted 1 ∷ State ∷ Ask 1 ∷ Send 0 (5 ∷ []) ∷ Send 1 (7 ∷ []) ∷ [];
@@ -111,7 +113,7 @@ page_1 = (
 )
 
 abbrev certificate_a : Certified
-certificate_a = record { version = One; entries = Source 3 5 (Some first_0) ∷ Source 4 7 (Some first_1) ∷ []; runs = runs_a }
+certificate_a = record { version = One; size = Small; entries = Source 3 5 (Some first_0) ∷ Source 4 7 (Some first_1) ∷ []; runs = runs_a }
 
 entries_a : (page : ℕ) (entry : Entry) → slice_get certificate_a.entries page ≡ Some entry → IsRightEntry session_a page entry
 entries_a zero entry is = let e : Source 3 5 (Some first_0) ≡ entry = cc in subst (λ x. IsRightEntry session_a 0 x) e page_0
@@ -123,7 +125,7 @@ right_a = record { pages = refl; entries = entries_a; merging = merging_a }
 
 limits_a : IsSession session_a
 limits_a = record {
-  geometry = record { some_pages = omega arith; few_pages = omega arith; some_cells = omega arith; few_cells = omega arith; few_in_all = omega arith };
+  geometry = record { some_pages = omega arith; few_pages = omega arith; some_cells = omega arith; few_cells = omega arith; few_in_all = omega arith; own = record { pages = omega arith; cells = omega arith } };
   init = record {
     each = (record { page = omega arith; content = record { count = refl; each = (omega arith, tt) }; not_zeros = λ zeros. absurd (let e = zeros.0 in cc) }, tt);
     rising = λ k lt. absurd (omega arith);
@@ -133,6 +135,7 @@ limits_a = record {
   few_link = omega arith;
   few_lane = omega arith;
   few_pager = omega arith;
+  own = each_few session_a (limits Small).records (omega arith) (omega arith) (omega arith) (omega arith) (omega arith);
   guest = ((omega arith, omega arith, omega arith, omega arith), (tt, (omega arith, ((omega arith, omega arith), (omega arith, ((omega arith, omega arith, omega arith, omega arith), (omega arith, ((omega arith, omega arith, omega arith, omega arith), ((omega arith, omega arith, omega arith, omega arith), tt)))))))));
   source = (omega arith, (tt, (omega arith, ((omega arith, record { count = refl; each = (omega arith, tt) }), ((omega arith, record { count = refl; each = (omega arith, tt) }), tt)))));
   link = (omega arith, (omega arith, (omega arith, (omega arith, tt))));

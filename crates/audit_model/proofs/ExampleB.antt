@@ -14,6 +14,8 @@ use Rattle.migration_types.specs.declared.cert.Entry.{Entry}
 use Rattle.migration_types.specs.declared.cert.Entry.TheVariants.{Nothing, Balloon}
 use Rattle.migration_types.specs.Certs.{Certified}
 use Rattle.migration_types.specs.declared.version.Version.TheVariants.{One}
+use Rattle.migration_types.specs.declared.size.Size.TheVariants.{Small}
+use Rattle.migration_types.specs.Limits.{limits}
 use Rattle.migration_types.specs.Sessions.{Recorded, IsSession}
 use Rattle.audit_model.specs.Names.{log_length}
 use Rattle.audit_model.specs.Mergings.{IsMerging, spelled, at_start}
@@ -22,12 +24,12 @@ use Rattle.audit_model.specs.Shape.{IsRightShape}
 use Rattle.audit_model.specs.Certificates.{IsRightCertificate, IsRightEntry}
 use Rattle.audit_model.specs.Laws.{IsCertified, CertifiedBalloon}
 use Rattle.audit_model.proofs.Walked.{walk_merges}
-use Rattle.audit_model.proofs.WrittenOut.{shape_by_tests, walks_by_test, honest_by_tests, only_by_test, first_by_test, unplaced_by_test, untouched_by_test}
+use Rattle.audit_model.proofs.WrittenOut.{each_few, shape_by_tests, walks_by_test, honest_by_tests, only_by_test, first_by_test, unplaced_by_test, untouched_by_test}
 
 abbrev session_b : Recorded
 session_b = record {
   version = One;
-  geometry = record { pages = 2; cells = 1 };
+  geometry = record { size = Small; pages = 2; cells = 1 };
   init = record { page = 0; cells = 5 ∷ [] } ∷ record { page = 1; cells = 6 ∷ [] } ∷ [];
   guest = Release 0 1 ∷ Halt ∷ Resume 1 ∷ Miss 0 1 ∷ See 3 ∷ Read 0 1 0 0 ∷ [];
   source = Halted 1 ∷ State ∷ [];
@@ -82,7 +84,7 @@ page_1 = (
 )
 
 abbrev certificate_b : Certified
-certificate_b = record { version = One; entries = Nothing ∷ Balloon 3 (Some first_1) ∷ []; runs = runs_b }
+certificate_b = record { version = One; size = Small; entries = Nothing ∷ Balloon 3 (Some first_1) ∷ []; runs = runs_b }
 
 entries_b : (page : ℕ) (entry : Entry) → slice_get certificate_b.entries page ≡ Some entry → IsRightEntry session_b page entry
 entries_b zero entry is = let e : Nothing ≡ entry = cc in subst (λ x. IsRightEntry session_b 0 x) e page_0
@@ -94,7 +96,7 @@ right_b = record { pages = refl; entries = entries_b; merging = merging_b }
 
 limits_b : IsSession session_b
 limits_b = record {
-  geometry = record { some_pages = omega arith; few_pages = omega arith; some_cells = omega arith; few_cells = omega arith; few_in_all = omega arith };
+  geometry = record { some_pages = omega arith; few_pages = omega arith; some_cells = omega arith; few_cells = omega arith; few_in_all = omega arith; own = record { pages = omega arith; cells = omega arith } };
   init = record {
     each = (
       record { page = omega arith; content = record { count = refl; each = (omega arith, tt) }; not_zeros = λ zeros. absurd (let e = zeros.0 in cc) },
@@ -107,6 +109,7 @@ limits_b = record {
   few_link = omega arith;
   few_lane = omega arith;
   few_pager = omega arith;
+  own = each_few session_b (limits Small).records (omega arith) (omega arith) (omega arith) (omega arith) (omega arith);
   guest = ((omega arith, omega arith), (tt, (omega arith, ((omega arith, omega arith), (omega arith, ((omega arith, omega arith, omega arith, omega arith), tt))))));
   source = (omega arith, (tt, tt));
   link = (omega arith, tt);

@@ -12,6 +12,8 @@ use Rattle.migration_types.specs.declared.cert.Entry.{Entry}
 use Rattle.migration_types.specs.declared.cert.Entry.TheVariants.{Fresh}
 use Rattle.migration_types.specs.Certs.{Certified}
 use Rattle.migration_types.specs.declared.version.Version.TheVariants.{Two}
+use Rattle.migration_types.specs.declared.size.Size.TheVariants.{Small}
+use Rattle.migration_types.specs.Limits.{limits}
 use Rattle.migration_types.specs.Sessions.{Recorded, IsSession}
 use Rattle.audit_model.specs.Names.{log_length}
 use Rattle.audit_model.specs.Mergings.{IsMerging, spelled, at_start}
@@ -20,12 +22,12 @@ use Rattle.audit_model.specs.Shape.{IsRightShape}
 use Rattle.audit_model.specs.Certificates.{IsRightCertificate, IsRightEntry}
 use Rattle.audit_model.specs.Laws.{IsCertified, CertifiedFresh}
 use Rattle.audit_model.proofs.Walked.{walk_merges}
-use Rattle.audit_model.proofs.WrittenOut.{shape_by_tests, walks_by_test, honest_by_tests, first_by_test, unplaced_by_test}
+use Rattle.audit_model.proofs.WrittenOut.{each_few, shape_by_tests, walks_by_test, honest_by_tests, first_by_test, unplaced_by_test}
 
 abbrev session_c : Recorded
 session_c = record {
   version = Two;
-  geometry = record { pages = 1; cells = 1 };
+  geometry = record { size = Small; pages = 1; cells = 1 };
   init = record { page = 0; cells = 6 ∷ [] } ∷ [];
   guest = Halt ∷ Resume 1 ∷ Release 0 0 ∷ Read 0 0 0 0 ∷ [];
   source = Halted 0 ∷ State ∷ Send 0 (6 ∷ []) ∷ [];
@@ -59,7 +61,7 @@ page_0 = (
 )
 
 abbrev certificate_c : Certified
-certificate_c = record { version = Two; entries = Fresh 2 ∷ []; runs = runs_c }
+certificate_c = record { version = Two; size = Small; entries = Fresh 2 ∷ []; runs = runs_c }
 
 entries_c : (page : ℕ) (entry : Entry) → slice_get certificate_c.entries page ≡ Some entry → IsRightEntry session_c page entry
 entries_c zero entry is = let e : Fresh 2 ≡ entry = cc in subst (λ x. IsRightEntry session_c 0 x) e page_0
@@ -70,7 +72,7 @@ right_c = record { pages = refl; entries = entries_c; merging = merging_c }
 
 limits_c : IsSession session_c
 limits_c = record {
-  geometry = record { some_pages = omega arith; few_pages = omega arith; some_cells = omega arith; few_cells = omega arith; few_in_all = omega arith };
+  geometry = record { some_pages = omega arith; few_pages = omega arith; some_cells = omega arith; few_cells = omega arith; few_in_all = omega arith; own = record { pages = omega arith; cells = omega arith } };
   init = record {
     each = (record { page = omega arith; content = record { count = refl; each = (omega arith, tt) }; not_zeros = λ zeros. absurd (let e = zeros.0 in cc) }, tt);
     rising = λ k lt. absurd (omega arith);
@@ -80,6 +82,7 @@ limits_c = record {
   few_link = omega arith;
   few_lane = omega arith;
   few_pager = omega arith;
+  own = each_few session_c (limits Small).records (omega arith) (omega arith) (omega arith) (omega arith) (omega arith);
   guest = (tt, (omega arith, ((omega arith, omega arith), ((omega arith, omega arith, omega arith, omega arith), tt))));
   source = (omega arith, (tt, ((omega arith, record { count = refl; each = (omega arith, tt) }), tt)));
   link = (omega arith, (omega arith, tt));

@@ -14,6 +14,8 @@ use Rattle.migration_types.specs.declared.cert.Entry.{Entry}
 use Rattle.migration_types.specs.declared.cert.Entry.TheVariants.{Source}
 use Rattle.migration_types.specs.Certs.{Certified}
 use Rattle.migration_types.specs.declared.version.Version.TheVariants.{Two}
+use Rattle.migration_types.specs.declared.size.Size.TheVariants.{Small}
+use Rattle.migration_types.specs.Limits.{limits}
 use Rattle.migration_types.specs.Sessions.{Recorded, IsSession}
 use Rattle.audit_model.specs.Names.{log_length}
 use Rattle.audit_model.specs.Mergings.{IsMerging, spelled, at_start}
@@ -22,12 +24,12 @@ use Rattle.audit_model.specs.Shape.{IsRightShape}
 use Rattle.audit_model.specs.Certificates.{IsRightCertificate, IsRightEntry}
 use Rattle.audit_model.specs.Laws.{IsCertified, CertifiedOverLane}
 use Rattle.audit_model.proofs.Walked.{walk_merges}
-use Rattle.audit_model.proofs.WrittenOut.{shape_by_tests, walks_by_test, honest_by_tests, only_by_test, first_by_test}
+use Rattle.audit_model.proofs.WrittenOut.{each_few, shape_by_tests, walks_by_test, honest_by_tests, only_by_test, first_by_test}
 
 abbrev session_d : Recorded
 session_d = record {
   version = Two;
-  geometry = record { pages = 1; cells = 1 };
+  geometry = record { size = Small; pages = 1; cells = 1 };
   init = record { page = 0; cells = 6 ∷ [] } ∷ [];
   guest = Halt ∷ Resume 1 ∷ See 3 ∷ Read 0 0 0 6 ∷ [];
   source = Halted 0 ∷ State ∷ Send 0 (6 ∷ []) ∷ [];
@@ -83,7 +85,7 @@ page_0 = (
 )
 
 abbrev certificate_d : Certified
-certificate_d = record { version = Two; entries = Source 2 3 (Some first_0) ∷ []; runs = runs_d }
+certificate_d = record { version = Two; size = Small; entries = Source 2 3 (Some first_0) ∷ []; runs = runs_d }
 
 entries_d : (page : ℕ) (entry : Entry) → slice_get certificate_d.entries page ≡ Some entry → IsRightEntry session_d page entry
 entries_d zero entry is = let e : Source 2 3 (Some first_0) ≡ entry = cc in subst (λ x. IsRightEntry session_d 0 x) e page_0
@@ -94,7 +96,7 @@ right_d = record { pages = refl; entries = entries_d; merging = merging_d }
 
 limits_d : IsSession session_d
 limits_d = record {
-  geometry = record { some_pages = omega arith; few_pages = omega arith; some_cells = omega arith; few_cells = omega arith; few_in_all = omega arith };
+  geometry = record { some_pages = omega arith; few_pages = omega arith; some_cells = omega arith; few_cells = omega arith; few_in_all = omega arith; own = record { pages = omega arith; cells = omega arith } };
   init = record {
     each = (record { page = omega arith; content = record { count = refl; each = (omega arith, tt) }; not_zeros = λ zeros. absurd (let e = zeros.0 in cc) }, tt);
     rising = λ k lt. absurd (omega arith);
@@ -104,6 +106,7 @@ limits_d = record {
   few_link = omega arith;
   few_lane = omega arith;
   few_pager = omega arith;
+  own = each_few session_d (limits Small).records (omega arith) (omega arith) (omega arith) (omega arith) (omega arith);
   guest = (tt, (omega arith, (omega arith, ((omega arith, omega arith, omega arith, omega arith), tt))));
   source = (omega arith, (tt, ((omega arith, record { count = refl; each = (omega arith, tt) }), tt)));
   link = (omega arith, tt);

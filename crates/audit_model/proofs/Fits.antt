@@ -1,5 +1,5 @@
 -- A session is one that fits its machine and is within the limits of size.
-use Rattle.std.proofs.Common.{◌≡◌, ◌↔◌, ℕ, ◌≤◌, List, Option, Some, None, refl, ap, ◌∙◌, subst}
+use Rattle.std.proofs.Common.{◌≡◌, ◌↔◌, ℕ, ◌≤◌, List, Option, Some, None, refl, ap, ◌∙◌, subst, arith}
 use Rattle.std.specs.Prelude.{slice_get}
 use Rattle.std.specs.List.{AllByRecursion}
 use Rattle.std.specs.Option.{option_map}
@@ -17,7 +17,7 @@ use Rattle.migration_types.specs.declared.records.LaneRec.TheVariants.{Down as L
 use Rattle.migration_types.specs.declared.records.PagerRec.{PagerRec}
 use Rattle.migration_types.specs.declared.records.PagerRec.TheVariants.{Got, Pull, Ready, Fault, Join, Want, Place, Zero, Skip, All}
 use Rattle.migration_types.specs.declared.rows.Field.{Field}
-use Rattle.migration_types.specs.Limits.{most_records}
+use Rattle.migration_types.specs.Limits.{longest_log, limits_at_most}
 use Rattle.migration_types.specs.Extents.{Extent}
 use Rattle.migration_types.specs.Contents.{IsContent}
 use Rattle.migration_types.specs.Receipts.{Name}
@@ -40,11 +40,11 @@ pager_fits s fits n r is = fits.fields (Pager, n) (pager_row r) (ap (option_map 
 -- a record is within all limits where it fits, and the records that it names are in reach
 record Splits (version : Version) (e : Extent) (row : Consists) (behind : Option (List ℕ)) : Type 0 where
   pub fields : AllByRecursion (FieldIsOf version e) row.fields
-  pub numbers : AllByRecursion NamesInReach row.fields
+  pub numbers : AllByRecursion (NamesInReach e.size) row.fields
   pub contents : (content : List ℕ) → behind ≡ Some content → IsContent e.cells content
 
 module _ (v : Version) (e : Extent) where
-  bare : (row : Consists) → AllByRecursion (FieldIsOf v e) row.fields → AllByRecursion NamesInReach row.fields → Splits v e row None
+  bare : (row : Consists) → AllByRecursion (FieldIsOf v e) row.fields → AllByRecursion (NamesInReach e.size) row.fields → Splits v e row None
   bare row fields numbers = record { fields = fields; numbers = numbers; contents = λ content is. absurd (cc) }
 
   guest_splits : (r : GuestRec) → GuestRecFits e r ↔ Splits v e (guest_row r) None
@@ -67,11 +67,11 @@ module _ (v : Version) (e : Extent) where
   source_splits (Ask i) = (λ h. bare (source_row (Ask i)) (tt, tt) (h, tt), λ h. h.numbers.0)
   source_splits Done = (λ h. bare (source_row Done) tt tt, λ h. tt)
 
-  link_splits : (r : LinkRec) → LinkRecFits r ↔ Splits v e (link_row r) None
+  link_splits : (r : LinkRec) → LinkRecFits e r ↔ Splits v e (link_row r) None
   link_splits (Down i) = (λ h. bare (link_row (Down i)) (tt, tt) (h, tt), λ h. h.numbers.0)
   link_splits (Up i) = (λ h. bare (link_row (Up i)) (tt, tt) (h, tt), λ h. h.numbers.0)
 
-  lane_splits : (r : LaneRec) → LaneRecFits v r ↔ (HasLane v × Splits v e (lane_row r) None)
+  lane_splits : (r : LaneRec) → LaneRecFits v e r ↔ (HasLane v × Splits v e (lane_row r) None)
   lane_splits (LaneDown i) = (λ h. (h.0, bare (lane_row (LaneDown i)) (tt, tt) (h.1, tt)), λ h. (h.0, h.1.numbers.0))
 
   pager_splits : (r : PagerRec) → PagerRecFits v e r ↔ Splits v e (pager_row r) (pager_contents r)
@@ -117,14 +117,14 @@ module _ (s : Recorded) where
         logs (Guest, n) row is = tt
         logs (Source, n) row is = tt
         logs (Link, n) row is = tt
-        logs (Lane, n) row is = let f = row_from (LaneRecFits s.version) lane_row s.lane n row h.lane is in ((lane_splits s.version s.geometry f.0).0 f.1).0
+        logs (Lane, n) row is = let f = row_from (LaneRecFits s.version s.geometry) lane_row s.lane n row h.lane is in ((lane_splits s.version s.geometry f.0).0 f.1).0
         logs (Pager, n) row is = tt
 
         fields : (name : Name) (row : Consists) → row_of s name ≡ Some row → InFields (FieldIsOf s.version s.geometry) row
         fields (Guest, n) row is = let f = row_from (GuestRecFits s.geometry) guest_row s.guest n row h.guest is in subst (InFields (FieldIsOf s.version s.geometry)) f.2 ((guest_splits s.version s.geometry f.0).0 f.1).fields
         fields (Source, n) row is = let f = row_from (SourceRecFits s.geometry) source_row s.source n row h.source is in subst (InFields (FieldIsOf s.version s.geometry)) f.2 ((source_splits s.version s.geometry f.0).0 f.1).fields
-        fields (Link, n) row is = let f = row_from LinkRecFits link_row s.link n row h.link is in subst (InFields (FieldIsOf s.version s.geometry)) f.2 ((link_splits s.version s.geometry f.0).0 f.1).fields
-        fields (Lane, n) row is = let f = row_from (LaneRecFits s.version) lane_row s.lane n row h.lane is in subst (InFields (FieldIsOf s.version s.geometry)) f.2 ((lane_splits s.version s.geometry f.0).0 f.1).1.fields
+        fields (Link, n) row is = let f = row_from (LinkRecFits s.geometry) link_row s.link n row h.link is in subst (InFields (FieldIsOf s.version s.geometry)) f.2 ((link_splits s.version s.geometry f.0).0 f.1).fields
+        fields (Lane, n) row is = let f = row_from (LaneRecFits s.version s.geometry) lane_row s.lane n row h.lane is in subst (InFields (FieldIsOf s.version s.geometry)) f.2 ((lane_splits s.version s.geometry f.0).0 f.1).1.fields
         fields (Pager, n) row is = let f = row_from (PagerRecFits s.version s.geometry) pager_row s.pager n row h.pager is in subst (InFields (FieldIsOf s.version s.geometry)) f.2 ((pager_splits s.version s.geometry f.0).0 f.1).fields
 
         contents : (name : Name) (content : List ℕ) → contents_of s name ≡ Some content → IsContent s.geometry.cells content
@@ -135,39 +135,36 @@ module _ (s : Recorded) where
         contents (Lane, n) content is = absurd (cc)
 
     session_within : IsWithinLimits s
-    session_within = record { small = record { extent = h.geometry; few = few }; numbers = numbers }
+    session_within = record { small = record { extent = h.geometry; few = h.own }; numbers = numbers }
       where
-        few : (log : LogName) → log_length s log ≤ most_records
-        few Guest = h.few_guest
-        few Source = h.few_source
-        few Link = h.few_link
-        few Lane = h.few_lane
-        few Pager = h.few_pager
-
-        numbers : (name : Name) (row : Consists) → row_of s name ≡ Some row → InFields NamesInReach row
-        numbers (Guest, n) row is = let f = row_from (GuestRecFits s.geometry) guest_row s.guest n row h.guest is in subst (InFields NamesInReach) f.2 ((guest_splits s.version s.geometry f.0).0 f.1).numbers
-        numbers (Source, n) row is = let f = row_from (SourceRecFits s.geometry) source_row s.source n row h.source is in subst (InFields NamesInReach) f.2 ((source_splits s.version s.geometry f.0).0 f.1).numbers
-        numbers (Link, n) row is = let f = row_from LinkRecFits link_row s.link n row h.link is in subst (InFields NamesInReach) f.2 ((link_splits s.version s.geometry f.0).0 f.1).numbers
-        numbers (Lane, n) row is = let f = row_from (LaneRecFits s.version) lane_row s.lane n row h.lane is in subst (InFields NamesInReach) f.2 ((lane_splits s.version s.geometry f.0).0 f.1).1.numbers
-        numbers (Pager, n) row is = let f = row_from (PagerRecFits s.version s.geometry) pager_row s.pager n row h.pager is in subst (InFields NamesInReach) f.2 ((pager_splits s.version s.geometry f.0).0 f.1).numbers
+        numbers : (name : Name) (row : Consists) → row_of s name ≡ Some row → InFields (NamesInReach s.geometry.size) row
+        numbers (Guest, n) row is = let f = row_from (GuestRecFits s.geometry) guest_row s.guest n row h.guest is in subst (InFields (NamesInReach s.geometry.size)) f.2 ((guest_splits s.version s.geometry f.0).0 f.1).numbers
+        numbers (Source, n) row is = let f = row_from (SourceRecFits s.geometry) source_row s.source n row h.source is in subst (InFields (NamesInReach s.geometry.size)) f.2 ((source_splits s.version s.geometry f.0).0 f.1).numbers
+        numbers (Link, n) row is = let f = row_from (LinkRecFits s.geometry) link_row s.link n row h.link is in subst (InFields (NamesInReach s.geometry.size)) f.2 ((link_splits s.version s.geometry f.0).0 f.1).numbers
+        numbers (Lane, n) row is = let f = row_from (LaneRecFits s.version s.geometry) lane_row s.lane n row h.lane is in subst (InFields (NamesInReach s.geometry.size)) f.2 ((lane_splits s.version s.geometry f.0).0 f.1).1.numbers
+        numbers (Pager, n) row is = let f = row_from (PagerRecFits s.version s.geometry) pager_row s.pager n row h.pager is in subst (InFields (NamesInReach s.geometry.size)) f.2 ((pager_splits s.version s.geometry f.0).0 f.1).numbers
 
   module _ (fits : Fits s) (within : IsWithinLimits s) where
     splits_at : (name : Name) (row : Consists) → row_of s name ≡ Some row → (contents : Option (List ℕ)) → ((content : List ℕ) → contents ≡ Some content → contents_of s name ≡ Some content) → Splits s.version s.geometry row contents
     splits_at name row is contents at = record { fields = fits.fields name row is; numbers = within.numbers name row is; contents = λ content e. fits.contents name content (at content e) }
 
+    few_at_most : (log : LogName) → log_length s log ≤ longest_log
+    few_at_most log = let few = within.small.few log in let most = (limits_at_most s.geometry.size).few_records in omega (arith, few, most)
+
     pub is_session : IsSession s
     is_session = record {
       geometry = within.small.extent;
       init = fits.init;
-      few_guest = within.small.few Guest;
-      few_source = within.small.few Source;
-      few_link = within.small.few Link;
-      few_lane = within.small.few Lane;
-      few_pager = within.small.few Pager;
+      few_guest = few_at_most Guest;
+      few_source = few_at_most Source;
+      few_link = few_at_most Link;
+      few_lane = few_at_most Lane;
+      few_pager = few_at_most Pager;
+      own = within.small.few;
       guest = each_from (GuestRecFits s.geometry) s.guest (λ n r is. (guest_splits s.version s.geometry r).1 (splits_at (Guest, n) (guest_row r) (ap (option_map guest_row) is) None (λ content e. absurd (cc))));
       source = each_from (SourceRecFits s.geometry) s.source (λ n r is. (source_splits s.version s.geometry r).1 (splits_at (Source, n) (source_row r) (ap (option_map source_row) is) (source_contents r) (λ content e. ap (if_there source_contents) is ∙ e)));
-      link = each_from LinkRecFits s.link (λ n r is. (link_splits s.version s.geometry r).1 (splits_at (Link, n) (link_row r) (ap (option_map link_row) is) None (λ content e. absurd (cc))));
-      lane = each_from (LaneRecFits s.version) s.lane (λ n r is. let at = ap (option_map lane_row) is in (lane_splits s.version s.geometry r).1 (fits.logs (Lane, n) (lane_row r) at, splits_at (Lane, n) (lane_row r) at None (λ content e. absurd (cc))));
+      link = each_from (LinkRecFits s.geometry) s.link (λ n r is. (link_splits s.version s.geometry r).1 (splits_at (Link, n) (link_row r) (ap (option_map link_row) is) None (λ content e. absurd (cc))));
+      lane = each_from (LaneRecFits s.version s.geometry) s.lane (λ n r is. let at = ap (option_map lane_row) is in (lane_splits s.version s.geometry r).1 (fits.logs (Lane, n) (lane_row r) at, splits_at (Lane, n) (lane_row r) at None (λ content e. absurd (cc))));
       pager = each_from (PagerRecFits s.version s.geometry) s.pager (λ n r is. (pager_splits s.version s.geometry r).1 (splits_at (Pager, n) (pager_row r) (ap (option_map pager_row) is) (pager_contents r) (λ content e. ap (if_there pager_contents) is ∙ e)));
     }
 

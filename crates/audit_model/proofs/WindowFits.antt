@@ -94,7 +94,7 @@ contents_came {A} contents_by new same marks log m content is = go (slice_get (m
 
 module _ (number : Numbers) (count : ℕ) (is : IsWindow number count) (s : Recorded) (fits : Fits s) where
   abbrev extent : Extent
-  extent = record { pages = count; cells = s.geometry.cells }
+  extent = record { size = s.geometry.size; pages = count; cells = s.geometry.cells }
 
   page_below : (p : ℕ) → is_seen (number p) ≡ true → new_page (number p) < count
   page_below p e = is.below p (new_page (number p)) (seen_at (number p) e)

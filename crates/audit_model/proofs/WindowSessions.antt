@@ -15,7 +15,7 @@ use Rattle.migration_types.specs.declared.records.LaneRec.{LaneRec}
 use Rattle.migration_types.specs.declared.records.LaneRec.TheVariants.{Down as LaneDown}
 use Rattle.migration_types.specs.declared.records.PagerRec.{PagerRec}
 use Rattle.migration_types.specs.declared.records.PagerRec.TheVariants.{Got, Pull, Ready, Fault, Join, Want, Place, Zero, Skip, All}
-use Rattle.migration_types.specs.Limits.{most_records}
+use Rattle.migration_types.specs.Limits.{limits}
 use Rattle.migration_types.specs.Receipts.{Name}
 use Rattle.migration_types.specs.Rows.{Consists, row_of, guest_row, source_row, link_row, lane_row, pager_row}
 use Rattle.migration_types.specs.Sessions.{Recorded, IsSession, IsNumber}
@@ -44,9 +44,9 @@ there_some {A} log i e = go (slice_get log i) refl e
 
 module _ (s : Recorded) (shape : IsRightShape s) (small : IsSmall s) where
   abbrev InReach : Consists → Type 0
-  InReach row = AllByRecursion NamesInReach row.fields
+  InReach row = AllByRecursion (NamesInReach s.geometry.size) row.fields
 
-  in_reach : (i k : ℕ) → i < k → k ≤ most_records → IsNumber i
+  in_reach : (i k : ℕ) → i < k → k ≤ (limits s.geometry.size).records → IsNumber s.geometry.size i
   in_reach i k lt le = omega (arith, lt, le)
 
   guest_reach : (x : GuestRec) → guest_named s x ≡ true → InReach (guest_row x)

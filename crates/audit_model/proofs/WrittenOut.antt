@@ -1,9 +1,10 @@
 -- Tests by which a session and a certificate that are written out meet the definitions.
-use Rattle.std.proofs.Common.{◌≡◌, ℕ, zero, suc, ◌≤◌, Bool, true, false, not, ◌&&◌, List, [], ◌∷◌, Some, refl, sym, ap, ◌∙◌, arith, eqb-true, eq-eqb}
+use Rattle.std.proofs.Common.{◌≡◌, ℕ, zero, suc, ◌≤◌, Bool, true, false, not, ◌&&◌, List, [], ◌∷◌, length, Some, refl, sym, ap, ◌∙◌, arith, eqb-true, eq-eqb}
 use Rattle.std.specs.Prelude.{slice_get, ◌==◌, nat_lt}
 use Rattle.std.specs.Str.{bytes_eq}
 use Rattle.std.proofs.lemmas.Bool.{ltb-true}
 use Rattle.std.proofs.lemmas.Slice.Eq.{bytes_eq-Decides}
+use Rattle.migration_types.specs.declared.records.LogName.{LogName}
 use Rattle.migration_types.specs.declared.records.LogName.TheVariants.{Guest, Source, Link, Lane, Pager}
 use Rattle.migration_types.specs.declared.records.GuestRec.{GuestRec}
 use Rattle.migration_types.specs.declared.records.GuestRec.TheVariants.{Read}
@@ -12,7 +13,7 @@ use Rattle.migration_types.specs.declared.records.SourceRec.TheVariants.{Send}
 use Rattle.migration_types.specs.declared.records.PagerRec.{PagerRec}
 use Rattle.migration_types.specs.Memory.{page_of}
 use Rattle.migration_types.specs.Receipts.{Name}
-use Rattle.migration_types.specs.Sessions.{Recorded}
+use Rattle.migration_types.specs.Sessions.{Recorded, log_length}
 use Rattle.audit_model.specs.declared.reasons.ShapeReason.TheVariants.{Phases, Named, Start, SecondSend}
 use Rattle.audit_model.specs.Mergings.{Cursors}
 use Rattle.audit_model.specs.Walks.{next, Walks}
@@ -22,6 +23,14 @@ use Rattle.audit_model.specs.Shape.{IsRightShape, in_phase, guest_named, source_
 use Rattle.audit_model.specs.Certificates.{is_touch_of, IsHonest, IsOnlyPlacement, IsLateTouch}
 use Rattle.audit_model.proofs.FirstNames.{may_Decides}
 use Rattle.audit_model.proofs.PageFaultTests.{not_true}
+
+-- each log has no more records than this
+pub each_few : (s : Recorded) (most : ℕ) → length s.guest ≤ most → length s.source ≤ most → length s.link ≤ most → length s.lane ≤ most → length s.pager ≤ most → (log : LogName) → log_length s log ≤ most
+each_few s most guest source link lane pager Guest = guest
+each_few s most guest source link lane pager Source = source
+each_few s most guest source link lane pager Link = link
+each_few s most guest source link lane pager Lane = lane
+each_few s most guest source link lane pager Pager = pager
 
 -- a test at each record, with its place
 abbrev each : {A : Type 0} → (ℕ → A → Bool) → List A → Bool

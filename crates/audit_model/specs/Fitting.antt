@@ -7,7 +7,8 @@ use Rattle.migration_types.specs.declared.records.LogName.{LogName}
 use Rattle.migration_types.specs.declared.records.LogName.TheVariants.{Guest, Source, Link, Lane, Pager}
 use Rattle.migration_types.specs.declared.rows.Field.{Field}
 use Rattle.migration_types.specs.declared.rows.Field.TheVariants.{Vcpu, Page, Cell, Value, Number, Handover}
-use Rattle.migration_types.specs.Limits.{vcpus, most_records}
+use Rattle.migration_types.specs.declared.size.Size.{Size}
+use Rattle.migration_types.specs.Limits.{limits, vcpus}
 use Rattle.migration_types.specs.Extents.{Extent, IsExtent}
 use Rattle.migration_types.specs.Contents.{IsContent}
 use Rattle.migration_types.specs.Pages.{AreInitPages}
@@ -43,16 +44,16 @@ pub record Fits (s : Recorded) : Type 0 where
   pub fields : (name : Name) (row : Consists) → row_of s name ≡ Some row → AllByRecursion (FieldIsOf s.version s.geometry) row.fields
   pub contents : (name : Name) (content : List ℕ) → contents_of s name ≡ Some content → IsContent s.geometry.cells content
 
--- the machine and the logs are within the limits of size
+-- the machine and the logs are within the limits of the machine's size
 pub record IsSmall (s : Recorded) : Type 0 where
   pub extent : IsExtent s.geometry
-  pub few : (log : LogName) → log_length s log ≤ most_records
+  pub few : (log : LogName) → log_length s log ≤ (limits s.geometry.size).records
 
 -- a field names no record of a number beyond the limit
-abbrev pub NamesInReach : Field → Type 0
-NamesInReach field = IfSome (field_name field) (λ named. IsNumber named.1)
+abbrev pub NamesInReach : Size → Field → Type 0
+NamesInReach size field = IfSome (field_name field) (λ named. IsNumber size named.1)
 
--- the limits of size: of the machine and the logs, and of the numbers by which records are named
+-- the limits of the size: of the machine and the logs, and of the numbers by which records are named
 pub record IsWithinLimits (s : Recorded) : Type 0 where
   pub small : IsSmall s
-  pub numbers : (name : Name) (row : Consists) → row_of s name ≡ Some row → AllByRecursion NamesInReach row.fields
+  pub numbers : (name : Name) (row : Consists) → row_of s name ≡ Some row → AllByRecursion (NamesInReach s.geometry.size) row.fields

@@ -147,7 +147,7 @@ SafeExactlyIfClean s = Fits s → IsRightShape s → HasMerging s → IsSafe s �
 abbrev pub HasCertificate : Recorded → Type 0
 HasCertificate s =
     (runs : List Run) → IsMerging s (spelled runs) →
-    (entries : List Entry) × IsRightCertificate s (record { version = s.version; entries = entries; runs = runs })
+    (entries : List Entry) × IsRightCertificate s (record { version = s.version; size = s.geometry.size; entries = entries; runs = runs })
 
 -- Nothing that is new in the second version is met in a session of the first: no page is released at the target, so
 -- none is freed there, no placement is over such a release, and no right certificate has a fresh page; and where the

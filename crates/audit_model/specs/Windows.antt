@@ -215,7 +215,7 @@ new_init number given = record { page = new_page (number given.page); cells = gi
 abbrev pub window : Numbers → ℕ → Recorded → Recorded
 window number count s = record {
   version = s.version;
-  geometry = record { pages = count; cells = s.geometry.cells };
+  geometry = record { size = s.geometry.size; pages = count; cells = s.geometry.cells };
   init = map (new_init number) (kept_in (map (keeps_init number) s.init) s.init);
   guest = map (new_guest s number) (kept_in (marks s number Guest) s.guest);
   source = map (new_source s number) (kept_in (marks s number Source) s.source);

@@ -1,6 +1,7 @@
 -- Runs as long as they can be, made part by part.
 use Rattle.std.proofs.Common.{◌≡◌, ◌≢◌, ℕ, zero, suc, ◌+◌, ◌-◌, ◌<◌, ◌≤◌, ◌⊎◌, inl, inr, Bool, true, false, cond, List, [], ◌∷◌, ◌++◌, length, get_or, set, rules, refl, sym, ap, ◌∙◌, subst, arith}
 use denote.Enum.Bare.{sameb, same_true}
+use Rattle.migration_types.specs.Limits.{longest_log}
 use Rattle.migration_types.specs.contracts.records.LogName.{the_type}
 use Rattle.std.proofs.lemmas.Bool.{cases_lt}
 use Rattle.std.proofs.lemmas.List.{append_assoc, append-nil}
@@ -79,11 +80,11 @@ run_split log place (suc m) n =
 pub ends_after : (runs more : List Run) (log : LogName) (n : ℕ) → spelled more ≡ spelled runs ++ run_names log (ends runs log) n → ends more ≡ moved (ends runs) log n
 ends_after runs more log n e = ap (cursors_from at_start) e ∙ cursors_append at_start (spelled runs) (run_names log (ends runs log) n) ∙ cursors_run (ends runs) log (ends runs log) n
 
-small_after : (c : Cursors) (log : LogName) (n : ℕ) → ((m : LogName) → c m ≤ 1048576) → c log + n ≤ 1048576 → (m : LogName) → moved c log n m ≤ 1048576
+small_after : (c : Cursors) (log : LogName) (n : ℕ) → ((m : LogName) → c m ≤ longest_log) → c log + n ≤ longest_log → (m : LogName) → moved c log n m ≤ longest_log
 small_after c log n small room m = go (same_log log m) refl
   where
-    go : (t : Bool) → same_log log m ≡ t → cond t (c m + n) (c m) ≤ 1048576
-    go true t = subst (λ (l : LogName). c l + n ≤ 1048576) (same_from_test log m t) room
+    go : (t : Bool) → same_log log m ≡ t → cond t (c m + n) (c m) ≤ longest_log
+    go true t = subst (λ (l : LogName). c l + n ≤ longest_log) (same_from_test log m t) room
     go false t = small m
 
 -- what a part more gives
@@ -106,7 +107,7 @@ added_none runs more log n blocks none same =
     (subst (λ (k : ℕ). IsAdded runs log k runs) (sym none) (record { blocks = blocks; spelled = sym (append-nil (spelled runs)) }))
 
 -- a run more
-pub added_run : (runs more : List Run) (log : LogName) (n : ℕ) → AreBlocks runs → ends runs log + n ≤ 1048576 → 0 < n → ((k : ℕ) (d : Run) → k + 1 ≡ length runs → (get_or runs k d).log ≢ log) → more ≡ runs ++ record { log = log; count = n } ∷ [] → IsAdded runs log n more
+pub added_run : (runs more : List Run) (log : LogName) (n : ℕ) → AreBlocks runs → ends runs log + n ≤ longest_log → 0 < n → ((k : ℕ) (d : Run) → k + 1 ≡ length runs → (get_or runs k d).log ≢ log) → more ≡ runs ++ record { log = log; count = n } ∷ [] → IsAdded runs log n more
 added_run runs more log n blocks room some apart is = subst (λ (rs : List Run). IsAdded runs log n rs) (sym is) (record { blocks = here; spelled = push })
   where
     run : Run
@@ -131,14 +132,14 @@ added_run runs more log n blocks room some apart is = subst (λ (rs : List Run).
 
     here : AreBlocks (runs ++ record { log = log; count = n } ∷ [])
     here = record {
-      small = λ l. subst (λ (c : Cursors). c l ≤ 1048576) (sym after) (small_after (ends runs) log n blocks.small room l);
+      small = λ l. subst (λ (c : Cursors). c l ≤ longest_log) (sym after) (small_after (ends runs) log n blocks.small room l);
       each = all_push runs (record { log = log; count = n }) blocks.each some;
       alternate = λ k x lt same. neighbours k x (omega (arith, length_push runs (record { log = log; count = n }))) same (cases_lt (k + 1) (length runs));
       last = λ k x at. last_at (get_or (runs ++ record { log = log; count = n } ∷ []) k x) (get_last runs (record { log = log; count = n }) x k (omega (arith, length_push runs (record { log = log; count = n }))));
     }
 
 -- the last run goes on
-grown : (front : List Run) (run : Run) (n : ℕ) → AreBlocks (front ++ run ∷ []) → ends (front ++ run ∷ []) run.log + n ≤ 1048576 → IsAdded (front ++ run ∷ []) run.log n (front ++ record { log = run.log; count = run.count + n } ∷ [])
+grown : (front : List Run) (run : Run) (n : ℕ) → AreBlocks (front ++ run ∷ []) → ends (front ++ run ∷ []) run.log + n ≤ longest_log → IsAdded (front ++ run ∷ []) run.log n (front ++ record { log = run.log; count = run.count + n } ∷ [])
 grown front run n blocks room = record { blocks = here; spelled = names }
   where
     more : Run
@@ -176,14 +177,14 @@ grown front run n blocks room = record { blocks = here; spelled = names }
     here =
         let parts = all_front front run blocks.each in
         record {
-          small = λ l. subst (λ (c : Cursors). c l ≤ 1048576) (sym after) (small_after (ends (front ++ run ∷ [])) run.log n blocks.small room l);
+          small = λ l. subst (λ (c : Cursors). c l ≤ longest_log) (sym after) (small_after (ends (front ++ run ∷ [])) run.log n blocks.small room l);
           each = all_push front (record { log = run.log; count = run.count + n }) parts.0 (omega (arith, parts.1));
           alternate = λ k d lt same. blocks.alternate k d (omega (arith, lengths)) (sym (logs k d) ∙ same ∙ logs (k + 1) d);
           last = λ k d e. last_at (get_or (front ++ record { log = run.log; count = run.count + n } ∷ []) k d) (get_last front (record { log = run.log; count = run.count + n }) d k (omega (arith, length_push front (record { log = run.log; count = run.count + n }))));
         }
 
 -- as the code has it
-pub added_last : (runs : List Run) (last d : Run) (log : LogName) (len n : ℕ) → AreBlocks runs → ends runs log + n ≤ 1048576 → len ≡ length runs → 0 < len → last ≡ get_or runs (len - 1) d → last.log ≡ log → IsAdded runs log n (set runs (len - 1) (record { log = last.log; count = last.count + n }))
+pub added_last : (runs : List Run) (last d : Run) (log : LogName) (len n : ℕ) → AreBlocks runs → ends runs log + n ≤ longest_log → len ≡ length runs → 0 < len → last ≡ get_or runs (len - 1) d → last.log ≡ log → IsAdded runs log n (set runs (len - 1) (record { log = last.log; count = last.count + n }))
 added_last runs last d log len n blocks room long some is same =
     let parts = snoc runs (omega arith) in
     at parts.0 parts.1 parts.2
@@ -198,7 +199,7 @@ added_last runs last d log len n blocks room long some is same =
         ∙ (ap (λ (rs : List Run). set rs (len - 1) (record { log = run.log; count = run.count + n })) split
         ∙ set_last front run (record { log = run.log; count = run.count + n }) (len - 1) k) in
         let blocks' : AreBlocks (front ++ run ∷ []) = subst (λ (rs : List Run). AreBlocks rs) split blocks in
-        let room' : ends (front ++ run ∷ []) run.log + n ≤ 1048576 = subst (λ (rs : List Run). ends rs run.log + n ≤ 1048576) split (subst (λ (l : LogName). ends runs l + n ≤ 1048576) (sym logs) room) in
+        let room' : ends (front ++ run ∷ []) run.log + n ≤ longest_log = subst (λ (rs : List Run). ends rs run.log + n ≤ longest_log) split (subst (λ (l : LogName). ends runs l + n ≤ longest_log) (sym logs) room) in
         let done = grown front run n blocks' room' in
         let first : IsAdded (front ++ run ∷ []) run.log n (set runs (len - 1) (record { log = last.log; count = last.count + n })) = subst (λ (rs : List Run). IsAdded (front ++ run ∷ []) run.log n rs) (sym whole) done in
         subst (λ (l : LogName). IsAdded runs l n (set runs (len - 1) (record { log = last.log; count = last.count + n }))) logs (subst (λ (rs : List Run). IsAdded rs run.log n (set runs (len - 1) (record { log = last.log; count = last.count + n }))) (sym split) first)
@@ -208,10 +209,10 @@ pub same_last : (runs : List Run) (a b d x : Run) (log : LogName) (len : ℕ) �
 same_last runs a b d x log len long some p q same = ap (λ (r : Run). r.log) (p ∙ get_within runs (len - 1) d x (omega arith) ∙ sym q) ∙ same
 
 -- a run behind no run, or behind a last one of another log
-pub added_first : (runs more : List Run) (log : LogName) (len n : ℕ) → AreBlocks runs → ends runs log + n ≤ 1048576 → len ≡ length runs → len ≤ 0 → 0 < n → more ≡ runs ++ record { log = log; count = n } ∷ [] → IsAdded runs log n more
+pub added_first : (runs more : List Run) (log : LogName) (len n : ℕ) → AreBlocks runs → ends runs log + n ≤ longest_log → len ≡ length runs → len ≤ 0 → 0 < n → more ≡ runs ++ record { log = log; count = n } ∷ [] → IsAdded runs log n more
 added_first runs more log len n blocks room long none some is = added_run runs more log n blocks room some (λ k d e. absurd (omega arith)) is
 
-pub added_next : (runs more : List Run) (last d : Run) (log : LogName) (len n : ℕ) → AreBlocks runs → ends runs log + n ≤ 1048576 → len ≡ length runs → 0 < len → last ≡ get_or runs (len - 1) d → last.log ≢ log → 0 < n → more ≡ runs ++ record { log = log; count = n } ∷ [] → IsAdded runs log n more
+pub added_next : (runs more : List Run) (last d : Run) (log : LogName) (len n : ℕ) → AreBlocks runs → ends runs log + n ≤ longest_log → len ≡ length runs → 0 < len → last ≡ get_or runs (len - 1) d → last.log ≢ log → 0 < n → more ≡ runs ++ record { log = log; count = n } ∷ [] → IsAdded runs log n more
 added_next runs more last d log len n blocks room long behind is other some more_is = added_run runs more log n blocks room some apart more_is
   where
     apart : (k : ℕ) (x : Run) → k + 1 ≡ length runs → (get_or runs k x).log ≢ log

@@ -6,6 +6,7 @@ use Rattle.migration_types.specs.declared.records.GuestRec.TheVariants.{Read, Wr
 use Rattle.migration_types.specs.declared.records.PagerRec.{PagerRec}
 use Rattle.migration_types.specs.declared.cert.Run.{Run}
 use Rattle.migration_types.specs.declared.version.Version.TheVariants.{Two}
+use Rattle.migration_types.specs.declared.size.Size.TheVariants.{Small}
 use Rattle.migration_types.specs.Certs.{Certified, AreRuns}
 use Rattle.migration_types.specs.Receipts.{Name}
 use Rattle.migration_types.specs.Sessions.{Recorded, line_of}
@@ -72,7 +73,7 @@ pub record IsOrderFor (s : Recorded) (reason : PageReason) (name : Name) (order 
 
 -- these runs spell the order given with a fault, which is a merging in which the demand at the faulty record fails
 pub record ShowsFault (s : Recorded) (reason : PageReason) (name : Name) (runs : List Run) : Type 0 where
-  pub are_runs : AreRuns s.version runs
+  pub are_runs : AreRuns s.version s.geometry.size runs
   pub is_merging : IsMerging s (spelled runs)
   pub breaks : BreaksAt s (spelled runs) name
   pub is_order : IsOrderFor s reason name (spelled runs)
@@ -104,5 +105,5 @@ IsClean _ = ⊥
 
 -- the runs of a fault's order are within the limits of their text, which are those of the second version
 abbrev pub ReportFits : Report → Type 0
-ReportFits (Faulty line fault order) = AreRuns Two order
+ReportFits (Faulty line fault order) = AreRuns Two Small order
 ReportFits _ = Unit {0}

@@ -2,6 +2,7 @@
 
 ghost use Rattle.std.specs.Prelude.{◌≡◌, ◌+◌, ◌-◌, ◌≤◌, ◌++◌, IfOk, OnOk, min};
 ghost use Rattle.migration_types.specs.Certs.{AreRuns};
+ghost use Rattle.migration_types.specs.Limits.{longest_log};
 ghost use Rattle.migration_types.specs.Sessions.{IsSession};
 ghost use Rattle.audit_model.specs.Mergings.{IsMerging, run_names, spelled};
 ghost use Rattle.audit_model.specs.Delayed.{rearranged};
@@ -16,7 +17,7 @@ use std::alloc::{AllocError, Global};
 /// Adds the next so many records of a log behind some runs, to the last of these where it is of that log.
 fn add_part(runs: &mut Vec<Run>, log: LogName, count: u32) -> Result<(), AllocError>
     requires blocks { AreBlocks runs.old.items }
-    requires room { ends runs.old.items log + count ≤ 1048576 }
+    requires room { ends runs.old.items log + count ≤ longest_log }
     ensures blocks { OnOk result (AreBlocks runs.new.items) }
     ensures spelled { OnOk result (spelled runs.new.items ≡ spelled runs.old.items ++ run_names log (ends runs.old.items log) count) }
 {
@@ -97,7 +98,7 @@ pub(crate) fn rearranged(
     requires limits { IsSession session.now }
     requires merging { IsMerging session.now (spelled runs.now) }
     requires within { IsWithin session.now (cursors_of cut.now) }
-    ensures runs { IfOk result (λ order. AreRuns session.now.version order) }
+    ensures runs { IfOk result (λ order. AreRuns session.now.version session.now.geometry.size order) }
     ensures spelled { IfOk result (λ order. spelled order ≡ rearranged (cursors_of cut.now) (spelled runs.now)) }
 {
     let mut parts = below_parts(alloc, session, runs, cut)?;

@@ -8,7 +8,7 @@ use std::alloc::{AllocError, Global};
 use std::marker::Model;
 
 /// The pages of a machine that its guest released and has not written since. Only `new` and `released_list` take
-/// memory: a byte for each page of the machine, and two for each page of the list.
+/// memory: a byte for each page of the machine, and three for each page of the list.
 #[derive(Drop)]
 pub struct Ledger {
     geometry: Geometry,
@@ -96,7 +96,7 @@ impl Ledger {
         let mut list = Vec::new(*self.marks.allocator());
         for number in 0..self.geometry.pages() {
             if self.marks[number as usize] {
-                list.push(PageNo::new(number as u16))?;
+                list.push(PageNo::new(number))?;
             }
         }
         Ok(list)

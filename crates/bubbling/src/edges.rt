@@ -25,7 +25,7 @@ impl Edges {
     pub fn at(page: PageNo) -> Edges
         ensures { result ≡ at_page page }
     {
-        let number = u32::from(page.number());
+        let number = page.number();
         Edges {
             first: number + 1,
             past: number,
@@ -56,7 +56,8 @@ impl Edges {
         ensures page { MatchOption result (marked unsent.now ≡ no_page) (IsNextPushed (marked unsent.now) pivot) }
         ensures on_edge { IfSome result (λ q. IsOnEdge q self) }
     {
-        match (self.low(), self.high(unsent.pages())) {
+        let pages = unsent.pages();
+        match (self.low(), self.high(pages)) {
             (None, high) => high,
             (low, None) => low,
             (Some(low), Some(high)) => Some(nearer(pivot, low, high)),
@@ -78,7 +79,7 @@ impl Edges {
         ensures { MatchOption result (self.first ≡ 0) (λ q. q + 1 ≡ self.first) }
     {
         let low = self.first.checked_sub(1)?;
-        Some(PageNo::new(low as u16))
+        Some(PageNo::new(low))
     }
 
     /// The page on the high edge, of so many pages.
@@ -90,7 +91,7 @@ impl Edges {
         if self.past == pages {
             return None;
         }
-        Some(PageNo::new(self.past as u16))
+        Some(PageNo::new(self.past))
     }
 }
 
@@ -141,7 +142,7 @@ fn nearer(pivot: PageNo, low: PageNo, high: PageNo) -> PageNo
 }
 
 /// How far apart two pages are.
-fn apart(a: PageNo, b: PageNo) -> u16
+fn apart(a: PageNo, b: PageNo) -> u32
     ensures { result ≡ distance a b }
 {
     a.number().abs_diff(b.number())

@@ -104,7 +104,7 @@ impl Unsent {
         pages - jumps::first_marked(&mut self.down, Way::Down, &self.marks, pages - first)
     }
 
-    /// Tells callers that the machine has at most 65,536 pages.
+    /// Tells callers that the machine has no more pages than the greatest has.
     pub fn keeps_limits(&self)
         ensures { length self.now ≤ most_pages }
     {
@@ -142,7 +142,7 @@ fn mark_rest(marks: &mut Vec<bool>, ledger: &Ledger)
     ensures unsent { marked marks.new.items ≡ rest_of ledger.now.geometry.pages (released ledger.now) }
 {
     for n in 0..marks.len() {
-        marks[n] = !ledger.holds(PageNo::new(n as u16));
+        marks[n] = !ledger.holds(PageNo::new(n as u32));
     }
 }
 

@@ -10,6 +10,9 @@ use Rattle.migration_types.specs.declared.cert.Entry.{Entry}
 use Rattle.migration_types.specs.declared.cert.Entry.TheVariants.{Nothing, Fresh, Source, Balloon}
 use Rattle.migration_types.specs.declared.version.Version.{Version}
 use Rattle.migration_types.specs.declared.version.Version.TheVariants.{One, Two}
+use Rattle.migration_types.specs.declared.size.Size.{Size}
+use Rattle.migration_types.specs.Limits.{limits}
+use Rattle.migration_types.specs.declared.records.LogName.TheVariants.{Guest as GuestLog, Source as SourceLog, Pager as PagerLog}
 use Rattle.migration_types.specs.Certs.{Certified, FirstFits, EntryFits, AreRuns, IsCert}
 use Rattle.migration_types.specs.Sessions.{Recorded, IsSession, IsNumber}
 use Rattle.audit_model.specs.Mergings.{IsMerging, spelled}
@@ -23,18 +26,18 @@ use Rattle.cert_maker.proofs.Fitting.{fitting_runs, take_records}
 
 -- ---- limits
 
-is_number : {A : Type 0} (log : List A) (n : ℕ) (r : A) → length log ≤ 1048576 → slice_get log n ≡ Some r → IsNumber n
-is_number log n r few is = let lt = slice_get_within log n r is in omega arith
+is_number : {A : Type 0} (size : Size) (log : List A) (n : ℕ) (r : A) → length log ≤ (limits size).records → slice_get log n ≡ Some r → IsNumber size n
+is_number size log n r few is = let lt = slice_get_within log n r is in omega arith
 
-first_fits : (s : Recorded) (page place : ℕ) (first : Option First) → IsSession s → IsCovered s page place first → FirstFits first
-first_fits s page place None limits covered = tt
-first_fits s page place (Some first) limits covered = (is_number s.guest first.access _ limits.few_guest covered.is_touch.stands, is_number s.guest first.see _ limits.few_guest covered.sees)
+first_fits : (s : Recorded) (page place : ℕ) (first : Option First) → IsSession s → IsCovered s page place first → FirstFits s.geometry.size first
+first_fits s page place None fits covered = tt
+first_fits s page place (Some first) fits covered = (is_number s.geometry.size s.guest first.access _ (fits.own GuestLog) covered.is_touch.stands, is_number s.geometry.size s.guest first.see _ (fits.own GuestLog) covered.sees)
 
-entry_fits : (s : Recorded) (version : Version) (page : ℕ) (entry : Entry) → IsSession s → IsRightEntry s page entry → (is_fresh entry ≡ true → version ≡ Two) → EntryFits version entry
-entry_fits s version page Nothing limits right two = tt
-entry_fits s version page (Fresh first) limits right two = subst (λ (v : Version). EntryFits v (Fresh first)) (sym (two refl)) (is_number s.guest first _ limits.few_guest right.1.is_release)
-entry_fits s version page (Source send place first) limits right two = (is_number s.source send _ limits.few_source right.1.is_sent, is_number s.pager place _ limits.few_pager right.1.is_placed, first_fits s page place first limits right.1.is_covered)
-entry_fits s version page (Balloon place first) limits right two = (is_number s.pager place _ limits.few_pager right.1.is_zeroed, first_fits s page place first limits right.1.is_covered)
+entry_fits : (s : Recorded) (version : Version) (page : ℕ) (entry : Entry) → IsSession s → IsRightEntry s page entry → (is_fresh entry ≡ true → version ≡ Two) → EntryFits version s.geometry.size entry
+entry_fits s version page Nothing fits right two = tt
+entry_fits s version page (Fresh first) fits right two = subst (λ (v : Version). EntryFits v s.geometry.size (Fresh first)) (sym (two refl)) (is_number s.geometry.size s.guest first _ (fits.own GuestLog) right.1.is_release)
+entry_fits s version page (Source send place first) fits right two = (is_number s.geometry.size s.source send _ (fits.own SourceLog) right.1.is_sent, is_number s.geometry.size s.pager place _ (fits.own PagerLog) right.1.is_placed, first_fits s page place first fits right.1.is_covered)
+entry_fits s version page (Balloon place first) fits right two = (is_number s.geometry.size s.pager place _ (fits.own PagerLog) right.1.is_zeroed, first_fits s page place first fits right.1.is_covered)
 
 all_from : (P : Entry → Type 0) (entries : List Entry) → ((page : ℕ) (entry : Entry) → slice_get entries page ≡ Some entry → P entry) → AllByRecursion P entries
 all_from P [] each = tt
@@ -68,39 +71,41 @@ of_right_shape s entries plain made shape = by_fresh (list_any is_fresh entries)
     by_fresh false e = ap (λ (b : Bool). if b then Two else s.version) e
 
 -- the runs of a merging fit the session's version, and so the certificate's
-made_runs : (s : Recorded) (version : Version) (entries : List Entry) (runs : List Run) → version ≡ version_for s.version entries → IsSession s → IsMerging s (spelled runs) → AreRuns Two runs → AreRuns version runs
-made_runs s version entries runs is_version limits merging fits = subst (λ (v : Version). AreRuns v runs) (sym is_version) (go (list_any is_fresh entries))
+made_runs : (s : Recorded) (version : Version) (entries : List Entry) (runs : List Run) → version ≡ version_for s.version entries → IsSession s → IsMerging s (spelled runs) → AreRuns Two s.geometry.size runs → AreRuns version s.geometry.size runs
+made_runs s version entries runs is_version limits merging fits = subst (λ (v : Version). AreRuns v s.geometry.size runs) (sym is_version) (go (list_any is_fresh entries))
   where
-    own : AreRuns s.version runs
-    own = fitting_runs s runs limits (take_records Two runs fits) fits.alternate (λ log. let all = (merging_is_walk s (spelled runs) merging).1 log in omega (arith, all))
+    own : AreRuns s.version s.geometry.size runs
+    own = fitting_runs s runs limits (take_records Two s.geometry.size runs fits) fits.alternate (λ log. let all = (merging_is_walk s (spelled runs) merging).1 log in omega (arith, all))
 
-    go : (b : Bool) → AreRuns (if b then Two else s.version) runs
+    go : (b : Bool) → AreRuns (if b then Two else s.version) s.geometry.size runs
     go true = fits
     go false = own
 
-pub made_cert : (s : Recorded) (version : Version) (entries : List Entry) (runs : List Run) → version ≡ version_for s.version entries → IsSession s → AreMade s entries → IsMerging s (spelled runs) → AreRuns Two runs → IsCert (record { version = version; entries = entries; runs = runs })
+pub made_cert : (s : Recorded) (version : Version) (entries : List Entry) (runs : List Run) → version ≡ version_for s.version entries → IsSession s → AreMade s entries → IsMerging s (spelled runs) → AreRuns Two s.geometry.size runs → IsCert (record { version = version; size = s.geometry.size; entries = entries; runs = runs })
 made_cert s version entries runs is_version limits made merging fits = record {
   some_pages = let some = limits.geometry.some_pages in let e = made.pages in omega arith;
   few_pages = let few = limits.geometry.few_pages in let e = made.pages in omega arith;
-  entries = all_from (EntryFits version) entries (λ page entry is. entry_fits s version page entry limits (made.each page entry is).right (λ fresh. is_version ∙ two_where_fresh s.version entries (any_fresh entries page entry is fresh)));
+  own = let few = limits.geometry.own.pages in let e = made.pages in omega arith;
+  entries = all_from (EntryFits version s.geometry.size) entries (λ page entry is. entry_fits s version page entry limits (made.each page entry is).right (λ fresh. is_version ∙ two_where_fresh s.version entries (any_fresh entries page entry is fresh)));
   runs = made_runs s version entries runs is_version limits merging fits;
 }
 
 -- ---- the answers
 
-pub is_made : (s : Recorded) (version : Version) (entries : List Entry) (runs : List Run) (cert : Certified) → FirstVersionIsPlain s → version ≡ version_for s.version entries → AreMade s entries → IsMerging s (spelled runs) → cert ≡ record { version = version; entries = entries; runs = runs } → IsMade s runs cert
+pub is_made : (s : Recorded) (version : Version) (entries : List Entry) (runs : List Run) (cert : Certified) → FirstVersionIsPlain s → version ≡ version_for s.version entries → AreMade s entries → IsMerging s (spelled runs) → cert ≡ record { version = version; size = s.geometry.size; entries = entries; runs = runs } → IsMade s runs cert
 is_made s version entries runs cert plain is_version made merging e = subst (λ (x : Certified). IsMade s runs x) (sym e) whole
   where
-    whole : IsMade s runs (record { version = version; entries = entries; runs = runs })
+    whole : IsMade s runs (record { version = version; size = s.geometry.size; entries = entries; runs = runs })
     whole = record {
       is_right = record { pages = made.pages; entries = λ page entry is. (made.each page entry is).right; merging = merging };
       has_runs = refl;
+      has_size = refl;
       has_version = λ shape. is_version ∙ of_right_shape s entries plain made shape;
       earliest = λ page entry is. (made.each page entry is).earliest;
     }
 
-pub bare_refused : (s : Recorded) (runs : List Run) → HasBarePage s → (version : Version) (entries : List Entry) → IsRightCertificate s (record { version = version; entries = entries; runs = runs }) → ⊥
-bare_refused s runs bare version entries right =
+pub bare_refused : (s : Recorded) (runs : List Run) → HasBarePage s → (version : Version) (size : Size) (entries : List Entry) → IsRightCertificate s (record { version = version; size = size; entries = entries; runs = runs }) → ⊥
+bare_refused s runs bare version size entries right =
     let within = bare.within in
     let pages = right.pages in
     let is = slice_get-get_or entries bare.page Nothing (omega arith) in

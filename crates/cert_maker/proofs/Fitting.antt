@@ -1,5 +1,5 @@
--- Runs that take no more records than a session has are within the limits of the session's version.
-use Rattle.std.proofs.Common.{◌≡◌, ℕ, ◌+◌, ◌<◌, ◌≤◌, ◌⊎◌, inl, inr, Bool, true, false, cond, List, [], ◌∷◌, length, refl, ap, ◌∙◌, subst, arith}
+-- Runs that take no more records than a session has are within the limits of the session's version and size.
+use Rattle.std.proofs.Common.{◌≡◌, ℕ, ◌+◌, ◌*◌, ◌<◌, ◌≤◌, ◌⊎◌, inl, inr, Bool, true, false, cond, List, [], ◌∷◌, length, refl, ap, ◌∙◌, subst, arith}
 use Rattle.std.specs.List.{AllByRecursion}
 use Rattle.std.proofs.lemmas.Bool.{cases_lt}
 use Rattle.migration_types.specs.declared.records.LogName.{LogName}
@@ -9,7 +9,9 @@ use Rattle.migration_types.specs.declared.records.LaneRec.TheVariants.{Down}
 use Rattle.migration_types.specs.declared.cert.Run.{Run}
 use Rattle.migration_types.specs.declared.version.Version.{Version}
 use Rattle.migration_types.specs.declared.version.Version.TheVariants.{One, Two}
-use Rattle.migration_types.specs.Limits.{most_runs}
+use Rattle.migration_types.specs.declared.size.Size.{Size}
+use Rattle.migration_types.specs.declared.size.Size.TheVariants.{Small}
+use Rattle.migration_types.specs.Limits.{limits, limits_at_most, longest_log, most_runs}
 use Rattle.migration_types.specs.Certs.{LogFits, RunFits, Alternate, AreRuns}
 use Rattle.migration_types.specs.Sessions.{Recorded, IsSession, HasLane, LaneRecFits}
 use Rattle.audit_model.specs.Names.{log_length, same_log}
@@ -54,7 +56,7 @@ few_runs c (run ∷ runs) some = omega (arith, some.0, total_moved c run.log run
 
 -- ---- what a session has
 
-pub log_fits : (s : Recorded) (log : LogName) → IsSession s → log_length s log ≤ 1048576
+pub log_fits : (s : Recorded) (log : LogName) → IsSession s → log_length s log ≤ longest_log
 log_fits s Guest limits = limits.few_guest
 log_fits s Source limits = limits.few_source
 log_fits s Link limits = limits.few_link
@@ -68,22 +70,30 @@ log_of_version s Source limits some = tt
 log_of_version s Link limits some = tt
 log_of_version s Lane limits some = go s.lane limits.lane some
   where
-    go : (records : List LaneRec) → AllByRecursion (LaneRecFits s.version) records → 0 < length records → HasLane s.version
+    go : (records : List LaneRec) → AllByRecursion (LaneRecFits s.version s.geometry) records → 0 < length records → HasLane s.version
     go [] fits some = absurd (omega (arith, some))
     go (Down sending ∷ records) fits some = fits.0.0
 log_of_version s Pager limits some = tt
 
-few_records : (s : Recorded) (version : Version) → s.version ≡ version → IsSession s → total (log_length s) ≤ most_runs version
+-- a certificate may have a run of each record
+record HaveRoom (size : Size) : Type 0 where
+  one : 4 * (limits size).records ≤ most_runs One size
+  two : 5 * (limits size).records ≤ most_runs Two size
+
+have_room : (size : Size) → HaveRoom size
+have_room Small = record { one = omega arith; two = omega arith }
+
+few_records : (s : Recorded) (version : Version) → s.version ≡ version → IsSession s → total (log_length s) ≤ most_runs version s.geometry.size
 few_records s One first limits = go (cases_lt 0 (length s.lane))
   where
-    go : (0 < length s.lane) ⊎ (length s.lane ≤ 0) → total (log_length s) ≤ most_runs One
+    go : (0 < length s.lane) ⊎ (length s.lane ≤ 0) → total (log_length s) ≤ most_runs One s.geometry.size
     go (inl some) = absurd (subst HasLane first (log_of_version s Lane limits some))
-    go (inr none) = omega (arith, none, limits.few_guest, limits.few_source, limits.few_link, limits.few_pager)
-few_records s Two second limits = omega (arith, limits.few_guest, limits.few_source, limits.few_link, limits.few_lane, limits.few_pager)
+    go (inr none) = omega (arith, none, limits.own Guest, limits.own Source, limits.own Link, limits.own Pager, (have_room s.geometry.size).one)
+few_records s Two second limits = omega (arith, limits.own Guest, limits.own Source, limits.own Link, limits.own Lane, limits.own Pager, (have_room s.geometry.size).two)
 
 -- ---- the limits
 
-each_fits : (s : Recorded) → IsSession s → (c : Cursors) (runs : List Run) → TakeRecords runs → ((log : LogName) → cursors_from c (spelled_from c runs) log ≤ log_length s log) → AllByRecursion (RunFits s.version) runs
+each_fits : (s : Recorded) → IsSession s → (c : Cursors) (runs : List Run) → TakeRecords runs → ((log : LogName) → cursors_from c (spelled_from c runs) log ≤ log_length s log) → AllByRecursion (RunFits s.version s.geometry.size) runs
 each_fits s limits c [] some within = tt
 each_fits s limits c (run ∷ runs) some within =
     let next : Cursors = moved c run.log run.count in
@@ -92,12 +102,12 @@ each_fits s limits c (run ∷ runs) some within =
       record {
         log = log_of_version s run.log limits (omega (arith, some.0, there));
         some = some.0;
-        few = omega (arith, there, log_fits s run.log limits);
+        few = omega (arith, there, limits.own run.log);
       },
       each_fits s limits next runs some.1 on,
     )
 
-pub fitting_runs : (s : Recorded) (runs : List Run) → IsSession s → TakeRecords runs → Alternate runs → ((log : LogName) → cursors_from at_start (spelled runs) log ≤ log_length s log) → AreRuns s.version runs
+pub fitting_runs : (s : Recorded) (runs : List Run) → IsSession s → TakeRecords runs → Alternate runs → ((log : LogName) → cursors_from at_start (spelled runs) log ≤ log_length s log) → AreRuns s.version s.geometry.size runs
 fitting_runs s runs limits some alternate within = record {
   few = omega (arith, few_runs at_start runs some, few_records s s.version refl limits, within Guest, within Source, within Link, within Lane, within Pager);
   each = each_fits s limits at_start runs some within;
@@ -106,12 +116,12 @@ fitting_runs s runs limits some alternate within = record {
 
 -- ---- runs of both versions
 
-some_of_fitting : (version : Version) (runs : List Run) → AllByRecursion (RunFits version) runs → TakeRecords runs
-some_of_fitting version [] each = tt
-some_of_fitting version (run ∷ runs) each = (each.0.some, some_of_fitting version runs each.1)
+some_of_fitting : (version : Version) (size : Size) (runs : List Run) → AllByRecursion (RunFits version size) runs → TakeRecords runs
+some_of_fitting version size [] each = tt
+some_of_fitting version size (run ∷ runs) each = (each.0.some, some_of_fitting version size runs each.1)
 
-pub take_records : (version : Version) (runs : List Run) → AreRuns version runs → TakeRecords runs
-take_records version runs fits = some_of_fitting version runs fits.each
+pub take_records : (version : Version) (size : Size) (runs : List Run) → AreRuns version size runs → TakeRecords runs
+take_records version size runs fits = some_of_fitting version size runs fits.each
 
 log_in_second : (log : LogName) → LogFits Two log
 log_in_second Guest = tt
@@ -120,18 +130,21 @@ log_in_second Link = tt
 log_in_second Lane = tt
 log_in_second Pager = tt
 
-each_in_second : (version : Version) (runs : List Run) → AllByRecursion (RunFits version) runs → AllByRecursion (RunFits Two) runs
-each_in_second version [] each = tt
-each_in_second version (run ∷ runs) each = (record { log = log_in_second run.log; some = each.0.some; few = each.0.few }, each_in_second version runs each.1)
+each_in_text : (version : Version) (size : Size) (runs : List Run) → AllByRecursion (RunFits version size) runs → AllByRecursion (RunFits Two Small) runs
+each_in_text version size [] each = tt
+each_in_text version size (run ∷ runs) each =
+    let few = each.0.few in
+    let most = (limits_at_most size).few_records in
+    (record { log = log_in_second run.log; some = each.0.some; few = omega (arith, few, most) }, each_in_text version size runs each.1)
 
-most_in_second : (version : Version) → most_runs version ≤ most_runs Two
-most_in_second One = omega arith
-most_in_second Two = omega arith
+most_in_text : (version : Version) (size : Size) → most_runs version size ≤ most_runs Two Small
+most_in_text One Small = omega arith
+most_in_text Two Small = omega arith
 
--- runs that fit a version fit the second
-pub in_second : (version : Version) (runs : List Run) → AreRuns version runs → AreRuns Two runs
-in_second version runs fits = record {
-  few = omega (arith, fits.few, most_in_second version);
-  each = each_in_second version runs fits.each;
+-- runs that fit a version and a size fit a text of runs
+pub in_text : (version : Version) (size : Size) (runs : List Run) → AreRuns version size runs → AreRuns Two Small runs
+in_text version size runs fits = record {
+  few = omega (arith, fits.few, most_in_text version size);
+  each = each_in_text version size runs fits.each;
   alternate = fits.alternate;
 }

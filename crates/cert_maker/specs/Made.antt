@@ -6,6 +6,7 @@ use Rattle.migration_types.specs.declared.cert.First.{First}
 use Rattle.migration_types.specs.declared.cert.Entry.{Entry}
 use Rattle.migration_types.specs.declared.cert.Entry.TheVariants.{Nothing, Fresh, Source, Balloon}
 use Rattle.migration_types.specs.declared.version.Version.{Version}
+use Rattle.migration_types.specs.declared.size.Size.{Size}
 use Rattle.migration_types.specs.Certs.{Certified}
 use Rattle.migration_types.specs.Sessions.{Recorded}
 use Rattle.audit_model.specs.Certificates.{IsRightCertificate, IsRightEntry}
@@ -34,15 +35,16 @@ pub record IsMadeEntry (s : Recorded) (page : ℕ) (entry : Entry) : Type 0 wher
 abbrev pub HasNoEntry : Recorded → ℕ → Type 0
 HasNoEntry s page = (entry : Entry) → IsRightEntry s page entry → ⊥
 
--- a right certificate with these runs, and with the earliest looks, in the version of a session of the right shape
+-- a right certificate with these runs, and with the earliest looks, of the session's size, and in the version of a session of the right shape
 pub record IsMade (s : Recorded) (runs : List Run) (cert : Certified) : Type 0 where
   pub is_right : IsRightCertificate s cert
   pub has_runs : cert.runs ≡ runs
+  pub has_size : cert.size ≡ s.geometry.size
   pub has_version : IsRightShape s → cert.version ≡ s.version
   pub earliest : (page : ℕ) (entry : Entry) → slice_get cert.entries page ≡ Some entry → NamesEarliest s entry
 
--- no right certificate of any version has these runs, or memory was refused
+-- no right certificate of any version and size has these runs, or memory was refused
 abbrev pub IsRefused : Recorded → List Run → MakeFault → Type 0
 IsRefused s runs NoCertificate =
-    (version : Version) (entries : List Entry) → IsRightCertificate s (record { version = version; entries = entries; runs = runs }) → ⊥
+    (version : Version) (size : Size) (entries : List Entry) → IsRightCertificate s (record { version = version; size = size; entries = entries; runs = runs }) → ⊥
 IsRefused s runs Memory = Unit {0}

@@ -13,16 +13,16 @@ use Rattle.cert_maker.specs.declared.order.Left.{Left}
 use Rattle.cert_maker.specs.declared.order.Order.{Order}
 use Rattle.cert_maker.specs.declared.order.Order.TheVariants.{Found, Knot}
 
--- the runs of a found order that takes all records, within the limits of a certificate's runs of the session's version
+-- the runs of a found order that takes all records, within the limits of a certificate's runs of the session's version and size
 pub record AreFoundRuns (s : Recorded) (runs : List Run) : Type 0 where
   pub is_found : IsFound s (spelled runs)
-  pub are_runs : AreRuns s.version runs
+  pub are_runs : AreRuns s.version s.geometry.size runs
 
--- the runs of the found order, as far as it goes, within the limits of a certificate's runs of the session's version;
--- and the cursors behind them
+-- the runs of the found order, as far as it goes, within the limits of a certificate's runs of the session's version and
+-- size; and the cursors behind them
 pub record IsFoundFront (s : Recorded) (runs : List Run) (c : Cursors) : Type 0 where
   pub is_found_order : IsFoundOrder s (spelled runs)
-  pub are_runs : AreRuns s.version runs
+  pub are_runs : AreRuns s.version s.geometry.size runs
   pub at : cursors_from at_start (spelled runs) ≡ c
   pub within : (log : LogName) → c log ≤ log_length s log
 

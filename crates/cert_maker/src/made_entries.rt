@@ -139,7 +139,7 @@ pub(crate) fn entries_in(
     let pages = session.geometry().pages() as usize;
     let mut entries = Vec::with_capacity(alloc, pages)?;
     for page in 0..pages {
-        let number = PageNo::new(page as u16);
+        let number = PageNo::new(page as u32);
         let Some(entry) = made_entry(session, &found[page], number) else {
             return Ok(None);
         };

@@ -26,13 +26,13 @@ pub enum MakeFault {
     Memory,
 }
 
-/// The right certificate of a session with these runs, in the session's version. (A session of the first version that
+/// The right certificate of a session with these runs, in the session's version and of its size. (A session of the first version that
 /// needs an entry of the second is not of the right shape, and its certificate is of the second.) Each entry with a
 /// placement and a first touch names the earliest look that covers the placement. Takes one pass over the runs and a
 /// few over the records, and memory for the entries, a few numbers for each page and the cells of all pages. On an error
 /// the runs are dropped.
 pub fn make(alloc: Global, session: &Session, runs: Seq<Run>) -> Result<Cert, MakeFault>
-    requires { AreRuns Two runs }
+    requires { AreRuns Two session.now.geometry.size runs }
     ensures { MatchResult result (IsMade session.now runs) (IsRefused session.now runs) }
 {
     if !is_merging(session, runs.as_slice()) {
@@ -52,7 +52,7 @@ pub fn make_over(
     found: &[Findings],
     runs: Seq<Run>,
 ) -> Result<Cert, MakeFault>
-    requires runs { AreRuns Two runs }
+    requires runs { AreRuns Two session.now.geometry.size runs }
     requires merging { IsMerging session.now (spelled runs) }
     requires found { AreFindings session.now found.now }
     ensures { MatchResult result (IsMade session.now runs) (IsRefused session.now runs) }
@@ -66,5 +66,6 @@ pub fn make_over(
         return Err(MakeFault::NoCertificate);
     };
     let version = version_for(session, &entries);
-    Ok(Cert::new(version, entries, runs))
+    let size = session.geometry().size();
+    Ok(Cert::new(version, size, entries, runs))
 }

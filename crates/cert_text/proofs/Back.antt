@@ -7,6 +7,7 @@ use Rattle.text_lines.specs.Counted.{Part}
 use Rattle.migration_types.specs.declared.cert.Run.{Run}
 use Rattle.migration_types.specs.declared.cert.Entry.{Entry}
 use Rattle.migration_types.specs.declared.version.Version.{Version}
+use Rattle.migration_types.specs.declared.size.Size.{Size}
 use Rattle.migration_types.specs.Certs.{RunFits, Alternate, EntryFits}
 use Rattle.cert_text.specs.declared.run_lines.RunStage.{RunStage}
 use Rattle.cert_text.specs.declared.run_lines.RunStage.TheVariants.{Count, Runs, Done}
@@ -34,14 +35,14 @@ alternate_front xs x h k d lt = λ e.
 abbrev pub with_run : Part Run → Run → Part Run
 with_run part run = record { count = part.count; items = part.items ++ run ∷ [] }
 
-pub run_fits_back : (version : Version) (old new : Part Run) (run : Run) → old ≡ with_run new run → RunsFit version old → RunsFit version new
-run_fits_back version old new run e f =
-    let g : RunsFit version (with_run new run) = subst (RunsFit version) e f in
+pub run_fits_back : (version : Version) (size : Size) (old new : Part Run) (run : Run) → old ≡ with_run new run → RunsFit version size old → RunsFit version size new
+run_fits_back version size old new run e f =
+    let g : RunsFit version size (with_run new run) = subst (RunsFit version size) e f in
     let count = g.count in
     record {
       few = g.few;
       count = omega (arith, length-append new.items (run ∷ []));
-      each = all_front (RunFits version) new.items run g.each;
+      each = all_front (RunFits version size) new.items run g.each;
       alternate = alternate_front new.items run g.alternate;
     }
 
@@ -60,32 +61,33 @@ closing_undone Done d held e is = (closing, sym e ∙ ap (λ (t : List (List ℕ
 
 -- ---- entries
 
-entry_fits_back : (version : Version) (pages : ℕ) (old new : List Entry) (entry : Entry) (runs : List (List ℕ)) → old ≡ new ++ entry ∷ [] → runs ≡ [] → EntriesFit (record { version = version; pages = pages; entries = old; runs = runs }) → EntriesFit (record { version = version; pages = pages; entries = new; runs = runs })
-entry_fits_back version pages old new entry runs e none f =
-    let g : EntriesFit (record { version = version; pages = pages; entries = new ++ entry ∷ []; runs = runs }) = subst (λ (t : List Entry). EntriesFit (record { version = version; pages = pages; entries = t; runs = runs })) e f in
+entry_fits_back : (version : Version) (size : Size) (pages : ℕ) (old new : List Entry) (entry : Entry) (runs : List (List ℕ)) → old ≡ new ++ entry ∷ [] → runs ≡ [] → EntriesFit (record { version = version; size = size; pages = pages; entries = old; runs = runs }) → EntriesFit (record { version = version; size = size; pages = pages; entries = new; runs = runs })
+entry_fits_back version size pages old new entry runs e none f =
+    let g : EntriesFit (record { version = version; size = size; pages = pages; entries = new ++ entry ∷ []; runs = runs }) = subst (λ (t : List Entry). EntriesFit (record { version = version; size = size; pages = pages; entries = t; runs = runs })) e f in
     let count = g.count in
     record {
       some_pages = g.some_pages;
       few_pages = g.few_pages;
+      own = g.own;
       count = omega (arith, length-append new (entry ∷ []));
-      each = all_front (EntryFits version) new entry g.each;
+      each = all_front (EntryFits version size) new entry g.each;
       runs = λ _. none;
     }
 
-pub live_undone : (stage : Stage) (version : Version) (pages : ℕ) (old new : List Entry) (runs : List (List ℕ)) → Live stage (record { version = version; pages = pages; entries = old; runs = runs }) → stage ≡ Entries → runs ≡ [] → (entry : Entry) × (old ≡ new ++ entry ∷ []) → Live Entries (record { version = version; pages = pages; entries = new; runs = runs })
-live_undone Header version pages old new runs live is none lost = absurd cc
-live_undone Pages version pages old new runs live is none lost = absurd cc
-live_undone Entries version pages old new runs live is none lost = entry_fits_back version pages old new lost.0 runs lost.1 none live
+pub live_undone : (stage : Stage) (version : Version) (size : Size) (pages : ℕ) (old new : List Entry) (runs : List (List ℕ)) → Live stage (record { version = version; size = size; pages = pages; entries = old; runs = runs }) → stage ≡ Entries → runs ≡ [] → (entry : Entry) × (old ≡ new ++ entry ∷ []) → Live Entries (record { version = version; size = size; pages = pages; entries = new; runs = runs })
+live_undone Header version size pages old new runs live is none lost = absurd cc
+live_undone Pages version size pages old new runs live is none lost = absurd cc
+live_undone Entries version size pages old new runs live is none lost = entry_fits_back version size pages old new lost.0 runs lost.1 none live
 
-pub entry_undone : (stage : Stage) (version : Version) (pages : ℕ) (old new : List Entry) (runs held : List (List ℕ)) → held_by stage (record { version = version; pages = pages; entries = old; runs = runs }) ≡ held → stage ≡ Entries → runs ≡ [] → (entry : Entry) × (old ≡ new ++ entry ∷ []) → (line : List ℕ) × (held ≡ held_by Entries (record { version = version; pages = pages; entries = new; runs = runs }) ++ line ∷ [])
-entry_undone Header version pages old new runs held e is none lost = absurd cc
-entry_undone Pages version pages old new runs held e is none lost = absurd cc
-entry_undone Entries version pages old new runs held e is none lost = (
+pub entry_undone : (stage : Stage) (version : Version) (size : Size) (pages : ℕ) (old new : List Entry) (runs held : List (List ℕ)) → held_by stage (record { version = version; size = size; pages = pages; entries = old; runs = runs }) ≡ held → stage ≡ Entries → runs ≡ [] → (entry : Entry) × (old ≡ new ++ entry ∷ []) → (line : List ℕ) × (held ≡ held_by Entries (record { version = version; size = size; pages = pages; entries = new; runs = runs }) ++ line ∷ [])
+entry_undone Header version size pages old new runs held e is none lost = absurd cc
+entry_undone Pages version size pages old new runs held e is none lost = absurd cc
+entry_undone Entries version size pages old new runs held e is none lost = (
   entry_line (length new) lost.0,
-  sym e ∙ (ap (λ (t : List (List ℕ)). entries_onto version pages old t) none
-      ∙ (ap (λ (t : List Entry). entries_onto version pages t []) lost.1
-      ∙ (sym (entry_held (record { version = version; pages = pages; entries = new; runs = runs }) lost.0)
-      ∙ ap (λ (t : List (List ℕ)). entries_onto version pages new t ++ entry_line (length new) lost.0 ∷ []) (sym none)))),
+  sym e ∙ (ap (λ (t : List (List ℕ)). entries_onto version size pages old t) none
+      ∙ (ap (λ (t : List Entry). entries_onto version size pages t []) lost.1
+      ∙ (sym (entry_held (record { version = version; size = size; pages = pages; entries = new; runs = runs }) lost.0)
+      ∙ ap (λ (t : List (List ℕ)). entries_onto version size pages new t ++ entry_line (length new) lost.0 ∷ []) (sym none)))),
 )
 
 -- ---- how many lines came

@@ -15,11 +15,12 @@ use Rattle.migration_types.specs.declared.records.LogName.{LogName}
 use Rattle.migration_types.specs.declared.records.LogName.TheVariants.{Guest, Source, Link, Lane, Pager}
 use Rattle.migration_types.specs.declared.cert.Run.{Run}
 use Rattle.migration_types.specs.declared.version.Version.{Version}
+use Rattle.migration_types.specs.declared.size.Size.{Size}
 use Rattle.migration_types.specs.Limits.{most_runs}
 use Rattle.migration_types.specs.Certs.{LogFits, RunFits, Alternate, AreRuns}
 use Rattle.cert_text.specs.Runs.{runs_key, closing, log_word, run_text, run_line, runs_lines}
 use Rattle.cert_text.specs.inner.Held.{MayFollow}
-use Rattle.cert_text.specs.inner.Plain.{few_runs}
+use Rattle.cert_text.specs.inner.Limits.{limits_some, few_runs, count_small}
 
 -- ---- one spelling for each run
 
@@ -93,22 +94,20 @@ alone text rest n m p q e stops is = numbers_same n m rest [] p q stops tt (sym 
 run_from : (x y : Run) → x.log ≡ y.log → x.count ≡ y.count → x ≡ y
 run_from x y e f = ap (λ (log : LogName). record { log = log; count = x.count }) e ∙ ap (λ (n : ℕ). record { log = y.log; count = n }) f
 
-pub run_same : (version : Version) (x y : Run) → RunFits version x → RunFits version y → run_line x ≡ run_line y → x ≡ y
-run_same version x y p q e =
+pub run_same : (version : Version) (size : Size) (x y : Run) → RunFits version size x → RunFits version size y → run_line x ≡ run_line y → x ≡ y
+run_same version size x y p q e =
     let w = word_same x.log y.log (decimal x.count) (decimal y.count) (append_cancel_left (codes "run ") (run_text x) (run_text y) e) in
-    let few_x = p.few in
-    let few_y = q.few in
-    run_from x y w.0 (decimal_injective x.count y.count (omega arith) (omega arith) w.1)
+    run_from x y w.0 (decimal_injective x.count y.count (count_small size x.count p.few) (count_small size y.count q.few) w.1)
 
-pub runs_same : (version : Version) (xs ys : List Run) → AllByRecursion (RunFits version) xs → AllByRecursion (RunFits version) ys → map run_line xs ≡ map run_line ys → xs ≡ ys
-runs_same version [] [] h k e = refl
-runs_same version [] (y ∷ ys) h k e = absurd cc
-runs_same version (x ∷ xs) [] h k e = absurd cc
-runs_same version (x ∷ xs) (y ∷ ys) h k e =
+pub runs_same : (version : Version) (size : Size) (xs ys : List Run) → AllByRecursion (RunFits version size) xs → AllByRecursion (RunFits version size) ys → map run_line xs ≡ map run_line ys → xs ≡ ys
+runs_same version size [] [] h k e = refl
+runs_same version size [] (y ∷ ys) h k e = absurd cc
+runs_same version size (x ∷ xs) [] h k e = absurd cc
+runs_same version size (x ∷ xs) (y ∷ ys) h k e =
     let heads : run_line x ≡ run_line y = cc in
     let tails : map run_line xs ≡ map run_line ys = cc in
-    let one = run_same version x y h.0 k.0 heads in
-    let all = runs_same version xs ys h.1 k.1 tails in
+    let one = run_same version size x y h.0 k.0 heads in
+    let all = runs_same version size xs ys h.1 k.1 tails in
     cc
 
 -- ---- a text that begins with these runs
@@ -122,15 +121,15 @@ all_at P [] x back h = h.0
 all_at P (y ∷ front) x back h = all_at P front x back h.1
 
 -- the number of the text's runs, and what follows it
-pub runs_agree : (version : Version) (n : ℕ) (xs ys : List Run) (more : List (List ℕ)) → n ≤ most_runs version → AreRuns version xs → (runs_key ++ decimal n) ∷ (map run_line ys ++ more) ≡ runs_lines xs → CountedAgree run_line n xs ys (closing ∷ []) more
-runs_agree version n xs ys more le fits e =
-    let few = few_runs version (length xs) fits.few in
-    let small = few_runs version n le in
+pub runs_agree : (version : Version) (size : Size) (n : ℕ) (xs ys : List Run) (more : List (List ℕ)) → n ≤ most_runs version size → AreRuns version size xs → (runs_key ++ decimal n) ∷ (map run_line ys ++ more) ≡ runs_lines xs → CountedAgree run_line n xs ys (closing ∷ []) more
+runs_agree version size n xs ys more le fits e =
+    let few = few_runs version size (length xs) fits.few in
+    let small = few_runs version size n le in
     counted_agree runs_key run_line n xs ys (closing ∷ []) more (omega arith) (omega arith) e
 
 -- behind all the runs stands the closing line
-pub runs_end : (version : Version) (n : ℕ) (xs ys : List Run) (more : List (List ℕ)) → n ≤ most_runs version → AreRuns version xs → length ys ≡ n → (runs_key ++ decimal n) ∷ (map run_line ys ++ more) ≡ runs_lines xs → closing ∷ [] ≡ more
-runs_end version n xs ys more le fits full e = counted_end run_line n xs ys (closing ∷ []) more (runs_agree version n xs ys more le fits e) full
+pub runs_end : (version : Version) (size : Size) (n : ℕ) (xs ys : List Run) (more : List (List ℕ)) → n ≤ most_runs version size → AreRuns version size xs → length ys ≡ n → (runs_key ++ decimal n) ∷ (map run_line ys ++ more) ≡ runs_lines xs → closing ∷ [] ≡ more
+runs_end version size n xs ys more le fits full e = counted_end run_line n xs ys (closing ∷ []) more (runs_agree version size n xs ys more le fits e) full
 
 -- a run of a text may stand after those before it
 follows_at : (ys : List Run) (item : Run) (back : List Run) → Alternate (ys ++ item ∷ back) → MayFollow ys item.log
@@ -142,21 +141,21 @@ follows_at ys item back h = λ d lt e.
     h (length ys - 1) d (omega arith) (ap (λ (r : Run). r.log) here ∙ (e ∙ sym (ap (λ (r : Run). r.log) there)))
 
 -- the next run of the text
-pub record NextRun (version : Version) (ys : List Run) (line : List ℕ) : Type 0 where
+pub record NextRun (version : Version) (size : Size) (ys : List Run) (line : List ℕ) : Type 0 where
   pub run : Run
-  pub fits : RunFits version run
+  pub fits : RunFits version size run
   pub follows : MayFollow ys run.log
   pub spelled : line ≡ run_line run
 
-pub next_run : (version : Version) (n : ℕ) (xs ys : List Run) (line : List ℕ) (more : List (List ℕ)) → n ≤ most_runs version → AreRuns version xs → AllByRecursion (RunFits version) ys → length ys < n → (runs_key ++ decimal n) ∷ (map run_line ys ++ (line ∷ more)) ≡ runs_lines xs → NextRun version ys line
-next_run version n xs ys line more le fits each less e =
-    let i = counted_next run_line n xs ys (closing ∷ []) more line (runs_agree version n xs ys (line ∷ more) le fits e) less in
-    let all = subst (AllByRecursion (RunFits version)) i.whole fits.each in
-    let front = runs_same version i.front ys (all_front (RunFits version) i.front (i.item ∷ i.back) all) each i.same in
+pub next_run : (version : Version) (size : Size) (n : ℕ) (xs ys : List Run) (line : List ℕ) (more : List (List ℕ)) → n ≤ most_runs version size → AreRuns version size xs → AllByRecursion (RunFits version size) ys → length ys < n → (runs_key ++ decimal n) ∷ (map run_line ys ++ (line ∷ more)) ≡ runs_lines xs → NextRun version size ys line
+next_run version size n xs ys line more le fits each less e =
+    let i = counted_next run_line n xs ys (closing ∷ []) more line (runs_agree version size n xs ys (line ∷ more) le fits e) less in
+    let all = subst (AllByRecursion (RunFits version size)) i.whole fits.each in
+    let front = runs_same version size i.front ys (all_front (RunFits version size) i.front (i.item ∷ i.back) all) each i.same in
     let alternate = subst (λ (runs : List Run). Alternate (runs ++ i.item ∷ i.back)) front (subst Alternate i.whole fits.alternate) in
     record {
       run = i.item;
-      fits = all_at (RunFits version) i.front i.item i.back all;
+      fits = all_at (RunFits version size) i.front i.item i.back all;
       follows = follows_at ys i.item i.back alternate;
       spelled = i.spelled;
     }
@@ -220,8 +219,8 @@ other_fits version Pager = tt
 abbrev a_run : LogName → Run
 a_run log = record { log = log; count = 1 }
 
-pub another : (version : Version) (xs : List Run) → (x : Run) × RunFits version x × MayFollow xs x.log
-another version [] = (a_run Guest, record { log = tt; some = omega arith; few = omega arith }, λ d lt. absurd (omega arith))
-another version (y ∷ ys) =
+pub another : (version : Version) (size : Size) (xs : List Run) → (x : Run) × RunFits version size x × MayFollow xs x.log
+another version size [] = (a_run Guest, record { log = tt; some = omega arith; few = (limits_some size).records }, λ d lt. absurd (omega arith))
+another version size (y ∷ ys) =
     let last = get_or (y ∷ ys) (length (y ∷ ys) - 1) y in
-    (a_run (other last.log), record { log = other_fits version last.log; some = omega arith; few = omega arith }, λ d lt e. other_differs last.log (ap (λ (r : Run). r.log) (get_or_default (y ∷ ys) (length (y ∷ ys) - 1) y d (omega arith)) ∙ e))
+    (a_run (other last.log), record { log = other_fits version last.log; some = omega arith; few = (limits_some size).records }, λ d lt e. other_differs last.log (ap (λ (r : Run). r.log) (get_or_default (y ∷ ys) (length (y ∷ ys) - 1) y d (omega arith)) ∙ e))

@@ -7,12 +7,14 @@ use Rattle.migration_types.specs.declared.cert.Entry.{Entry}
 use Rattle.migration_types.specs.declared.cert.Entry.TheVariants.{Nothing, Fresh, Source, Balloon}
 use Rattle.migration_types.specs.declared.version.Version.{Version}
 use Rattle.migration_types.specs.declared.version.Version.TheVariants.{One, Two}
+use Rattle.migration_types.specs.declared.size.Size.{Size}
+use Rattle.migration_types.specs.declared.size.Size.TheVariants.{Small}
 use Rattle.migration_types.specs.Certs.{Certified, IsCert}
 use Rattle.cert_text.specs.Runs.{runs_lines}
 
-abbrev pub header : Version → List ℕ
-header One = codes "postcopy-certificate 1"
-header Two = codes "postcopy-certificate 2"
+abbrev pub header : Version → Size → List ℕ
+header One Small = codes "postcopy-certificate 1"
+header Two Small = codes "postcopy-certificate 2"
 
 abbrev pub pages_key : List ℕ
 pages_key = codes "pages "
@@ -61,7 +63,7 @@ entry_lines page (entry ∷ entries) = entry_line page entry ∷ entry_lines (pa
 --   run guest 3
 --   end
 abbrev pub cert_lines : Certified → List (List ℕ)
-cert_lines c = header c.version ∷ (pages_key ++ decimal (length c.entries)) ∷ (entry_lines 0 c.entries ++ runs_lines c.runs)
+cert_lines c = header c.version c.size ∷ (pages_key ++ decimal (length c.entries)) ∷ (entry_lines 0 c.entries ++ runs_lines c.runs)
 
 -- these lines are the text of this certificate, which is within all limits
 abbrev pub SpellsCert : Certified → List (List ℕ) → Type 0

@@ -6,6 +6,8 @@ use Rattle.text_lines.specs.Counted.{counted}
 use Rattle.migration_types.specs.declared.cert.Run.{Run}
 use Rattle.migration_types.specs.declared.version.Version.{Version}
 use Rattle.migration_types.specs.declared.version.Version.TheVariants.{Two}
+use Rattle.migration_types.specs.declared.size.Size.{Size}
+use Rattle.migration_types.specs.declared.size.Size.TheVariants.{Small}
 use Rattle.migration_types.specs.Certs.{AreRuns}
 pub use Rattle.migration_types.specs.Receipts.{log_word}
 
@@ -26,16 +28,16 @@ run_line run = codes "run " ++ run_text run
 abbrev pub runs_lines : List Run → List (List ℕ)
 runs_lines runs = counted runs_key run_line runs (closing ∷ [])
 
--- these lines tell these runs, which are within all limits of a version
-abbrev pub SpellsRunLines : Version → List Run → List (List ℕ) → Type 0
-SpellsRunLines version runs lines = AreRuns version runs × (lines ≡ runs_lines runs)
+-- these lines tell these runs, which are within all limits of a version and a size
+abbrev pub SpellsRunLines : Version → Size → List Run → List (List ℕ) → Type 0
+SpellsRunLines version size runs lines = AreRuns version size runs × (lines ≡ runs_lines runs)
 
--- These lines are the text of these runs, which are within the limits of the second version: runs have one text for
--- sessions of both. A text of two runs, line by line:
+-- These lines are the text of these runs, which are within the limits of the second version and of the small size: runs have
+-- one text for sessions of both versions. A text of two runs, line by line:
 --   postcopy-runs 1
 --   runs 2
 --   run guest 3
 --   run link 1
 --   end
 abbrev pub SpellsRuns : List Run → List (List ℕ) → Type 0
-SpellsRuns runs lines = AreRuns Two runs × (lines ≡ runs_text_header ∷ runs_lines runs)
+SpellsRuns runs lines = AreRuns Two Small runs × (lines ≡ runs_text_header ∷ runs_lines runs)

@@ -1,4 +1,5 @@
 pub mod Held
+pub mod Limits
 pub mod CertDraft
 pub mod Plain
 pub mod Taken

@@ -2,6 +2,7 @@
 
 ghost use Rattle.std.specs.Prelude.{◌≡◌, ◌≢◌, ℕ, [], MatchOption, IfSome, IfNone};
 ghost use Rattle.migration_types.specs.declared.version.Version.{Version as Told};
+ghost use Rattle.migration_types.specs.declared.size.Size.{Size as Limited};
 ghost use Rattle.migration_types.specs.Certs.{Certified};
 ghost use Rattle.text_lines.specs.Text.{TakesLines};
 ghost use Rattle.cert_text.specs.Grammar.{header, SpellsCert};
@@ -10,7 +11,7 @@ ghost use Rattle.cert_text.specs.inner.CertDraft.{held_at, LiveAt};
 use crate::entry_lines::{drop_entry, take_entries, take_entry, wanted_entry};
 use crate::run_lines::RunLines;
 use crate::runs::RunForm;
-use migration_types::{Cert, Entry, MOST_PAGES, Run, Seq, Version};
+use migration_types::{Cert, Entry, Run, Seq, Size, Version};
 use std::alloc::Global;
 use std::thread::Threads;
 use text_lines::{
@@ -57,23 +58,26 @@ impl CertParts {
                 if self.entries.len() == self.pages as usize {
                     return self.runs.lines(crew, bytes);
                 }
-                take_entries(&mut self.entries, self.runs.version(), self.pages, bytes)
+                let version = self.runs.version();
+                let size = self.runs.size();
+                take_entries(&mut self.entries, version, size, self.pages, bytes)
             }
             _ => (bytes, 0),
         }
     }
 
-    /// The version, the entries and the runs, where the lines so far are a certificate's.
-    pub fn whole(self, stage: Stage) -> Option<(Version, Vec<Entry>, Seq<Run>)>
+    /// The version, the size, the entries and the runs, where the lines so far are a certificate's.
+    pub fn whole(self, stage: Stage) -> Option<(Version, Size, Vec<Entry>, Seq<Run>)>
         requires { LiveAt stage self }
-        ensures found { IfSome result (λ parts. SpellsCert (record { version = parts.0; entries = parts.1.items; runs = parts.2 }) (held_at stage self)) }
+        ensures found { IfSome result (λ parts. SpellsCert (record { version = parts.0; size = parts.1; entries = parts.2.items; runs = parts.3 }) (held_at stage self)) }
         ensures none { IfNone result ((c : Certified) → SpellsCert c (held_at stage self) → ⊥) }
     {
         match stage {
             Stage::Entries => {
                 let version = self.runs.version();
+                let size = self.runs.size();
                 match self.runs.text() {
-                    Some(runs) => Some((version, self.entries, runs)),
+                    Some(runs) => Some((version, size, self.entries, runs)),
                     None => None,
                 }
             }
@@ -113,7 +117,7 @@ impl Stages for CertParts {
         let parts = CertParts {
             pages: 0,
             entries: Vec::new(alloc),
-            runs: RunLines::new(alloc, Version::One),
+            runs: RunLines::new(alloc, Version::One, Size::Small),
         };
         (Stage::Header, parts)
     }
@@ -121,21 +125,22 @@ impl Stages for CertParts {
     fn take(&mut self, stage: Stage, line: &[u8]) -> Result<Stage, FaultKind> {
         match stage {
             Stage::Header => {
-                let Some(version) = version_of(line) else {
+                let Some((version, size)) = version_of(line) else {
                     return Err(FaultKind::Form);
                 };
-                self.runs.set_version(version);
+                self.runs.set_version(version, size);
                 Ok(Stage::Pages)
             }
             Stage::Pages => {
-                self.pages = read_some(line, PAGES_KEY, MOST_PAGES)?;
+                self.pages = read_some(line, PAGES_KEY, self.runs.size().limits().pages)?;
                 Ok(Stage::Entries)
             }
             Stage::Entries => {
                 if self.entries.len() == self.pages as usize {
                     self.runs.line(line)?;
                 } else {
-                    take_entry(&mut self.entries, self.runs.version(), line)?;
+                    let version = self.runs.version();
+                    take_entry(&mut self.entries, version, self.runs.size(), line)?;
                 }
                 Ok(Stage::Entries)
             }
@@ -154,7 +159,10 @@ impl Stages for CertParts {
     fn wanted(&self, stage: Stage) -> Wanted {
         let wanted = match stage {
             Stage::Header => Wanted::one("the header of a certificate", HEADER_FORMS),
-            Stage::Pages => Wanted::one("the number of pages", &["pages N"]).within(1, MOST_PAGES),
+            Stage::Pages => Wanted::one("the number of pages", &["pages N"]).within(
+                1,
+                self.runs.size().limits().pages,
+            ),
             Stage::Entries => self.wanted_in_entries(),
         };
         wanted.of_machine(self.pages, 0)
@@ -162,8 +170,8 @@ impl Stages for CertParts {
 
     fn text(self, stage: Stage) -> Option<Cert> {
         match self.whole(stage) {
-            Some((version, entries, runs)) => {
-                Some(Cert::new(version, Seq::from_vec(entries), runs))
+            Some((version, size, entries, runs)) => {
+                Some(Cert::new(version, size, Seq::from_vec(entries), runs))
             }
             None => None,
         }
@@ -215,25 +223,26 @@ impl StagesApart for CertParts {
     }
 }
 
-/// The first line of a certificate of this version.
-pub fn cert_header(version: Version) -> &'static [u8]
-    ensures { result.now ≡ header version }
+/// The first line of a certificate of this version and size.
+pub fn cert_header(version: Version, size: Size) -> &'static [u8]
+    ensures { result.now ≡ header version size }
 {
-    match version {
-        Version::One => b"postcopy-certificate 1",
-        Version::Two => b"postcopy-certificate 2",
+    match (version, size) {
+        (Version::One, Size::Small) => b"postcopy-certificate 1",
+        (Version::Two, Size::Small) => b"postcopy-certificate 2",
     }
 }
 
-/// The version whose certificates have this first line.
-fn version_of(line: &[u8]) -> Option<Version>
-    ensures { MatchOption result ((version : Told) → line.now ≢ header version) (λ version. line.now ≡ header version) }
+/// The version and the size whose certificates have this first line.
+#[tactic(auto, using(crate::proofs::Laws::no_header))]
+fn version_of(line: &[u8]) -> Option<(Version, Size)>
+    ensures { MatchOption result ((version : Told) (size : Limited) → line.now ≢ header version size) (λ told. line.now ≡ header told.0 told.1) }
 {
-    if is_line(line, cert_header(Version::One)) {
-        return Some(Version::One);
+    if is_line(line, cert_header(Version::One, Size::Small)) {
+        return Some((Version::One, Size::Small));
     }
-    if is_line(line, cert_header(Version::Two)) {
-        return Some(Version::Two);
+    if is_line(line, cert_header(Version::Two, Size::Small)) {
+        return Some((Version::Two, Size::Small));
     }
     None
 }

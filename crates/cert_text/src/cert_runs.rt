@@ -52,7 +52,7 @@ impl Stages for CertRunsParts {
 
     fn text(self, stage: Stage) -> Option<Seq<Run>> {
         match self.cert.whole(stage) {
-            Some((_, _, runs)) => Some(runs),
+            Some((_, _, _, runs)) => Some(runs),
             None => None,
         }
     }

@@ -11,7 +11,7 @@ ghost use Rattle.migration_types.specs.Certs.{FirstFits, EntryFits};
 ghost use Rattle.cert_text.specs.Grammar.{first_text, placed_text, entry_text, entry_line, entry_lines};
 ghost use Rattle.cert_text.specs.inner.Taken.{LosesLast, TakesEntries, TakesEntry};
 
-use migration_types::{Entry, First, LAST_RECORD, Version};
+use migration_types::{Entry, First, Size, Version};
 use std::alloc::AllocError;
 use text_lines::{
     FaultKind, Wanted, after_end, after_key, end_line, front_number, number_then, push_number,
@@ -28,14 +28,27 @@ fn limited_then(text: &[u8], limit: u32) -> Option<(u32, &[u8])>
     Some((number as u32, rest))
 }
 
+/// A record's number at the front, and what follows the space after it.
+#[inline(always)]
+fn numbered_then(text: &[u8], size: Size) -> Option<(u32, &[u8])>
+    ensures found { IfSome result (λ found. IsNumber size found.0 × (text.now ≡ decimal found.0 ++ 32 ∷ found.1.now)) }
+    ensures whole { (n : ℕ) (rest : List ℕ) → IsNumber size n → text.now ≡ decimal n ++ 32 ∷ rest → IsSomeAnd result (λ found. (found.0 ≡ n) × (found.1.now ≡ rest)) }
+{
+    let (number, rest) = limited_then(text, u32::MAX)?;
+    if number >= size.limits().records {
+        return None;
+    }
+    Some((number, rest))
+}
+
 /// A record's number at the front, and what follows. Nothing follows where the text is the number alone.
 #[inline(always)]
-fn record_then(text: &[u8]) -> Option<(u32, &[u8])>
-    ensures found { IfSome result (λ found. IsNumber found.0 × (text.now ≡ decimal found.0 ++ found.1.now)) }
-    ensures whole { (n : ℕ) → IsNumber n → text.now ≡ decimal n → IsSomeAnd result (λ found. found.1.now ≡ []) }
+fn record_then(text: &[u8], size: Size) -> Option<(u32, &[u8])>
+    ensures found { IfSome result (λ found. IsNumber size found.0 × (text.now ≡ decimal found.0 ++ found.1.now)) }
+    ensures whole { (n : ℕ) → IsNumber size n → text.now ≡ decimal n → IsSomeAnd result (λ found. found.1.now ≡ []) }
 {
     let (number, rest) = front_number(text)?;
-    if number > u64::from(LAST_RECORD) {
+    if number >= u64::from(size.limits().records) {
         return None;
     }
     Some((number as u32, rest))
@@ -47,27 +60,27 @@ const NO_FIRST: &[u8] = b"- -";
 /// A page's first use and the look before it at the front, and what follows. Nothing follows where the text
 /// is theirs alone.
 #[inline(always)]
-fn first_then(text: &[u8]) -> Option<(Option<First>, &[u8])>
-    ensures found { IfSome result (λ found. FirstFits found.0 × (text.now ≡ first_text found.0 ++ found.1.now)) }
-    ensures whole { (first : Option Used) → FirstFits first → text.now ≡ first_text first → IsSomeAnd result (λ found. found.1.now ≡ []) }
+fn first_then(text: &[u8], size: Size) -> Option<(Option<First>, &[u8])>
+    ensures found { IfSome result (λ found. FirstFits size found.0 × (text.now ≡ first_text found.0 ++ found.1.now)) }
+    ensures whole { (first : Option Used) → FirstFits size first → text.now ≡ first_text first → IsSomeAnd result (λ found. found.1.now ≡ []) }
 {
     if let Some(rest) = after_key(text, NO_FIRST) {
         return Some((None, rest));
     }
-    let (access, rest) = limited_then(text, LAST_RECORD)?;
-    let (see, rest) = record_then(rest)?;
+    let (access, rest) = numbered_then(text, size)?;
+    let (see, rest) = record_then(rest, size)?;
     Some((Some(First { access, see }), rest))
 }
 
 /// A page's placement, its first use and the look before it at the front, and what follows. Nothing follows
 /// where the text is theirs alone.
 #[inline(always)]
-fn placed_then(text: &[u8]) -> Option<(u32, Option<First>, &[u8])>
-    ensures found { IfSome result (λ found. IsNumber found.0 × FirstFits found.1 × (text.now ≡ placed_text found.0 found.1 ++ found.2.now)) }
-    ensures whole { (place : ℕ) (first : Option Used) → IsNumber place → FirstFits first → text.now ≡ placed_text place first → IsSomeAnd result (λ found. found.2.now ≡ []) }
+fn placed_then(text: &[u8], size: Size) -> Option<(u32, Option<First>, &[u8])>
+    ensures found { IfSome result (λ found. IsNumber size found.0 × FirstFits size found.1 × (text.now ≡ placed_text found.0 found.1 ++ found.2.now)) }
+    ensures whole { (place : ℕ) (first : Option Used) → IsNumber size place → FirstFits size first → text.now ≡ placed_text place first → IsSomeAnd result (λ found. found.2.now ≡ []) }
 {
-    let (place, rest) = limited_then(text, LAST_RECORD)?;
-    let (first, rest) = first_then(rest)?;
+    let (place, rest) = numbered_then(text, size)?;
+    let (first, rest) = first_then(rest, size)?;
     Some((place, first, rest))
 }
 
@@ -85,26 +98,26 @@ const BALLOON_KEY: &[u8] = b"balloon ";
 
 /// What an entry says at the front, and what follows. Nothing follows where the text is an entry's alone.
 #[inline(always)]
-fn said_then(text: &[u8], version: Version) -> Option<(Entry, &[u8])>
-    ensures found { IfSome result (λ found. EntryFits version found.0 × (text.now ≡ entry_text found.0 ++ found.1.now)) }
-    ensures whole { (entry : Said) → EntryFits version entry → text.now ≡ entry_text entry → IsSomeAnd result (λ found. found.1.now ≡ []) }
+fn said_then(text: &[u8], version: Version, size: Size) -> Option<(Entry, &[u8])>
+    ensures found { IfSome result (λ found. EntryFits version size found.0 × (text.now ≡ entry_text found.0 ++ found.1.now)) }
+    ensures whole { (entry : Said) → EntryFits version size entry → text.now ≡ entry_text entry → IsSomeAnd result (λ found. found.1.now ≡ []) }
 {
     if let Some(rest) = after_key(text, NONE) {
         return Some((Entry::Nothing, rest));
     }
     if let Some(rest) = after_key(text, BALLOON_KEY) {
-        let (place, first, rest) = placed_then(rest)?;
+        let (place, first, rest) = placed_then(rest, size)?;
         return Some((Entry::Balloon { place, first }, rest));
     }
     if let Some(rest) = after_key(text, SOURCE_KEY) {
-        let (send, rest) = limited_then(rest, LAST_RECORD)?;
-        let (place, first, rest) = placed_then(rest)?;
+        let (send, rest) = numbered_then(rest, size)?;
+        let (place, first, rest) = placed_then(rest, size)?;
         return Some((Entry::Source { send, place, first }, rest));
     }
     if version == Version::One {
         return None;
     }
-    let (first, rest) = record_then(after_key(text, FRESH_KEY)?)?;
+    let (first, rest) = record_then(after_key(text, FRESH_KEY)?, size)?;
     Some((Entry::Fresh { first }, rest))
 }
 
@@ -113,24 +126,24 @@ const PAGE_KEY: &[u8] = b"page ";
 
 /// The entry of this page at the front, and what follows. Nothing follows where the text is its line alone.
 #[inline(always)]
-fn entry_then(text: &[u8], version: Version, page: u32) -> Option<(Entry, &[u8])>
-    ensures found { IfSome result (λ found. EntryFits version found.0 × (text.now ≡ entry_line page found.0 ++ found.1.now)) }
-    ensures whole { (entry : Said) → EntryFits version entry → text.now ≡ entry_line page entry → IsSomeAnd result (λ found. found.1.now ≡ []) }
+fn entry_then(text: &[u8], version: Version, size: Size, page: u32) -> Option<(Entry, &[u8])>
+    ensures found { IfSome result (λ found. EntryFits version size found.0 × (text.now ≡ entry_line page found.0 ++ found.1.now)) }
+    ensures whole { (entry : Said) → EntryFits version size entry → text.now ≡ entry_line page entry → IsSomeAnd result (λ found. found.1.now ≡ []) }
 {
     let (number, rest) = limited_then(after_key(text, PAGE_KEY)?, page)?;
     if number != page {
         return None;
     }
-    said_then(rest, version)
+    said_then(rest, version, size)
 }
 
 /// The entry that the line spells, where it is the line of this page.
-fn read_entry(line: &[u8], version: Version, page: u32) -> Option<Entry>
+fn read_entry(line: &[u8], version: Version, size: Size, page: u32) -> Option<Entry>
     ensures { MatchOption result
-        ((entry : Said) → EntryFits version entry → line.now ≢ entry_line page entry)
-        (λ entry. EntryFits version entry × (line.now ≡ entry_line page entry)) }
+        ((entry : Said) → EntryFits version size entry → line.now ≢ entry_line page entry)
+        (λ entry. EntryFits version size entry × (line.now ≡ entry_line page entry)) }
 {
-    let (entry, rest) = entry_then(line, version, page)?;
+    let (entry, rest) = entry_then(line, version, size, page)?;
     if !rest.is_empty() {
         return None;
     }
@@ -164,13 +177,18 @@ pub fn wanted_entry(version: Version, page: u32) -> Wanted {
 }
 
 /// Takes the line of the next page's entry, or says why it is none and leaves the entries as they were.
-pub fn take_entry(entries: &mut Vec<Entry>, version: Version, line: &[u8]) -> Result<(), FaultKind>
-    requires { length entries.old.items < 65536 }
-    ensures ok { OnOk result (TakesEntry version entries.old.items entries.new.items line.now) }
-    ensures refused { IfErr result (λ kind. kind ≢ FaultKind.Memory → (entry : Said) → EntryFits version entry → line.now ≢ entry_line (length entries.old.items) entry) }
+pub fn take_entry(
+    entries: &mut Vec<Entry>,
+    version: Version,
+    size: Size,
+    line: &[u8],
+) -> Result<(), FaultKind>
+    requires { length entries.old.items < most_pages }
+    ensures ok { OnOk result (TakesEntry version size entries.old.items entries.new.items line.now) }
+    ensures refused { IfErr result (λ kind. kind ≢ FaultKind.Memory → (entry : Said) → EntryFits version size entry → line.now ≢ entry_line (length entries.old.items) entry) }
     ensures err { OnErr result (entries.new.items ≡ entries.old.items) }
 {
-    let Some(entry) = read_entry(line, version, entries.len() as u32) else {
+    let Some(entry) = read_entry(line, version, size, entries.len() as u32) else {
         return Err(FaultKind::Form);
     };
     match entries.push(entry) {
@@ -189,10 +207,10 @@ pub fn drop_entry(entries: &mut Vec<Entry>) -> bool
 /// The entry of this page at the front of a text of whole lines, and what follows its line. It may answer `None` at any
 /// text.
 #[inline(always)]
-fn front_entry(text: &[u8], version: Version, page: u32) -> Option<(Entry, &[u8])>
-    ensures { IfSome result (λ found. EntryFits version found.0 × (text.now ≡ entry_line page found.0 ++ 10 ∷ found.1.now)) }
+fn front_entry(text: &[u8], version: Version, size: Size, page: u32) -> Option<(Entry, &[u8])>
+    ensures { IfSome result (λ found. EntryFits version size found.0 × (text.now ≡ entry_line page found.0 ++ 10 ∷ found.1.now)) }
 {
-    let (entry, rest) = entry_then(text, version, page)?;
+    let (entry, rest) = entry_then(text, version, size, page)?;
     Some((entry, after_end(rest)?))
 }
 
@@ -201,18 +219,19 @@ fn front_entry(text: &[u8], version: Version, page: u32) -> Option<(Entry, &[u8]
 pub fn take_entries<'a>(
     entries: &mut Vec<Entry>,
     version: Version,
+    size: Size,
     pages: u32,
     bytes: &'a [u8],
 ) -> (&'a [u8], u32)
     requires { length entries.old.items ≤ pages }
-    ensures taken { TakesEntries version entries.old.items entries.new.items bytes.now result.0.now result.1 }
+    ensures taken { TakesEntries version size entries.old.items entries.new.items bytes.now result.0.now result.1 }
     ensures most { length entries.new.items ≤ pages }
 {
     let left = pages - entries.len() as u32;
     let mut rest = bytes;
     for at in 0..left {
         let page = entries.len() as u32;
-        let Some((entry, after)) = front_entry(rest, version, page) else {
+        let Some((entry, after)) = front_entry(rest, version, size, page) else {
             return (rest, at);
         };
         if entries.push(entry).is_err() {

@@ -5,6 +5,7 @@ ghost use Rattle.std.specs.Prelude.{IfOk};
 ghost use Rattle.text_lines.specs.Answer.{Reads};
 ghost use Rattle.text_lines.specs.Text.{IsSpelling, IsUnambiguous};
 ghost use Rattle.migration_types.specs.declared.version.Version.TheVariants.{Two};
+ghost use Rattle.migration_types.specs.declared.size.Size.TheVariants.{Small};
 ghost use Rattle.migration_types.specs.Certs.{AreRuns};
 ghost use Rattle.cert_text.specs.Grammar.{SpellsCert};
 ghost use Rattle.cert_text.specs.Runs.{SpellsRuns};
@@ -51,7 +52,7 @@ pub fn cert_texts_are_unambiguous()
 
 /// The certificate that the bytes spell: a header, an entry for each of 1 to 65,536 pages in order, at most 5,242,880
 /// runs of 1 to 1,048,576 records, of which no two neighbours are of one log, and a closing line. An LF ends each line.
-/// The header tells the version; where it is the first, a fresh page's entry is no entry, a run of the lane is no run, and
+/// The header tells the version and the size; where the version is the first, a fresh page's entry is no entry, a run of the lane is no run, and
 /// there are at most 4,194,304 runs.
 ///
 /// Any other input is refused, at the line with which it stops being the beginning of such a text. Lines count from 1.
@@ -69,7 +70,7 @@ pub fn write_cert(alloc: Global, cert: &Cert) -> Result<Vec<u8>, AllocError>
     cert.keeps_limits();
     let entries = cert.entries();
     let mut out = Vec::new(alloc);
-    push_line(&mut out, cert_header(cert.version()))?;
+    push_line(&mut out, cert_header(cert.version(), cert.size()))?;
     push_keyed(&mut out, PAGES_KEY, entries.len())?;
     push_entries(&mut out, entries)?;
     push_runs(&mut out, cert.runs())?;
@@ -92,10 +93,10 @@ pub fn read_runs(alloc: Global, bytes: &[u8]) -> Result<Seq<Run>, TextFault>
     read_whole::<RunsText>(alloc, bytes)
 }
 
-/// The text of runs within the limits of the second version, which `read_runs` reads back. An error: there is no memory for
+/// The text of runs within the limits of the second version and of the small size, which `read_runs` reads back. An error: there is no memory for
 /// it.
 pub fn write_runs(alloc: Global, runs: &[Run]) -> Result<Vec<u8>, AllocError>
-    requires { AreRuns Two runs.now }
+    requires { AreRuns Two Small runs.now }
     ensures { IfOk result (λ out. IsSpelling SpellsRuns runs.now out.items) }
 {
     let mut out = Vec::new(alloc);

@@ -6,7 +6,7 @@ ghost use Rattle.migration_types.specs.declared.cert.Run.{Run as Told};
 ghost use Rattle.cert_text.specs.Runs.{SpellsRunLines};
 
 use crate::runs::{RUNS_KEY, RunForm, wanted_run, wanted_run_count};
-use migration_types::{Run, Seq, Version, most_runs};
+use migration_types::{Run, Seq, Size, Version, most_runs};
 use std::alloc::Global;
 use std::marker::Model;
 use text_lines::{CLOSING, Counted, FaultKind, ItemCrew, Wanted, is_line};
@@ -22,7 +22,7 @@ pub enum RunStage {
     Done,
 }
 
-/// Reads the lines of runs of a version: what they said so far. Contracts see the version and the lines.
+/// Reads the lines of runs of a version and a size: what they said so far. Contracts see the version, the size and the lines.
 #[derive(Drop)]
 pub struct RunLines {
     form: RunForm,
@@ -36,18 +36,18 @@ impl Model for RunLines {
 
     ghost Value = { RunsSoFar };
 
-    ghost view = { λ a. record { version = a.form.version; lines = runs_held a.stage a.runs [] } };
+    ghost view = { λ a. record { version = a.form.version; size = a.form.size; lines = runs_held a.stage a.runs [] } };
 
-    ghost invariant = { λ a. RunsLive a.form.version a.stage a.runs };
+    ghost invariant = { λ a. RunsLive a.form.version a.form.size a.stage a.runs };
 }
 
 impl RunLines {
-    /// No line came yet of the runs of a version. Takes no memory.
-    pub fn new(alloc: Global, version: Version) -> Self
-        ensures { result ≡ record { version = version; lines = [] } }
+    /// No line came yet of the runs of a version and a size. Takes no memory.
+    pub fn new(alloc: Global, version: Version, size: Size) -> Self
+        ensures { result ≡ record { version = version; size = size; lines = [] } }
     {
         RunLines {
-            form: RunForm { version },
+            form: RunForm { version, size },
             stage: RunStage::Count,
             runs: Counted::nothing(alloc),
         }
@@ -60,24 +60,33 @@ impl RunLines {
         self.form.version
     }
 
-    /// From now on of another version, where no line came yet.
-    pub fn set_version(&mut self, version: Version)
+    /// The size.
+    pub fn size(&self) -> Size
+        ensures { result ≡ self.now.size }
+    {
+        self.form.size
+    }
+
+    /// From now on of another version and size, where no line came yet.
+    pub fn set_version(&mut self, version: Version, size: Size)
         requires { self.old.lines ≡ [] }
-        ensures { self.new ≡ record { version = version; lines = [] } }
+        ensures { self.new ≡ record { version = version; size = size; lines = [] } }
     {
         self.form.version = version;
+        self.form.size = size;
     }
 
     /// Takes the next line, or says why no lines of runs go on with it and stays as it was.
     pub fn line(&mut self, line: &[u8]) -> Result<(), FaultKind>
         ensures version { self.new.version ≡ self.old.version }
+        ensures size { self.new.size ≡ self.old.size }
         ensures ok { OnOk result (self.new.lines ≡ self.old.lines ++ line.now ∷ []) }
-        ensures refused { IfErr result (λ kind. kind ≢ FaultKind.Memory → Begins (SpellsRunLines self.old.version) (self.old.lines ++ line.now ∷ []) → ⊥) }
+        ensures refused { IfErr result (λ kind. kind ≢ FaultKind.Memory → Begins (SpellsRunLines self.old.version self.old.size) (self.old.lines ++ line.now ∷ []) → ⊥) }
         ensures err { OnErr result (self.new ≡ self.old) }
     {
         match self.stage {
             RunStage::Count => {
-                let most = most_runs(self.form.version);
+                let most = most_runs(self.form.version, self.form.size);
                 self.runs.announce(line, RUNS_KEY, most)?;
                 self.stage = RunStage::Runs;
                 Ok(())
@@ -100,6 +109,7 @@ impl RunLines {
     pub fn lines<'a, C: ItemCrew<RunForm>>(&mut self, crew: &C, bytes: &'a [u8]) -> (&'a [u8], u32)
         requires { C.IsReady crew.now }
         ensures version { self.new.version ≡ self.old.version }
+        ensures size { self.new.size ≡ self.old.size }
         ensures lines { TakesLines self.old.lines self.new.lines bytes.now result.0.now result.1 }
     {
         match self.stage {
@@ -110,7 +120,7 @@ impl RunLines {
 
     /// Some lines of runs begin with the lines so far. Runs nothing.
     pub fn goes_on(&self)
-        ensures { Begins (SpellsRunLines self.now.version) self.now.lines }
+        ensures { Begins (SpellsRunLines self.now.version self.now.size) self.now.lines }
     {
         let _ = &self.stage;
     }
@@ -125,7 +135,7 @@ impl RunLines {
     /// What may stand at the next line, where the number of runs stands at the line `at`.
     pub fn wanted(&self, at: u32) -> Wanted {
         match self.stage {
-            RunStage::Count => wanted_run_count(self.form.version),
+            RunStage::Count => wanted_run_count(self.form.version, self.form.size),
             RunStage::Runs => self.wanted_in_list().of_list(&self.runs, at),
             RunStage::Done => Wanted::nothing_more(),
         }
@@ -136,14 +146,14 @@ impl RunLines {
         if self.runs.is_whole() {
             Wanted::closing_line()
         } else {
-            wanted_run(self.form.version)
+            wanted_run(self.form.version, self.form.size)
         }
     }
 
     /// The runs, where the lines so far are theirs.
     pub fn text(self) -> Option<Seq<Run>>
-        ensures found { IfSome result (λ runs. SpellsRunLines self.version runs self.lines) }
-        ensures none { IfNone result ((runs : List Told) → SpellsRunLines self.version runs self.lines → ⊥) }
+        ensures found { IfSome result (λ runs. SpellsRunLines self.version self.size runs self.lines) }
+        ensures none { IfNone result ((runs : List Told) → SpellsRunLines self.version self.size runs self.lines → ⊥) }
     {
         match self.stage {
             RunStage::Done => Some(Seq::from_vec(self.runs.into_vec())),
@@ -166,6 +176,7 @@ impl RunLines {
     pub fn undo(&mut self)
         requires { 0 < length self.old.lines }
         ensures version { self.new.version ≡ self.old.version }
+        ensures size { self.new.size ≡ self.old.size }
         ensures lines { (line : List ℕ) × (self.old.lines ≡ self.new.lines ++ line ∷ []) }
     {
         match self.stage {

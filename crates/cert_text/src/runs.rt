@@ -8,7 +8,7 @@ ghost use Rattle.text_lines.specs.Text.{ended};
 ghost use Rattle.cert_text.specs.Runs.{log_word, run_line, runs_lines};
 ghost use Rattle.cert_text.specs.inner.Held.{MayFollow};
 
-use migration_types::{LogName, MOST_RECORDS, Run, Version, most_runs};
+use migration_types::{LogName, Run, Size, Version, most_runs};
 use std::alloc::AllocError;
 use std::thread::Threads;
 use text_lines::{
@@ -50,18 +50,18 @@ fn log_then(text: &[u8]) -> Option<(LogName, &[u8])>
     Some((log, rest))
 }
 
-/// The run of a version at the front, and what follows. Nothing follows where the text is its line alone.
+/// The run of a version and a size at the front, and what follows. Nothing follows where the text is its line alone.
 #[inline(always)]
-fn run_then(text: &[u8], version: Version) -> Option<(Run, &[u8])>
-    ensures found { IfSome result (λ found. RunFits version found.0 × (text.now ≡ run_line found.0 ++ found.1.now)) }
-    ensures whole { (run : Told) → RunFits version run → text.now ≡ run_line run → IsSomeAnd result (λ found. found.1.now ≡ []) }
+fn run_then(text: &[u8], version: Version, size: Size) -> Option<(Run, &[u8])>
+    ensures found { IfSome result (λ found. RunFits version size found.0 × (text.now ≡ run_line found.0 ++ found.1.now)) }
+    ensures whole { (run : Told) → RunFits version size run → text.now ≡ run_line run → IsSomeAnd result (λ found. found.1.now ≡ []) }
 {
     let (log, text) = log_then(after_key(text, RUN_KEY)?)?;
     if !log.is_in(version) {
         return None;
     }
     let (count, rest) = front_number(text)?;
-    if count == 0 || count > u64::from(MOST_RECORDS) {
+    if count == 0 || count > u64::from(size.limits().records) {
         return None;
     }
     let count = count as u32;
@@ -82,16 +82,16 @@ fn run_forms(version: Version) -> &'static [&'static str] {
     }
 }
 
-/// What may stand where a run of a version does.
-pub fn wanted_run(version: Version) -> Wanted {
+/// What may stand where a run of a version and a size does.
+pub fn wanted_run(version: Version, size: Size) -> Wanted {
     Wanted::one("a run", run_forms(version))
-        .within(1, MOST_RECORDS)
+        .within(1, size.limits().records)
         .under("two runs in a row take from different logs")
 }
 
-/// What may stand where the number of runs of a version does.
-pub fn wanted_run_count(version: Version) -> Wanted {
-    Wanted::one("the number of runs", &["runs N"]).within(0, most_runs(version))
+/// What may stand where the number of runs of a version and a size does.
+pub fn wanted_run_count(version: Version, size: Size) -> Wanted {
+    Wanted::one("the number of runs", &["runs N"]).within(0, most_runs(version, size))
 }
 
 /// Whether a run of this log may stand after these: the last of them is of another log.
@@ -105,10 +105,11 @@ fn may_follow(runs: &[Run], log: LogName) -> bool
     }
 }
 
-/// The lines of runs that a version may have, of which no two neighbours are of one log.
+/// The lines of runs that a version and a size may have, of which no two neighbours are of one log.
 #[derive(Clone, Copy)]
 pub struct RunForm {
     pub version: Version,
+    pub size: Size,
 }
 
 impl LineForm for RunForm {
@@ -118,7 +119,7 @@ impl LineForm for RunForm {
 
     ghost IsForm = { λ _. Unit {0} };
 
-    ghost Fits = { λ form run. RunFits form.version run };
+    ghost Fits = { λ form run. RunFits form.version form.size run };
 
     ghost MayFollow = { λ runs run. MayFollow runs run.log };
 
@@ -127,7 +128,7 @@ impl LineForm for RunForm {
     ghost by_last = { runs_by_last };
 
     fn read(&self, before: &[Run], line: &[u8]) -> Result<Run, FaultKind> {
-        let Some((run, rest)) = run_then(line, self.version) else {
+        let Some((run, rest)) = run_then(line, self.version, self.size) else {
             return Err(FaultKind::Form);
         };
         if !rest.is_empty() || !may_follow(before, run.log) {
@@ -138,7 +139,7 @@ impl LineForm for RunForm {
 
     #[inline(always)]
     fn front<'a>(&self, before: &[Run], text: &'a [u8]) -> Option<(Run, &'a [u8])> {
-        let (run, rest) = run_then(text, self.version)?;
+        let (run, rest) = run_then(text, self.version, self.size)?;
         if !may_follow(before, run.log) {
             return None;
         }

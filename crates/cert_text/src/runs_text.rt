@@ -3,7 +3,7 @@
 ghost use Rattle.cert_text.specs.Runs.{SpellsRuns};
 
 use crate::run_lines::RunLines;
-use migration_types::{Run, Seq, Version};
+use migration_types::{Run, Seq, Size, Version};
 use std::alloc::Global;
 use std::thread::Threads;
 use text_lines::{Alone, FaultKind, Stages, StagesApart, StagesBack, Team, Wanted, expect_line};
@@ -11,7 +11,7 @@ use text_lines::{Alone, FaultKind, Stages, StagesApart, StagesBack, Team, Wanted
 /// The first line of a text of runs.
 pub const RUNS_HEADER: &[u8] = b"postcopy-runs 1";
 
-/// What came of the runs, which are those of the second version. The stage tells whether the header came.
+/// What came of the runs, which are those of the second version and of the small size. The stage tells whether the header came.
 #[derive(Drop)]
 pub struct RunsParts {
     runs: RunLines,
@@ -31,7 +31,7 @@ impl Stages for RunsParts {
     ghost Live = { LiveAt };
 
     fn begin(alloc: Global) -> (bool, Self) {
-        let runs = RunLines::new(alloc, Version::Two);
+        let runs = RunLines::new(alloc, Version::Two, Size::Small);
         (false, RunsParts { runs })
     }
 

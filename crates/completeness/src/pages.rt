@@ -162,7 +162,7 @@ pub(crate) fn first_page(alloc: Global, session: &Session) -> Result<Option<Page
     session.keeps_limits();
     let seen = Seen::of(alloc, session)?;
     for number in 0..session.geometry().pages() {
-        let page = PageNo::new(number as u16);
+        let page = PageNo::new(number);
         if seen.is_left(session, page) {
             return Ok(Some(page));
         }

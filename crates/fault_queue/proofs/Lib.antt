@@ -2,3 +2,4 @@ pub mod Maps
 pub mod Others
 pub mod Queues
 pub mod Waiters
+pub mod Same

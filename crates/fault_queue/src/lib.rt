@@ -158,7 +158,14 @@ fn waits(waiting: &IndexMap<PageNo, Vec<u8>>, vcpu: u8) -> bool
 fn waits_among_others(waiting: &IndexMap<PageNo, Vec<u8>>, vcpu: u8, pages: &[PageNo]) -> bool
     ensures { result ≡ list_any (λ e. list_any (λ x. x == vcpu) e.1.items && not (list_any (λ p. p == e.0) pages.now)) waiting.now.entries }
 {
-    waiting.iter().any(|(page, waiters)| waiters.contains(&vcpu) && !pages.contains(page))
+    waiting.iter().any(|(page, waiters)| waiters.contains(&vcpu) && !is_among(*page, pages))
+}
+
+/// Whether a page is one of these.
+fn is_among(page: PageNo, pages: &[PageNo]) -> bool
+    ensures { result ≡ list_any (λ p. p == page) pages.now }
+{
+    pages.contains(&page)
 }
 
 /// Puts a virtual processor behind those that wait for a page, or into a new entry.

@@ -63,7 +63,7 @@ fn faulty_among(
 {
     let mut faulty = Vec::new(alloc);
     for index in 0..session.geometry().pages() {
-        let page = PageNo::new(index as u16);
+        let page = PageNo::new(index);
         take_page(session, &found[index as usize], page, &mut faulty)?;
     }
     Ok(faulty)

@@ -23,8 +23,8 @@ all_from P Q same (x ∷ xs) all = ((same x).1 all.0, all_from P Q same xs all.1
 pub of_rows : (v : Version) (e : Extent) (logs : Logs)
     → ((w : Version) (x : Extent) (r : GuestRec) → GuestRecFits x r ↔ RowFits w x log.Guest (guest_row r) None)
     → ((w : Version) (x : Extent) (r : SourceRec) → SourceRecFits x r ↔ RowFits w x log.Source (source_row r) (source_contents r))
-    → ((w : Version) (x : Extent) (r : LinkRec) → LinkRecFits r ↔ RowFits w x log.Link (link_row r) None)
-    → ((w : Version) (x : Extent) (r : LaneRec) → LaneRecFits w r ↔ RowFits w x log.Lane (lane_row r) None)
+    → ((w : Version) (x : Extent) (r : LinkRec) → LinkRecFits x r ↔ RowFits w x log.Link (link_row r) None)
+    → ((w : Version) (x : Extent) (r : LaneRec) → LaneRecFits w x r ↔ RowFits w x log.Lane (lane_row r) None)
     → ((w : Version) (x : Extent) (r : PagerRec) → PagerRecFits w x r ↔ RowFits w x log.Pager (pager_row r) (pager_contents r))
     → AllByRecursion (λ r. RowFits v e log.Guest (guest_row r) None) logs.guest
     → AllByRecursion (λ r. RowFits v e log.Source (source_row r) (source_contents r)) logs.source
@@ -35,7 +35,7 @@ pub of_rows : (v : Version) (e : Extent) (logs : Logs)
 of_rows v e logs g s k l p guest source link lane pager = record {
   guest = all_from (λ r. RowFits v e log.Guest (guest_row r) None) (GuestRecFits e) (g v e) logs.guest guest;
   source = all_from (λ r. RowFits v e log.Source (source_row r) (source_contents r)) (SourceRecFits e) (s v e) logs.source source;
-  link = all_from (λ r. RowFits v e log.Link (link_row r) None) LinkRecFits (k v e) logs.link link;
-  lane = all_from (λ r. RowFits v e log.Lane (lane_row r) None) (LaneRecFits v) (l v e) logs.lane lane;
+  link = all_from (λ r. RowFits v e log.Link (link_row r) None) (LinkRecFits e) (k v e) logs.link link;
+  lane = all_from (λ r. RowFits v e log.Lane (lane_row r) None) (LaneRecFits v e) (l v e) logs.lane lane;
   pager = all_from (λ r. RowFits v e log.Pager (pager_row r) (pager_contents r)) (PagerRecFits v e) (p v e) logs.pager pager;
 }

@@ -1,6 +1,6 @@
 //! Whether what was recorded is a session within its limits.
 
-ghost use Rattle.std.specs.Prelude.{◌≡◌, ◌≤◌, IfOk, IfErr, IsTrue};
+ghost use Rattle.std.specs.Prelude.{◌≡◌, ◌↔◌, ◌≤◌, IfOk, IfErr, IsTrue};
 ghost use Rattle.std.specs.List.{AllByRecursion};
 ghost use Rattle.migration_types.specs.Follow.{RowFits};
 ghost use Rattle.migration_types.specs.Sessions.{recorded};
@@ -16,14 +16,14 @@ use std::alloc::Global;
 
 /// Whether each record of a log may stand in a session of the version, and has numbers of the machine.
 fn log_fits<R: Record>(version: Version, geometry: Geometry, log: LogName, records: &[R]) -> bool
-    ensures { IsTrue result → AllByRecursion (λ rec. RowFits version geometry log (R.consists rec) (R.contents rec)) records.now }
+    ensures { IsTrue result ↔ AllByRecursion (λ rec. RowFits version geometry log (R.consists rec) (R.contents rec)) records.now }
 {
     records.iter().all(|rec| fits(version, geometry, log, rec))
 }
 
 /// Whether each log has as many records as a log may have.
 fn are_short(logs: &Logs) -> bool
-    ensures { IsTrue result → AreShort logs.now }
+    ensures { IsTrue result ↔ AreShort logs.now }
 {
     let most = MOST_RECORDS as usize;
     logs.guest.as_slice().len() <= most

@@ -64,7 +64,7 @@ fn owed_are_placed(machine: &Machine, entries: &[Entry]) -> bool
         ((page : ℕ) × (slice_get entries.now page ≡ Some Nothing) × (released machine.now.ledger page ≡ false)) }
 {
     for page in 0..entries.len() {
-        let number = PageNo::new(page as u16);
+        let number = PageNo::new(page as u32);
         if !is_served(machine.ledger.holds(number), &entries[page]) {
             return false;
         }
@@ -82,7 +82,7 @@ fn are_same(one: &Store, other: &Store) -> bool
     let geometry = one.geometry();
     geometry.keeps_limits();
     for page in 0..geometry.pages() {
-        let number = PageNo::new(page as u16);
+        let number = PageNo::new(page);
         if one.page(number) != other.page(number) {
             return false;
         }

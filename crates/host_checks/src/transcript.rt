@@ -29,7 +29,7 @@ pub(crate) fn is_same(one: Op, other: Op) -> bool
 }
 
 /// Whether the operation is the read of this cell.
-fn is_read(page: u16, cell: u16, op: Op) -> bool
+fn is_read(page: u32, cell: u16, op: Op) -> bool
     ensures { MatchBool result (Op.Read page cell ≡ op) (Op.Read page cell ≢ op) }
 {
     match op {
@@ -39,7 +39,7 @@ fn is_read(page: u16, cell: u16, op: Op) -> bool
 }
 
 /// Whether the operation is the write of this value into this cell.
-fn is_write(page: u16, cell: u16, value: u64, op: Op) -> bool
+fn is_write(page: u32, cell: u16, value: u64, op: Op) -> bool
     ensures { MatchBool result (Op.Write page cell value ≡ op) (Op.Write page cell value ≢ op) }
 {
     match op {
@@ -53,7 +53,7 @@ fn is_write(page: u16, cell: u16, value: u64, op: Op) -> bool
 }
 
 /// Whether the operation is the release of this page.
-fn is_release(page: u16, op: Op) -> bool
+fn is_release(page: u32, op: Op) -> bool
     ensures { MatchBool result (Op.Release page ≡ op) (Op.Release page ≢ op) }
 {
     match op {

@@ -1,13 +1,14 @@
 -- What a stream answers to the bytes of one packet.
-use Rattle.std.proofs.Common.{◌≡◌, ◌≢◌, inl, inr, ℕ, Bool, true, false, List, [], ◌∷◌, ◌++◌, length, refl, sym, ap, ◌∙◌, arith}
+use Rattle.std.proofs.Common.{◌≡◌, ◌≢◌, inl, inr, eq-eqb, ℕ, Bool, true, false, List, [], ◌∷◌, ◌++◌, length, refl, sym, ap, ◌∙◌, arith}
 use Rattle.std.specs.Prelude.{MatchBool}
 use Rattle.std.specs.Bool.{Decides}
 use Rattle.std.specs.Cmp.Lexicographic.{pointwise}
 use Rattle.std.proofs.lemmas.List.{append-nil}
-use Rattle.std.proofs.lemmas.Bool.Decides.{nat_tests}
+use Rattle.std.proofs.lemmas.Bool.{eqb-true}
 use Rattle.std.proofs.lemmas.Slice.Eq.{slice_eq-Decides}
 use Rattle.migration_types.specs.Extents.{Extent, IsExtent}
 use Rattle.migration_types.specs.contracts.pages.PageNoPartialEq.TheImpl.{eq-value}
+use Rattle.fault_queue.proofs.Same.{same_page}
 use Rattle.page_stream.specs.declared.Packet.{Packet}
 use Rattle.page_stream.specs.declared.Packet.TheVariants.{State as StatePacket}
 use Rattle.page_stream.specs.declared.stream.StreamFaultKind.{StreamFaultKind}
@@ -19,17 +20,17 @@ use Rattle.page_stream.specs.Streams.{StandsFor, IsReading, IsPartial, HasFault,
 abbrev pub OneReading : Type 0
 OneReading = (e : Extent) (bytes : List ℕ) (packets others : List Packet) (rest other : List ℕ) → IsExtent e → IsReading e bytes packets rest → IsReading e bytes others other → (packets ≡ others) × (rest ≡ other)
 
-nothing_partial : IsPartial []
-nothing_partial = record { long = λ h. absurd (omega (arith, h)); kind = λ h. absurd (omega (arith, h)) }
+nothing_partial : (e : Extent) → IsPartial e []
+nothing_partial e = record { long = λ h. absurd (omega (arith, h)); kind = λ h. absurd (omega (arith, h)) }
 
 -- the bytes of a packet of the machine's are read as that packet
 reading : (e : Extent) (bytes : List ℕ) (p : Packet) → Fits e p → bytes ≡ packet_bytes p → IsReading e bytes (p ∷ []) []
 reading e bytes p fits is = record {
   stands = record { whole = is ∙ sym (append-nil (packet_bytes p)) ∙ sym (append-nil (packet_bytes p ++ [])); each = (fits, tt) };
-  end = inl nothing_partial;
+  end = inl (nothing_partial e);
 }
 
-pub reads_one : OneReading → (start end : Flow) (came : List ℕ) (packets : List Packet) (p : Packet) → start.rest ≡ [] → IsExtent start.geometry → Fits start.geometry p → Takes start end came packets → IsPartial end.rest → came ≡ packet_bytes p → packets ≡ p ∷ []
+pub reads_one : OneReading → (start end : Flow) (came : List ℕ) (packets : List Packet) (p : Packet) → start.rest ≡ [] → IsExtent start.geometry → Fits start.geometry p → Takes start end came packets → IsPartial start.geometry end.rest → came ≡ packet_bytes p → packets ≡ p ∷ []
 reads_one law start end came packets p none extent fits takes partial is =
     let stands : StandsFor start.geometry came packets end.rest = rw none at takes.stands in
     (law start.geometry came packets (p ∷ []) end.rest [] extent (record { stands = stands; end = inl partial }) (reading start.geometry came p fits is)).0
@@ -52,12 +53,12 @@ faults_none law start end came before kind p none going extent fits refuses othe
 
 -- ---- lists of pages
 
-same_page : (a b : ℕ) → Decides (eq-value.it a b) (a ≡ b)
-same_page a b = (λ e. grind (arith, nat_tests), λ e. rw e (grind (arith, nat_tests)))
+decides_page : (a b : ℕ) → Decides (eq-value.it a b) (a ≡ b)
+decides_page a b = (λ e. eqb-true a b (sym (same_page a b) ∙ e), λ e. same_page a b ∙ eq-eqb a b e)
 
 -- two states with the same number are the same where their pages are
 pub same_states : (one other : Packet) (n m : ℕ) (xs ys : List ℕ) (t : Bool) → one ≡ StatePacket n xs → other ≡ StatePacket m ys → n ≡ m → t ≡ pointwise eq-value.it xs ys → MatchBool t (one ≡ other) (one ≢ other)
-same_states one other n m xs ys t a b numbers eq = go t (slice_eq-Decides same_page xs ys t eq)
+same_states one other n m xs ys t a b numbers eq = go t (slice_eq-Decides decides_page xs ys t eq)
   where
     pages_of : StatePacket n xs ≡ StatePacket m ys → xs ≡ ys
     pages_of e = cc

@@ -174,15 +174,13 @@ impl Bell {
     /// lock, under which it looked, so that what comes after the look finds it waiting.
     pub(crate) fn want(&self, vcpu: u8, page: PageNo) {
         if let Some(waiter) = self.vcpus.get(usize::from(vcpu)) {
-            waiter
-                .wanted
-                .store(u32::from(page.number()), Ordering::SeqCst);
+            waiter.wanted.store(page.number(), Ordering::SeqCst);
         }
     }
 
     /// A page is resident. Said under the target's lock.
     pub(crate) fn came(&self, page: PageNo) {
-        let page = u32::from(page.number());
+        let page = page.number();
         for waiter in &self.vcpus {
             if waiter.wanted.load(Ordering::SeqCst) == page {
                 waiter.wanted.store(CAME, Ordering::SeqCst);

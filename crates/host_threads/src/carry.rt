@@ -105,9 +105,9 @@ fn is_same(one: &Packet, other: &Packet) -> bool
                 page: p,
                 contents: c,
             },
-        ) => number == n && page == p && contents.as_slice() == c.as_slice(),
+        ) => number == n && page.number() == p.number() && contents.as_slice() == c.as_slice(),
         (Packet::Want { number, page }, Packet::Want { number: n, page: p }) => {
-            number == n && page == p
+            number == n && page.number() == p.number()
         }
         (Packet::All { number }, Packet::All { number: n }) => number == n,
         _ => false,

@@ -16,6 +16,8 @@ use Rattle.migration_types.specs.declared.records.PagerRec.{PagerRec}
 use Rattle.migration_types.specs.declared.records.PagerRec.TheVariants.{Got, Pull, Ready, Fault, Join, Want, Place, Zero, Skip, All}
 use Rattle.migration_types.specs.declared.version.Version.{Version}
 use Rattle.migration_types.specs.declared.version.Version.TheVariants.{One, Two}
+use Rattle.migration_types.specs.declared.size.Size.{Size}
+use Rattle.migration_types.specs.declared.size.Size.TheVariants.{Small}
 use Rattle.migration_types.specs.Sessions.{Recorded}
 use Rattle.session_text.specs.Records.{guest_line, source_line, link_line, lane_line, pager_line}
 use Rattle.session_text.specs.Grammar.{header, pages_key, cells_key, init_key, guest_key, source_key, link_key, lane_key, pager_key, page_line, with_lane, session_lines}
@@ -88,9 +90,9 @@ pager_other All = other_line (pager_line All) refl
 page_other : (p : InitPage) → page_line p ≢ codes "end"
 page_other p = other_line (page_line p) refl
 
-header_other : (version : Version) → header version ≢ codes "end"
-header_other One = other_line (header One) refl
-header_other Two = other_line (header Two) refl
+header_other : (version : Version) (size : Size) → header version size ≢ codes "end"
+header_other One Small = other_line (header One Small) refl
+header_other Two Small = other_line (header Two Small) refl
 
 closed_lane : (version : Version) (records : List LaneRec) (lines : List (List ℕ)) → IsClosed lines → IsClosed (with_lane version records lines)
 closed_lane One records lines c = c
@@ -103,6 +105,6 @@ closed_session s =
     let source = closed_counted source_key source_line s.source _ (other_line (source_key ++ decimal (length s.source)) refl) source_other link in
     let guest = closed_counted guest_key guest_line s.guest _ (other_line (guest_key ++ decimal (length s.guest)) refl) guest_other source in
     let init = closed_counted init_key page_line s.init _ (other_line (init_key ++ decimal (length s.init)) refl) page_other guest in
-    closed_cons (header s.version) _ (header_other s.version)
+    closed_cons (header s.version s.geometry.size) _ (header_other s.version s.geometry.size)
     (closed_cons (pages_key ++ decimal s.geometry.pages) _ (other_line (pages_key ++ decimal s.geometry.pages) refl)
     (closed_cons (cells_key ++ decimal s.geometry.cells) _ (other_line (cells_key ++ decimal s.geometry.cells) refl) init))

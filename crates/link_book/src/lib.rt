@@ -3,6 +3,7 @@
 
 ghost use Rattle.std.specs.Prelude.{◌≡◌, ◌==◌, ◌&&◌, ◌<◌, ◌≤◌, [], true, false, None, length, slice_get, drop, if◌then◌else◌, IfSome, IsTrue, OnOk, OnErr, IsErrOf};
 ghost use Rattle.std.specs.Option.{option_map};
+ghost use Rattle.migration_types.specs.Limits.{most_records};
 
 mod arrivals;
 mod turns;
@@ -151,8 +152,8 @@ impl LinkBook {
     /// room. On an error nothing changes.
     pub fn turn(&mut self, direction: Direction, fate: Fate) -> Result<(), LinkFault>
         ensures ok { OnOk result (self.new ≡ record self.old { part = turned direction fate self.old.part }) }
-        ensures full { IsErrOf result LinkFault.LogFull → 1048576 < log_length direction (turned direction fate self.old.part) }
-        ensures memory { IsErrOf result LinkFault.Memory → log_length direction (turned direction fate self.old.part) ≤ 1048576 }
+        ensures full { IsErrOf result LinkFault.LogFull → most_records < log_length direction (turned direction fate self.old.part) }
+        ensures memory { IsErrOf result LinkFault.Memory → log_length direction (turned direction fate self.old.part) ≤ most_records }
         ensures err { OnErr result (self.new ≡ self.old) }
     {
         let alloc = self.alloc;

@@ -3,6 +3,7 @@
 ghost use Rattle.std.specs.Prelude.{◌≡◌, ◌<◌, ◌≤◌, ℕ, [], ◌∷◌, ◌++◌, true, length, is_some, IfOk, OnOk, OnErr, IsErrOf, vec_len, vec_capacity};
 ghost use Rattle.std.specs.VecDeque.{deque_len, deque_capacity};
 ghost use Rattle.migration_events.specs.declared.events.Direction.{Direction as Way};
+ghost use Rattle.migration_types.specs.Limits.{most_records};
 ghost use Rattle.page_stream.specs.Packets.{number_of};
 ghost use Rattle.link_book.specs.LinkPart.{goes, channel_turned};
 ghost use Rattle.link_book.specs.Links.{arrival, channel, HasTurned};
@@ -56,12 +57,12 @@ pub fn turn_line<R: Receipt>(
     direction: Direction,
     fate: Fate,
 ) -> Result<(), LinkFault>
-    requires { length log.old.items ≤ 1048576 }
+    requires { length log.old.items ≤ most_records }
     ensures ok { OnOk result (HasTurned (R.says direction) (channel_turned (goes direction) fate (length log.old.items) channel.old.line.items channel.old.arrivals.items) log.old.items log.new.items channel.new.line.items channel.new.arrivals.items) }
-    ensures few { OnOk result (length log.new.items ≤ 1048576) }
-    ensures full { IsErrOf result LinkFault.LogFull → (1048576 ≤ length log.old.items)
+    ensures few { OnOk result (length log.new.items ≤ most_records) }
+    ensures full { IsErrOf result LinkFault.LogFull → (most_records ≤ length log.old.items)
         × (is_some (channel_turned (goes direction) fate (length log.old.items) channel.old.line.items channel.old.arrivals.items).came ≡ true) }
-    ensures memory { IsErrOf result LinkFault.Memory → length log.old.items < 1048576 }
+    ensures memory { IsErrOf result LinkFault.Memory → length log.old.items < most_records }
     ensures err { OnErr result ((log.new.items ≡ log.old.items) × (channel.new.line.items ≡ channel.old.line.items) × (channel.new.arrivals.items ≡ channel.old.arrivals.items)) }
     ensures room { deque_len channel.old.line < deque_capacity channel.old.line → deque_len channel.new.line < deque_capacity channel.new.line }
 {
@@ -82,13 +83,13 @@ fn meet_fate<R>(
     direction: Direction,
     fate: Fate,
 ) -> Result<Option<u32>, LinkFault>
-    requires { length log.old.items ≤ 1048576 }
+    requires { length log.old.items ≤ most_records }
     ensures ok { IfOk result (λ came. record { channel = channel line.new.items arrivals.new.items; came = came }
         ≡ channel_turned (goes direction) fate (length log.old.items) line.old.items arrivals.old.items) }
-    ensures place { IfOk result (λ came. is_some came ≡ true → (length log.old.items < 1048576) × (vec_len log.new < vec_capacity log.new)) }
-    ensures full { IsErrOf result LinkFault.LogFull → (1048576 ≤ length log.old.items)
+    ensures place { IfOk result (λ came. is_some came ≡ true → (length log.old.items < most_records) × (vec_len log.new < vec_capacity log.new)) }
+    ensures full { IsErrOf result LinkFault.LogFull → (most_records ≤ length log.old.items)
         × (is_some (channel_turned (goes direction) fate (length log.old.items) line.old.items arrivals.old.items).came ≡ true) }
-    ensures memory { IsErrOf result LinkFault.Memory → length log.old.items < 1048576 }
+    ensures memory { IsErrOf result LinkFault.Memory → length log.old.items < most_records }
     ensures log { log.new.items ≡ log.old.items }
     ensures err { OnErr result ((line.new.items ≡ line.old.items) × (arrivals.new.items ≡ arrivals.old.items)) }
     ensures room { deque_len line.old < deque_capacity line.old → deque_len line.new < deque_capacity line.new }
@@ -135,9 +136,9 @@ fn meet_fate<R>(
 /// Makes a place for one record and one arrival.
 fn make_places<R>(log: &mut Vec<R>, arrivals: &mut VecDeque<Arrival>) -> Result<(), LinkFault>
     ensures same { (log.new.items ≡ log.old.items) × (arrivals.new.items ≡ arrivals.old.items) }
-    ensures ok { OnOk result ((length log.old.items < 1048576) × (vec_len log.new < vec_capacity log.new) × (deque_len arrivals.new < deque_capacity arrivals.new)) }
-    ensures full { IsErrOf result LinkFault.LogFull → 1048576 ≤ length log.old.items }
-    ensures memory { IsErrOf result LinkFault.Memory → length log.old.items < 1048576 }
+    ensures ok { OnOk result ((length log.old.items < most_records) × (vec_len log.new < vec_capacity log.new) × (deque_len arrivals.new < deque_capacity arrivals.new)) }
+    ensures full { IsErrOf result LinkFault.LogFull → most_records ≤ length log.old.items }
+    ensures memory { IsErrOf result LinkFault.Memory → length log.old.items < most_records }
 {
     make_room(log, 1)?;
     arrivals.reserve(1).map_err(|_| LinkFault::Memory)
@@ -146,7 +147,7 @@ fn make_places<R>(log: &mut Vec<R>, arrivals: &mut VecDeque<Arrival>) -> Result<
 /// A packet arrives, of which the record with this number is to say so. Its own number is answered.
 fn arrive(place: usize, arrivals: &mut VecDeque<Arrival>, packet: Packet) -> u32
     requires arrivals { deque_len arrivals.old < deque_capacity arrivals.old }
-    requires short { place < 1048576 }
+    requires short { place < most_records }
     ensures number { result ≡ number_of packet }
     ensures arrivals { arrivals.new.items ≡ arrivals.old.items ++ arrival place packet ∷ [] }
 {

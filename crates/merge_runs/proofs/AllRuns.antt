@@ -2,12 +2,10 @@
 use Rattle.std.proofs.Common.{◌≡◌, ℕ, ◌+◌, ◌<◌, ◌≤◌, List, ◌++◌, length, take, drop, Option, refl, sym, ap, ◌∙◌, subst}
 use Rattle.std.specs.Option.{MatchOption}
 use Rattle.std.proofs.lemmas.List.{take-append-drop, take_all}
-use Rattle.migration_types.specs.declared.records.LogName.{LogName}
-use Rattle.migration_types.specs.declared.records.LogName.TheVariants.{Guest, Source, Link, Lane, Pager}
 use Rattle.migration_types.specs.declared.cert.Run.{Run}
 use Rattle.migration_types.specs.Extents.{Extent}
 use Rattle.migration_types.specs.Receipts.{Name}
-use Rattle.migration_types.specs.Sessions.{Recorded, IsSession}
+use Rattle.migration_types.specs.Sessions.{Recorded}
 use Rattle.audit_model.specs.declared.home.Home.{Home}
 use Rattle.audit_model.specs.declared.home.Home.TheVariants.{AtSource, Nowhere, AtTarget}
 use Rattle.audit_model.specs.Names.{log_length}
@@ -23,13 +21,6 @@ use Rattle.merge_runs.specs.Replays.{final_memory, final_memory_at, IsReplay}
 use Rattle.merge_runs.specs.inner.Replaying.{AreSized, IsReplaying, HasRun}
 use Rattle.merge_runs.proofs.Walking.{walks_front, walk_back, walks_run, spelled_front, with_it, the_run}
 use Rattle.merge_runs.proofs.OneMore.{told}
-
-pub few_records : (s : Recorded) → IsSession s → (log : LogName) → log_length s log ≤ 1048576
-few_records s limits Guest = limits.few_guest
-few_records s limits Source = limits.few_source
-few_records s limits Link = limits.few_link
-few_records s limits Lane = limits.few_lane
-few_records s limits Pager = limits.few_pager
 
 module _ (s : Recorded) (runs : List Run) (place : ℕ) (d : Run) (within : place < length runs) where
   abbrev run : Run

@@ -31,7 +31,7 @@ fn copy_of(alloc: Global, frames: &Store) -> Result<Store, AllocError>
     geometry.keeps_limits();
     let mut copy = Store::zeroed(alloc, geometry)?;
     for index in 0..geometry.pages() {
-        let page = PageNo::new(index as u16);
+        let page = PageNo::new(index);
         copy.install(page, frames.page(page));
     }
     Ok(copy)

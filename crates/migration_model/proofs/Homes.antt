@@ -339,7 +339,7 @@ start_keeps script fits = record {
   ops = λ n r is. nothing n r is;
   named = record { phases = λ n r is. nothing n r is; guest = λ n r is. nothing n r is; source = λ n r is. nothing n r is; link = λ n r is. nothing n r is; lane = λ n r is. nothing n r is; pager = λ n r is. nothing n r is; first_sends = λ n r is. nothing n r is };
   merges = record { each_once_in_order = no_places script; receipts_after = λ past name sent stands e. no_order past stands.0 name stands.1 };
-  limits = record { extent = fits.geometry; init = fits.init; guest = λ n r is. nothing n r is; source = λ n r is. nothing n r is; lane = λ n r is. nothing n r is; pager = λ n r is. nothing n r is };
+  limits = record { extent = fits.geometry; small = fits.small; init = fits.init; guest = λ n r is. nothing n r is; source = λ n r is. nothing n r is; lane = λ n r is. nothing n r is; pager = λ n r is. nothing n r is };
   reads = λ n r is. nothing n r is;
   memory_is = λ p c. refl;
   wide = wide_initial script.geometry script.init fits.init.each;

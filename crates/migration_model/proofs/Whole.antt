@@ -9,6 +9,7 @@ use Rattle.audit_model.specs.Shape.{IsRightShape, earlier, is_placement_of}
 use Rattle.audit_model.specs.World.{world_after}
 use Rattle.audit_model.specs.Worlds.{resident_before}
 use Rattle.migration_types.specs.Receipts.{Name}
+use Rattle.migration_types.specs.Limits.{most_records}
 use Rattle.migration_types.specs.Sessions.{Recorded}
 use Rattle.migration_types.specs.declared.records.GuestRec.{GuestRec}
 use Rattle.migration_types.specs.declared.records.LogName.TheVariants.{Guest, Lane, Link, Pager, Source as FromSource}
@@ -143,20 +144,20 @@ pub record MachineKept (core : Recording) : Type 0 where
 
 pub room_there : (s : Recorded) → has_room s ≡ true → HasRoom s
 room_there s e =
-    let guest = nat_le (length s.guest) 1048576 in
-    let source = nat_le (length s.source) 1048576 in
-    let link = nat_le (length s.link) 1048576 in
-    let lane = nat_le (length s.lane) 1048576 in
-    let pager = nat_le (length s.pager) 1048576 in
+    let guest = nat_le (length s.guest) most_records in
+    let source = nat_le (length s.source) most_records in
+    let link = nat_le (length s.link) most_records in
+    let lane = nat_le (length s.lane) most_records in
+    let pager = nat_le (length s.pager) most_records in
     let four : (((guest && source) && link) && lane) ≡ true = and_left (((guest && source) && link) && lane) pager e in
     let three : ((guest && source) && link) ≡ true = and_left ((guest && source) && link) lane four in
     let two : (guest && source) ≡ true = and_left (guest && source) link three in
     record {
-      guest = leb-true (length s.guest) 1048576 (and_left guest source two);
-      source = leb-true (length s.source) 1048576 (and_right guest source two);
-      link = leb-true (length s.link) 1048576 (and_right (guest && source) link three);
-      lane = leb-true (length s.lane) 1048576 (and_right ((guest && source) && link) lane four);
-      pager = leb-true (length s.pager) 1048576 (and_right (((guest && source) && link) && lane) pager e);
+      guest = leb-true (length s.guest) most_records (and_left guest source two);
+      source = leb-true (length s.source) most_records (and_right guest source two);
+      link = leb-true (length s.link) most_records (and_right (guest && source) link three);
+      lane = leb-true (length s.lane) most_records (and_right ((guest && source) && link) lane four);
+      pager = leb-true (length s.pager) most_records (and_right (((guest && source) && link) && lane) pager e);
     }
 
 step_keeps : (e : Event) (core next : Recording) → MachineKept core → step e core ≡ Some next → MachineKept next

@@ -19,7 +19,8 @@ source_worked = refl
 -- the scripts are within their limits, so these runs are faultless
 pub fits_of_two : IsScript run_of_two.script
 fits_of_two = record {
-  geometry = record { some_pages = omega arith; few_pages = omega arith; some_cells = omega arith; few_cells = omega arith; few_in_all = omega arith };
+  geometry = record { some_pages = omega arith; few_pages = omega arith; some_cells = omega arith; few_cells = omega arith; few_in_all = omega arith; own = record { pages = omega arith; cells = omega arith } };
+  small = refl;
   init = record { each = (record { page = omega arith; content = record { count = refl; each = (omega arith, tt) }; not_zeros = λ all. let e : 7 ≡ 0 = all.0 in absurd (omega (arith, e)) }, tt); rising = λ k lt. absurd (omega (arith, lt)) };
   lane = λ is. absurd (let e : false ≡ true = is in cc);
   few_vcpus = omega arith;
@@ -28,7 +29,8 @@ fits_of_two = record {
 
 pub fits_of_one : IsScript run_of_one.script
 fits_of_one = record {
-  geometry = record { some_pages = omega arith; few_pages = omega arith; some_cells = omega arith; few_cells = omega arith; few_in_all = omega arith };
+  geometry = record { some_pages = omega arith; few_pages = omega arith; some_cells = omega arith; few_cells = omega arith; few_in_all = omega arith; own = record { pages = omega arith; cells = omega arith } };
+  small = refl;
   init = record { each = tt; rising = λ k lt. absurd (omega (arith, lt)) };
   lane = λ is. absurd (let e : false ≡ true = is in cc);
   few_vcpus = omega arith;
@@ -37,7 +39,8 @@ fits_of_one = record {
 
 pub fits_of_release : IsScript run_of_release.script
 fits_of_release = record {
-  geometry = record { some_pages = omega arith; few_pages = omega arith; some_cells = omega arith; few_cells = omega arith; few_in_all = omega arith };
+  geometry = record { some_pages = omega arith; few_pages = omega arith; some_cells = omega arith; few_cells = omega arith; few_in_all = omega arith; own = record { pages = omega arith; cells = omega arith } };
+  small = refl;
   init = record { each = (record { page = omega arith; content = record { count = refl; each = (omega arith, tt) }; not_zeros = λ all. let e : 6 ≡ 0 = all.0 in absurd (omega (arith, e)) }, tt); rising = λ k lt. absurd (omega (arith, lt)) };
   lane = λ is. tt;
   few_vcpus = omega arith;
@@ -46,7 +49,8 @@ fits_of_release = record {
 
 pub fits_of_lane : IsScript run_of_lane.script
 fits_of_lane = record {
-  geometry = record { some_pages = omega arith; few_pages = omega arith; some_cells = omega arith; few_cells = omega arith; few_in_all = omega arith };
+  geometry = record { some_pages = omega arith; few_pages = omega arith; some_cells = omega arith; few_cells = omega arith; few_in_all = omega arith; own = record { pages = omega arith; cells = omega arith } };
+  small = refl;
   init = record { each = (record { page = omega arith; content = record { count = refl; each = (omega arith, tt) }; not_zeros = λ all. let e : 6 ≡ 0 = all.0 in absurd (omega (arith, e)) }, tt); rising = λ k lt. absurd (omega (arith, lt)) };
   lane = λ is. tt;
   few_vcpus = omega arith;

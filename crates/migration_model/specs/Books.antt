@@ -1,5 +1,5 @@
 -- All books together, what they record, and the script that a guest follows.
-use Rattle.std.specs.Prelude.{ℕ, ◌≤◌, ◌-◌, Bool, List, [], ◌++◌, length, IsTrue}
+use Rattle.std.specs.Prelude.{◌≡◌, ℕ, ◌≤◌, ◌-◌, Bool, List, [], ◌++◌, length, IsTrue}
 use Rattle.std.specs.List.{AllByRecursion}
 use Rattle.migration_types.specs.declared.pages.InitPage.{InitPage}
 use Rattle.migration_types.specs.declared.records.LogName.{LogName}
@@ -8,6 +8,7 @@ use Rattle.migration_types.specs.Extents.{Extent, IsExtent}
 use Rattle.migration_types.specs.Pages.{AreInitPages}
 use Rattle.migration_types.specs.Receipts.{Name}
 use Rattle.migration_types.specs.Sessions.{Recorded, HasLane}
+use Rattle.migration_types.specs.declared.size.Size.TheVariants.{Small}
 use Rattle.migration_types.specs.declared.version.Version.{Version}
 use Rattle.audit_model.specs.Mergings.{run_names}
 use Rattle.source_book.specs.SourcePart.{SourcePart}
@@ -38,9 +39,10 @@ pub record VcpuFits (version : Version) (e : Extent) (vcpu : Vcpu) : Type 0 wher
   pub before_move : AllByRecursion (OpFits e) vcpu.before_move
   pub after_move : AllByRecursion (LateOpFits version e) vcpu.after_move
 
--- what a script says is within all limits that the law needs
+-- what a script says is within all limits that the law needs: its machine is a small one
 pub record IsScript (script : Scripted) : Type 0 where
   pub geometry : IsExtent script.geometry
+  pub small : script.geometry.size ≡ Small
   pub init : AreInitPages script.geometry script.init
   pub lane : IsTrue script.has_lane → HasLane script.version
   pub few_vcpus : length script.vcpus ≤ 64

@@ -2,6 +2,7 @@
 use Rattle.std.specs.Prelude.{ℕ, Bool, true, false, ◌&&◌, nat_lt, nat_le, List, [], ◌∷◌, ◌++◌, length, Option, Some, None, slice_get, slice_set, if◌then◌else◌}
 use Rattle.std.specs.List.{list_all}
 use Rattle.migration_types.specs.Receipts.{Name}
+use Rattle.migration_types.specs.Limits.{most_records}
 use Rattle.migration_types.specs.Sessions.{Recorded}
 use Rattle.page_stream.specs.declared.Packet.{Packet}
 use Rattle.link_book.specs.LinkPart.{LinkPart, new_link, with_back, with_front, with_up, pushed_line, with_pushed, if_packet, turned}
@@ -126,9 +127,9 @@ recorded old order new = record { books = new; order = order ++ new_names (sessi
 abbrev pub event : Event → Recording → Recording
 event e core = recorded core.books core.order (books_event e core.books)
 
--- no log has more than 1,048,576 records
+-- no log has more records than a host's may
 abbrev pub has_room : Recorded → Bool
-has_room s = nat_le (length s.guest) 1048576 && nat_le (length s.source) 1048576 && nat_le (length s.link) 1048576 && nat_le (length s.lane) 1048576 && nat_le (length s.pager) 1048576
+has_room s = nat_le (length s.guest) most_records && nat_le (length s.source) most_records && nat_le (length s.link) most_records && nat_le (length s.lane) most_records && nat_le (length s.pager) most_records
 
 -- an event that needs more records than a log has room for is refused
 abbrev pub if_room : Recording → Option Recording

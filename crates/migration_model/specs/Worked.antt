@@ -1,5 +1,8 @@
 -- Worked runs: which events of a script record what, in which order, and what one book makes of a list of calls.
 use Rattle.std.specs.Prelude.{◌≡◌, ℕ, Bool, true, false, List, [], ◌∷◌, length, ◌<◌, Option, Some, None}
+use Rattle.migration_types.specs.declared.size.Size.TheVariants.{Small}
+use Rattle.migration_types.specs.Extents.{Extent}
+use Rattle.migration_types.specs.Limits.{most_records}
 use Rattle.migration_types.specs.Memory.{initial}
 use Rattle.migration_types.specs.PageSets.{no_page}
 use Rattle.migration_types.specs.Receipts.{Name}
@@ -59,9 +62,13 @@ session_worked w = record { version = w.script.version; geometry = w.script.geom
 abbrev pub ComesOut : Worked → Type 0
 ComesOut w = Records w.script w.events (session_worked w) w.order
 
+-- a small machine of so many pages of one cell
+abbrev pub small_machine : ℕ → Extent
+small_machine pages = record { size = Small; pages = pages; cells = 1 }
+
 -- a script with so many pages of one cell and one pivot
 abbrev pub small_script : Version → ℕ → List InitPage → ℕ → Bool → List Vcpu → Scripted
-small_script version pages init window has_lane vcpus = record { version = version; geometry = record { pages = pages; cells = 1 }; init = init; pivots = 1; window = window; has_lane = has_lane; vcpus = vcpus }
+small_script version pages init window has_lane vcpus = record { version = version; geometry = small_machine pages; init = init; pivots = 1; window = window; has_lane = has_lane; vcpus = vcpus }
 
 -- a page of one cell
 abbrev pub holding : ℕ → ℕ → InitPage
@@ -174,7 +181,7 @@ offers (call ∷ calls) b = ((called call b).packet ∷ (offers calls (called ca
 
 -- a source of two pages of one cell, of which the second holds 7, at the halt
 abbrev pub small_source : SourcePart
-small_source = halted_source (record { pages = 2; cells = 1 }) (initial (record { page = 1; cells = 7 ∷ [] } ∷ [])) no_page 1 0
+small_source = halted_source (small_machine 2) (initial (record { page = 1; cells = 7 ∷ [] } ∷ [])) no_page 1 0
 
 -- a page is pushed; the other is wanted twice; then the source is told that all is there
 abbrev pub source_calls : List Call
@@ -196,13 +203,13 @@ core_with log = record {
     window = 1;
     has_lane = false;
     vcpus = record { before_move = ReadCell 0 0 ∷ []; after_move = [] } ∷ [];
-    guest = record (new_guest (record { pages = 1; cells = 1 }) []) { log = log };
+    guest = record (new_guest (small_machine 1) []) { log = log };
   });
   order = [];
 }
 
 -- a read is refused where the log has no room for a record, and only there; an event that appends nothing never is
 pub record IsRefusedWhenFull : Type 0 where
-  pub refused : (log : List GuestRec) → length log ≡ 1048576 → step (GuestStep 0) (core_with log) ≡ None
-  pub taken : (log : List GuestRec) → length log < 1048576 → (core : Recording) × (step (GuestStep 0) (core_with log) ≡ Some core)
-  pub silent : (log : List GuestRec) → length log ≡ 1048576 → step Push (core_with log) ≡ Some (core_with log)
+  pub refused : (log : List GuestRec) → length log ≡ most_records → step (GuestStep 0) (core_with log) ≡ None
+  pub taken : (log : List GuestRec) → length log < most_records → (core : Recording) × (step (GuestStep 0) (core_with log) ≡ Some core)
+  pub silent : (log : List GuestRec) → length log ≡ most_records → step Push (core_with log) ≡ Some (core_with log)

@@ -40,8 +40,8 @@ FieldFits version e (Vcpu n) = n < vcpus
 FieldFits version e (Page n) = n < e.pages
 FieldFits version e (Cell n) = n < e.cells
 FieldFits version e (Value n) = n < 2 ^ 64
-FieldFits version e (Number log n) = WithLog version log (IsNumber n)
-FieldFits version e (Handover log n) = WithLog version log (IsNumber n)
+FieldFits version e (Number log n) = WithLog version log (IsNumber e.size n)
+FieldFits version e (Handover log n) = WithLog version log (IsNumber e.size n)
 
 abbrev pub ContentFits : Extent → Option (List ℕ) → Type 0
 ContentFits e None = Unit {0}

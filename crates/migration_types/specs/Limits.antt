@@ -1,29 +1,49 @@
 -- The limits of what is recorded.
-use Rattle.std.specs.Prelude.{ℕ}
+use Rattle.std.specs.Prelude.{ℕ, ◌≤◌}
+use Rattle.std.proofs.Common.{arith}
 use Rattle.migration_types.specs.declared.version.Version.{Version}
 use Rattle.migration_types.specs.declared.version.Version.TheVariants.{One, Two}
+use Rattle.migration_types.specs.declared.size.Size.{Size}
+use Rattle.migration_types.specs.declared.size.Size.TheVariants.{Small}
+use Rattle.migration_types.specs.declared.size.Limits.{Limits}
 
--- a machine has 1 to so many pages
+-- A machine has 1 to so many pages, and at most so many cells in all. A log has at most so many records, and a record's
+-- number is below this one.
+abbrev pub limits : Size → Limits
+limits Small = record { pages = 65536; cells = 1048576; records = 1048576 }
+
+-- the greatest of the limits, of all sizes
 abbrev pub most_pages : ℕ
 most_pages = 65536
+
+abbrev pub most_cells_in_all : ℕ
+most_cells_in_all = 1048576
+
+abbrev pub longest_log : ℕ
+longest_log = 1048576
+
+-- no size has a greater one
+pub record AreAtMost (l : Limits) : Type 0 where
+  pub few_pages : l.pages ≤ most_pages
+  pub few_cells : l.cells ≤ most_cells_in_all
+  pub few_records : l.records ≤ longest_log
+
+pub limits_at_most : (size : Size) → AreAtMost (limits size)
+limits_at_most Small = record { few_pages = omega arith; few_cells = omega arith; few_records = omega arith }
 
 -- a page has 1 to so many cells
 abbrev pub most_cells : ℕ
 most_cells = 512
 
--- a machine has at most so many cells in all
-abbrev pub most_cells_in_all : ℕ
-most_cells_in_all = 1048576
-
 -- virtual processors have the numbers below this one
 abbrev pub vcpus : ℕ
 vcpus = 64
 
--- no log has more records, and a record's number is below this one
+-- no log of a host has more records
 abbrev pub most_records : ℕ
 most_records = 1048576
 
 -- a certificate has at most so many runs: of four logs in the first version, and of five in the second
-abbrev pub most_runs : Version → ℕ
-most_runs One = 4194304
-most_runs Two = 5242880
+abbrev pub most_runs : Version → Size → ℕ
+most_runs One Small = 4194304
+most_runs Two Small = 5242880

@@ -18,7 +18,8 @@ use Rattle.migration_types.specs.declared.records.LaneRec.TheVariants.{Down as L
 use Rattle.migration_types.specs.declared.records.PagerRec.{PagerRec}
 use Rattle.migration_types.specs.declared.records.PagerRec.TheVariants.{Got, Pull, Ready, Fault, Join, Want, Place, Zero, Skip, All}
 use Rattle.migration_types.specs.declared.session.Logs.{Logs}
-use Rattle.migration_types.specs.Limits.{vcpus, most_records}
+use Rattle.migration_types.specs.declared.size.Size.{Size}
+use Rattle.migration_types.specs.Limits.{limits, longest_log, vcpus}
 use Rattle.migration_types.specs.Extents.{Extent, IsExtent}
 use Rattle.migration_types.specs.Pages.{AreInitPages}
 use Rattle.migration_types.specs.Receipts.{Name}
@@ -39,8 +40,8 @@ abbrev pub recorded : Version → Extent → List InitPage → Logs → Recorded
 recorded version geometry init logs = record { version = version; geometry = geometry; init = init; guest = logs.guest; source = logs.source; link = logs.link; lane = logs.lane; pager = logs.pager }
 
 -- a record's number is its place in its log
-abbrev pub IsNumber : ℕ → Type 0
-IsNumber n = n < most_records
+abbrev pub IsNumber : Size → ℕ → Type 0
+IsNumber size n = n < (limits size).records
 
 -- the second version alone has a lane
 abbrev pub HasLane : Version → Type 0
@@ -52,57 +53,58 @@ abbrev pub HasLog : Version → LogName → Type 0
 HasLog version Lane = HasLane version
 HasLog version _ = Unit {0}
 
--- a record's numbers are those of a machine of this extent
+-- a record's numbers are those of a machine of this extent, and the numbers of records in it are below this one
+abbrev pub GuestRecIn : ℕ → Extent → GuestRec → Type 0
+GuestRecIn past e (Read vcpu page cell value) = (vcpu < vcpus) × (page < e.pages) × (cell < e.cells) × (value < 2 ^ 64)
+GuestRecIn past e (Write vcpu page cell value) = (vcpu < vcpus) × (page < e.pages) × (cell < e.cells) × (value < 2 ^ 64)
+GuestRecIn past e (Release vcpu page) = (vcpu < vcpus) × (page < e.pages)
+GuestRecIn past e (Miss vcpu page) = (vcpu < vcpus) × (page < e.pages)
+GuestRecIn past e Halt = Unit {0}
+GuestRecIn past e (Resume ready) = ready < past
+GuestRecIn past e (See placement) = placement < past
+
+abbrev pub SourceRecIn : ℕ → Extent → SourceRec → Type 0
+SourceRecIn past e (Halted halt) = halt < past
+SourceRecIn past e State = Unit {0}
+SourceRecIn past e (Send page contents) = (page < e.pages) × IsContent e.cells contents
+SourceRecIn past e (Again sending) = sending < past
+SourceRecIn past e (Ask up) = up < past
+SourceRecIn past e Done = Unit {0}
+
+abbrev pub LinkRecIn : ℕ → LinkRec → Type 0
+LinkRecIn past (Down sending) = sending < past
+LinkRecIn past (Up asking) = asking < past
+
+abbrev pub LaneRecIn : ℕ → Version → LaneRec → Type 0
+LaneRecIn past version (LaneDown sending) = HasLane version × (sending < past)
+
+abbrev pub PagerRecIn : ℕ → Version → Extent → PagerRec → Type 0
+PagerRecIn past version e (Got down) = down < past
+PagerRecIn past version e (Pull down) = HasLane version × (down < past)
+PagerRecIn past version e Ready = Unit {0}
+PagerRecIn past version e (Fault miss) = miss < past
+PagerRecIn past version e (Join want) = want < past
+PagerRecIn past version e (Want page) = page < e.pages
+PagerRecIn past version e (Place page got contents) = (page < e.pages) × (got < past) × IsContent e.cells contents
+PagerRecIn past version e (Zero page) = page < e.pages
+PagerRecIn past version e (Skip got) = got < past
+PagerRecIn past version e All = Unit {0}
+
+-- a record is within the limits of a machine's size
 abbrev pub GuestRecFits : Extent → GuestRec → Type 0
-GuestRecFits e (Read vcpu page cell value) = (vcpu < vcpus) × (page < e.pages) × (cell < e.cells) × (value < 2 ^ 64)
-GuestRecFits e (Write vcpu page cell value) = (vcpu < vcpus) × (page < e.pages) × (cell < e.cells) × (value < 2 ^ 64)
-GuestRecFits e (Release vcpu page) = (vcpu < vcpus) × (page < e.pages)
-GuestRecFits e (Miss vcpu page) = (vcpu < vcpus) × (page < e.pages)
-GuestRecFits e Halt = Unit {0}
-GuestRecFits e (Resume ready) = IsNumber ready
-GuestRecFits e (See placement) = IsNumber placement
+GuestRecFits e = GuestRecIn (limits e.size).records e
 
 abbrev pub SourceRecFits : Extent → SourceRec → Type 0
-SourceRecFits e (Halted halt) = IsNumber halt
-SourceRecFits e State = Unit {0}
-SourceRecFits e (Send page contents) = (page < e.pages) × IsContent e.cells contents
-SourceRecFits e (Again sending) = IsNumber sending
-SourceRecFits e (Ask up) = IsNumber up
-SourceRecFits e Done = Unit {0}
+SourceRecFits e = SourceRecIn (limits e.size).records e
 
-abbrev pub LinkRecFits : LinkRec → Type 0
-LinkRecFits (Down sending) = IsNumber sending
-LinkRecFits (Up asking) = IsNumber asking
+abbrev pub LinkRecFits : Extent → LinkRec → Type 0
+LinkRecFits e = LinkRecIn (limits e.size).records
 
-abbrev pub LaneRecFits : Version → LaneRec → Type 0
-LaneRecFits version (LaneDown sending) = HasLane version × IsNumber sending
+abbrev pub LaneRecFits : Version → Extent → LaneRec → Type 0
+LaneRecFits version e = LaneRecIn (limits e.size).records version
 
 abbrev pub PagerRecFits : Version → Extent → PagerRec → Type 0
-PagerRecFits version e (Got down) = IsNumber down
-PagerRecFits version e (Pull down) = HasLane version × IsNumber down
-PagerRecFits version e Ready = Unit {0}
-PagerRecFits version e (Fault miss) = IsNumber miss
-PagerRecFits version e (Join want) = IsNumber want
-PagerRecFits version e (Want page) = page < e.pages
-PagerRecFits version e (Place page got contents) = (page < e.pages) × IsNumber got × IsContent e.cells contents
-PagerRecFits version e (Zero page) = page < e.pages
-PagerRecFits version e (Skip got) = IsNumber got
-PagerRecFits version e All = Unit {0}
-
--- what was recorded is within all limits; so in the first version there is no record of the lane
-pub record IsSession (s : Recorded) : Type 0 where
-  pub geometry : IsExtent s.geometry
-  pub init : AreInitPages s.geometry s.init
-  pub few_guest : length s.guest ≤ most_records
-  pub few_source : length s.source ≤ most_records
-  pub few_link : length s.link ≤ most_records
-  pub few_lane : length s.lane ≤ most_records
-  pub few_pager : length s.pager ≤ most_records
-  pub guest : AllByRecursion (GuestRecFits s.geometry) s.guest
-  pub source : AllByRecursion (SourceRecFits s.geometry) s.source
-  pub link : AllByRecursion LinkRecFits s.link
-  pub lane : AllByRecursion (LaneRecFits s.version) s.lane
-  pub pager : AllByRecursion (PagerRecFits s.version s.geometry) s.pager
+PagerRecFits version e = PagerRecIn (limits e.size).records version e
 
 -- how many records a log has
 abbrev pub log_length : Recorded → LogName → ℕ
@@ -111,6 +113,22 @@ log_length s Source = length s.source
 log_length s Link = length s.link
 log_length s Lane = length s.lane
 log_length s Pager = length s.pager
+
+-- what was recorded is within all limits, those of its size and the greatest; so in the first version there is no record of the lane
+pub record IsSession (s : Recorded) : Type 0 where
+  pub geometry : IsExtent s.geometry
+  pub init : AreInitPages s.geometry s.init
+  pub few_guest : length s.guest ≤ longest_log
+  pub few_source : length s.source ≤ longest_log
+  pub few_link : length s.link ≤ longest_log
+  pub few_lane : length s.lane ≤ longest_log
+  pub few_pager : length s.pager ≤ longest_log
+  pub own : (log : LogName) → log_length s log ≤ (limits s.geometry.size).records
+  pub guest : AllByRecursion (GuestRecFits s.geometry) s.guest
+  pub source : AllByRecursion (SourceRecFits s.geometry) s.source
+  pub link : AllByRecursion (LinkRecFits s.geometry) s.link
+  pub lane : AllByRecursion (LaneRecFits s.version s.geometry) s.lane
+  pub pager : AllByRecursion (PagerRecFits s.version s.geometry) s.pager
 
 -- how many lines the text of a session has for a lane of so many records, between the link's records and the pager's
 abbrev pub lane_lines : Version → ℕ → ℕ

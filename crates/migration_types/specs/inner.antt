@@ -1,3 +1,4 @@
+pub mod Bytes
 pub mod Stored
 pub mod InitPages
 pub mod Places

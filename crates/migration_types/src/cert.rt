@@ -6,19 +6,20 @@ ghost use Rattle.migration_types.specs.Limits.{most_runs};
 
 use crate::records::LogName;
 use crate::seq::Seq;
+use crate::size::Size;
 use crate::version::Version;
 use std::marker::Model;
 
-/// A certificate has at most so many runs, whatever its version.
+/// A certificate has at most so many runs, whatever its version and size.
 pub const MOST_RUNS: u32 = 5_242_880;
 
-/// So many runs a certificate of a version may have.
-pub fn most_runs(version: Version) -> u32
-    ensures { result ≡ most_runs version }
+/// So many runs a certificate of a version and a size may have.
+pub fn most_runs(version: Version, size: Size) -> u32
+    ensures { result ≡ most_runs version size }
 {
-    match version {
-        Version::One => 4_194_304,
-        Version::Two => MOST_RUNS,
+    match (version, size) {
+        (Version::One, Size::Small) => 4_194_304,
+        (Version::Two, Size::Small) => MOST_RUNS,
     }
 }
 
@@ -62,10 +63,11 @@ pub enum Entry {
     },
 }
 
-/// A certificate of one of the versions, within all limits: an entry for each page, and the runs of a merging.
+/// A certificate of one of the versions, within all limits of its size: an entry for each page, and the runs of a merging.
 #[derive(Drop)]
 pub struct Cert {
     version: Version,
+    size: Size,
     entries: Seq<Entry>,
     runs: Seq<Run>,
 }
@@ -75,19 +77,20 @@ impl Model for Cert {
 
     ghost Value = { Certified };
 
-    ghost view = { λ a. record { version = a.version; entries = a.entries; runs = a.runs } };
+    ghost view = { λ a. record { version = a.version; size = a.size; entries = a.entries; runs = a.runs } };
 
-    ghost invariant = { λ a. IsCert (record { version = a.version; entries = a.entries; runs = a.runs }) };
+    ghost invariant = { λ a. IsCert (record { version = a.version; size = a.size; entries = a.entries; runs = a.runs }) };
 }
 
 impl Cert {
     /// The certificate of these parts. Takes no memory.
-    pub fn new(version: Version, entries: Seq<Entry>, runs: Seq<Run>) -> Self
-        requires { IsCert (record { version = version; entries = entries; runs = runs }) }
-        ensures { result ≡ record { version = version; entries = entries; runs = runs } }
+    pub fn new(version: Version, size: Size, entries: Seq<Entry>, runs: Seq<Run>) -> Self
+        requires { IsCert (record { version = version; size = size; entries = entries; runs = runs }) }
+        ensures { result ≡ record { version = version; size = size; entries = entries; runs = runs } }
     {
         Cert {
             version,
+            size,
             entries,
             runs,
         }
@@ -98,6 +101,13 @@ impl Cert {
         ensures { result ≡ self.now.version }
     {
         self.version
+    }
+
+    /// Which limits it has.
+    pub fn size(&self) -> Size
+        ensures { result ≡ self.now.size }
+    {
+        self.size
     }
 
     /// The pages' entries, page 0 first.

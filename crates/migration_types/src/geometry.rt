@@ -4,12 +4,14 @@ ghost use Rattle.std.specs.Prelude.{◌≡◌, ◌<◌, MatchBool, MatchResult};
 ghost use Rattle.migration_types.specs.Extents.{IsExtent, IsGeometryFault};
 
 use crate::pages::PageNo;
+use crate::size::Size;
 use std::marker::Model;
 use thiserror::Error;
 
-/// How many pages a machine has, and how many cells each page has, within the limits.
+/// How many pages a machine has, and how many cells each page has, within the limits of its size.
 #[derive(Clone, Copy, Debug, PartialEq, Eq)]
 pub struct Geometry {
+    size: Size,
     pages: u32,
     cells: u32,
 }
@@ -19,11 +21,11 @@ impl Model for Geometry {
 
     ghost Value = { Extent };
 
-    ghost view = { λ a. record { pages = a.pages; cells = a.cells } };
+    ghost view = { λ a. record { size = a.size; pages = a.pages; cells = a.cells } };
 
-    ghost invariant = { λ a. IsExtent (record { pages = a.pages; cells = a.cells }) };
+    ghost invariant = { λ a. IsExtent (record { size = a.size; pages = a.pages; cells = a.cells }) };
 
-    ghost inverse = { λ e. record { pages = e.pages; cells = e.cells } };
+    ghost inverse = { λ e. record { size = e.size; pages = e.pages; cells = e.cells } };
 }
 
 /// Why there is no machine of so many pages and cells.
@@ -40,30 +42,36 @@ pub enum GeometryFault {
     TooMany,
 }
 
-/// A machine has at most so many pages.
+/// A machine has at most so many pages, whatever its size.
 pub const MOST_PAGES: u32 = 65_536;
 
 /// A page has at most so many cells.
 pub const MOST_CELLS: u32 = 512;
 
-/// A machine has at most so many cells in all.
-pub const MOST_CELLS_IN_ALL: u32 = 1_048_576;
-
 impl Geometry {
-    /// A machine of so many pages of so many cells. Of several faults, the first is answered.
-    pub fn new(pages: u32, cells: u32) -> Result<Self, GeometryFault>
-        ensures { MatchResult result (λ g. (g ≡ record { pages = pages; cells = cells }) × IsExtent g) (IsGeometryFault pages cells) }
+    /// A machine of this size, of so many pages of so many cells. Of several faults, the first is answered.
+    #[tactic(auto, using(crate::specs::Limits::limits_at_most))]
+    pub fn new(size: Size, pages: u32, cells: u32) -> Result<Self, GeometryFault>
+        ensures { MatchResult result (λ g. (g ≡ record { size = size; pages = pages; cells = cells }) × IsExtent g) (IsGeometryFault size pages cells) }
     {
-        if pages == 0 || pages > MOST_PAGES {
+        let limits = size.limits();
+        if pages == 0 || pages > limits.pages {
             return Err(GeometryFault::Pages);
         }
         if cells == 0 || cells > MOST_CELLS {
             return Err(GeometryFault::Cells);
         }
-        if pages * cells > MOST_CELLS_IN_ALL {
+        if u64::from(pages) * u64::from(cells) > u64::from(limits.cells) {
             return Err(GeometryFault::TooMany);
         }
-        Ok(Geometry { pages, cells })
+        Ok(Geometry { size, pages, cells })
+    }
+
+    /// Which limits it has.
+    pub fn size(self) -> Size
+        ensures { result ≡ self.size }
+    {
+        self.size
     }
 
     /// How many pages there are.
@@ -84,7 +92,7 @@ impl Geometry {
     pub fn has_page(self, page: PageNo) -> bool
         ensures { MatchBool result (page < self.pages) (page < self.pages → ⊥) }
     {
-        u32::from(page.number()) < self.pages
+        page.number() < self.pages
     }
 
     /// Tells callers that it is within the limits.

@@ -29,7 +29,7 @@ pub fn receipts_follow()
 pub fn limits_follow()
     ensures guest { (v : Of) (e : Extent) (r : GuestRec) → GuestRecFits e r ↔ RowFits v e log.Guest (guest_row r) None }
     ensures source { (v : Of) (e : Extent) (r : SourceRec) → SourceRecFits e r ↔ RowFits v e log.Source (source_row r) (source_contents r) }
-    ensures link { (v : Of) (e : Extent) (r : LinkRec) → LinkRecFits r ↔ RowFits v e log.Link (link_row r) None }
-    ensures lane { (v : Of) (e : Extent) (r : LaneRec) → LaneRecFits v r ↔ RowFits v e log.Lane (lane_row r) None }
+    ensures link { (v : Of) (e : Extent) (r : LinkRec) → LinkRecFits e r ↔ RowFits v e log.Link (link_row r) None }
+    ensures lane { (v : Of) (e : Extent) (r : LaneRec) → LaneRecFits v e r ↔ RowFits v e log.Lane (lane_row r) None }
     ensures pager { (v : Of) (e : Extent) (r : PagerRec) → PagerRecFits v e r ↔ RowFits v e log.Pager (pager_row r) (pager_contents r) }
 {}

@@ -1,6 +1,7 @@
 //! Where the text of a session has its records.
 
-ghost use Rattle.std.specs.Prelude.{◌≡◌, ◌<◌, ◌≤◌, ◌^◌};
+ghost use Rattle.std.specs.Prelude.{◌≡◌, ◌+◌, ◌<◌, ◌≤◌, ◌^◌};
+ghost use Rattle.migration_types.specs.Limits.{longest_log};
 ghost use Rattle.migration_types.specs.Sessions.{line_of, log_length};
 ghost use Rattle.migration_types.specs.inner.Places.{section_lines};
 
@@ -11,7 +12,7 @@ use crate::version::lane_lines;
 /// How many lines the section of a log has.
 fn section_lines(session: &Session, log: LogName) -> u32
     ensures value { result ≡ section_lines session.now log }
-    ensures few { result ≤ 1048577 }
+    ensures few { result ≤ longest_log + 1 }
 {
     let count = session.len(log) as u32;
     match log {

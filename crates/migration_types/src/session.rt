@@ -2,7 +2,7 @@
 
 ghost use Rattle.std.specs.Prelude.{◌≡◌, ◌≤◌, slice_get};
 ghost use Rattle.std.specs.Option.{option_map};
-ghost use Rattle.migration_types.specs.Limits.{most_records};
+ghost use Rattle.migration_types.specs.Limits.{longest_log};
 ghost use Rattle.migration_types.specs.Names.{receipt};
 ghost use Rattle.migration_types.specs.Rows.{row_of};
 ghost use Rattle.migration_types.specs.Sessions.{recorded, log_length, IsSession};
@@ -129,7 +129,7 @@ impl Session {
     /// How many records a log has.
     pub fn len(&self, log: LogName) -> usize
         ensures value { result ≡ log_length self.now log }
-        ensures few { result ≤ most_records }
+        ensures few { result ≤ longest_log }
     {
         self.keeps_limits();
         match log {

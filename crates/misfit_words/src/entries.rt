@@ -92,7 +92,7 @@ fn push_wanted(out: &mut String, session: &Session, page: PageNo) -> Result<(), 
 {
     let findings = findings_for(*out.allocator(), session, page)?;
     match made_entry(session, &findings, page) {
-        Some(entry) => push_right(out, session, u32::from(page.number()), entry),
+        Some(entry) => push_right(out, session, page.number(), entry),
         None => push_none(out, session, &findings, page),
     }
 }
@@ -112,11 +112,9 @@ pub(crate) fn push_entry(
         push_line(out, page, *entry)?;
         out.push_str("; ")?;
     }
-    let Ok(number) = u16::try_from(page) else {
-        return Ok(());
-    };
+    session.keeps_limits();
     if page < session.geometry().pages() {
-        push_wanted(out, session, PageNo::new(number))?;
+        push_wanted(out, session, PageNo::new(page))?;
     }
     Ok(())
 }

@@ -14,11 +14,11 @@ times a b = min (a * b) (2 ^ 64 - 1)
 
 -- the upper edge of a row: the first begins at 136, and each is 26 high
 unfoldable pub top_of : ℕ → ℕ
-top_of row = plus (times row 26) 136
+top_of n = plus (times n 26) 136
 
 -- the middle of a row
 unfoldable pub middle_of : ℕ → ℕ
-middle_of row = plus (top_of row) 13
+middle_of n = plus (top_of n) 13
 
 -- half the least width of a box in a log's column
 abbrev pub least_half : LogName → ℕ

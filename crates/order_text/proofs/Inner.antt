@@ -8,7 +8,7 @@ use Rattle.text_lines.specs.Text.{Begins}
 use Rattle.migration_types.specs.declared.cert.Run.{Run}
 use Rattle.cert_text.specs.Runs.{SpellsRuns, runs_lines, run_line, closing}
 use Rattle.cert_text.specs.Grammar.{entry_lines, SpellsCertRuns}
-use Rattle.cert_text.specs.inner.Plain.{few_runs}
+use Rattle.cert_text.specs.inner.Limits.{few_runs}
 use Rattle.cert_text.proofs.EntryLaws.{entries_length}
 use Rattle.order_text.specs.declared.forms.Form.{Form}
 use Rattle.order_text.specs.declared.forms.Form.TheVariants.{Runs, Faulty, Cert, Clean}
@@ -37,7 +37,7 @@ cert_few : (order : List Run) (lines : List (List ℕ)) → SpellsCertRuns order
 cert_few order lines s =
     let c = s.0 in
     let pages = s.1.0.few_pages in
-    let few = few_runs c.version (length c.runs) s.1.0.runs.few in
+    let few = few_runs c.version c.size (length c.runs) s.1.0.runs.few in
     omega (arith, ap (λ (t : List (List ℕ)). length t) s.1.1, length-append (entry_lines 0 c.entries) (runs_lines c.runs), entries_length 0 c.entries, length-append (map run_line c.runs) (closing ∷ []), length-map c.runs run_line)
 
 begun_few : (Spells : List Run → List (List ℕ) → Type 0) (lines : List (List ℕ)) → ((order : List Run) (all : List (List ℕ)) → Spells order all → length all < 2 ^ 31) → Begins Spells lines → length lines < 2 ^ 31

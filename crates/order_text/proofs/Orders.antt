@@ -1,8 +1,16 @@
 -- A text that tells an order is a text of runs or a certificate, perhaps with a line above it.
 use Rattle.std.proofs.Common.{◌≡◌, ℕ, ◌<◌, List, [], ◌∷◌, ◌++◌, length, refl, sym, subst, append_assoc, arith}
+use Rattle.std.specs.List.{AllByRecursion}
 use Rattle.std.proofs.lemmas.List.{append-nil}
 use Rattle.text_lines.specs.Text.{Begins}
 use Rattle.migration_types.specs.declared.cert.Run.{Run}
+use Rattle.migration_types.specs.declared.records.LogName.{LogName}
+use Rattle.migration_types.specs.declared.records.LogName.TheVariants.{Guest, Source, Link, Lane, Pager}
+use Rattle.migration_types.specs.declared.size.Size.{Size}
+use Rattle.migration_types.specs.declared.size.Size.TheVariants.{Small}
+use Rattle.migration_types.specs.declared.version.Version.{Version}
+use Rattle.migration_types.specs.declared.version.Version.TheVariants.{One, Two}
+use Rattle.migration_types.specs.Certs.{LogFits, RunFits, AreRuns}
 use Rattle.cert_text.specs.Runs.{SpellsRuns}
 use Rattle.cert_text.specs.Grammar.{SpellsCertRuns}
 use Rattle.order_text.specs.declared.forms.Form.{Form}
@@ -85,3 +93,32 @@ pub spells_back : (form : Form) (order : List Run) (lines : List (List ℕ)) →
 spells_back form order lines fits some b s =
     subst (SpellsInner form order) (append-nil lines)
     (back_in form b.0 order lines b.1 [] some (as_begun form lines fits b) (subst (SpellsOrder order) (sym (append-nil (front_of form ++ lines))) s))
+
+-- ---- an order is within the limits of the second version
+
+log_in : (log : LogName) → LogFits One log → LogFits Two log
+log_in Guest h = tt
+log_in Source h = tt
+log_in Link h = tt
+log_in Lane h = tt
+log_in Pager h = tt
+
+runs_in : (size : Size) (runs : List Run) → AllByRecursion (RunFits One size) runs → AllByRecursion (RunFits Two size) runs
+runs_in size [] h = tt
+runs_in size (run ∷ runs) h = (record { log = log_in run.log h.0.log; some = h.0.some; few = h.0.few }, runs_in size runs h.1)
+
+in_second : (version : Version) (size : Size) (runs : List Run) → AreRuns version size runs → AreRuns Two Small runs
+in_second One Small runs h = record { few = omega (arith, h.few); each = runs_in Small runs h.each; alternate = h.alternate }
+in_second Two Small runs h = h
+
+of_cert : (order : List Run) (lines : List (List ℕ)) → SpellsCertRuns order lines → AreRuns Two Small order
+of_cert order lines s = subst (AreRuns Two Small) (sym s.2) (in_second s.0.version s.0.size s.0.runs s.1.0.runs)
+
+of_form : (form : Form) (order : List Run) (lines : List (List ℕ)) → SpellsAs form order lines → AreRuns Two Small order
+of_form Runs order lines s = s.0
+of_form (Faulty line reason) order lines s = s.1.1.0
+of_form Cert order lines s = of_cert order lines s
+of_form Clean order lines s = of_cert order s.0 s.1
+
+pub keeps_limits : (order : List Run) (lines : List (List ℕ)) → SpellsOrder order lines → AreRuns Two Small order
+keeps_limits order lines s = of_form s.0 order lines s.1

@@ -12,7 +12,7 @@ ghost use Rattle.order_text.specs.inner.Held.{IsFirst, IsCertHeader};
 use crate::forms::Form;
 use audit_model::PageReason;
 use cert_text::{RUNS_HEADER, cert_header};
-use migration_types::Version;
+use migration_types::{Size, Version};
 use text_lines::{Wanted, after_key, is_line, number_then};
 
 /// The first line of the report on a clean session.
@@ -78,7 +78,8 @@ fn fault_of(line: &[u8]) -> Option<(u32, PageReason)>
 fn is_cert_header(line: &[u8]) -> bool
     ensures { IsTrue result ↔ IsCertHeader line.now }
 {
-    is_line(line, cert_header(Version::One)) || is_line(line, cert_header(Version::Two))
+    is_line(line, cert_header(Version::One, Size::Small))
+        || is_line(line, cert_header(Version::Two, Size::Small))
 }
 
 /// The form of the texts that begin with this line.

@@ -52,7 +52,7 @@ fn is_right_at(
 {
     let page = judged.range.first + index;
     let findings = findings_at(session, looks, judged, index);
-    is_right(session, &findings, PageNo::new(page as u16), &entries[page])
+    is_right(session, &findings, PageNo::new(page as u32), &entries[page])
 }
 
 impl Question for Entries<'_> {

@@ -93,7 +93,7 @@ fn first_of_pages(session: &Session, found: &[Findings]) -> Option<PageFault>
 {
     let mut first: Option<PageFault> = None;
     for index in 0..session.geometry().pages() {
-        let page = PageNo::new(index as u16);
+        let page = PageNo::new(index);
         let findings = &found[index as usize];
         first = least(first, fault_of(session, findings, page));
     }

@@ -1,6 +1,7 @@
 //! A range of pages as they are at the start.
 
 ghost use Rattle.std.specs.Prelude.{◌≡◌, ◌≤◌, ◌<◌, ◌+◌, length, List, [], IfOk};
+ghost use Rattle.migration_types.specs.Limits.{most_pages};
 ghost use Rattle.migration_types.specs.Sessions.{IsSession};
 ghost use Rattle.page_facts.specs.Ranges.{IsRange};
 ghost use Rattle.page_facts.specs.Begun.{AreBegun, IsGiven, AreUnseen};
@@ -11,14 +12,15 @@ use migration_types::{Geometry, InitPage, PageNo, Session};
 use page_store::Store;
 use std::alloc::{AllocError, Global};
 
-/// A machine of so many pages.
+/// A machine of so many pages, of the size of the session's.
 fn machine_of(session: &Session, count: usize) -> Geometry
     requires some { 0 < count }
     requires within { count ≤ session.now.geometry.pages }
-    ensures { result ≡ record { pages = count; cells = session.now.geometry.cells } }
+    ensures { result ≡ record { size = session.now.geometry.size; pages = count; cells = session.now.geometry.cells } }
 {
     session.keeps_limits();
-    match Geometry::new(count as u32, session.geometry().cells()) {
+    let geometry = session.geometry();
+    match Geometry::new(geometry.size(), count as u32, geometry.cells()) {
         Ok(geometry) => geometry,
         Err(_) => unreachable!(),
     }
@@ -27,7 +29,7 @@ fn machine_of(session: &Session, count: usize) -> Geometry
 /// Puts a page that is given at the start into the range, where it is of the range.
 fn give(range: &mut Range, given: &InitPage)
     requires pages { range.old.cells.geometry.pages ≡ length range.old.seen.items }
-    requires few { length range.old.seen.items ≤ 65536 }
+    requires few { length range.old.seen.items ≤ most_pages }
     requires content { length given.now.cells ≡ range.old.cells.geometry.cells }
     ensures { IsGiven given.now range.old range.new }
 {
@@ -36,7 +38,7 @@ fn give(range: &mut Range, given: &InitPage)
     };
     range
         .cells
-        .install(PageNo::new(index as u16), given.cells.as_slice());
+        .install(PageNo::new(index as u32), given.cells.as_slice());
 }
 
 /// Nothing is seen of so many pages.

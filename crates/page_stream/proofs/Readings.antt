@@ -1,12 +1,15 @@
 -- The reading of bytes is one only.
-use Rattle.std.proofs.Common.{◌≡◌, inl, inr, ℕ, ◌+◌, ◌^◌, ◌<◌, ◌≤◌, List, [], ◌∷◌, ◌++◌, length, take, drop, refl, sym, ap, ◌∙◌, append_assoc, length-append, arith}
+use Rattle.std.proofs.Common.{◌≡◌, inl, inr, ℕ, ◌+◌, ◌*◌, ◌^◌, ◌<◌, ◌≤◌, List, [], ◌∷◌, ◌++◌, length, take, drop, refl, sym, ap, ◌∙◌, append_assoc, length-append, arith}
 use Rattle.std.specs.List.{flat_map, concat, AllByRecursion}
 use Rattle.std.proofs.lemmas.List.{append-nil}
 use Rattle.std.specs.Int.{w64, from_be_bytes}
 use Rattle.std.proofs.Math.Seq.{take-append_seam, drop-append_seam}
 use Rattle.std.proofs.lemmas.Nat.{from_be_bytes-to_be_bytes_4, from_be_bytes-to_be_bytes_8}
 use Rattle.migration_types.specs.Contents.{IsContent}
+use Rattle.migration_types.specs.declared.size.Size.{Size}
+use Rattle.migration_types.specs.declared.size.Size.TheVariants.{Small}
 use Rattle.migration_types.specs.Extents.{Extent, IsExtent}
+use Rattle.migration_types.specs.Limits.{limits, limits_at_most, most_cells, most_pages}
 use Rattle.page_stream.specs.Packets.{number_of}
 use Rattle.page_stream.specs.Bytes.{number_bytes, cell_bytes, kind_of, fields_of, body_of, packet_bytes, Rises, Fits, IsShort}
 use Rattle.page_stream.specs.Streams.{StandsFor, IsReading, IsRest, IsPartial, HasFault, Flow, TakesAll, IsLength, said_length}
@@ -18,7 +21,7 @@ use Rattle.page_stream.proofs.Words.{same_number, rises_few, length_numbers, len
 
 -- ---- a packet's bytes are of one packet
 
-same_numbers : (a b limit : ℕ) (ps qs : List ℕ) → limit ≤ 65536 → Rises a limit ps → Rises b limit qs → flat_map number_bytes ps ≡ flat_map number_bytes qs → ps ≡ qs
+same_numbers : (a b limit : ℕ) (ps qs : List ℕ) → limit ≤ most_pages → Rises a limit ps → Rises b limit qs → flat_map number_bytes ps ≡ flat_map number_bytes qs → ps ≡ qs
 same_numbers a b limit [] [] few r s e = refl
 same_numbers a b limit [] (q ∷ qs) few r s e = absurd cc
 same_numbers a b limit (p ∷ ps) [] few r s e = absurd cc
@@ -95,32 +98,42 @@ fits_short e (PagePacket n p cs) x f = let ff : (p < e.pages) × IsContent e.cel
 fits_short e (WantPacket n p) x f = tt
 fits_short e (AllPacket n) x f = tt
 
-body_length : (p : Packet) → IsShort p → IsLength (length (body_of p))
-body_length (StatePacket n ps) s = (omega arith, omega (arith, length_numbers ps, s))
-body_length (PagePacket n p cs) s = (omega arith, omega (arith, length_cells cs, s))
-body_length (WantPacket n p) s = (omega arith, omega arith)
-body_length (AllPacket n) s = (omega arith, omega arith)
+-- all pages of a machine take no less room in a state than a page's cells in its packet
+roomy : (size : Size) → 2 * most_cells ≤ (limits size).pages
+roomy Small = omega arith
+
+body_length : (e : Extent) (p : Packet) → IsExtent e → Fits e p → IsLength e (length (body_of p))
+body_length e (StatePacket n ps) x f = (omega arith, omega (arith, length_numbers ps, rises_few e.pages ps f.fields, x.own.pages))
+body_length e (PagePacket n p cs) x f = let ff : (p < e.pages) × IsContent e.cells cs = f.fields in (omega arith, omega (arith, length_cells cs, ff.1.count, x.few_cells, roomy e.size))
+body_length e (WantPacket n p) x f = (omega arith, omega arith)
+body_length e (AllPacket n) x f = (omega arith, omega arith)
+
+body_short : (e : Extent) (p : Packet) → IsExtent e → Fits e p → length (body_of p) < 2 ^ 32
+body_short e p x f =
+    let long = body_length e p x f in
+    let most = limits_at_most e.size in
+    omega (arith, long.1, most.few_pages)
 
 -- ---- a rest does not begin with a packet
 
-said_of : (p : Packet) (more : List ℕ) → IsShort p → said_length (packet_bytes p ++ more) ≡ length (body_of p)
-said_of p more s = let l = body_length p s in from_be_bytes-to_be_bytes_4 (length (body_of p)) (omega (arith, l.1))
+said_of : (e : Extent) (p : Packet) (more : List ℕ) → IsExtent e → Fits e p → said_length (packet_bytes p ++ more) ≡ length (body_of p)
+said_of e p more x f = from_be_bytes-to_be_bytes_4 (length (body_of p)) (body_short e p x f)
 
 longer : (p : Packet) (more : List ℕ) → 4 + length (body_of p) ≤ length (packet_bytes p ++ more)
 longer p more = omega (arith, length-append (body_of p) more)
 
-no_rest_partial : (e : Extent) (p : Packet) (more : List ℕ) → IsExtent e → Fits e p → IsPartial (packet_bytes p ++ more) → ⊥
+no_rest_partial : (e : Extent) (p : Packet) (more : List ℕ) → IsExtent e → Fits e p → IsPartial e (packet_bytes p ++ more) → ⊥
 no_rest_partial e p more x f h =
-    let said : said_length (packet_bytes p ++ more) ≡ length (body_of p) = said_of p more (fits_short e p x f) in
+    let said : said_length (packet_bytes p ++ more) ≡ length (body_of p) = said_of e p more x f in
     let long : 4 + length (body_of p) ≤ length (packet_bytes p ++ more) = longer p more in
     let short = h.long (omega (arith, long)) in
     absurd (omega (arith, said, long, short.1))
 
 no_rest_fault : (e : Extent) (p : Packet) (more : List ℕ) (kind : StreamFaultKind) → IsExtent e → Fits e p → HasFault e (packet_bytes p ++ more) kind → ⊥
-no_rest_fault e p more Length x f h = h.1 (rw (said_of p more (fits_short e p x f)) (body_length p (fits_short e p x f)))
+no_rest_fault e p more Length x f h = h.1 (rw (said_of e p more x f) (body_length e p x f))
 no_rest_fault e p more Kind x f h = h.2 (kind_small p)
 no_rest_fault e p more Fields x f h =
-    h.3 p f (ap (λ n. take n (body_of p ++ more)) (said_of p more (fits_short e p x f)) ∙ take-append_seam (body_of p) more)
+    h.3 p f (ap (λ n. take n (body_of p ++ more)) (said_of e p more x f) ∙ take-append_seam (body_of p) more)
 no_rest_fault e p more Memory x f h = h
 no_rest_fault e p more Broken x f h = h
 
@@ -132,9 +145,7 @@ no_rest e p rest more x f (inr h) eq = no_rest_fault e p more h.0 x f (rw eq at 
 
 same_packet : (e : Extent) (p q : Packet) (x y : List ℕ) → IsExtent e → Fits e p → Fits e q → packet_bytes p ++ x ≡ packet_bytes q ++ y → (p ≡ q) × (x ≡ y)
 same_packet e p q x y ext f g eq =
-    let lp = body_length p (fits_short e p ext f) in
-    let lq = body_length q (fits_short e q ext g) in
-    let h = same_number (length (body_of p)) (length (body_of q)) (body_of p ++ x) (body_of q ++ y) (omega (arith, lp.1)) (omega (arith, lq.1)) eq in
+    let h = same_number (length (body_of p)) (length (body_of q)) (body_of p ++ x) (body_of q ++ y) (body_short e p ext f) (body_short e q ext g) eq in
     let bodies : body_of p ≡ body_of q = sym (take-append_seam (body_of p) x) ∙ ap (take (length (body_of p))) h.1 ∙ ap (λ n. take n (body_of q ++ y)) h.0 ∙ take-append_seam (body_of q) y in
     let tails : x ≡ y = sym (drop-append_seam (body_of p) x) ∙ ap (drop (length (body_of p))) h.1 ∙ ap (λ n. drop n (body_of q ++ y)) h.0 ∙ drop-append_seam (body_of q) y in
     (same_body e p q ext f g bodies, tails)

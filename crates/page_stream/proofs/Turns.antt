@@ -25,7 +25,7 @@ pub record SoFar (e : Extent) (reader writer : Known) (rest : List ℕ) (count t
   pub bytes : List ℕ
   pub read : Consumes reader.before reader.after bytes
   pub stands : StandsFor e bytes packets rest
-  pub partial : IsPartial rest
+  pub partial : IsPartial e rest
   pub appended : Appends writer.before writer.after (flat_map packet_bytes packets)
   pub reads : AreReads turn bytes
   pub count_is : length packets ≡ count
@@ -67,7 +67,7 @@ so_far_goes e r q s w v u start end piece count turn n h read some geometry p = 
   bytes = h.bytes ++ piece;
   read = Consumes-trans r q s h.bytes piece h.read read;
   stands = stands_joined e h.bytes piece h.packets p.packets start.rest end.rest h.stands (rw geometry at p.takes.stands);
-  partial = p.partial;
+  partial = rw geometry at p.partial;
   appended = rw (flat_map-append packet_bytes h.packets p.packets) (Appends-trans w v u (flat_map packet_bytes h.packets) (flat_map packet_bytes p.packets) h.appended p.appended);
   reads = reads_more turn h.bytes piece h.reads some;
   count_is = omega (arith, length-append h.packets p.packets, h.count_is, p.count_is);

@@ -8,6 +8,7 @@ use Rattle.page_stream.specs.inner.Fronts.{AreFields, IsNoFields}
 use Rattle.page_stream.specs.Packets.{number_of}
 use Rattle.migration_types.specs.Extents.{Extent}
 use Rattle.migration_types.specs.Contents.{IsContent}
+use Rattle.migration_types.specs.Limits.{most_pages, most_records}
 use Rattle.page_stream.specs.declared.Packet.{Packet}
 use Rattle.page_stream.specs.declared.Packet.TheVariants.{State as StatePacket, Page as PagePacket, Want as WantPacket, All as AllPacket}
 
@@ -35,7 +36,7 @@ cell_front bytes front rest n f r len small e =
     sym (take-append-drop 8 bytes) ∙ rw (← r) (ap (λ (t : List ℕ). t ++ rest) (sym back))
 
 -- the number at the front of a rising list's bytes
-pub next_number : (start limit n : ℕ) (after ps : List ℕ) → n < 2 ^ 32 → limit ≤ 65536 → Rises start limit ps → number_bytes n ++ after ≡ flat_map number_bytes ps → (more : List ℕ) × (start ≤ n) × (n < limit) × Rises (n + 1) limit more × (after ≡ flat_map number_bytes more)
+pub next_number : (start limit n : ℕ) (after ps : List ℕ) → n < 2 ^ 32 → limit ≤ most_pages → Rises start limit ps → number_bytes n ++ after ≡ flat_map number_bytes ps → (more : List ℕ) × (start ≤ n) × (n < limit) × Rises (n + 1) limit more × (after ≡ flat_map number_bytes more)
 next_number start limit n after [] fits few r e = absurd cc
 next_number start limit n after (p ∷ ps) fits few r e =
     let s = same_number n p after (flat_map number_bytes ps) fits (omega (arith, r.1)) e in
@@ -133,7 +134,7 @@ no_body e kind number fields fits h p f eq =
     let s = same_number number (number_of p) fields (fields_of p) fits (omega (arith, f.number)) (ap (drop 1) eq) in
     h p (record { fits = f; kind_is = sym heads; number_is = sym s.0; fields_are = s.1 })
 
-pub number_too_large : (e : Extent) (kind number : ℕ) (fields : List ℕ) → 1048575 < number → IsNoFields e kind number fields
+pub number_too_large : (e : Extent) (kind number : ℕ) (fields : List ℕ) → most_records ≤ number → IsNoFields e kind number fields
 number_too_large e kind number fields lt p h = absurd (omega (arith, h.fits.number, h.number_is))
 
 pub found_body : (e : Extent) (kind number : ℕ) (fields : List ℕ) (p : Packet) → AreFields e kind number fields p → kind ∷ (number_bytes number ++ fields) ≡ body_of p

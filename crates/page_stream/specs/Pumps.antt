@@ -45,7 +45,7 @@ IsPumpFault e turns left bytes rest unwritten Write = Unit {0}
 IsPumpFault e turns left bytes rest unwritten Stream = ((kind : StreamFaultKind) × HasFault e rest kind) × (unwritten ≡ [])
 IsPumpFault e turns left bytes rest unwritten Turns = AreReads turns bytes × (unwritten ≡ [])
 IsPumpFault e turns left bytes rest unwritten Memory = Unit {0}
-IsPumpFault e turns left bytes rest unwritten Cut = IsAtEnd left × IsPartial rest × (1 ≤ length rest) × (unwritten ≡ [])
+IsPumpFault e turns left bytes rest unwritten Cut = IsAtEnd left × IsPartial e rest × (1 ≤ length rest) × (unwritten ≡ [])
 
 -- what was read and written up to a fault
 pub record PumpsUntil (e : Extent) (reader writer : Known) (turns : ℕ) (fault : PumpFault) : Type 0 where

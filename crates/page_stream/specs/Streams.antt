@@ -1,8 +1,10 @@
 -- What a stream of packets stands for.
-use Rattle.std.specs.Prelude.{◌≡◌, ℕ, ◌+◌, ◌<◌, ◌≤◌, ◌⊎◌, Bool, true, false, List, [], ◌∷◌, ◌++◌, take, drop, length, slice_index}
+use Rattle.std.specs.Prelude.{◌≡◌, ℕ, ◌+◌, ◌*◌, ◌<◌, ◌≤◌, ◌⊎◌, Bool, true, false, List, [], ◌∷◌, ◌++◌, take, drop, length, slice_index}
 use Rattle.std.specs.List.{flat_map, AllByRecursion}
 use Rattle.std.specs.Int.{w32, from_be_bytes}
+use Rattle.migration_types.specs.declared.size.Size.{Size}
 use Rattle.migration_types.specs.Extents.{Extent}
+use Rattle.migration_types.specs.Limits.{limits}
 use Rattle.page_stream.specs.Bytes.{packet_bytes, Fits, IsNoBody}
 use Rattle.page_stream.specs.declared.Packet.{Packet}
 use Rattle.page_stream.specs.declared.stream.StreamFaultKind.{StreamFaultKind}
@@ -17,13 +19,14 @@ pub record StandsFor (e : Extent) (bytes : List ℕ) (packets : List Packet) (re
 abbrev pub said_length : List ℕ → ℕ
 said_length rest = from_be_bytes w32 (take 4 rest)
 
--- what the length of a state with 65,536 released pages is, which is the longest
-abbrev pub most_length : ℕ
-most_length = 262153
+-- what the length of a state is that has each page of the largest machine of a size released, which is the longest: 262,153 of
+-- a small one
+abbrev pub most_length : Size → ℕ
+most_length size = 9 + 4 * (limits size).pages
 
--- a packet may have such a length
-abbrev pub IsLength : ℕ → Type 0
-IsLength n = (1 ≤ n) × (n ≤ most_length)
+-- a packet of a machine may have such a length
+abbrev pub IsLength : Extent → ℕ → Type 0
+IsLength e n = (1 ≤ n) × (n ≤ most_length e.size)
 
 -- a packet may have such a kind byte
 abbrev pub IsKind : ℕ → Type 0
@@ -32,20 +35,20 @@ IsKind kind = (1 ≤ kind) × (kind ≤ 4)
 -- The fault that a rest shows: the length once 4 bytes are there, the kind once it is, the fields once the packet is
 -- whole.
 abbrev pub HasFault : Extent → List ℕ → StreamFaultKind → Type 0
-HasFault e rest Length = (4 ≤ length rest) × (IsLength (said_length rest) → ⊥)
-HasFault e rest Kind = (5 ≤ length rest) × IsLength (said_length rest) × (IsKind (slice_index rest 4) → ⊥)
-HasFault e rest Fields = (4 + said_length rest ≤ length rest) × IsLength (said_length rest) × IsKind (slice_index rest 4) × IsNoBody e (take (said_length rest) (drop 4 rest))
+HasFault e rest Length = (4 ≤ length rest) × (IsLength e (said_length rest) → ⊥)
+HasFault e rest Kind = (5 ≤ length rest) × IsLength e (said_length rest) × (IsKind (slice_index rest 4) → ⊥)
+HasFault e rest Fields = (4 + said_length rest ≤ length rest) × IsLength e (said_length rest) × IsKind (slice_index rest 4) × IsNoBody e (take (said_length rest) (drop 4 rest))
 HasFault e rest Memory = ⊥
 HasFault e rest Broken = ⊥
 
 -- less than a whole packet, and no fault yet
-pub record IsPartial (rest : List ℕ) : Type 0 where
-  pub long : 4 ≤ length rest → IsLength (said_length rest) × (length rest < 4 + said_length rest)
+pub record IsPartial (e : Extent) (rest : List ℕ) : Type 0 where
+  pub long : 4 ≤ length rest → IsLength e (said_length rest) × (length rest < 4 + said_length rest)
   pub kind : 5 ≤ length rest → IsKind (slice_index rest 4)
 
 -- a rest that goes no further: it is partial, or shows a fault
 abbrev pub IsRest : Extent → List ℕ → Type 0
-IsRest e rest = IsPartial rest ⊎ ((kind : StreamFaultKind) × HasFault e rest kind)
+IsRest e rest = IsPartial e rest ⊎ ((kind : StreamFaultKind) × HasFault e rest kind)
 
 -- a reading of bytes, however they came: the packets at the front, as many as are whole and have no fault, and a rest
 pub record IsReading (e : Extent) (bytes : List ℕ) (packets : List Packet) (rest : List ℕ) : Type 0 where

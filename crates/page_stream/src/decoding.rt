@@ -46,7 +46,7 @@ fn pages_of(
         if page < next || page >= geometry.pages() {
             return Ok(None);
         }
-        pages.push(PageNo::new(page as u16))?;
+        pages.push(PageNo::new(page))?;
         next = page + 1;
         rest = after;
     }
@@ -124,7 +124,7 @@ fn page_of(
                 None => Ok(None),
                 Some(cells) => Ok(Some(Packet::Page {
                     number,
-                    page: PageNo::new(page as u16),
+                    page: PageNo::new(page),
                     contents: Contents::from_vec(cells),
                 })),
             }
@@ -145,7 +145,7 @@ fn want_of(geometry: Geometry, number: u32, fields: &[u8]) -> Option<Packet>
             }
             Some(Packet::Want {
                 number,
-                page: PageNo::new(page as u16),
+                page: PageNo::new(page),
             })
         }
     }

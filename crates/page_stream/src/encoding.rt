@@ -15,7 +15,7 @@ fn put_numbers(out: &mut Vec<u8>, pages: &[PageNo]) -> Result<(), AllocError>
     ensures { OnOk result (out.new.items ≡ out.old.items ++ flat_map number_bytes pages.now) }
 {
     for page in pages {
-        out.extend_from_slice(&u32::from(page.number()).to_be_bytes())?;
+        out.extend_from_slice(&page.number().to_be_bytes())?;
     }
     Ok(())
 }
@@ -61,7 +61,7 @@ fn put_page(out: &mut Vec<u8>, number: u32, page: PageNo, cells: &[u64]) -> Resu
     ensures { OnOk result (out.new.items ≡ out.old.items ++ packet_bytes (PagePacket number page cells.now)) }
 {
     put_head(out, 9 + 8 * cells.len() as u32, 2, number)?;
-    put_number(out, u32::from(page.number()))?;
+    put_number(out, page.number())?;
     put_cells(out, cells)?;
     Ok(())
 }
@@ -80,14 +80,14 @@ pub(crate) fn put_packet(out: &mut Vec<u8>, packet: &Packet) -> Result<(), Alloc
         } => put_page(out, *number, *page, contents.as_slice()),
         Packet::Want { number, page } => {
             put_head(out, 9, 3, *number)?;
-            put_number(out, u32::from(page.number()))
+            put_number(out, page.number())
         }
         Packet::All { number } => put_head(out, 5, 4, *number),
     }
 }
 
 /// The packet's bytes: a length, which counts what follows it, a kind byte, the record number, and the fields. Numbers
-/// take 4 bytes and cells 8, the highest byte first. The packet has at most 65,536 released pages or 512 cells, as each
+/// take 4 bytes and cells 8, the highest byte first. The packet has no more released pages and cells than a machine has pages and a page has cells, as each
 /// that `fits` some geometry. An error: there is no memory for them.
 pub fn encode(alloc: Global, packet: &Packet) -> Result<Vec<u8>, AllocError>
     requires { IsShort packet.now }
@@ -105,7 +105,7 @@ fn pages_fit(geometry: Geometry, pages: &[PageNo]) -> bool
     geometry.keeps_limits();
     let mut next = 0;
     for page in pages {
-        let page = u32::from(page.number());
+        let page = page.number();
         if page < next || page >= geometry.pages() {
             return false;
         }
@@ -145,12 +145,12 @@ pub fn fits(geometry: Geometry, packet: &Packet) -> bool
             page,
             contents,
         } => {
-            if u32::from(page.number()) >= geometry.pages() {
+            if page.number() >= geometry.pages() {
                 return false;
             }
             contents_fit(geometry.cells(), contents.as_slice())
         }
-        Packet::Want { number: _, page } => u32::from(page.number()) < geometry.pages(),
+        Packet::Want { number: _, page } => page.number() < geometry.pages(),
         Packet::All { number: _ } => true,
     }
 }

@@ -3,7 +3,7 @@
 ghost use Rattle.std.specs.Prelude.{◌≡◌, ◌≤◌, ℕ, List, [], ◌++◌, drop, length, false, IfOk, IfErr, MatchBool};
 ghost use Rattle.std.specs.List.{concat};
 ghost use Rattle.migration_types.specs.Extents.{Extent, IsExtent};
-ghost use Rattle.page_stream.specs.Streams.{StandsFor, IsReading, IsPartial, Flow, Takes, TakesAll, Refuses};
+ghost use Rattle.page_stream.specs.Streams.{most_length, StandsFor, IsReading, IsPartial, Flow, Takes, TakesAll, Refuses};
 ghost use Rattle.page_stream.specs.inner.Fronts.{IsFront, IsEnd};
 
 use crate::Packet;
@@ -17,7 +17,8 @@ use thiserror::Error;
 /// What is wrong with a stream.
 #[derive(Clone, Copy, Debug, PartialEq, Eq, Error)]
 pub enum StreamFaultKind {
-    /// A packet's length is not 1 to 262,153. It is told once 4 bytes of a packet are there.
+    /// A packet's length is not 1 to 262,153, or what is the most for a machine of another size. It is told once 4 bytes
+    /// of a packet are there.
     #[error("a packet of a length that none has")]
     Length,
     /// A packet's kind byte is not 1 to 4. It is told once that byte is there.
@@ -58,8 +59,13 @@ struct Taken {
     fault: Option<StreamFaultKind>,
 }
 
-/// The length of a packet is at most this.
-const MOST_LENGTH: u32 = 262_153;
+/// The length of a packet of such a machine is at most this.
+#[tactic(auto, using(migration_types::specs::Limits::limits_at_most))]
+fn most_length(geometry: Geometry) -> u32
+    ensures { result ≡ most_length geometry.size }
+{
+    9 + 4 * geometry.size().limits().pages
+}
 
 /// The packet at the front of some bytes, and what follows it, or why there is none.
 fn front_of(alloc: Global, geometry: Geometry, bytes: &[u8]) -> Result<Front<'_>, AllocError>
@@ -68,7 +74,7 @@ fn front_of(alloc: Global, geometry: Geometry, bytes: &[u8]) -> Result<Front<'_>
     match number_at(bytes) {
         None => Ok(Front::Partial),
         Some((length, rest)) => {
-            if length == 0 || length > MOST_LENGTH {
+            if length == 0 || length > most_length(geometry) {
                 return Ok(Front::Fault(StreamFaultKind::Length));
             }
             let length = length as usize;
@@ -167,7 +173,7 @@ impl Stream {
     pub fn feed(&mut self, piece: &[u8]) -> Result<Seq<Packet>, StreamFault>
         ensures taken { IfOk result (λ packets. Takes self.old self.new piece.now packets) }
         ensures going { IfOk result (λ packets. self.new.is_broken ≡ false) }
-        ensures partial { IfOk result (λ packets. IsPartial self.new.rest) }
+        ensures partial { IfOk result (λ packets. IsPartial self.old.geometry self.new.rest) }
         ensures refused { IfErr result (λ f. Refuses self.old self.new piece.now f.before f.kind) }
     {
         if self.is_broken {

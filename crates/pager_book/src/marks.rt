@@ -39,7 +39,7 @@ pub(crate) fn first_unmarked(
     ensures unmarked { result < pages → (values one.now result || (values other.now result || values third.now result)) ≡ false }
 {
     for number in from..pages {
-        let page = PageNo::new(number as u16);
+        let page = PageNo::new(number);
         if !(one.at(page) || (other.at(page) || third.at(page))) {
             return number;
         }

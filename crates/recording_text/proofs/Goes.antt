@@ -24,25 +24,12 @@ use Rattle.session_text.specs.Records.{guest_line, source_line, link_line, lane_
 use Rattle.session_text.specs.Grammar.{header, pages_key, cells_key, init_key, guest_key, source_key, link_key, lane_key, pager_key, page_line, closing, session_lines}
 use Rattle.session_text.specs.inner.Held.{geometry_onto, init_onto, guest_onto, source_onto, link_onto, lane_onto}
 use Rattle.session_text.proofs.Lists.{all_append, all_replicate}
-use Rattle.session_text.proofs.Sections.{with_items, onto_more, onto_whole, fresh, missing, filled_whole}
+use Rattle.session_text.proofs.Sections.{with_items, onto_more, onto_whole, fresh, fresh_fits, missing, filled_whole, filled_fits}
 use Rattle.session_text.proofs.ByVersion.{one_version, lane_is, lane_whole, lane_some}
-use Rattle.session_text.proofs.Laws.{held_append, guest_part, source_part, link_part, lane_part, pager_part, pager_lines, lane_lines, link_lines, source_lines, guest_lines}
-use Rattle.recording_text.specs.inner.Held.{SessionDraft, Part, IsWhole, held_onto, recorded_of, StartFits, InitFits, LogFits, GuestFits, SourceFits, LinkFits, LaneFits, PagerFits, Live}
+use Rattle.session_text.proofs.Goes.{pages_from, pages_fit, pages_count, pages_rise, rise_append, no_rest}
+use Rattle.session_text.proofs.Laws.{held_append, extent, guest_part, source_part, link_part, lane_part, pager_part, pager_lines, lane_lines, link_lines, source_lines, guest_lines}
+use Rattle.recording_text.specs.inner.Held.{SessionDraft, Part, IsWhole, held_onto, recorded_of, most_count, StartFits, InitFits, LogFits, GuestFits, SourceFits, LinkFits, LaneFits, PagerFits, Live}
 use Rattle.recording_text.proofs.Laws.{init_agrees, guest_agrees, source_agrees, link_agrees, lane_agrees, pager_agrees}
-
--- ---- a log begins, goes on, and is filled up
-
-pub fresh_fits : {X Y : Type 0} (Before : Type 0) (list : Part X) (Fits : Y → Type 0) (n : ℕ) → Before → IsWhole list → IsCount n → LogFits Before list Fits (fresh n)
-fresh_fits Before list Fits n before whole few = record { before = before; whole = whole; few = few; within = omega arith; each = tt }
-
-pub push_fits : {X Y : Type 0} (Before : Type 0) (list : Part X) (Fits : Y → Type 0) (log : Part Y) (y : Y) → LogFits Before list Fits log → length log.items < log.count → Fits y → LogFits Before list Fits (with_items log (y ∷ []))
-push_fits Before list Fits log y f less fits = record {
-  before = f.before;
-  whole = f.whole;
-  few = f.few;
-  within = omega (arith, length-append log.items (y ∷ []));
-  each = all_append Fits log.items (y ∷ []) f.each (fits, tt);
-}
 
 -- all items of a list came
 pub all_came : {Y : Type 0} (part : Part Y) (came left : ℕ) → left ≡ 0 → came ≡ length part.items → came + left ≡ part.count → IsWhole part
@@ -56,20 +43,9 @@ few_announced d f =
     let within = f.within in
     omega arith
 
-filled_fits : {X Y : Type 0} (Before : Type 0) (list : Part X) (Fits : Y → Type 0) (log : Part Y) (y : Y) → LogFits Before list Fits log → Fits y → LogFits Before list Fits (with_items log (missing log y))
-filled_fits Before list Fits log y f fits =
-    let whole = filled_whole log y f.within in
-    record {
-      before = f.before;
-      whole = f.whole;
-      few = f.few;
-      within = omega arith;
-      each = all_append Fits log.items (missing log y) f.each (all_replicate Fits (log.count - length log.items) y fits);
-    }
-
 -- ---- a whole draft is a recording
 
-few_items : {X Y : Type 0} (Before : Type 0) (list : Part X) (Fits : Y → Type 0) (log : Part Y) → LogFits Before list Fits log → length log.items < 2 ^ 63
+few_items : {X Y : Type 0} (Before : Type 0) (list : Part X) (Fits : Y → Type 0) (log : Part Y) → LogFits most_count Before list Fits log → length log.items < 2 ^ 63
 few_items Before list Fits log f = let few = f.few in let within = f.within in omega arith
 
 whole_fits : (d : SessionDraft) → PagerFits d → IsRecording (recorded_of d)
@@ -123,7 +99,7 @@ pager_begins d f =
     let more = missing d.pager All in
     let e : SessionDraft = record d { pager = with_items d.pager more } in
     step Pager Done d e (map pager_line more ++ closing ∷ []) (ap (lane_onto d) (onto_more pager_key pager_line d.pager more (closing ∷ [])))
-    (done_begins e (filled_fits (LaneFits d) d.lane (IsPagerRecOf d.version d.geometry) d.pager All f tt) (filled_whole d.pager All f.within))
+    (done_begins e (filled_fits most_count (LaneFits d) d.lane (IsPagerRecOf d.version d.geometry) d.pager All f tt) (filled_whole d.pager All f.within))
 
 lane_begins : (d : SessionDraft) → LaneFits d → d.version ≡ Two → Begins SpellsRecording (held_onto Lane d [])
 lane_begins d f second =
@@ -134,7 +110,7 @@ lane_begins d f second =
     let lines = map lane_line more ++ rest in
     let has : IsLaneRecOf d.version (LaneDown 0) = subst (λ (v : Version). IsLaneRecOf v (LaneDown 0)) (sym second) (tt, omega arith) in
     step Lane Pager d e lines (ap (link_onto d) (lane_is d.version d.lane lines second ∙ (onto_more lane_key lane_line d.lane more rest ∙ sym (lane_is d.version log rest second))))
-    (pager_begins e (fresh_fits (LaneFits e) log (IsPagerRecOf d.version d.geometry) 0 (filled_fits (LinkFits d) d.link (IsLaneRecOf d.version) d.lane (LaneDown 0) f has) (filled_whole d.lane (LaneDown 0) f.within) (omega arith)))
+    (pager_begins e (fresh_fits most_count (LaneFits e) log (IsPagerRecOf d.version d.geometry) 0 (filled_fits most_count (LinkFits d) d.link (IsLaneRecOf d.version) d.lane (LaneDown 0) f has) (filled_whole d.lane (LaneDown 0) f.within) (omega arith)))
 
 link_begins : (d : SessionDraft) → LinkFits d → Begins SpellsRecording (held_onto Link d [])
 link_begins d f =
@@ -142,10 +118,10 @@ link_begins d f =
     let log = with_items d.link more in
     let e : SessionDraft = record d { link = log; lane = fresh 0; pager = fresh 0 } in
     let rest = lane_part e ((pager_key ++ decimal 0) ∷ []) in
-    let link = filled_fits (SourceFits d) d.source IsLinkRecOf d.link (Down 0) f (omega arith) in
-    let lane = fresh_fits (LinkFits e) log (IsLaneRecOf d.version) 0 link (filled_whole d.link (Down 0) f.within) (omega arith) in
+    let link = filled_fits most_count (SourceFits d) d.source IsLinkRecOf d.link (Down 0) f (omega arith) in
+    let lane = fresh_fits most_count (LinkFits e) log (IsLaneRecOf d.version) 0 link (filled_whole d.link (Down 0) f.within) (omega arith) in
     step Link Pager d e (map link_line more ++ rest) (ap (source_onto d) (onto_more link_key link_line d.link more rest))
-    (pager_begins e (fresh_fits (LaneFits e) (fresh 0) (IsPagerRecOf d.version d.geometry) 0 lane refl (omega arith)))
+    (pager_begins e (fresh_fits most_count (LaneFits e) (fresh 0) (IsPagerRecOf d.version d.geometry) 0 lane refl (omega arith)))
 
 source_begins : (d : SessionDraft) → SourceFits d → Begins SpellsRecording (held_onto Source d [])
 source_begins d f =
@@ -154,7 +130,7 @@ source_begins d f =
     let line = link_key ++ decimal 0 in
     let e : SessionDraft = record d { source = log; link = fresh 0 } in
     step Source Link d e (map source_line more ++ line ∷ []) (ap (guest_onto d) (onto_more source_key source_line d.source more (line ∷ [])))
-    (link_begins e (fresh_fits (SourceFits e) log IsLinkRecOf 0 (filled_fits (GuestFits d) d.guest (IsSourceRecOf d.geometry) d.source State f tt) (filled_whole d.source State f.within) (omega arith)))
+    (link_begins e (fresh_fits most_count (SourceFits e) log IsLinkRecOf 0 (filled_fits most_count (GuestFits d) d.guest (IsSourceRecOf d.geometry) d.source State f tt) (filled_whole d.source State f.within) (omega arith)))
 
 guest_begins : (d : SessionDraft) → GuestFits d → Begins SpellsRecording (held_onto Guest d [])
 guest_begins d f =
@@ -163,43 +139,7 @@ guest_begins d f =
     let line = source_key ++ decimal 0 in
     let e : SessionDraft = record d { guest = log; source = fresh 0 } in
     step Guest Source d e (map guest_line more ++ line ∷ []) (ap (init_onto d) (onto_more guest_key guest_line d.guest more (line ∷ [])))
-    (source_begins e (fresh_fits (GuestFits e) log (IsSourceRecOf d.geometry) 0 (filled_fits (StartFits d) d.init (IsGuestRecOf d.geometry) d.guest Halt f tt) (filled_whole d.guest Halt f.within) (omega arith)))
-
--- pages that go on rising, each with a cell that is not 0
-abbrev page_at : ℕ → ℕ → InitPage
-page_at cells n = record { page = n; cells = 1 ∷ replicate (cells - 1) 0 }
-
-pages_from : ℕ → ℕ → ℕ → List InitPage
-pages_from cells n zero = []
-pages_from cells n (suc m) = page_at cells n ∷ pages_from cells (n + 1) m
-
-page_fits : (e : Extent) (n : ℕ) → IsMachine e → n < e.pages → InitPageFits e (page_at e.cells n)
-page_fits e n h lt =
-    let some = h.some_cells in
-    record {
-      page = lt;
-      content = record { count = omega (arith, length-replicate {A = ℕ} (e.cells - 1) 0); each = (omega arith, all_replicate (λ x. x < 2 ^ 64) (e.cells - 1) 0 (omega arith)) };
-      not_zeros = λ zeros. absurd (omega (arith, zeros.0));
-    }
-
-pages_fit : (e : Extent) (n m : ℕ) → IsMachine e → n + m ≤ e.pages → AllByRecursion (InitPageFits e) (pages_from e.cells n m)
-unfolding pages_from
-pages_fit e n zero h le = tt
-pages_fit e n (suc m) h le = (page_fits e n h (omega arith), pages_fit e (n + 1) m h (omega arith))
-
-pages_count : (c n m : ℕ) → length (pages_from c n m) ≡ m
-unfolding pages_from
-pages_count c n zero = refl
-pages_count c n (suc m) = ap suc (pages_count c (n + 1) m)
-
-pages_rise : (c n m : ℕ) → Rise n (pages_from c n m) (n + m)
-unfolding pages_from
-pages_rise c n zero = omega arith
-pages_rise c n (suc m) = (omega arith, let e : n + suc m ≡ n + 1 + m = omega arith in subst (λ (high : ℕ). Rise (n + 1) (pages_from c (n + 1) m) high) (sym e) (pages_rise c (n + 1) m))
-
-rise_append : (low mid high : ℕ) (xs ys : List InitPage) → Rise low xs mid → Rise mid ys high → Rise low (xs ++ ys) high
-rise_append low mid high [] ys r s = subst (λ (n : ℕ). Rise n ys high) (sym r) s
-rise_append low mid high (x ∷ xs) ys r s = (r.0, rise_append (x.page + 1) mid high xs ys r.1 s)
+    (source_begins e (fresh_fits most_count (GuestFits e) log (IsSourceRecOf d.geometry) 0 (filled_fits most_count (StartFits d) d.init (IsGuestRecOf d.geometry) d.guest Halt f tt) (filled_whole d.guest Halt f.within) (omega arith)))
 
 -- initial pages that came go on to all that were announced
 init_filled : (e : Extent) (next : ℕ) (part : Part InitPage) → InitFits e next part → (more : List InitPage) × (top : ℕ) × InitFits e top (with_items part more) × IsWhole (with_items part more)
@@ -215,7 +155,7 @@ init_filled e next part f =
       record {
         geometry = f.geometry;
         within = omega arith;
-        each = all_append (InitPageFits e) part.items more f.each (pages_fit e next m f.geometry room);
+        each = all_append (InitPageFits e) part.items more f.each (pages_fit e next m f.geometry.some_cells room);
         rising = rise_append 0 next (next + m) part.items more f.rising (pages_rise e.cells next m);
         room = omega arith;
       },
@@ -231,7 +171,7 @@ init_begins d f =
     let line = guest_key ++ decimal 0 in
     let e : SessionDraft = record d { init = list; next_page = top; guest = fresh 0 } in
     step Init Guest d e (map page_line more ++ line ∷ []) (ap (geometry_onto d) (onto_more init_key page_line d.init more (line ∷ [])))
-    (guest_begins e (fresh_fits (StartFits e) list (IsGuestRecOf d.geometry) 0 filled.2 filled.3 (omega arith)))
+    (guest_begins e (fresh_fits most_count (StartFits e) list (IsGuestRecOf d.geometry) 0 filled.2 filled.3 (omega arith)))
 
 abbrev empty_draft : Version → Extent → SessionDraft
 empty_draft version e = record { version = version; geometry = e; next_page = 0; init = fresh 0; guest = fresh 0; source = fresh 0; link = fresh 0; lane = fresh 0; pager = fresh 0 }
@@ -243,16 +183,16 @@ count_begins d geo =
 
 cells_begins : (d : SessionDraft) → 1 ≤ d.geometry.pages → IsCount d.geometry.pages → Begins SpellsRecording (held_onto Cells d [])
 cells_begins d low high =
-    let e = empty_draft d.version (record { pages = d.geometry.pages; cells = 1 }) in
+    let e = empty_draft d.version (extent d.geometry.size d.geometry.pages 1) in
     step Cells InitCount d e ((cells_key ++ decimal 1) ∷ []) refl (count_begins e (record { some_pages = low; few_pages = high; some_cells = omega arith; few_cells = omega arith }))
 
 pages_begins : (d : SessionDraft) → Begins SpellsRecording (held_onto Pages d [])
 pages_begins d =
-    let e = empty_draft d.version (record { pages = 1; cells = 1 }) in
+    let e = empty_draft d.version (extent d.geometry.size 1 1) in
     step Pages Cells d e ((pages_key ++ decimal 1) ∷ []) refl (cells_begins e (omega arith) (omega arith))
 
 pub live_begins : (stage : Stage) (d : SessionDraft) → Live stage d → Begins SpellsRecording (held_onto stage d [])
-live_begins Header d live = step Header Pages d d (header d.version ∷ []) refl (pages_begins d)
+live_begins Header d live = step Header Pages d d (header d.version d.geometry.size ∷ []) refl (pages_begins d)
 live_begins Pages d live = pages_begins d
 live_begins Cells d live = cells_begins d live.1 live.2
 live_begins InitCount d live = count_begins d live.1
@@ -265,12 +205,6 @@ live_begins Pager d live = pager_begins d live
 live_begins Done d live = done_begins d live.0 live.1
 
 -- ---- what is not whole is no text
-
--- a list without what follows it is too short
-no_rest : {X : Type 0} (spell : X → List ℕ) (xs ys : List X) (rest : List (List ℕ)) → map spell xs ++ rest ≡ map spell ys ++ [] → length ys ≤ length xs → 0 < length rest → ⊥
-no_rest spell xs ys rest e le some =
-    let l : length (map spell xs ++ rest) ≡ length (map spell ys ++ []) = ap (λ (t : List (List ℕ)). length t) e in
-    absurd (omega (arith, l, length-append (map spell xs) rest, length-append (map spell ys) [], length-map xs spell, length-map ys spell))
 
 not_whole_at : (stage : Stage) (d : SessionDraft) → Live stage d → stage ≢ Done → (v : Recorded) → IsRecording v → held_onto stage d [] ≡ session_lines v → ⊥
 not_whole_at Header d live other v fits e = absurd cc

@@ -9,11 +9,11 @@ use Rattle.migration_types.specs.declared.records.GuestRec.{GuestRec}
 use Rattle.migration_types.specs.declared.records.SourceRec.{SourceRec}
 use Rattle.migration_types.specs.declared.records.LinkRec.{LinkRec}
 use Rattle.migration_types.specs.declared.records.LaneRec.{LaneRec}
-use Rattle.migration_types.specs.declared.records.LaneRec.TheVariants.{Down}
 use Rattle.migration_types.specs.declared.records.PagerRec.{PagerRec}
 use Rattle.migration_types.specs.declared.pages.InitPage.{InitPage}
 use Rattle.migration_types.specs.declared.version.Version.{Version}
 use Rattle.migration_types.specs.declared.version.Version.TheVariants.{One, Two}
+use Rattle.migration_types.specs.declared.size.Size.{Size}
 use Rattle.migration_types.specs.Extents.{Extent}
 use Rattle.migration_types.specs.Pages.{InitPageFits}
 use Rattle.migration_types.specs.Sessions.{Recorded}
@@ -22,49 +22,27 @@ use Rattle.recordings.specs.Recordings.{IsCount, IsMachine, IsRecording, SpellsR
 use Rattle.session_text.specs.declared.parts.Stage.{Stage}
 use Rattle.session_text.specs.declared.parts.Stage.TheVariants.{Header, Pages, Cells, InitCount, Init, Guest, Source, Link, Lane, Pager, Done}
 use Rattle.session_text.specs.Records.{guest_line, source_line, link_line, lane_line, pager_line}
-use Rattle.session_text.specs.Grammar.{header, pages_key, cells_key, init_key, guest_key, source_key, link_key, lane_key, pager_key, page_line, with_lane, closing, counted, session_lines}
-use Rattle.session_text.specs.inner.Held.{part_onto, init_onto, guest_onto, source_onto, link_onto, lane_part_onto, lane_onto, pager_onto}
+use Rattle.session_text.specs.Grammar.{header, pages_key, cells_key, init_key, guest_key, source_key, link_key, lane_key, pager_key, page_line, closing, counted, session_lines}
+use Rattle.session_text.specs.inner.Held.{part_onto, init_onto, guest_onto, source_onto, link_onto, lane_onto, pager_onto}
 use Rattle.session_text.proofs.Lists.{all_at, all_append}
-use Rattle.session_text.proofs.Sections.{with_items}
-use Rattle.session_text.proofs.ByVersion.{header_tells, no_header, one_version, first_behind, second_behind}
-use Rattle.session_text.proofs.Laws.{held_append, keyed, extent_same, guest_part, source_part, link_part, lane_part, pager_part, guest_lines, source_lines, link_lines, lane_lines, pager_lines, rise_at}
-use Rattle.recording_text.specs.inner.Held.{SessionDraft, Part, IsWhole, held_onto, StartFits, InitFits, GuestFits, SourceFits, LinkFits, LaneFits, PagerFits}
+use Rattle.session_text.proofs.Sections.{with_items, agrees, item_at, count_at}
+use Rattle.session_text.proofs.ByVersion.{header_tells, one_version, lane_agree, first_behind, second_behind}
+use Rattle.session_text.proofs.Laws.{held_append, keyed, extent_same, guest_part, source_part, link_part, lane_part, pager_part, guest_lines, source_lines, link_lines, lane_lines, pager_lines, InitAgrees, rise_at, rise_push}
+use Rattle.recording_text.specs.inner.Held.{SessionDraft, Part, IsWhole, held_onto, most_count, StartFits, InitFits, GuestFits, SourceFits, LinkFits, LaneFits, PagerFits}
 
--- ---- a section of a text that begins so
+-- ---- numbers of items
 
-agrees : {X : Type 0} (key : List ℕ) (spell : X → List ℕ) (part : Part X) (xs : List X) (rest more : List (List ℕ)) → IsCount part.count → IsCount (length xs) → counted key spell xs rest ≡ part_onto key spell part more → CountedAgree spell part.count xs part.items rest more
-agrees key spell part xs rest more p q e = counted_agree key spell part.count xs part.items rest more (omega arith) (omega arith) (sym e)
+pub up_to : (n : ℕ) → IsCount n → n ≤ most_count
+up_to n lt = omega arith
 
--- an item, where one is missing
-item_at : {X : Type 0} (spell : X → List ℕ) (Fits : X → Type 0) (part : Part X) (xs : List X) (rest more : List (List ℕ)) (line : List ℕ) → CountedAgree spell part.count xs part.items rest (line ∷ more) → length part.items < part.count → AllByRecursion Fits xs → (x : X) × Fits x × (line ≡ spell x)
-item_at spell Fits part xs rest more line a less each =
-    let n = counted_next spell part.count xs part.items rest more line a less in
-    (n.item, all_at Fits n.front n.item n.back (subst (AllByRecursion Fits) n.whole each), n.spelled)
+pub below : (n : ℕ) → n ≤ most_count → IsCount n
+below n le = omega arith
 
--- the number of a section's items
-count_at : {X : Type 0} (key : List ℕ) (spell : X → List ℕ) (xs : List X) (rest more : List (List ℕ)) (line : List ℕ) → counted key spell xs rest ≡ line ∷ more → IsCount (length xs) → (n : ℕ) × IsCount n × (line ≡ key ++ decimal n)
-count_at key spell xs rest more line e few =
-    let l : line ≡ key ++ decimal (length xs) = cc in
-    (length xs, few, l)
+few_small : (n : ℕ) → n ≤ most_count → n < 2 ^ 64
+few_small n le = omega arith
 
--- the first version has no record of the lane
-no_records : (records : List LaneRec) → AllByRecursion (IsLaneRecOf One) records → records ≡ []
-no_records [] h = refl
-no_records (Down n ∷ records) h = absurd h.0.0
-
--- the lane of a text of which these lines came; in the first version nothing can come
-lane_agree : (a b : Version) (part : Part LaneRec) (xs : List LaneRec) (rest more : List (List ℕ)) → a ≡ b → (b ≡ One → IsWhole part) → IsCount part.count → IsCount (length xs) → AllByRecursion (IsLaneRecOf b) part.items → AllByRecursion (IsLaneRecOf a) xs → with_lane a xs rest ≡ lane_part_onto b part more → CountedAgree lane_line part.count xs part.items rest more
-lane_agree One One part xs rest more is whole p q f h e =
-    let none = no_records xs h in
-    let empty = no_records part.items f in
-    let all = whole refl in
-    record {
-      count = omega (arith, ap (λ (t : List LaneRec). length t) none, ap (λ (t : List LaneRec). length t) empty);
-      items = rw (none, empty) e;
-    }
-lane_agree One Two part xs rest more is whole p q f h e = absurd cc
-lane_agree Two One part xs rest more is whole p q f h e = absurd cc
-lane_agree Two Two part xs rest more is whole p q f h e = agrees lane_key lane_line part xs rest more p q e
+long_small : (n : ℕ) → IsCount n → n < 2 ^ 64
+long_small n lt = omega arith
 
 -- a recording has at most as many pages as its machine
 pub few_init : (s : Recorded) → IsRecording s → length s.init ≤ s.geometry.pages
@@ -97,11 +75,6 @@ init_count_at d line geo g =
     let few = few_init g.v g.fits in
     (length g.v.init, omega arith, l)
 
-pub record InitAgrees (d : SessionDraft) (more : List (List ℕ)) (v : Recorded) : Type 0 where
-  pub version : d.version ≡ v.version
-  pub geometry : d.geometry ≡ v.geometry
-  pub init : CountedAgree page_line d.init.count v.init d.init.items (guest_lines v) more
-
 pub init_agrees : (d : SessionDraft) (more : List (List ℕ)) (v : Recorded) → StartFits d → IsRecording v → init_onto d more ≡ session_lines v → InitAgrees d more v
 init_agrees d more v f fits e =
     let lp = f.geometry.few_pages in
@@ -112,13 +85,14 @@ init_agrees d more v f fits e =
     let fp = fits.machine.few_pages in
     let fc = fits.machine.few_cells in
     let few = few_init v fits in
-    let headers : header d.version ≡ header v.version = cc in
+    let headers : header d.version d.geometry.size ≡ header v.version v.geometry.size = cc in
+    let told = header_tells d.version v.version d.geometry.size v.geometry.size headers in
     let pages : pages_key ++ decimal d.geometry.pages ≡ pages_key ++ decimal v.geometry.pages = cc in
     let cells : cells_key ++ decimal d.geometry.cells ≡ cells_key ++ decimal v.geometry.cells = cc in
     let rest : part_onto init_key page_line d.init more ≡ counted init_key page_line v.init (guest_lines v) = cc in
     record {
-      version = header_tells d.version v.version headers;
-      geometry = extent_same d.geometry v.geometry (keyed pages_key d.geometry.pages v.geometry.pages (omega arith) (omega arith) pages) (keyed cells_key d.geometry.cells v.geometry.cells (omega arith) (omega arith) cells);
+      version = told.0;
+      geometry = extent_same d.geometry v.geometry told.1 (keyed pages_key d.geometry.pages v.geometry.pages (omega arith) (omega arith) pages) (keyed cells_key d.geometry.cells v.geometry.cells (omega arith) (omega arith) cells);
       init = counted_agree init_key page_line d.init.count v.init d.init.items (guest_lines v) more (omega arith) (omega arith) rest;
     }
 
@@ -126,19 +100,19 @@ pub behind_init : (d : SessionDraft) (more : List (List ℕ)) (v : Recorded) →
 behind_init d more v f whole fits e = counted_end page_line d.init.count v.init d.init.items (guest_lines v) more (init_agrees d more v f fits e).init whole
 
 pub guest_agrees : (d : SessionDraft) (more : List (List ℕ)) (v : Recorded) → GuestFits d → IsRecording v → guest_onto d more ≡ session_lines v → CountedAgree guest_line d.guest.count v.guest d.guest.items (source_lines v) more
-guest_agrees d more v f fits e = agrees guest_key guest_line d.guest v.guest (source_lines v) more f.few fits.few_guest (behind_init d (guest_part d more) v f.before f.whole fits e)
+guest_agrees d more v f fits e = agrees guest_key guest_line d.guest v.guest (source_lines v) more (few_small d.guest.count f.few) (long_small (length v.guest) fits.few_guest) (behind_init d (guest_part d more) v f.before f.whole fits e)
 
 pub behind_guest : (d : SessionDraft) (more : List (List ℕ)) (v : Recorded) → GuestFits d → IsWhole d.guest → IsRecording v → guest_onto d more ≡ session_lines v → source_lines v ≡ more
 behind_guest d more v f whole fits e = counted_end guest_line d.guest.count v.guest d.guest.items (source_lines v) more (guest_agrees d more v f fits e) whole
 
 pub source_agrees : (d : SessionDraft) (more : List (List ℕ)) (v : Recorded) → SourceFits d → IsRecording v → source_onto d more ≡ session_lines v → CountedAgree source_line d.source.count v.source d.source.items (link_lines v) more
-source_agrees d more v f fits e = agrees source_key source_line d.source v.source (link_lines v) more f.few fits.few_source (behind_guest d (source_part d more) v f.before f.whole fits e)
+source_agrees d more v f fits e = agrees source_key source_line d.source v.source (link_lines v) more (few_small d.source.count f.few) (long_small (length v.source) fits.few_source) (behind_guest d (source_part d more) v f.before f.whole fits e)
 
 pub behind_source : (d : SessionDraft) (more : List (List ℕ)) (v : Recorded) → SourceFits d → IsWhole d.source → IsRecording v → source_onto d more ≡ session_lines v → link_lines v ≡ more
 behind_source d more v f whole fits e = counted_end source_line d.source.count v.source d.source.items (link_lines v) more (source_agrees d more v f fits e) whole
 
 pub link_agrees : (d : SessionDraft) (more : List (List ℕ)) (v : Recorded) → LinkFits d → IsRecording v → link_onto d more ≡ session_lines v → CountedAgree link_line d.link.count v.link d.link.items (lane_lines v) more
-link_agrees d more v f fits e = agrees link_key link_line d.link v.link (lane_lines v) more f.few fits.few_link (behind_source d (link_part d more) v f.before f.whole fits e)
+link_agrees d more v f fits e = agrees link_key link_line d.link v.link (lane_lines v) more (few_small d.link.count f.few) (long_small (length v.link) fits.few_link) (behind_source d (link_part d more) v f.before f.whole fits e)
 
 pub behind_link : (d : SessionDraft) (more : List (List ℕ)) (v : Recorded) → LinkFits d → IsWhole d.link → IsRecording v → link_onto d more ≡ session_lines v → lane_lines v ≡ more
 behind_link d more v f whole fits e = counted_end link_line d.link.count v.link d.link.items (lane_lines v) more (link_agrees d more v f fits e) whole
@@ -149,13 +123,13 @@ version_agrees d more v f fits e = sym (init_agrees d (guest_part d (source_part
 pub lane_agrees : (d : SessionDraft) (more : List (List ℕ)) (v : Recorded) → LaneFits d → (d.version ≡ One → IsWhole d.lane) → IsRecording v → lane_onto d more ≡ session_lines v → CountedAgree lane_line d.lane.count v.lane d.lane.items (pager_lines v) more
 lane_agrees d more v f first fits e =
     let rest = lane_part d more in
-    lane_agree v.version d.version d.lane v.lane (pager_lines v) more (version_agrees d rest v f.before fits e) first f.few fits.few_lane f.each fits.lane (behind_link d rest v f.before f.whole fits e)
+    lane_agree (2 ^ 63) (2 ^ 63) v.version d.version d.lane v.lane (pager_lines v) more (version_agrees d rest v f.before fits e) first (few_small d.lane.count f.few) (long_small (length v.lane) fits.few_lane) f.each fits.lane (behind_link d rest v f.before f.whole fits e)
 
 pub behind_lane : (d : SessionDraft) (more : List (List ℕ)) (v : Recorded) → LaneFits d → IsWhole d.lane → IsRecording v → lane_onto d more ≡ session_lines v → pager_lines v ≡ more
 behind_lane d more v f whole fits e = counted_end lane_line d.lane.count v.lane d.lane.items (pager_lines v) more (lane_agrees d more v f (λ _. whole) fits e) whole
 
 pub pager_agrees : (d : SessionDraft) (more : List (List ℕ)) (v : Recorded) → PagerFits d → IsRecording v → pager_onto d more ≡ session_lines v → CountedAgree pager_line d.pager.count v.pager d.pager.items (closing ∷ []) more
-pager_agrees d more v f fits e = agrees pager_key pager_line d.pager v.pager (closing ∷ []) more f.few fits.few_pager (behind_lane d (pager_part d more) v f.before f.whole fits e)
+pager_agrees d more v f fits e = agrees pager_key pager_line d.pager v.pager (closing ∷ []) more (few_small d.pager.count f.few) (long_small (length v.pager) fits.few_pager) (behind_lane d (pager_part d more) v f.before f.whole fits e)
 
 pub behind_pager : (d : SessionDraft) (more : List (List ℕ)) (v : Recorded) → PagerFits d → IsWhole d.pager → IsRecording v → pager_onto d more ≡ session_lines v → closing ∷ [] ≡ more
 behind_pager d more v f whole fits e = counted_end pager_line d.pager.count v.pager d.pager.items (closing ∷ []) more (pager_agrees d more v f fits e) whole
@@ -193,10 +167,6 @@ page_at d line f less g =
       spelled = n.spelled;
     }
 
-rise_push : (low next : ℕ) (ps : List InitPage) (p : InitPage) → Rise low ps next → next ≤ p.page → Rise low (ps ++ p ∷ []) (p.page + 1)
-rise_push low next [] p r le = (omega (arith, r), refl)
-rise_push low next (q ∷ ps) p r le = (r.0, rise_push (q.page + 1) next ps p r.1 le)
-
 pub page_push : (e : Extent) (part : Part InitPage) (next : ℕ) (p : InitPage) → InitFits e next part → length part.items < part.count → next ≤ p.page → p.page + (part.count - length part.items) ≤ e.pages → InitPageFits e p → InitFits e (p.page + 1) (with_items part (p ∷ []))
 page_push e part next p f less low high has =
     let room = f.room in
@@ -211,12 +181,12 @@ page_push e part next p f less low high has =
 
 -- ---- why a line is refused
 
-pub header_refused : (d : SessionDraft) (line : List ℕ) → line ≢ header One → line ≢ header Two → Begins SpellsRecording (held_onto Header d (line ∷ [])) → ⊥
-header_refused d line one two b =
+pub header_refused : (d : SessionDraft) (line : List ℕ) → ((version : Version) (size : Size) → line ≢ header version size) → Begins SpellsRecording (held_onto Header d (line ∷ [])) → ⊥
+header_refused d line none b =
     let g = goes_from Header d line b in
     let whole = g.whole in
-    let l : line ≡ header g.v.version = cc in
-    no_header line g.v.version one two l
+    let l : line ≡ header g.v.version g.v.geometry.size = cc in
+    none g.v.version g.v.geometry.size l
 
 pub pages_refused : (d : SessionDraft) (line : List ℕ) → ((n : ℕ) → 1 ≤ n → n < 2 ^ 63 → line ≢ pages_key ++ decimal n) → Begins SpellsRecording (held_onto Pages d (line ∷ [])) → ⊥
 pages_refused d line none b =
@@ -242,42 +212,42 @@ page_refused d line f less none b = let p = page_at d line f less (goes_from Ini
 pub guest_count_refused : (d : SessionDraft) (line : List ℕ) → StartFits d → IsWhole d.init → ((n : ℕ) → n < 2 ^ 63 → line ≢ guest_key ++ decimal n) → Begins SpellsRecording (held_onto Init d (line ∷ [])) → ⊥
 guest_count_refused d line f whole none b =
     let g = goes_from Init d line b in
-    let n = count_at guest_key guest_line g.v.guest (source_lines g.v) g.more line (behind_init d (line ∷ g.more) g.v f whole g.fits g.whole) g.fits.few_guest in
-    none n.0 n.1 n.2
+    let n = count_at most_count guest_key guest_line g.v.guest (source_lines g.v) g.more line (behind_init d (line ∷ g.more) g.v f whole g.fits g.whole) (up_to (length g.v.guest) g.fits.few_guest) in
+    none n.0 (below n.0 n.1) n.2
 
 pub source_count_refused : (d : SessionDraft) (line : List ℕ) → GuestFits d → IsWhole d.guest → ((n : ℕ) → n < 2 ^ 63 → line ≢ source_key ++ decimal n) → Begins SpellsRecording (held_onto Guest d (line ∷ [])) → ⊥
 source_count_refused d line f whole none b =
     let g = goes_from Guest d line b in
-    let n = count_at source_key source_line g.v.source (link_lines g.v) g.more line (behind_guest d (line ∷ g.more) g.v f whole g.fits g.whole) g.fits.few_source in
-    none n.0 n.1 n.2
+    let n = count_at most_count source_key source_line g.v.source (link_lines g.v) g.more line (behind_guest d (line ∷ g.more) g.v f whole g.fits g.whole) (up_to (length g.v.source) g.fits.few_source) in
+    none n.0 (below n.0 n.1) n.2
 
 pub link_count_refused : (d : SessionDraft) (line : List ℕ) → SourceFits d → IsWhole d.source → ((n : ℕ) → n < 2 ^ 63 → line ≢ link_key ++ decimal n) → Begins SpellsRecording (held_onto Source d (line ∷ [])) → ⊥
 link_count_refused d line f whole none b =
     let g = goes_from Source d line b in
-    let n = count_at link_key link_line g.v.link (lane_lines g.v) g.more line (behind_source d (line ∷ g.more) g.v f whole g.fits g.whole) g.fits.few_link in
-    none n.0 n.1 n.2
+    let n = count_at most_count link_key link_line g.v.link (lane_lines g.v) g.more line (behind_source d (line ∷ g.more) g.v f whole g.fits g.whole) (up_to (length g.v.link) g.fits.few_link) in
+    none n.0 (below n.0 n.1) n.2
 
 pub pager_count_refused : (d : SessionDraft) (line : List ℕ) → LinkFits d → IsWhole d.link → d.version ≡ One → ((n : ℕ) → n < 2 ^ 63 → line ≢ pager_key ++ decimal n) → Begins SpellsRecording (held_onto Link d (line ∷ [])) → ⊥
 pager_count_refused d line f whole first none b =
     let g = goes_from Link d line b in
     let more = line ∷ g.more in
     let rest = sym (first_behind g.v.version g.v.lane (pager_lines g.v) (version_agrees d more g.v f g.fits g.whole ∙ first)) ∙ behind_link d more g.v f whole g.fits g.whole in
-    let n = count_at pager_key pager_line g.v.pager (closing ∷ []) g.more line rest g.fits.few_pager in
-    none n.0 n.1 n.2
+    let n = count_at most_count pager_key pager_line g.v.pager (closing ∷ []) g.more line rest (up_to (length g.v.pager) g.fits.few_pager) in
+    none n.0 (below n.0 n.1) n.2
 
 pub lane_count_refused : (d : SessionDraft) (line : List ℕ) → LinkFits d → IsWhole d.link → d.version ≡ Two → ((n : ℕ) → n < 2 ^ 63 → line ≢ lane_key ++ decimal n) → Begins SpellsRecording (held_onto Link d (line ∷ [])) → ⊥
 lane_count_refused d line f whole second none b =
     let g = goes_from Link d line b in
     let more = line ∷ g.more in
     let rest = sym (second_behind g.v.version g.v.lane (pager_lines g.v) (version_agrees d more g.v f g.fits g.whole ∙ second)) ∙ behind_link d more g.v f whole g.fits g.whole in
-    let n = count_at lane_key lane_line g.v.lane (pager_lines g.v) g.more line rest g.fits.few_lane in
-    none n.0 n.1 n.2
+    let n = count_at most_count lane_key lane_line g.v.lane (pager_lines g.v) g.more line rest (up_to (length g.v.lane) g.fits.few_lane) in
+    none n.0 (below n.0 n.1) n.2
 
 pub behind_lane_refused : (d : SessionDraft) (line : List ℕ) → LaneFits d → IsWhole d.lane → ((n : ℕ) → n < 2 ^ 63 → line ≢ pager_key ++ decimal n) → Begins SpellsRecording (held_onto Lane d (line ∷ [])) → ⊥
 behind_lane_refused d line f whole none b =
     let g = goes_from Lane d line b in
-    let n = count_at pager_key pager_line g.v.pager (closing ∷ []) g.more line (behind_lane d (line ∷ g.more) g.v f whole g.fits g.whole) g.fits.few_pager in
-    none n.0 n.1 n.2
+    let n = count_at most_count pager_key pager_line g.v.pager (closing ∷ []) g.more line (behind_lane d (line ∷ g.more) g.v f whole g.fits g.whole) (up_to (length g.v.pager) g.fits.few_pager) in
+    none n.0 (below n.0 n.1) n.2
 
 pub closing_refused : (d : SessionDraft) (line : List ℕ) → PagerFits d → IsWhole d.pager → line ≢ closing → Begins SpellsRecording (held_onto Pager d (line ∷ [])) → ⊥
 closing_refused d line f whole other b =

@@ -19,15 +19,15 @@ use Rattle.recordings.specs.Wide.{extent_of}
 use Rattle.session_text.specs.Records.{guest_line, source_line, link_line, lane_line, pager_line}
 use Rattle.session_text.specs.Grammar.{init_key, guest_key, source_key, link_key, lane_key, pager_key, page_line, closing}
 use Rattle.session_text.specs.inner.Held.{part_onto, geometry_onto, init_onto, guest_onto, source_onto, link_onto, lane_part_onto, lane_onto}
-use Rattle.session_text.proofs.Sections.{with_items, onto_push, fresh}
+use Rattle.session_text.proofs.Sections.{with_items, onto_push, fresh, push_fits, fresh_fits}
 use Rattle.session_text.proofs.ByVersion.{lane_is}
 use Rattle.recording_text.specs.declared.place.Place.{Place}
 use Rattle.recording_text.specs.declared.place.Stage.{Stage}
 use Rattle.recording_text.specs.declared.place.Stage.TheVariants.{InitCount, Init, Guest, Source, Link, Lane, Pager, Done}
-use Rattle.recording_text.specs.inner.Held.{Part, StartFits, GuestFits, SourceFits, LinkFits, LaneFits, recorded_of}
+use Rattle.recording_text.specs.inner.Held.{Part, most_count, StartFits, GuestFits, SourceFits, LinkFits, LaneFits, recorded_of}
 use Rattle.recording_text.specs.inner.Stands.{Taken, Refuses, Steps, draft_of, announcing, behind_one}
-use Rattle.recording_text.proofs.Laws.{page_push}
-use Rattle.recording_text.proofs.Goes.{push_fits, fresh_fits, all_came}
+use Rattle.recording_text.proofs.Laws.{page_push, up_to}
+use Rattle.recording_text.proofs.Goes.{all_came}
 use Rattle.recording_text.proofs.Refusing.{init_count_refuses, closing_refuses}
 
 -- ---- the next item of a list
@@ -61,7 +61,7 @@ guest_taken IsNew Met p line before after r some fits is meets = λ l stands met
     record {
       lists = record l { guest = with_items l.guest (r ∷ []) };
       stands = record {
-        live = (push_fits (StartFits d) d.init (IsGuestRecOf d.geometry) d.guest r stands.live.0 (omega (arith, some)) fits, stands.live.1);
+        live = (push_fits most_count (StartFits d) d.init (IsGuestRecOf d.geometry) d.guest r stands.live.0 (omega (arith, some)) fits, stands.live.1);
         came = omega (arith, len);
         announced = omega (arith, some);
       };
@@ -78,7 +78,7 @@ source_taken IsNew Met p line before after r some fits is meets = λ l stands me
     record {
       lists = record l { source = with_items l.source (r ∷ []) };
       stands = record {
-        live = (push_fits (GuestFits d) d.guest (IsSourceRecOf d.geometry) d.source r stands.live.0 (omega (arith, some)) fits, stands.live.1);
+        live = (push_fits most_count (GuestFits d) d.guest (IsSourceRecOf d.geometry) d.source r stands.live.0 (omega (arith, some)) fits, stands.live.1);
         came = omega (arith, len);
         announced = omega (arith, some);
       };
@@ -95,7 +95,7 @@ link_taken IsNew Met p line before after r some fits is meets = λ l stands met.
     record {
       lists = record l { link = with_items l.link (r ∷ []) };
       stands = record {
-        live = (push_fits (SourceFits d) d.source IsLinkRecOf d.link r stands.live.0 (omega (arith, some)) fits, stands.live.1);
+        live = (push_fits most_count (SourceFits d) d.source IsLinkRecOf d.link r stands.live.0 (omega (arith, some)) fits, stands.live.1);
         came = omega (arith, len);
         announced = omega (arith, some);
       };
@@ -112,7 +112,7 @@ lane_taken IsNew Met p line before after r some fits is meets = λ l stands met.
     record {
       lists = record l { lane = with_items l.lane (r ∷ []) };
       stands = record {
-        live = (push_fits (LinkFits d) d.link (IsLaneRecOf d.version) d.lane r stands.live.0 (omega (arith, some)) fits, stands.live.1, stands.live.2);
+        live = (push_fits most_count (LinkFits d) d.link (IsLaneRecOf d.version) d.lane r stands.live.0 (omega (arith, some)) fits, stands.live.1, stands.live.2);
         came = omega (arith, len);
         announced = omega (arith, some);
       };
@@ -129,7 +129,7 @@ pager_taken IsNew Met p line before after r some fits is meets = λ l stands met
     record {
       lists = record l { pager = with_items l.pager (r ∷ []) };
       stands = record {
-        live = push_fits (LaneFits d) d.lane (IsPagerRecOf d.version d.geometry) d.pager r stands.live (omega (arith, some)) fits;
+        live = push_fits most_count (LaneFits d) d.lane (IsPagerRecOf d.version d.geometry) d.pager r stands.live (omega (arith, some)) fits;
         came = omega (arith, len);
         announced = omega (arith, some);
       };
@@ -159,7 +159,7 @@ guest_announced IsNew Met p line visitor none n has = λ l stands met.
     let whole = all_came l.init p.came p.left none stands.came stands.announced in
     record {
       lists = record l { guest = fresh n };
-      stands = record { live = (fresh_fits (StartFits d) d.init (IsGuestRecOf d.geometry) n stands.live.0 whole has.0, stands.live.1.1); came = refl; announced = omega arith };
+      stands = record { live = (fresh_fits most_count (StartFits d) d.init (IsGuestRecOf d.geometry) n stands.live.0 whole (up_to n has.0), stands.live.1.1); came = refl; announced = omega arith };
       met = subst (λ (rs : List GuestRec). Met visitor (record (recorded_of d) { guest = rs })) stands.live.1.0 met;
       lines = ap (λ (t : List ℕ). init_onto d (t ∷ [])) (sym has.1);
     }
@@ -170,7 +170,7 @@ source_announced IsNew Met p line visitor none n has = λ l stands met.
     let whole = all_came l.guest p.came p.left none stands.came stands.announced in
     record {
       lists = record l { source = fresh n };
-      stands = record { live = (fresh_fits (GuestFits d) d.guest (IsSourceRecOf d.geometry) n stands.live.0 whole has.0, stands.live.1.1); came = refl; announced = omega arith };
+      stands = record { live = (fresh_fits most_count (GuestFits d) d.guest (IsSourceRecOf d.geometry) n stands.live.0 whole (up_to n has.0), stands.live.1.1); came = refl; announced = omega arith };
       met = subst (λ (rs : List SourceRec). Met visitor (record (recorded_of d) { source = rs })) stands.live.1.0 met;
       lines = ap (λ (t : List ℕ). guest_onto d (t ∷ [])) (sym has.1);
     }
@@ -181,7 +181,7 @@ link_announced IsNew Met p line visitor none n has = λ l stands met.
     let whole = all_came l.source p.came p.left none stands.came stands.announced in
     record {
       lists = record l { link = fresh n };
-      stands = record { live = (fresh_fits (SourceFits d) d.source IsLinkRecOf n stands.live.0 whole has.0, stands.live.1.1); came = refl; announced = omega arith };
+      stands = record { live = (fresh_fits most_count (SourceFits d) d.source IsLinkRecOf n stands.live.0 whole (up_to n has.0), stands.live.1.1); came = refl; announced = omega arith };
       met = subst (λ (rs : List LinkRec). Met visitor (record (recorded_of d) { link = rs })) stands.live.1.0 met;
       lines = ap (λ (t : List ℕ). source_onto d (t ∷ [])) (sym has.1);
     }
@@ -192,7 +192,7 @@ lane_announced IsNew Met p line visitor second none n has = λ l stands met.
     let whole = all_came l.link p.came p.left none stands.came stands.announced in
     record {
       lists = record l { lane = fresh n };
-      stands = record { live = (fresh_fits (LinkFits d) d.link (IsLaneRecOf d.version) n stands.live.0 whole has.0, second, stands.live.1.1); came = refl; announced = omega arith };
+      stands = record { live = (fresh_fits most_count (LinkFits d) d.link (IsLaneRecOf d.version) n stands.live.0 whole (up_to n has.0), second, stands.live.1.1); came = refl; announced = omega arith };
       met = subst (λ (rs : List LaneRec). Met visitor (record (recorded_of d) { lane = rs })) stands.live.1.0 met;
       lines = ap (link_onto d) (lane_is p.machine.version (fresh n) [] second ∙ ap (λ (t : List ℕ). t ∷ []) (sym has.1));
     }
@@ -202,11 +202,11 @@ pub pager_announced_first : {V : Type 0} (IsNew : V → Type 0) (Met : V → Rec
 pager_announced_first IsNew Met p line visitor first none n has = λ l stands met.
     let d = draft_of p l in
     let whole = all_came l.link p.came p.left none stands.came stands.announced in
-    let lane = fresh_fits (LinkFits d) d.link (IsLaneRecOf d.version) 0 stands.live.0 whole (omega arith) in
+    let lane = fresh_fits most_count (LinkFits d) d.link (IsLaneRecOf d.version) 0 stands.live.0 whole (omega arith) in
     let line_only : lane_part_onto p.machine.version (fresh 0) ((pager_key ++ decimal n) ∷ []) ≡ (pager_key ++ decimal n) ∷ [] = ap (λ (v : Version). lane_part_onto v (fresh 0) ((pager_key ++ decimal n) ∷ [])) first in
     record {
       lists = record l { lane = fresh 0; pager = fresh n };
-      stands = record { live = fresh_fits (LaneFits (record d { lane = fresh 0 })) (fresh 0) (IsPagerRecOf d.version d.geometry) n lane refl has.0; came = refl; announced = omega arith };
+      stands = record { live = fresh_fits most_count (LaneFits (record d { lane = fresh 0 })) (fresh 0) (IsPagerRecOf d.version d.geometry) n lane refl (up_to n has.0); came = refl; announced = omega arith };
       met = subst (λ (rs : List PagerRec). Met visitor (record (recorded_of d) { lane = []; pager = rs })) stands.live.1.1 (subst (λ (rs : List LaneRec). Met visitor (record (recorded_of d) { lane = rs })) stands.live.1.0 met);
       lines = ap (link_onto d) (line_only ∙ ap (λ (t : List ℕ). t ∷ []) (sym has.1));
     }
@@ -217,7 +217,7 @@ pager_announced IsNew Met p line visitor none n has = λ l stands met.
     let whole = all_came l.lane p.came p.left none stands.came stands.announced in
     record {
       lists = record l { pager = fresh n };
-      stands = record { live = fresh_fits (LaneFits d) d.lane (IsPagerRecOf d.version d.geometry) n stands.live.0 whole has.0; came = refl; announced = omega arith };
+      stands = record { live = fresh_fits most_count (LaneFits d) d.lane (IsPagerRecOf d.version d.geometry) n stands.live.0 whole (up_to n has.0); came = refl; announced = omega arith };
       met = subst (λ (rs : List PagerRec). Met visitor (record (recorded_of d) { pager = rs })) stands.live.2 met;
       lines = ap (λ (t : List ℕ). lane_onto d (t ∷ [])) (sym has.1);
     }

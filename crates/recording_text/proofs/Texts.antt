@@ -9,6 +9,8 @@ use Rattle.text_lines.proofs.Plain.{has_no_lf, plain_append, plain_decimal, plai
 use Rattle.migration_types.specs.declared.records.LaneRec.{LaneRec}
 use Rattle.migration_types.specs.declared.version.Version.{Version}
 use Rattle.migration_types.specs.declared.version.Version.TheVariants.{One, Two}
+use Rattle.migration_types.specs.declared.size.Size.{Size}
+use Rattle.migration_types.specs.declared.size.Size.TheVariants.{Small}
 use Rattle.migration_types.specs.Pages.{InitPageFits}
 use Rattle.migration_types.specs.Sessions.{Recorded}
 use Rattle.recordings.specs.Lines.{longest_line}
@@ -38,9 +40,9 @@ items spell P (x ∷ xs) more f h k = (f x h.0, items spell P xs more f h.1 k)
 section : {X : Type 0} (key : List ℕ) (spell : X → List ℕ) (P : X → Type 0) (xs : List X) (more : List (List ℕ)) → has_no_lf key ≡ true → length key ≤ 100 → IsCount (length xs) → ((x : X) → P x → IsShort (spell x)) → AllByRecursion P xs → AllByRecursion IsShort more → AllByRecursion IsShort (counted key spell xs more)
 section key spell P xs more none le few f h rest = (counts key (length xs) none le few, items spell P xs more f h rest)
 
-of_header : (version : Version) → IsShort (header version)
-of_header One = fixed (header One) refl (omega arith)
-of_header Two = fixed (header Two) refl (omega arith)
+of_header : (version : Version) (size : Size) → IsShort (header version size)
+of_header One Small = fixed (header One Small) refl (omega arith)
+of_header Two Small = fixed (header Two Small) refl (omega arith)
 
 of_lane : (version : Version) (records : List LaneRec) (more : List (List ℕ)) → IsCount (length records) → AllByRecursion (IsLaneRecOf version) records → AllByRecursion IsShort more → AllByRecursion IsShort (with_lane version records more)
 of_lane One records more few each rest = rest
@@ -60,7 +62,7 @@ all_short v lines s =
     let source = section source_key source_line (IsSourceRecOf e) v.source (link_lines v) refl (omega arith) f.few_source (source_text e f.machine) f.source link in
     let guest = section guest_key guest_line (IsGuestRecOf e) v.guest (source_lines v) refl (omega arith) f.few_guest (guest_text e f.machine) f.guest source in
     let init = section init_key page_line (InitPageFits e) v.init (guest_lines v) refl (omega arith) (omega arith) (init_text e f.machine) f.init.each guest in
-    subst (AllByRecursion IsShort) (sym s.1) (of_header v.version, (counts pages_key e.pages refl (omega arith) few_pages, (counts cells_key e.cells refl (omega arith) (omega arith), init)))
+    subst (AllByRecursion IsShort) (sym s.1) (of_header v.version e.size, (counts pages_key e.pages refl (omega arith) few_pages, (counts cells_key e.cells refl (omega arith) (omega arith), init)))
 
 each_is : (P Q : List ℕ → Type 0) (lines : List (List ℕ)) → ((line : List ℕ) → P line → Q line) → AllByRecursion P lines → AllByRecursion Q lines
 each_is P Q [] f h = tt

@@ -20,45 +20,25 @@ use Rattle.recordings.proofs.Tells.{init_tell, guest_tell, source_tell, link_tel
 use Rattle.session_text.specs.declared.parts.Stage.TheVariants.{Done}
 use Rattle.session_text.specs.Records.{guest_line, source_line, link_line, lane_line, pager_line}
 use Rattle.session_text.specs.Grammar.{page_line, closing, session_lines}
-use Rattle.session_text.proofs.Lists.{spelled_same}
+use Rattle.session_text.proofs.Values.{whole_part, drafted, whole_log, same_list, recorded_same}
 use Rattle.session_text.proofs.Laws.{held_append, guest_part, source_part, link_part, lane_part, pager_part, guest_lines, source_lines, link_lines, lane_lines, pager_lines}
-use Rattle.recording_text.specs.inner.Held.{SessionDraft, Part, StartFits, LogFits, GuestFits, SourceFits, LinkFits, LaneFits, PagerFits}
-use Rattle.recording_text.proofs.Laws.{init_agrees, guest_agrees, source_agrees, link_agrees, lane_agrees, pager_agrees}
+use Rattle.recording_text.specs.inner.Held.{SessionDraft, most_count, StartFits, GuestFits, SourceFits, LinkFits, LaneFits, PagerFits}
+use Rattle.recording_text.proofs.Laws.{up_to, init_agrees, guest_agrees, source_agrees, link_agrees, lane_agrees, pager_agrees}
 use Rattle.recording_text.proofs.Goes.{done_spells}
 use Rattle.recording_text.proofs.Texts.{plain_recording}
 
 -- ---- a recording's lines begin no other's
-
--- all items of a list
-abbrev whole_part : {X : Type 0} → List X → Part X
-whole_part items = record { count = length items; items = items }
-
-abbrev drafted : Recorded → ℕ → SessionDraft
-drafted s next = record { version = s.version; geometry = s.geometry; next_page = next; init = whole_part s.init; guest = whole_part s.guest; source = whole_part s.source; link = whole_part s.link; lane = whole_part s.lane; pager = whole_part s.pager }
-
-whole_log : {X Y : Type 0} (Before : Type 0) (list : List X) (Fits : Y → Type 0) (log : List Y) → Before → length log < 2 ^ 63 → AllByRecursion Fits log → LogFits Before (whole_part list) Fits (whole_part log)
-whole_log Before list Fits log before few each = record { before = before; whole = refl; few = few; within = omega arith; each = each }
 
 drafted_fits : (s : Recorded) → IsRecording s → (next : ℕ) → next ≤ s.geometry.pages → Rise 0 s.init next → PagerFits (drafted s next)
 drafted_fits s fits next le rising =
     let d = drafted s next in
     let e = s.geometry in
     let init : StartFits d = record { geometry = fits.machine; within = omega arith; each = fits.init.each; rising = rising; room = omega arith } in
-    let guest = whole_log (StartFits d) s.init (IsGuestRecOf e) s.guest init fits.few_guest fits.guest in
-    let source = whole_log (GuestFits d) s.guest (IsSourceRecOf e) s.source guest fits.few_source fits.source in
-    let link = whole_log (SourceFits d) s.source IsLinkRecOf s.link source fits.few_link fits.link in
-    let lane = whole_log (LinkFits d) s.link (IsLaneRecOf s.version) s.lane link fits.few_lane fits.lane in
-    whole_log (LaneFits d) s.lane (IsPagerRecOf s.version e) s.pager lane fits.few_pager fits.pager
-
--- the list of a text is that of another, where as many lines of both are the same
-same_list : {X : Type 0} (spell : X → List ℕ) (Fits : X → Type 0) (xs ys : List X) → ((x y : X) → Fits x → Fits y → spell x ≡ spell y → x ≡ y) → (rest more : List (List ℕ)) → AllByRecursion Fits xs → AllByRecursion Fits ys → map spell ys ++ rest ≡ map spell xs ++ more → length xs ≡ length ys → xs ≡ ys
-same_list spell Fits xs ys tells rest more h k e l = spelled_same spell Fits tells xs ys h k (sym (section_end spell ys xs rest more e l).0)
-
-recorded_same : (v w : Recorded) → v.version ≡ w.version → v.geometry ≡ w.geometry → v.init ≡ w.init → v.guest ≡ w.guest → v.source ≡ w.source → v.link ≡ w.link → v.lane ≡ w.lane → v.pager ≡ w.pager → v ≡ w
-recorded_same v w n g i r s l k p =
-    let made : Version → Extent → List InitPage → List GuestRec → List SourceRec → List LinkRec → List LaneRec → List PagerRec → Recorded = λ o a b c d e h f. record { version = o; geometry = a; init = b; guest = c; source = d; link = e; lane = h; pager = f } in
-    let same : made v.version v.geometry v.init v.guest v.source v.link v.lane v.pager ≡ made w.version w.geometry w.init w.guest w.source w.link w.lane w.pager = rw (n, g, i, r, s, l, k, p) refl in
-    same
+    let guest = whole_log most_count (StartFits d) s.init (IsGuestRecOf e) s.guest init (up_to (length s.guest) fits.few_guest) fits.guest in
+    let source = whole_log most_count (GuestFits d) s.guest (IsSourceRecOf e) s.source guest (up_to (length s.source) fits.few_source) fits.source in
+    let link = whole_log most_count (SourceFits d) s.source IsLinkRecOf s.link source (up_to (length s.link) fits.few_link) fits.link in
+    let lane = whole_log most_count (LinkFits d) s.link (IsLaneRecOf s.version) s.lane link (up_to (length s.lane) fits.few_lane) fits.lane in
+    whole_log most_count (LaneFits d) s.lane (IsPagerRecOf s.version e) s.pager lane (up_to (length s.pager) fits.few_pager) fits.pager
 
 lines_tell : (v w : Recorded) (more : List (List ℕ)) → IsRecording v → IsRecording w → session_lines v ++ more ≡ session_lines w → (v ≡ w) × (more ≡ [])
 lines_tell v w more p q e =

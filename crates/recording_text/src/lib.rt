@@ -6,7 +6,6 @@ ghost use Rattle.text_lines.specs.Text.{IsUnambiguous};
 ghost use Rattle.recordings.specs.Recordings.{SpellsRecording};
 ghost use Rattle.recording_text.specs.Walking.{Walks, IsRefusedBy};
 
-mod keys;
 mod place;
 mod reading;
 mod walker;

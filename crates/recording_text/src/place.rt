@@ -2,20 +2,22 @@
 
 ghost use Rattle.std.specs.Prelude.{◌≡◌, ◌≢◌, ◌+◌, ◌<◌, ◌≤◌, ◌^◌, ◌++◌, ℕ, IfOk, OnErr};
 ghost use Rattle.std.specs.Fmt.{decimal};
+ghost use Rattle.migration_types.specs.declared.size.Size.{Size as Limited};
+ghost use Rattle.migration_types.specs.declared.size.Size.TheVariants.{Small};
 ghost use Rattle.session_text.specs.Grammar.{header, pages_key, init_key, closing};
 ghost use Rattle.recordings.specs.Recordings.{IsCount};
 ghost use Rattle.recording_text.specs.inner.Stands.{Holds, Steps, of_version, with_pages, announcing, behind_one};
 
-use crate::keys::{
-    FIRST_HEADER, GUEST_KEY, LANE_KEY, LINK_KEY, PAGER_KEY, SECOND_HEADER, SOURCE_KEY,
-};
-use migration_types::{MOST_CELLS, Version};
+use migration_types::{MOST_CELLS, Size, Version};
 use recordings::{
     BEYOND, Machine, Visitor, WideGuest, WideInit, WideLane, WideLink, WidePager, WideSource,
 };
-use session_text::{CELLS_KEY, INIT_KEY, PAGES_KEY};
+use session_text::{
+    CELLS_KEY, GUEST_KEY, INIT_KEY, LANE_KEY, LINK_KEY, PAGER_KEY, PAGES_KEY, SOURCE_KEY,
+    read_header,
+};
 use std::alloc::Global;
-use text_lines::{CLOSING, FaultKind, after_key, expect_line, is_line, read_decimal, read_some};
+use text_lines::{CLOSING, FaultKind, after_key, expect_line, read_decimal, read_some};
 
 /// Which line comes next.
 #[derive(Clone, Copy, PartialEq, Eq)]
@@ -129,18 +131,16 @@ impl Place {
 
     /// Takes the header, which tells the version.
     fn header(&mut self, line: &[u8]) -> Result<Stage, FaultKind>
-        ensures found { IfOk result (λ next. (next ≡ Stage.Pages) × (version : Version) × (self.new ≡ of_version self.old version) × (line.now ≡ header version)) }
-        ensures refused { OnErr result ((version : Version) → line.now ≢ header version) }
+        ensures found { IfOk result (λ next. (next ≡ Stage.Pages) × (version : Version) × (self.new ≡ of_version self.old version) × (line.now ≡ header version Small)) }
+        ensures refused { OnErr result ((version : Version) (size : Limited) → line.now ≢ header version size) }
     {
-        if is_line(line, FIRST_HEADER) {
-            self.machine.version = Version::One;
-            return Ok(Stage::Pages);
+        match read_header(line) {
+            Some((version, Size::Small)) => {
+                self.machine.version = version;
+                Ok(Stage::Pages)
+            }
+            None => Err(FaultKind::Form),
         }
-        if is_line(line, SECOND_HEADER) {
-            self.machine.version = Version::Two;
-            return Ok(Stage::Pages);
-        }
-        Err(FaultKind::Form)
     }
 
     /// Takes the number of pages.

@@ -1,5 +1,5 @@
 -- A session is a recording, and a recording fits its machine.
-use Rattle.std.proofs.Common.{◌≡◌, ℕ, List, [], ◌∷◌, Option, Some, None, refl, arith, subst}
+use Rattle.std.proofs.Common.{◌≡◌, ℕ, ◌≤◌, ◌^◌, List, [], ◌∷◌, Option, Some, None, refl, arith, subst}
 use Rattle.std.specs.Prelude.{slice_get}
 use Rattle.std.specs.List.{AllByRecursion}
 use Rattle.std.specs.Option.{option_map}
@@ -17,9 +17,10 @@ use Rattle.migration_types.specs.declared.records.PagerRec.{PagerRec}
 use Rattle.migration_types.specs.declared.records.PagerRec.TheVariants.{Got, Pull, Ready, Fault, Join, Want, Place, Zero, Skip, All}
 use Rattle.migration_types.specs.Extents.{Extent}
 use Rattle.migration_types.specs.Contents.{IsContent}
+use Rattle.migration_types.specs.Limits.{limits, limits_at_most}
 use Rattle.migration_types.specs.Receipts.{Name}
 use Rattle.migration_types.specs.Rows.{Consists, row_of, guest_row, source_row, link_row, lane_row, pager_row, source_contents, pager_contents}
-use Rattle.migration_types.specs.Sessions.{Recorded, IsSession, HasLog, GuestRecFits, SourceRecFits, LinkRecFits, LaneRecFits, PagerRecFits}
+use Rattle.migration_types.specs.Sessions.{Recorded, IsSession, HasLog, GuestRecIn, SourceRecIn, LinkRecIn, LaneRecIn, PagerRecIn, GuestRecFits, SourceRecFits, LinkRecFits, LaneRecFits, PagerRecFits}
 use Rattle.audit_model.specs.Names.{if_there}
 use Rattle.audit_model.specs.Fitting.{FieldIsOf, contents_of, Fits}
 use Rattle.audit_model.proofs.Lists.{each_at}
@@ -31,46 +32,48 @@ each_is : {X : Type 0} (P Q : X → Type 0) → ((x : X) → P x → Q x) → (x
 each_is P Q more [] h = tt
 each_is P Q more (x ∷ xs) h = (more x h.0, each_is P Q more xs h.1)
 
-module _ (e : Extent) where
-  guest_is : (r : GuestRec) → GuestRecFits e r → IsGuestRecOf e r
-  guest_is (Read v p c x) h = h
-  guest_is (Write v p c x) h = h
-  guest_is (Release v p) h = h
-  guest_is (Miss v p) h = h
-  guest_is Halt h = h
-  guest_is (Resume n) h = omega (arith, h)
-  guest_is (See n) h = omega (arith, h)
+module _ (past : ℕ) (few : past ≤ 2 ^ 63) where
+  guest_is : (e : Extent) (r : GuestRec) → GuestRecIn past e r → IsGuestRecOf e r
+  guest_is e (Read v p c x) h = h
+  guest_is e (Write v p c x) h = h
+  guest_is e (Release v p) h = h
+  guest_is e (Miss v p) h = h
+  guest_is e Halt h = h
+  guest_is e (Resume n) h = omega (arith, h, few)
+  guest_is e (See n) h = omega (arith, h, few)
 
-  source_is : (r : SourceRec) → SourceRecFits e r → IsSourceRecOf e r
-  source_is (Halted n) h = omega (arith, h)
-  source_is State h = h
-  source_is (Send p xs) h = h
-  source_is (Again n) h = omega (arith, h)
-  source_is (Ask n) h = omega (arith, h)
-  source_is Done h = h
+  source_is : (e : Extent) (r : SourceRec) → SourceRecIn past e r → IsSourceRecOf e r
+  source_is e (Halted n) h = omega (arith, h, few)
+  source_is e State h = h
+  source_is e (Send p xs) h = h
+  source_is e (Again n) h = omega (arith, h, few)
+  source_is e (Ask n) h = omega (arith, h, few)
+  source_is e Done h = h
 
-  pager_is : (version : Version) (r : PagerRec) → PagerRecFits version e r → IsPagerRecOf version e r
-  pager_is version (Got n) h = omega (arith, h)
-  pager_is version (Pull n) h = (h.0, omega (arith, h.1))
-  pager_is version Ready h = h
-  pager_is version (Fault n) h = omega (arith, h)
-  pager_is version (Join n) h = omega (arith, h)
-  pager_is version (Want p) h = h
-  pager_is version (Place p n xs) h = (h.0, omega (arith, h.1), h.2)
-  pager_is version (Zero p) h = h
-  pager_is version (Skip n) h = omega (arith, h)
-  pager_is version All h = h
+  pager_is : (version : Version) (e : Extent) (r : PagerRec) → PagerRecIn past version e r → IsPagerRecOf version e r
+  pager_is version e (Got n) h = omega (arith, h, few)
+  pager_is version e (Pull n) h = (h.0, omega (arith, h.1, few))
+  pager_is version e Ready h = h
+  pager_is version e (Fault n) h = omega (arith, h, few)
+  pager_is version e (Join n) h = omega (arith, h, few)
+  pager_is version e (Want p) h = h
+  pager_is version e (Place p n xs) h = (h.0, omega (arith, h.1, few), h.2)
+  pager_is version e (Zero p) h = h
+  pager_is version e (Skip n) h = omega (arith, h, few)
+  pager_is version e All h = h
 
-link_is : (r : LinkRec) → LinkRecFits r → IsLinkRecOf r
-link_is (Down n) h = omega (arith, h)
-link_is (Up n) h = omega (arith, h)
+  link_is : (r : LinkRec) → LinkRecIn past r → IsLinkRecOf r
+  link_is (Down n) h = omega (arith, h, few)
+  link_is (Up n) h = omega (arith, h, few)
 
-lane_is : (version : Version) (r : LaneRec) → LaneRecFits version r → IsLaneRecOf version r
-lane_is version (LaneDown n) h = (h.0, omega (arith, h.1))
+  lane_is : (version : Version) (r : LaneRec) → LaneRecIn past version r → IsLaneRecOf version r
+  lane_is version (LaneDown n) h = (h.0, omega (arith, h.1, few))
 
 pub is_recording : (s : Recorded) → IsSession s → IsRecording s
 is_recording s h =
     let e = s.geometry in
+    let past = (limits e.size).records in
+    let few : past ≤ 2 ^ 63 = let most = (limits_at_most e.size).few_records in omega arith in
     let some_pages = h.geometry.some_pages in
     let few_pages = h.geometry.few_pages in
     record {
@@ -81,11 +84,11 @@ is_recording s h =
       few_link = omega (arith, h.few_link);
       few_lane = omega (arith, h.few_lane);
       few_pager = omega (arith, h.few_pager);
-      guest = each_is (GuestRecFits e) (IsGuestRecOf e) (guest_is e) s.guest h.guest;
-      source = each_is (SourceRecFits e) (IsSourceRecOf e) (source_is e) s.source h.source;
-      link = each_is LinkRecFits IsLinkRecOf link_is s.link h.link;
-      lane = each_is (LaneRecFits s.version) (IsLaneRecOf s.version) (lane_is s.version) s.lane h.lane;
-      pager = each_is (PagerRecFits s.version e) (IsPagerRecOf s.version e) (pager_is e s.version) s.pager h.pager;
+      guest = each_is (GuestRecFits e) (IsGuestRecOf e) (guest_is past few e) s.guest h.guest;
+      source = each_is (SourceRecFits e) (IsSourceRecOf e) (source_is past few e) s.source h.source;
+      link = each_is (LinkRecFits e) IsLinkRecOf (link_is past few) s.link h.link;
+      lane = each_is (LaneRecFits s.version e) (IsLaneRecOf s.version) (lane_is past few s.version) s.lane h.lane;
+      pager = each_is (PagerRecFits s.version e) (IsPagerRecOf s.version e) (pager_is past few s.version e) s.pager h.pager;
     }
 
 -- ---- recordings fit

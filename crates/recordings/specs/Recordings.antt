@@ -3,20 +3,14 @@ use Rattle.std.specs.Prelude.{◌≡◌, ℕ, ◌<◌, ◌≤◌, ◌^◌, List,
 use Rattle.std.specs.List.{AllByRecursion}
 use Rattle.migration_types.specs.declared.version.Version.{Version}
 use Rattle.migration_types.specs.declared.records.GuestRec.{GuestRec}
-use Rattle.migration_types.specs.declared.records.GuestRec.TheVariants.{Read, Write, Release, Miss, Halt, Resume, See}
 use Rattle.migration_types.specs.declared.records.SourceRec.{SourceRec}
-use Rattle.migration_types.specs.declared.records.SourceRec.TheVariants.{Halted, State, Send, Again, Ask, Done}
 use Rattle.migration_types.specs.declared.records.LinkRec.{LinkRec}
-use Rattle.migration_types.specs.declared.records.LinkRec.TheVariants.{Down, Up}
 use Rattle.migration_types.specs.declared.records.LaneRec.{LaneRec}
-use Rattle.migration_types.specs.declared.records.LaneRec.TheVariants.{Down as LaneDown}
 use Rattle.migration_types.specs.declared.records.PagerRec.{PagerRec}
-use Rattle.migration_types.specs.declared.records.PagerRec.TheVariants.{Got, Pull, Ready, Fault, Join, Want, Place, Zero, Skip, All}
-use Rattle.migration_types.specs.Contents.{IsContent}
 use Rattle.migration_types.specs.Extents.{Extent}
-use Rattle.migration_types.specs.Limits.{vcpus, most_cells}
+use Rattle.migration_types.specs.Limits.{most_cells}
 use Rattle.migration_types.specs.Pages.{AreInitPages}
-use Rattle.migration_types.specs.Sessions.{Recorded, HasLane}
+use Rattle.migration_types.specs.Sessions.{Recorded, GuestRecIn, SourceRecIn, LinkRecIn, LaneRecIn, PagerRecIn}
 use Rattle.session_text.specs.Grammar.{session_lines}
 
 -- a number of pages, of records, or of a page or a record
@@ -32,40 +26,19 @@ pub record IsMachine (e : Extent) : Type 0 where
 
 -- a record's numbers are those of a machine of this extent
 abbrev pub IsGuestRecOf : Extent → GuestRec → Type 0
-IsGuestRecOf e (Read vcpu page cell value) = (vcpu < vcpus) × (page < e.pages) × (cell < e.cells) × (value < 2 ^ 64)
-IsGuestRecOf e (Write vcpu page cell value) = (vcpu < vcpus) × (page < e.pages) × (cell < e.cells) × (value < 2 ^ 64)
-IsGuestRecOf e (Release vcpu page) = (vcpu < vcpus) × (page < e.pages)
-IsGuestRecOf e (Miss vcpu page) = (vcpu < vcpus) × (page < e.pages)
-IsGuestRecOf e Halt = Unit {0}
-IsGuestRecOf e (Resume ready) = IsCount ready
-IsGuestRecOf e (See placement) = IsCount placement
+IsGuestRecOf e = GuestRecIn (2 ^ 63) e
 
 abbrev pub IsSourceRecOf : Extent → SourceRec → Type 0
-IsSourceRecOf e (Halted halt) = IsCount halt
-IsSourceRecOf e State = Unit {0}
-IsSourceRecOf e (Send page contents) = (page < e.pages) × IsContent e.cells contents
-IsSourceRecOf e (Again sending) = IsCount sending
-IsSourceRecOf e (Ask up) = IsCount up
-IsSourceRecOf e Done = Unit {0}
+IsSourceRecOf e = SourceRecIn (2 ^ 63) e
 
 abbrev pub IsLinkRecOf : LinkRec → Type 0
-IsLinkRecOf (Down sending) = IsCount sending
-IsLinkRecOf (Up asking) = IsCount asking
+IsLinkRecOf = LinkRecIn (2 ^ 63)
 
 abbrev pub IsLaneRecOf : Version → LaneRec → Type 0
-IsLaneRecOf version (LaneDown sending) = HasLane version × IsCount sending
+IsLaneRecOf version = LaneRecIn (2 ^ 63) version
 
 abbrev pub IsPagerRecOf : Version → Extent → PagerRec → Type 0
-IsPagerRecOf version e (Got down) = IsCount down
-IsPagerRecOf version e (Pull down) = HasLane version × IsCount down
-IsPagerRecOf version e Ready = Unit {0}
-IsPagerRecOf version e (Fault miss) = IsCount miss
-IsPagerRecOf version e (Join want) = IsCount want
-IsPagerRecOf version e (Want page) = page < e.pages
-IsPagerRecOf version e (Place page got contents) = (page < e.pages) × IsCount got × IsContent e.cells contents
-IsPagerRecOf version e (Zero page) = page < e.pages
-IsPagerRecOf version e (Skip got) = IsCount got
-IsPagerRecOf version e All = Unit {0}
+IsPagerRecOf version e = PagerRecIn (2 ^ 63) version e
 
 -- a session of a machine of any size
 pub record IsRecording (s : Recorded) : Type 0 where

@@ -9,11 +9,11 @@ ghost use Rattle.session_text.specs.inner.InitPages.{IsInitContent};
 ghost use Rattle.recordings.specs.Recordings.{IsMachine};
 ghost use Rattle.recordings.specs.Wide.{extent_of, init_of};
 
-use crate::contents::read_page_contents;
 use crate::machine::Machine;
 use crate::wide::WideInit;
 use crate::writing::push_page;
 use migration_types::Contents;
+use session_text::read_page_contents;
 use std::alloc::{AllocError, Global};
 use text_lines::{FaultKind, after_key, number_then};
 

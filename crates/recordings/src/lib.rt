@@ -1,7 +1,6 @@
 //! Recordings: sessions of machines of any size, whose numbers have 64 bits, and their lines.
 #![tactic(auto)]
 
-mod contents;
 mod fields;
 mod guest;
 mod init;

@@ -9,12 +9,12 @@ ghost use Rattle.recordings.specs.Recordings.{IsMachine, IsSourceRecOf};
 ghost use Rattle.recordings.specs.Wide.{extent_of, source_of};
 ghost use Rattle.session_text.specs.inner.Forms.{IsStep};
 
-use crate::contents::read_page_contents;
 use crate::fields::keyed_whole;
 use crate::machine::{BEYOND, Machine};
 use crate::wide::WideSource;
 use crate::writing::push_page;
 use migration_types::Contents;
+use session_text::read_page_contents;
 use std::alloc::{AllocError, Global};
 use text_lines::{FaultKind, after_key, is_line, number_then, push_keyed, push_line};
 

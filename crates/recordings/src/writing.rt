@@ -3,7 +3,7 @@
 ghost use Rattle.std.specs.Prelude.{◌≡◌, [], ◌∷◌, ◌++◌, OnOk};
 ghost use Rattle.session_text.specs.Records.{page_text};
 
-use crate::contents::push_contents;
+use session_text::push_contents;
 use std::alloc::AllocError;
 use text_lines::{end_line, push_then};
 

@@ -84,7 +84,7 @@ pub(crate) fn push_page(out: &mut Vec<u8>, page: Option<PageNo>) -> Result<(), A
     ensures { OnOk result (out.new.items ≡ out.old.items ++ page_of page) }
 {
     match page {
-        Some(page) => push_number_under(out, b"page", u32::from(page.number())),
+        Some(page) => push_number_under(out, b"page", page.number()),
         None => Ok(()),
     }
 }

@@ -166,7 +166,7 @@ fn push_missing_page(out: &mut Vec<u8>, page: PageNo) -> Result<(), AllocError>
     ensures { OnOk result (out.new.items ≡ out.old.items ++ (word (codes "missing") (codes "page") ++ number (codes "page") page)) }
 {
     push_word_under(out, b"missing", b"page")?;
-    push_number_under(out, b"page", u32::from(page.number()))
+    push_number_under(out, b"page", page.number())
 }
 
 /// Adds that the placement of what the pager took by this record of it is missing.

@@ -1,7 +1,8 @@
 -- What a script says, and its limits.
-use Rattle.std.specs.Prelude.{ℕ, ◌≤◌, List, length, Option, Some, None}
+use Rattle.std.specs.Prelude.{◌≡◌, ℕ, ◌≤◌, List, length, Option, Some, None}
 use Rattle.std.specs.List.{AllByRecursion}
 use Rattle.migration_types.specs.declared.pages.InitPage.{InitPage}
+use Rattle.migration_types.specs.declared.size.Size.TheVariants.{Small}
 use Rattle.migration_types.specs.declared.version.Version.{Version}
 use Rattle.migration_types.specs.Extents.{Extent, IsExtent}
 use Rattle.migration_types.specs.Pages.{AreInitPages}
@@ -35,9 +36,10 @@ abbrev pub LaneFits : Version → Option (List Fate) → Type 0
 LaneFits version None = Unit {0}
 LaneFits version (Some fates) = HasLane version × (length fates ≤ 4096)
 
--- what a script says is within all limits
+-- what a script says is within all limits, those of a small machine
 pub record IsScenario (s : Scenario) : Type 0 where
   pub geometry : IsExtent s.geometry
+  pub small : s.geometry.size ≡ Small
   pub init : AreInitPages s.geometry s.init
   pub some_pivots : 1 ≤ s.pivots
   pub few_pivots : s.pivots ≤ 16

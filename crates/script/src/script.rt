@@ -2,6 +2,7 @@
 
 ghost use Rattle.std.specs.Prelude.{◌≡◌, IfOk, MatchBool, MatchOption, MatchResult, OnErr};
 ghost use Rattle.std.specs.Option.{option_map};
+ghost use Rattle.migration_types.specs.declared.size.Size.TheVariants.{Small};
 ghost use Rattle.script.specs.Scenarios.{IsScenario, LaneFits, Scenario};
 ghost use Rattle.script.specs.ScriptFaults.{IsScriptFault};
 
@@ -69,6 +70,7 @@ fn fault_in(
     lane: Option<&[Fate]>,
     vcpus: &[Vcpu],
 ) -> Option<ScriptFault>
+    requires { geometry.size ≡ Small }
     ensures { let parts : Scenario = record { version = version; geometry = geometry; init = init.now; pivots = pivots; window = window; down = down.now; up = up.now; lane = option_map (λ l. l.now) lane.entry; vcpus = vcpus.now } in MatchOption result (IsScenario parts) (IsScriptFault parts) }
 {
     if let Some(place) = first_wrong_page(geometry, init) {
@@ -97,7 +99,8 @@ fn fault_in(
 }
 
 impl Script {
-    /// The script of these parts, where they are within all limits. Takes no memory, and copies nothing.
+    /// The script of these parts, of a small machine, where they are within all limits. Takes no memory, and copies
+    /// nothing.
     ///
     /// # Errors
     ///
@@ -117,6 +120,7 @@ impl Script {
         lane: Option<Seq<Fate>>,
         vcpus: Seq<Vcpu>,
     ) -> Result<Self, ScriptFault>
+        requires { geometry.size ≡ Small }
         ensures value { let parts : Scenario = record { version = version; geometry = geometry; init = init; pivots = pivots; window = window; down = down; up = up; lane = lane; vcpus = vcpus } in MatchResult result (λ script. (script ≡ parts) × IsScenario parts) (IsScriptFault parts) }
         ensures refused { let parts : Scenario = record { version = version; geometry = geometry; init = init; pivots = pivots; window = window; down = down; up = up; lane = lane; vcpus = vcpus } in OnErr result (IsScenario parts → ⊥) }
     {

@@ -142,9 +142,7 @@ fn content_fits(geometry: Geometry, page: &InitPage) -> bool
 fn page_fits(geometry: Geometry, least: u32, page: &InitPage) -> bool
     ensures { MatchBool result ((least ≤ page.now.page) × InitPageFits geometry page.now) ((least ≤ page.now.page) × InitPageFits geometry page.now → ⊥) }
 {
-    least <= u32::from(page.page.number())
-        && geometry.has_page(page.page)
-        && content_fits(geometry, page)
+    least <= page.page.number() && geometry.has_page(page.page) && content_fits(geometry, page)
 }
 
 /// The place of the first initial page that may not stand there.
@@ -156,7 +154,7 @@ pub fn first_wrong_page(geometry: Geometry, init: &[InitPage]) -> Option<usize>
         if !page_fits(geometry, least, page) {
             return Some(place);
         }
-        least = u32::from(page.page.number()) + 1;
+        least = page.page.number() + 1;
     }
     None
 }

@@ -14,6 +14,7 @@ use Rattle.text_lines.proofs.Sections.{counted_agree, section_end, section_push}
 use Rattle.session_text.proofs.Lists.{spelled_same}
 use Rattle.session_text.proofs.Written.{ended_then}
 use Rattle.script_text.specs.inner.Plain.{plain_events}
+use Rattle.migration_types.specs.Limits.{most_records}
 use Rattle.migration_events.specs.declared.events.Event.{Event}
 use Rattle.migration_events.specs.declared.events.Event.TheVariants.{Halt}
 use Rattle.script_text.specs.declared.event_steps.EventStage.{EventStage}
@@ -42,7 +43,7 @@ header_taken d line live is = step Header Count d d line live tt (ap (λ (l : Li
     (λ v more r. let e = r.1 in let tail : more ≡ counted events_key event_line v (closing ∷ []) = cc in (r.0, tail))
     (λ v more r. let e = r.1 in (r.0, cc))
 
-pub count_taken : (d new : Part Event) (line : List ℕ) → EventsLive Count d → new.items ≡ [] → new.count ≤ 1048576 → line ≡ events_key ++ decimal new.count → EventsLive Events new × (events_held Events new ≡ events_held Count d ++ line ∷ [])
+pub count_taken : (d new : Part Event) (line : List ℕ) → EventsLive Count d → new.items ≡ [] → new.count ≤ most_records → line ≡ events_key ++ decimal new.count → EventsLive Events new × (events_held Events new ≡ events_held Count d ++ line ∷ [])
 count_taken d new line live none few is = step Count Events d new line live
     (record { few = few; within = rw none (omega arith); each = rw none tt })
     (rw (none, is) refl)
@@ -93,7 +94,7 @@ closing_taken d line live all is = step Events Done d d line live (live.fits, al
 pub header_refused : (d : Part Event) (line : List ℕ) → line ≢ events_header → (v : List Event) (more : List (List ℕ)) → EventsRest Header d v (line ∷ more) → ⊥
 header_refused d line other v more r = let e = r.1 in other (cc)
 
-pub count_refused : (d : Part Event) (line : List ℕ) → ((n : ℕ) → n ≤ 1048576 → line ≢ events_key ++ decimal n) → (v : List Event) (more : List (List ℕ)) → EventsRest Count d v (line ∷ more) → ⊥
+pub count_refused : (d : Part Event) (line : List ℕ) → ((n : ℕ) → n ≤ most_records → line ≢ events_key ++ decimal n) → (v : List Event) (more : List (List ℕ)) → EventsRest Count d v (line ∷ more) → ⊥
 count_refused d line none v more r = let e = r.1 in none (length v) r.0.few (cc)
 
 pub event_refused : (d : Part Event) (line : List ℕ) → length d.items < d.count → ((x : Event) → EventFits x → line ≢ event_line x) → (v : List Event) (more : List (List ℕ)) → EventsRest Events d v (line ∷ more) → ⊥

@@ -8,8 +8,11 @@ use Rattle.std.specs.List.{AllByRecursion}
 use Rattle.std.proofs.lemmas.List.{length-map, length-replicate}
 use Rattle.text_lines.specs.Text.{Begins}
 use Rattle.migration_types.specs.declared.pages.InitPage.{InitPage}
+use Rattle.migration_types.specs.declared.size.Size.{Size}
+use Rattle.migration_types.specs.declared.size.Size.TheVariants.{Small}
 use Rattle.migration_types.specs.declared.version.Version.{Version}
 use Rattle.migration_types.specs.Extents.{Extent, IsExtent}
+use Rattle.migration_types.specs.Limits.{limits}
 use Rattle.migration_types.specs.Pages.{AreInitPages}
 use Rattle.migration_types.specs.Sessions.{HasLane}
 use Rattle.migration_events.specs.declared.events.Fate.{Fate}
@@ -24,7 +27,7 @@ use Rattle.script_text.specs.declared.stages.ScriptStage.{ScriptStage}
 use Rattle.script_text.specs.declared.stages.ScriptStage.TheVariants.{Header, Pages, Cells, InitCount, Init, Window, Down, Up, Lanes, Lane, Count, First, Ops, Done}
 use Rattle.script.specs.Scenarios.{Scenario, LaneFits, VcpuFits, IsScenario}
 use Rattle.script_text.specs.Scripts.{lane_key, fates_text, op_line, vcpus_onto, vcpus_lines, lanes_lines, up_lines, down_lines, window_lines, pivots_lines, init_lines, cells_lines, pages_lines, script_lines, SpellsScript}
-use Rattle.script_text.specs.inner.ScriptHeld.{ScriptDraft, scenario_of, script_held, vcpu_of, ScriptRest, ScriptFits, ScriptLive, FitsPivots, FitsLane}
+use Rattle.script_text.specs.inner.ScriptHeld.{ScriptDraft, small_machine, machine_of, scenario_of, script_held, vcpu_of, ScriptRest, ScriptFits, ScriptLive, FitsPivots, FitsLane}
 use Rattle.script_text.proofs.ByVersion.{lanes_long, lanes_short}
 use Rattle.script_text.proofs.Exactly.{exact_refuses, exact_begins, exact_whole, exact_left}
 use Rattle.script.proofs.Lists.{all_append}
@@ -36,11 +39,12 @@ use Rattle.script_text.proofs.ScriptSteps.{few_init, lane_fits, with_lane}
 no_init : (e : Extent) → AreInitPages e []
 no_init e = record { each = tt; rising = λ k lt. absurd (omega (arith, lt)) }
 
-first_scenario : (version : Version) (e : Extent) (init : List InitPage) → IsExtent e → AreInitPages e init → (v : Scenario) × IsScenario v × (v.version ≡ version) × (v.geometry ≡ e) × (v.init ≡ init)
-first_scenario version e init h pages = (
+first_scenario : (version : Version) (e : Extent) (init : List InitPage) → IsExtent e → e.size ≡ Small → AreInitPages e init → (v : Scenario) × IsScenario v × (v.version ≡ version) × (v.geometry ≡ e) × (v.init ≡ init)
+first_scenario version e init h is_small pages = (
   record { version = version; geometry = e; init = init; pivots = 1; window = 1; down = []; up = []; lane = None; vcpus = vcpu_of [] [] ∷ [] },
   record {
     geometry = h;
+    small = is_small;
     init = pages;
     some_pivots = omega arith;
     few_pivots = omega arith;
@@ -62,12 +66,12 @@ abbrev with_vcpus : ScriptDraft → List Vcpu → Scenario
 with_vcpus d vcpus = record (scenario_of d) { vcpus = vcpus }
 
 -- any pivots, window and fates, and any virtual processors
-scenario_fits : (d : ScriptDraft) (vcpus : List Vcpu) → FitsLane d → 1 ≤ length vcpus → length vcpus ≤ 64 → AllByRecursion (VcpuFits d.version d.geometry) vcpus → IsScenario (with_vcpus d vcpus)
+scenario_fits : (d : ScriptDraft) (vcpus : List Vcpu) → FitsLane d → 1 ≤ length vcpus → length vcpus ≤ 64 → AllByRecursion (VcpuFits d.version (machine_of d)) vcpus → IsScenario (with_vcpus d vcpus)
 scenario_fits d vcpus f some few each =
     let u = f.before in
     let w = u.before.before in
     let p = w.before in
-    record { geometry = p.geometry; init = p.init; some_pivots = p.some; few_pivots = p.few; some_window = w.some; few_window = w.few; few_down = u.before.few; few_up = u.few; lane = f.lane; some_vcpus = some; few_vcpus = few; vcpus = each }
+    record { geometry = p.geometry; small = refl; init = p.init; some_pivots = p.some; few_pivots = p.few; some_window = w.some; few_window = w.few; few_down = u.before.few; few_up = u.few; lane = f.lane; some_vcpus = some; few_vcpus = few; vcpus = each }
 
 -- with fields that did not come yet, and no lane
 abbrev small : ℕ → List Fate → List Fate → ScriptDraft → ScriptDraft
@@ -88,20 +92,20 @@ abbrev idle : ScriptDraft → Scenario
 idle d = with_vcpus d (idles 1)
 
 idle_fits : (d : ScriptDraft) → FitsLane d → IsScenario (idle d)
-idle_fits d f = scenario_fits d (idles 1) f (omega arith) (omega arith) (idles_fit d.version d.geometry 1)
+idle_fits d f = scenario_fits d (idles 1) f (omega arith) (omega arith) (idles_fit d.version (machine_of d) 1)
 
 rest_of : (stage : ScriptStage) (d : ScriptDraft) → ScriptFits stage d → (v : Scenario) × (more : List (List ℕ)) × ScriptRest stage d v more
-rest_of Header d fits = let s = first_scenario d.version (record { pages = 1; cells = 1 }) [] (record { some_pages = omega arith; few_pages = omega arith; some_cells = omega arith; few_cells = omega arith; few_in_all = omega arith }) (no_init _) in (s.0, script_lines s.0, (s.1, refl))
-rest_of Pages d fits = let s = first_scenario d.version (record { pages = 1; cells = 1 }) [] (record { some_pages = omega arith; few_pages = omega arith; some_cells = omega arith; few_cells = omega arith; few_in_all = omega arith }) (no_init _) in (s.0, pages_lines s.0, (s.1, s.2, refl))
+rest_of Header d fits = let s = first_scenario d.version (small_machine 1 1) [] (record { some_pages = omega arith; few_pages = omega arith; some_cells = omega arith; few_cells = omega arith; few_in_all = omega arith; own = record { pages = omega arith; cells = omega arith } }) refl (no_init _) in (s.0, script_lines s.0, (s.1, refl))
+rest_of Pages d fits = let s = first_scenario d.version (small_machine 1 1) [] (record { some_pages = omega arith; few_pages = omega arith; some_cells = omega arith; few_cells = omega arith; few_in_all = omega arith; own = record { pages = omega arith; cells = omega arith } }) refl (no_init _) in (s.0, pages_lines s.0, (s.1, s.2, refl))
 rest_of Cells d fits =
-    let e : Extent = record { pages = d.geometry.pages; cells = 1 } in
-    let s = first_scenario d.version e [] (record { some_pages = fits.0; few_pages = fits.1; some_cells = omega arith; few_cells = omega arith; few_in_all = omega (arith, fits.1) }) (no_init e) in
+    let e : Extent = small_machine d.pages 1 in
+    let s = first_scenario d.version e [] (record { some_pages = fits.0; few_pages = omega (arith, fits.1); some_cells = omega arith; few_cells = omega arith; few_in_all = omega (arith, fits.1); own = record { pages = fits.1; cells = omega (arith, fits.1) } }) refl (no_init e) in
     (s.0, cells_lines s.0, (s.1, s.2, ap (λ (x : Extent). x.pages) s.3, refl))
-rest_of InitCount d fits = let s = first_scenario d.version d.geometry [] fits (no_init d.geometry) in (s.0, init_lines s.0, (s.1, s.2, s.3, refl))
+rest_of InitCount d fits = let s = first_scenario d.version (machine_of d) [] fits refl (no_init (machine_of d)) in (s.0, init_lines s.0, (s.1, s.2, s.3, refl))
 rest_of Init d fits =
-    let filled = init_filled d.geometry (next_from 0 d.init.items) d.init fits in
+    let filled = init_filled (machine_of d) (next_from 0 d.init.items) d.init fits in
     let more = filled.0 in
-    let s = first_scenario d.version d.geometry (d.init.items ++ more) fits.geometry (record { each = filled.2.each; rising = rise_increases 0 filled.1 (d.init.items ++ more) filled.2.rising }) in
+    let s = first_scenario d.version (machine_of d) (d.init.items ++ more) fits.geometry refl (record { each = filled.2.each; rising = rise_increases 0 filled.1 (d.init.items ++ more) filled.2.rising }) in
     (s.0, map page_line more ++ pivots_lines s.0, record { fits = s.1; version = s.2; geometry = s.3; count = ap (λ (t : List InitPage). length t) s.4 ∙ filled.3; back = more; whole = s.4; lines = refl })
 rest_of Window d fits =
     let s = small 1 [] [] d in
@@ -128,7 +132,7 @@ rest_of First d fits =
     let some = f.some in
     let few = f.few in
     let long = length-replicate d.count (vcpu_of [] []) in
-    (with_vcpus d (idles d.count), vcpus_onto (idles d.count) (closing ∷ []), (scenario_fits d (idles d.count) f.before (omega arith) (omega arith) (idles_fit d.version d.geometry d.count), ((((((refl, refl, refl), refl), refl), refl), refl), refl), long, refl))
+    (with_vcpus d (idles d.count), vcpus_onto (idles d.count) (closing ∷ []), (scenario_fits d (idles d.count) f.before (omega arith) (omega arith) (idles_fit d.version (machine_of d) d.count), ((((((refl, refl, refl), refl), refl), refl), refl), refl), long, refl))
 rest_of Ops d fits =
     let c = fits.before in
     let h = c.before.before.before.before.before.geometry in
@@ -154,13 +158,13 @@ rest_of Ops d fits =
     let this = vcpu_of (d.before.items ++ befores) (d.after.items ++ afters) in
     let vcpus = d.vcpus ++ this ∷ idles m in
     let count : length vcpus ≡ d.count = omega (arith, length-append d.vcpus (this ∷ idles m), lm) in
-    let this_fits : VcpuFits d.version d.geometry this = record {
+    let this_fits : VcpuFits d.version (machine_of d) this = record {
       few_before = omega arith;
       few_after = omega arith;
-      before_move = all_append (OpFits d.geometry) d.before.items befores fits.before_move (all_replicate (OpFits d.geometry) nb (Read 0 0) (omega arith, omega arith));
-      after_move = all_append (LateOpFits d.version d.geometry) d.after.items afters fits.after_move (all_replicate (LateOpFits d.version d.geometry) na (Read 0 0) (omega arith, omega arith));
+      before_move = all_append (OpFits (machine_of d)) d.before.items befores fits.before_move (all_replicate (OpFits (machine_of d)) nb (Read 0 0) (omega arith, omega arith));
+      after_move = all_append (LateOpFits d.version (machine_of d)) d.after.items afters fits.after_move (all_replicate (LateOpFits d.version (machine_of d)) na (Read 0 0) (omega arith, omega arith));
     } in
-    let each = all_append (VcpuFits d.version d.geometry) d.vcpus (this ∷ idles m) c.vcpus (this_fits, idles_fit d.version d.geometry m) in (
+    let each = all_append (VcpuFits d.version (machine_of d)) d.vcpus (this ∷ idles m) c.vcpus (this_fits, idles_fit d.version (machine_of d) m) in (
       with_vcpus d vcpus,
       map op_line befores ++ (map op_line afters ++ vcpus_onto (idles m) (closing ∷ [])),
       record {
@@ -198,7 +202,7 @@ vcpus_few version e (vcpu ∷ vcpus) more fits =
 script_few : (v : Scenario) → IsScenario v → length (script_lines v) ≤ 16777216
 script_few v fits =
     let init = few_init v fits in
-    let pages = fits.geometry.few_pages in
+    let pages = subst (λ (size : Size). v.geometry.pages ≤ (limits size).pages) fits.small fits.geometry.own.pages in
     let few = fits.few_vcpus in
     let vcpus = vcpus_few v.version v.geometry v.vcpus (closing ∷ []) fits.vcpus in
     let lanes = lanes_short v.version v.lane (vcpus_lines v) in

@@ -7,9 +7,11 @@ use Rattle.std.proofs.lemmas.List.{append-nil, append_cancel_left}
 use Rattle.text_lines.specs.Counted.{Part, IsWhole}
 use Rattle.text_lines.proofs.Sections.{section_push}
 use Rattle.migration_types.specs.declared.pages.InitPage.{InitPage}
+use Rattle.migration_types.specs.declared.size.Size.TheVariants.{Small}
 use Rattle.migration_types.specs.declared.version.Version.{Version}
 use Rattle.migration_types.specs.declared.version.Version.TheVariants.{One, Two}
 use Rattle.migration_types.specs.Extents.{Extent, IsExtent}
+use Rattle.migration_types.specs.Limits.{limits}
 use Rattle.migration_types.specs.Pages.{InitPageFits}
 use Rattle.migration_types.specs.Sessions.{HasLane}
 use Rattle.migration_events.specs.declared.events.Fate.{Fate}
@@ -21,7 +23,7 @@ use Rattle.script_text.specs.declared.stages.ScriptStage.{ScriptStage}
 use Rattle.script_text.specs.declared.stages.ScriptStage.TheVariants.{Header, Pages, Cells, InitCount, Init, Window, Down, Up, Lanes, Lane, Count}
 use Rattle.script.specs.Scenarios.{Scenario, LaneFits, IsScenario}
 use Rattle.script_text.specs.Scripts.{script_header, pivots_key, window_key, down_key, up_key, lane_key, fates_text, vcpus_lines, with_lanes, lanes_lines, up_lines, down_lines, window_lines, pivots_lines, init_lines, cells_lines, pages_lines, SpellsScript}
-use Rattle.script_text.specs.inner.ScriptHeld.{ScriptDraft, held_down, held_up, script_held, InitLeft, ScriptRest, InitPart, FitsDown, FitsUp, FitsLane, ScriptFits, ScriptLive}
+use Rattle.script_text.specs.inner.ScriptHeld.{ScriptDraft, small_machine, machine_of, held_down, held_up, script_held, InitLeft, ScriptRest, InitPart, FitsDown, FitsUp, FitsLane, ScriptFits, ScriptLive}
 use Rattle.script_text.proofs.ByVersion.{header_tells, no_header, no_lane, no_lanes, one_lane, two_lanes, with_lanes_same}
 use Rattle.script_text.proofs.Exactly.{exact_step}
 use Rattle.script.proofs.Lists.{all_at}
@@ -60,23 +62,23 @@ pub header_refused : (d : ScriptDraft) (line : List ℕ) → line ≢ script_hea
 header_refused d line one two v more r = no_header line v.version one two (cons_parts line (script_header v.version) more (pages_lines v) r.1).0
 
 abbrev pub with_pages : ℕ → ScriptDraft → ScriptDraft
-with_pages n d = record d { geometry = record { pages = n; cells = d.geometry.cells } }
+with_pages n d = record d { pages = n }
 
-pub pages_taken : (d : ScriptDraft) (n : ℕ) (line : List ℕ) → ScriptLive Pages d → 1 ≤ n → n ≤ 65536 → line ≡ pages_key ++ decimal n → Taken Pages Cells d (with_pages n d) line
+pub pages_taken : (d : ScriptDraft) (n : ℕ) (line : List ℕ) → ScriptLive Pages d → 1 ≤ n → n ≤ (limits Small).pages → line ≡ pages_key ++ decimal n → Taken Pages Cells d (with_pages n d) line
 pages_taken d n line live some few is = step Pages Cells d (with_pages n d) line live (some, few) (ap (λ (l : List ℕ). script_header d.version ∷ l ∷ []) (sym is))
     (λ v more r. let top = r.0.geometry.few_pages in let k = keyed_on pages_key n v.geometry.pages line more (cells_lines v) (omega arith) (omega arith) is r.2 in (r.0, r.1, k.0, k.1))
     (λ v more r. (r.0, r.1, keyed_back pages_key n v.geometry.pages line more (cells_lines v) is r.2 r.3))
 
 abbrev pub with_cells : ℕ → ScriptDraft → ScriptDraft
-with_cells n d = record d { geometry = record { pages = d.geometry.pages; cells = n } }
+with_cells n d = record d { cells = n }
 
-pub cells_taken : (d : ScriptDraft) (n : ℕ) (line : List ℕ) → ScriptLive Cells d → IsExtent (record { pages = d.geometry.pages; cells = n }) → line ≡ cells_key ++ decimal n → Taken Cells InitCount d (with_cells n d) line
-cells_taken d n line live fits is = step Cells InitCount d (with_cells n d) line live fits (ap (λ (l : List ℕ). script_header d.version ∷ (pages_key ++ decimal d.geometry.pages) ∷ l ∷ []) (sym is))
+pub cells_taken : (d : ScriptDraft) (n : ℕ) (line : List ℕ) → ScriptLive Cells d → IsExtent (small_machine d.pages n) → line ≡ cells_key ++ decimal n → Taken Cells InitCount d (with_cells n d) line
+cells_taken d n line live fits is = step Cells InitCount d (with_cells n d) line live fits (ap (λ (l : List ℕ). script_header d.version ∷ (pages_key ++ decimal d.pages) ∷ l ∷ []) (sym is))
     (λ v more r.
     let top = r.0.geometry.few_cells in
     let few = fits.few_cells in
     let k = keyed_on cells_key n v.geometry.cells line more (init_lines v) (omega arith) (omega arith) is r.3 in
-    (r.0, r.1, extent_same v.geometry (record { pages = d.geometry.pages; cells = n }) r.2 k.0, k.1))
+    (r.0, r.1, extent_same v.geometry (small_machine d.pages n) r.0.small r.2 k.0, k.1))
     (λ v more r. (r.0, r.1, ap (λ (e : Extent). e.pages) r.2, keyed_back cells_key n v.geometry.cells line more (init_lines v) is (ap (λ (e : Extent). e.cells) r.2) r.3))
 
 -- ---- initial pages
@@ -91,7 +93,7 @@ few_init v fits =
 abbrev pub with_init : Part InitPage → ScriptDraft → ScriptDraft
 with_init part d = record d { init = part }
 
-pub init_count_taken : (d : ScriptDraft) (part : Part InitPage) (line : List ℕ) → ScriptLive InitCount d → part.items ≡ [] → part.count ≤ d.geometry.pages → line ≡ init_key ++ decimal part.count → Taken InitCount Init d (with_init part d) line
+pub init_count_taken : (d : ScriptDraft) (part : Part InitPage) (line : List ℕ) → ScriptLive InitCount d → part.items ≡ [] → part.count ≤ d.pages → line ≡ init_key ++ decimal part.count → Taken InitCount Init d (with_init part d) line
 init_count_taken d part line live none few is =
     let pages = live.fits.few_pages in
     step InitCount Init d (with_init part d) line live
@@ -106,7 +108,7 @@ init_count_taken d part line live none few is =
     let same : r.back ≡ v.init = sym (r.whole ∙ ap (λ (t : List InitPage). t ++ r.back) none) in
     (r.fits, r.version, r.geometry, keyed_back init_key part.count (length v.init) line more (map page_line v.init ++ pivots_lines v) is r.count (r.lines ∙ ap (λ (t : List InitPage). map page_line t ++ pivots_lines v) same)))
 
-pub init_count_refused : (d : ScriptDraft) (line : List ℕ) → ((n : ℕ) → n ≤ d.geometry.pages → line ≢ init_key ++ decimal n) → RefusesAt InitCount d line
+pub init_count_refused : (d : ScriptDraft) (line : List ℕ) → ((n : ℕ) → n ≤ d.pages → line ≢ init_key ++ decimal n) → RefusesAt InitCount d line
 init_count_refused d line none v more r =
     let most = few_init v r.0 in
     let pages = ap (λ (e : Extent). e.pages) r.2 in
@@ -119,7 +121,7 @@ pub record NextPage (d : ScriptDraft) (v : Scenario) (line : List ℕ) (more : L
   pub whole : v.init ≡ d.init.items ++ page ∷ back
   pub spelled : line ≡ page_line page
   pub lines : more ≡ map page_line back ++ pivots_lines v
-  pub fits : InitPageFits d.geometry page
+  pub fits : InitPageFits (machine_of d) page
 
 pub next_page : (d : ScriptDraft) (line : List ℕ) (v : Scenario) (more : List (List ℕ)) → InitLeft d v (line ∷ more) → length d.init.items < d.init.count → NextPage d v line more
 next_page d line v more r less = go r.back r.whole r.lines
@@ -131,20 +133,20 @@ next_page d line v more r less = go r.back r.whole r.lines
         let each = subst (λ (t : List InitPage). AllByRecursion (InitPageFits v.geometry) t) whole r.fits.init.each in
         record { page = p; back = back; whole = whole; spelled = parts.0; lines = parts.1; fits = subst (λ (e : Extent). InitPageFits e p) r.geometry (all_at (InitPageFits v.geometry) d.init.items p back each) }
 
-pub page_taken : (d : ScriptDraft) (p : InitPage) (part : Part InitPage) (line : List ℕ) → ScriptLive Init d → length d.init.items < d.init.count → part ≡ record { count = d.init.count; items = d.init.items ++ p ∷ [] } → next_from 0 d.init.items ≤ p.page → p.page ≤ d.geometry.pages - (d.init.count - length d.init.items) → IsInitContent d.geometry.cells p.cells → line ≡ page_line p → Taken Init Init d (with_init part d) line
+pub page_taken : (d : ScriptDraft) (p : InitPage) (part : Part InitPage) (line : List ℕ) → ScriptLive Init d → length d.init.items < d.init.count → part ≡ record { count = d.init.count; items = d.init.items ++ p ∷ [] } → next_from 0 d.init.items ≤ p.page → p.page ≤ d.pages - (d.init.count - length d.init.items) → IsInitContent d.cells p.cells → line ≡ page_line p → Taken Init Init d (with_init part d) line
 page_taken d p part line live less is low high content spelled =
     let new : Part InitPage = record { count = d.init.count; items = d.init.items ++ p ∷ [] } in
-    let fits = page_push d.geometry d.init (next_from 0 d.init.items) (next_from 0 (d.init.items ++ p ∷ [])) p (next_push 0 d.init.items p) live.fits less low high content in
-    let own = all_at (InitPageFits d.geometry) d.init.items p [] fits.each in
+    let fits = page_push (machine_of d) d.init (next_from 0 d.init.items) (next_from 0 (d.init.items ++ p ∷ [])) p (next_push 0 d.init.items p) live.fits less low high content in
+    let own = all_at (InitPageFits (machine_of d)) d.init.items p [] fits.each in
     rw is (step Init Init d (with_init new d) line live fits
-    (ap (λ (t : List (List ℕ)). script_header d.version ∷ (pages_key ++ decimal d.geometry.pages) ∷ (cells_key ++ decimal d.geometry.cells) ∷ (init_key ++ decimal d.init.count) ∷ t) (sym (append-nil (map page_line (d.init.items ++ p ∷ []))) ∙ section_push page_line d.init.items p [] ∙ ap (λ (l : List ℕ). map page_line d.init.items ++ l ∷ []) (sym spelled)))
+    (ap (λ (t : List (List ℕ)). script_header d.version ∷ (pages_key ++ decimal d.pages) ∷ (cells_key ++ decimal d.cells) ∷ (init_key ++ decimal d.init.count) ∷ t) (sym (append-nil (map page_line (d.init.items ++ p ∷ []))) ∙ section_push page_line d.init.items p [] ∙ ap (λ (l : List ℕ). map page_line d.init.items ++ l ∷ []) (sym spelled)))
     (λ v more r.
     let n = next_page d line v more r less in
-    let same = init_page_tells d.geometry live.fits.geometry p n.page own n.fits (sym spelled ∙ n.spelled) in
+    let same = init_page_tells (machine_of d) live.fits.geometry p n.page own n.fits (sym spelled ∙ n.spelled) in
     record { fits = r.fits; version = r.version; geometry = r.geometry; count = r.count; back = n.back; whole = n.whole ∙ ap (λ (q : InitPage). d.init.items ++ q ∷ n.back) (sym same) ∙ sym (append_assoc d.init.items (p ∷ []) n.back); lines = n.lines })
     (λ v more r. record { fits = r.fits; version = r.version; geometry = r.geometry; count = r.count; back = p ∷ r.back; whole = r.whole ∙ append_assoc d.init.items (p ∷ []) r.back; lines = cons_same line (page_line p) more (map page_line r.back ++ pivots_lines v) spelled r.lines }))
 
-pub page_refused : (d : ScriptDraft) (line : List ℕ) (last : ℕ) → InitPart d → length d.init.items < d.init.count → last ≡ d.geometry.pages - (d.init.count - length d.init.items) → ((p : InitPage) → (p.page ≤ last) × IsInitContent d.geometry.cells p.cells → next_from 0 d.init.items ≤ p.page → line ≢ page_line p) → RefusesAt Init d line
+pub page_refused : (d : ScriptDraft) (line : List ℕ) (last : ℕ) → InitPart d → length d.init.items < d.init.count → last ≡ d.pages - (d.init.count - length d.init.items) → ((p : InitPage) → (p.page ≤ last) × IsInitContent d.cells p.cells → next_from 0 d.init.items ≤ p.page → line ≢ page_line p) → RefusesAt Init d line
 page_refused d line last fits less is none v more r =
     let n = next_page d line v more r less in
     let rises = rise_of v.geometry v.init r.fits.init in

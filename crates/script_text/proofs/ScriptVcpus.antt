@@ -14,7 +14,7 @@ use Rattle.script.specs.declared.vcpus.Vcpu.{Vcpu}
 use Rattle.script_text.specs.declared.stages.ScriptStage.TheVariants.{Count, First, Ops, Done}
 use Rattle.script.specs.Scenarios.{Scenario, VcpuFits, IsScenario}
 use Rattle.script_text.specs.Scripts.{vcpus_key, op_line, counts_line, vcpu_onto, vcpus_onto}
-use Rattle.script_text.specs.inner.ScriptHeld.{ScriptDraft, held_lanes, held_vcpus, held_ops, vcpu_of, AgreesLane, OpsLeft, FitsLane, FitsCount, FitsOps, ScriptLive}
+use Rattle.script_text.specs.inner.ScriptHeld.{ScriptDraft, machine_of, held_lanes, held_vcpus, held_ops, vcpu_of, AgreesLane, OpsLeft, FitsLane, FitsCount, FitsOps, ScriptLive}
 use Rattle.script_text.specs.inner.ScriptDraft.{HasAllOps, begun, ended}
 use Rattle.script.proofs.Lists.{all_at, all_append}
 use Rattle.script_text.proofs.Lists.{cons_parts, cons_same, keyed_same, none_left}
@@ -121,7 +121,7 @@ first_refused d line none v more r =
 -- ---- operations
 
 -- the virtual processor that is coming, as it will be
-this_vcpu : (d : ScriptDraft) (v : Scenario) (lines : List (List ℕ)) (r : OpsLeft d v lines) → VcpuFits d.version d.geometry (vcpu_of (d.before.items ++ r.befores) (d.after.items ++ r.afters))
+this_vcpu : (d : ScriptDraft) (v : Scenario) (lines : List (List ℕ)) (r : OpsLeft d v lines) → VcpuFits d.version (machine_of d) (vcpu_of (d.before.items ++ r.befores) (d.after.items ++ r.afters))
 this_vcpu d v lines r =
     let w = vcpu_of (d.before.items ++ r.befores) (d.after.items ++ r.afters) in
     let own = all_at (VcpuFits v.version v.geometry) d.vcpus w r.back (subst (AllByRecursion (VcpuFits v.version v.geometry)) r.whole r.fits.vcpus) in
@@ -146,8 +146,8 @@ tail_of d v lines r = map op_line r.afters ++ vcpus_onto r.back (closing ∷ [])
 next_early : (d : ScriptDraft) (line : List ℕ) (v : Scenario) (more : List (List ℕ)) (r : OpsLeft d v (line ∷ more)) → length d.before.items < d.before.count → NextEarly d line more r.befores (tail_of d v (line ∷ more) r)
 next_early d line v more r less = next_op d line more r.befores (tail_of d v (line ∷ more) r) (omega (arith, r.all_before, length-append d.before.items r.befores)) r.lines
 
-early_fits : (d : ScriptDraft) (line : List ℕ) (v : Scenario) (more : List (List ℕ)) (r : OpsLeft d v (line ∷ more)) (op : Op) (others : List Op) → r.befores ≡ op ∷ others → OpFits d.geometry op
-early_fits d line v more r op others is = all_at (OpFits d.geometry) d.before.items op others (subst (λ (t : List Op). AllByRecursion (OpFits d.geometry) (d.before.items ++ t)) is (this_vcpu d v (line ∷ more) r).before_move)
+early_fits : (d : ScriptDraft) (line : List ℕ) (v : Scenario) (more : List (List ℕ)) (r : OpsLeft d v (line ∷ more)) (op : Op) (others : List Op) → r.befores ≡ op ∷ others → OpFits (machine_of d) op
+early_fits d line v more r op others is = all_at (OpFits (machine_of d)) d.before.items op others (subst (λ (t : List Op). AllByRecursion (OpFits (machine_of d)) (d.before.items ++ t)) is (this_vcpu d v (line ∷ more) r).before_move)
 
 early_grown : (before after : List Op) (op : Op) (line : List ℕ) → after ≡ [] → line ≡ op_line op → map op_line (before ++ op ∷ []) ++ map op_line after ≡ (map op_line before ++ map op_line after) ++ line ∷ []
 early_grown before after op line none is = rw none (section_push op_line before op [] ∙ ap (λ (l : List ℕ). map op_line before ++ l ∷ []) (sym is) ∙ ap (λ (t : List (List ℕ)). t ++ line ∷ []) (sym (append-nil (map op_line before))))
@@ -160,13 +160,13 @@ late_grown before after op line is =
 held_grown : (d : ScriptDraft) (ops new : List (List ℕ)) (line : List ℕ) → new ≡ ops ++ line ∷ [] → held_vcpus d ++ counts_line d.before.count d.after.count ∷ new ≡ (held_vcpus d ++ counts_line d.before.count d.after.count ∷ ops) ++ line ∷ []
 held_grown d ops new line e = ap (λ (t : List (List ℕ)). held_vcpus d ++ counts_line d.before.count d.after.count ∷ t) e ∙ sym (append_assoc (held_vcpus d) (counts_line d.before.count d.after.count ∷ ops) (line ∷ []))
 
-geometry_of : (d : ScriptDraft) → FitsOps d → IsExtent d.geometry
+geometry_of : (d : ScriptDraft) → FitsOps d → IsExtent (machine_of d)
 geometry_of d f = f.before.before.before.before.before.before.geometry
 
 abbrev pub with_before : List Op → ScriptDraft → ScriptDraft
 with_before ops d = record d { before = record { count = d.before.count; items = ops } }
 
-pub early_taken : (d : ScriptDraft) (op : Op) (ops : List Op) (line : List ℕ) → ScriptLive Ops d → length d.before.items < d.before.count → ops ≡ d.before.items ++ op ∷ [] → OpFits d.geometry op → line ≡ op_line op → Taken Ops Ops d (with_before ops d) line
+pub early_taken : (d : ScriptDraft) (op : Op) (ops : List Op) (line : List ℕ) → ScriptLive Ops d → length d.before.items < d.before.count → ops ≡ d.before.items ++ op ∷ [] → OpFits (machine_of d) op → line ≡ op_line op → Taken Ops Ops d (with_before ops d) line
 early_taken d op ops line live less is fits spelled =
     let f = live.fits in
     let c = f.before in
@@ -179,21 +179,21 @@ early_taken d op ops line live less is fits spelled =
       few_after = f.few_after;
       within_before = omega (arith, length-append d.before.items (op ∷ []));
       within_after = f.within_after;
-      before_move = all_append (OpFits d.geometry) d.before.items (op ∷ []) f.before_move (fits, tt);
+      before_move = all_append (OpFits (machine_of d)) d.before.items (op ∷ []) f.before_move (fits, tt);
       after_move = f.after_move;
       in_turn = λ _. none;
     })
     (held_grown d (map op_line d.before.items ++ map op_line d.after.items) (map op_line (d.before.items ++ op ∷ []) ++ map op_line d.after.items) line (early_grown d.before.items d.after.items op line none spelled))
     (λ v more r.
     let n = next_early d line v more r less in
-    let same = op_tells d.geometry (geometry_of d f) op n.op fits (early_fits d line v more r n.op n.others n.whole) (sym spelled ∙ n.spelled) in
+    let same = op_tells (machine_of d) (geometry_of d f) op n.op fits (early_fits d line v more r n.op n.others n.whole) (sym spelled ∙ n.spelled) in
     let befores : d.before.items ++ r.befores ≡ (d.before.items ++ op ∷ []) ++ n.others = ap (λ (t : List Op). d.before.items ++ t) (n.whole ∙ ap (λ (x : Op). x ∷ n.others) (sym same)) ∙ sym (append_assoc d.before.items (op ∷ []) n.others) in
     record { fits = r.fits; agrees = r.agrees; count = r.count; befores = n.others; afters = r.afters; back = r.back; whole = r.whole ∙ ap (λ (t : List Op). d.vcpus ++ vcpu_of t (d.after.items ++ r.afters) ∷ r.back) befores; all_before = ap (λ (t : List Op). length t) (sym befores) ∙ r.all_before; all_after = r.all_after; lines = n.lines })
     (λ v more r.
     let befores : (d.before.items ++ op ∷ []) ++ r.befores ≡ d.before.items ++ (op ∷ r.befores) = append_assoc d.before.items (op ∷ []) r.befores in
     record { fits = r.fits; agrees = r.agrees; count = r.count; befores = op ∷ r.befores; afters = r.afters; back = r.back; whole = r.whole ∙ ap (λ (t : List Op). d.vcpus ++ vcpu_of t (d.after.items ++ r.afters) ∷ r.back) befores; all_before = ap (λ (t : List Op). length t) (sym befores) ∙ r.all_before; all_after = r.all_after; lines = cons_same line (op_line op) more (map op_line r.befores ++ (map op_line r.afters ++ vcpus_onto r.back (closing ∷ []))) spelled r.lines }))
 
-pub early_refused : (d : ScriptDraft) (line : List ℕ) → length d.before.items < d.before.count → ((op : Op) → OpFits d.geometry op → line ≢ op_line op) → RefusesAt Ops d line
+pub early_refused : (d : ScriptDraft) (line : List ℕ) → length d.before.items < d.before.count → ((op : Op) → OpFits (machine_of d) op → line ≢ op_line op) → RefusesAt Ops d line
 early_refused d line less none v more r = let n = next_early d line v more r less in none n.op (early_fits d line v more r n.op n.others n.whole) n.spelled
 
 -- no operation before the move is left
@@ -203,13 +203,13 @@ no_early d v lines r all = none_left (d.before.items ++ r.befores) d.before.item
 next_late : (d : ScriptDraft) (line : List ℕ) (v : Scenario) (more : List (List ℕ)) (r : OpsLeft d v (line ∷ more)) → length d.before.items ≡ d.before.count → length d.after.items < d.after.count → NextEarly d line more r.afters (vcpus_onto r.back (closing ∷ []))
 next_late d line v more r all less = next_op d line more r.afters (vcpus_onto r.back (closing ∷ [])) (omega (arith, r.all_after, length-append d.after.items r.afters)) (r.lines ∙ ap (λ (t : List Op). map op_line t ++ tail_of d v (line ∷ more) r) (no_early d v (line ∷ more) r all))
 
-late_fits : (d : ScriptDraft) (line : List ℕ) (v : Scenario) (more : List (List ℕ)) (r : OpsLeft d v (line ∷ more)) (op : Op) (others : List Op) → r.afters ≡ op ∷ others → LateOpFits d.version d.geometry op
-late_fits d line v more r op others is = all_at (LateOpFits d.version d.geometry) d.after.items op others (subst (λ (t : List Op). AllByRecursion (LateOpFits d.version d.geometry) (d.after.items ++ t)) is (this_vcpu d v (line ∷ more) r).after_move)
+late_fits : (d : ScriptDraft) (line : List ℕ) (v : Scenario) (more : List (List ℕ)) (r : OpsLeft d v (line ∷ more)) (op : Op) (others : List Op) → r.afters ≡ op ∷ others → LateOpFits d.version (machine_of d) op
+late_fits d line v more r op others is = all_at (LateOpFits d.version (machine_of d)) d.after.items op others (subst (λ (t : List Op). AllByRecursion (LateOpFits d.version (machine_of d)) (d.after.items ++ t)) is (this_vcpu d v (line ∷ more) r).after_move)
 
 abbrev pub with_after : List Op → ScriptDraft → ScriptDraft
 with_after ops d = record d { after = record { count = d.after.count; items = ops } }
 
-pub late_taken : (d : ScriptDraft) (op : Op) (ops : List Op) (line : List ℕ) → ScriptLive Ops d → length d.before.items ≡ d.before.count → length d.after.items < d.after.count → ops ≡ d.after.items ++ op ∷ [] → LateOpFits d.version d.geometry op → line ≡ op_line op → Taken Ops Ops d (with_after ops d) line
+pub late_taken : (d : ScriptDraft) (op : Op) (ops : List Op) (line : List ℕ) → ScriptLive Ops d → length d.before.items ≡ d.before.count → length d.after.items < d.after.count → ops ≡ d.after.items ++ op ∷ [] → LateOpFits d.version (machine_of d) op → line ≡ op_line op → Taken Ops Ops d (with_after ops d) line
 late_taken d op ops line live all less is fits spelled =
     let f = live.fits in
     let c = f.before in
@@ -222,13 +222,13 @@ late_taken d op ops line live all less is fits spelled =
       within_before = f.within_before;
       within_after = omega (arith, length-append d.after.items (op ∷ []));
       before_move = f.before_move;
-      after_move = all_append (LateOpFits d.version d.geometry) d.after.items (op ∷ []) f.after_move (fits, tt);
+      after_move = all_append (LateOpFits d.version (machine_of d)) d.after.items (op ∷ []) f.after_move (fits, tt);
       in_turn = λ lt. absurd (omega (arith, lt, all));
     })
     (held_grown d (map op_line d.before.items ++ map op_line d.after.items) (map op_line d.before.items ++ map op_line (d.after.items ++ op ∷ [])) line (late_grown d.before.items d.after.items op line spelled))
     (λ v more r.
     let n = next_late d line v more r all less in
-    let same = op_tells d.geometry (geometry_of d f) op n.op (late_op d.version d.geometry op fits) (late_op d.version d.geometry n.op (late_fits d line v more r n.op n.others n.whole)) (sym spelled ∙ n.spelled) in
+    let same = op_tells (machine_of d) (geometry_of d f) op n.op (late_op d.version (machine_of d) op fits) (late_op d.version (machine_of d) n.op (late_fits d line v more r n.op n.others n.whole)) (sym spelled ∙ n.spelled) in
     let afters : d.after.items ++ r.afters ≡ (d.after.items ++ op ∷ []) ++ n.others = ap (λ (t : List Op). d.after.items ++ t) (n.whole ∙ ap (λ (x : Op). x ∷ n.others) (sym same)) ∙ sym (append_assoc d.after.items (op ∷ []) n.others) in
     let none = no_early d v (line ∷ more) r all in
     record { fits = r.fits; agrees = r.agrees; count = r.count; befores = []; afters = n.others; back = r.back; whole = r.whole ∙ ap (λ (t : List Op). d.vcpus ++ vcpu_of (d.before.items ++ t) (d.after.items ++ r.afters) ∷ r.back) none ∙ ap (λ (t : List Op). d.vcpus ++ vcpu_of (d.before.items ++ []) t ∷ r.back) afters; all_before = ap (λ (t : List Op). length (d.before.items ++ t)) (sym none) ∙ r.all_before; all_after = ap (λ (t : List Op). length t) (sym afters) ∙ r.all_after; lines = n.lines })
@@ -237,7 +237,7 @@ late_taken d op ops line live all less is fits spelled =
     let none = none_left (d.before.items ++ r.befores) d.before.items r.befores refl (r.all_before ∙ sym all) in
     record { fits = r.fits; agrees = r.agrees; count = r.count; befores = []; afters = op ∷ r.afters; back = r.back; whole = r.whole ∙ ap (λ (t : List Op). d.vcpus ++ vcpu_of (d.before.items ++ t) ((d.after.items ++ op ∷ []) ++ r.afters) ∷ r.back) none ∙ ap (λ (t : List Op). d.vcpus ++ vcpu_of (d.before.items ++ []) t ∷ r.back) afters; all_before = ap (λ (t : List Op). length (d.before.items ++ t)) (sym none) ∙ r.all_before; all_after = ap (λ (t : List Op). length t) (sym afters) ∙ r.all_after; lines = cons_same line (op_line op) more (map op_line r.afters ++ vcpus_onto r.back (closing ∷ [])) spelled (r.lines ∙ ap (λ (t : List Op). map op_line t ++ (map op_line r.afters ++ vcpus_onto r.back (closing ∷ []))) none) }))
 
-pub late_refused : (d : ScriptDraft) (line : List ℕ) → length d.before.items ≡ d.before.count → length d.after.items < d.after.count → ((op : Op) → LateOpFits d.version d.geometry op → line ≢ op_line op) → RefusesAt Ops d line
+pub late_refused : (d : ScriptDraft) (line : List ℕ) → length d.before.items ≡ d.before.count → length d.after.items < d.after.count → ((op : Op) → LateOpFits d.version (machine_of d) op → line ≢ op_line op) → RefusesAt Ops d line
 late_refused d line all less none v more r = let n = next_late d line v more r all less in none n.op (late_fits d line v more r n.op n.others n.whole) n.spelled
 
 -- ---- behind the last operation
@@ -294,7 +294,7 @@ ended_fits d f =
       before = front_fits d d.count (d.vcpus ++ vcpu_of d.before.items d.after.items ∷ []) (record { count = d.before.count; items = [] }) (record { count = d.after.count; items = [] }) c.before;
       some = c.some;
       few = c.few;
-      vcpus = all_append (VcpuFits d.version d.geometry) d.vcpus (vcpu_of d.before.items d.after.items ∷ []) c.vcpus (record { few_before = omega arith; few_after = omega arith; before_move = f.before_move; after_move = f.after_move }, tt);
+      vcpus = all_append (VcpuFits d.version (machine_of d)) d.vcpus (vcpu_of d.before.items d.after.items ∷ []) c.vcpus (record { few_before = omega arith; few_after = omega arith; before_move = f.before_move; after_move = f.after_move }, tt);
     }
 
 pub next_taken : (d new : ScriptDraft) (b a : ℕ) (line : List ℕ) → new ≡ begun b a (ended d) → ScriptLive Ops d → HasAllOps d → length d.vcpus + 1 < d.count → b ≤ 65536 → a ≤ 65536 → line ≡ counts_line b a → Taken Ops Ops d new line

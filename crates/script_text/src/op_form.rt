@@ -8,6 +8,7 @@ ghost use Rattle.migration_events.specs.declared.ops.Op.{Op as Done};
 ghost use Rattle.script_text.specs.Scripts.{counts_line, op_line, place_text, value_text, vcpu_onto, vcpus_onto};
 ghost use Rattle.script.specs.Moments.{OpFitsAt};
 ghost use Rattle.script_text.specs.inner.Ops.{TakesOp};
+ghost use Rattle.script_text.specs.inner.ScriptHeld.{small_machine};
 
 use crate::keys::{READ_KEY, RELEASE_KEY, VCPU_KEY, WRITE_KEY};
 use migration_events::Op;
@@ -33,29 +34,29 @@ fn read_limited(text: &[u8], limit: u64) -> Option<u64>
 
 /// The page and the cell that a text spells, of a machine.
 fn read_place(text: &[u8], sizes: Sizes) -> Option<(PageNo, u16)>
-    requires { IsExtent (record { pages = sizes.pages; cells = sizes.cells }) }
+    requires { IsExtent (small_machine sizes.pages sizes.cells) }
     ensures { MatchOption result ((p c : ℕ) → p < sizes.pages → c < sizes.cells → text.now ≢ place_text p c) (λ a. (a.0 < sizes.pages) × (a.1 < sizes.cells) × (text.now ≡ place_text a.0 a.1)) }
 {
     let (page, rest) = number_then(text, u64::from(sizes.pages) - 1)?;
     let cell = read_limited(rest, u64::from(sizes.cells) - 1)?;
-    Some((PageNo::new(page as u16), cell as u16))
+    Some((PageNo::new(page as u32), cell as u16))
 }
 
 /// The page, the cell and the value that a text spells, of a machine.
 fn read_value(text: &[u8], sizes: Sizes) -> Option<(PageNo, u16, u64)>
-    requires { IsExtent (record { pages = sizes.pages; cells = sizes.cells }) }
+    requires { IsExtent (small_machine sizes.pages sizes.cells) }
     ensures { MatchOption result ((p c x : ℕ) → p < sizes.pages → c < sizes.cells → x < 2 ^ 64 → text.now ≢ value_text p c x) (λ a. (a.0 < sizes.pages) × (a.1 < sizes.cells) × (a.2 < 2 ^ 64) × (text.now ≡ value_text a.0 a.1 a.2)) }
 {
     let (page, rest) = number_then(text, u64::from(sizes.pages) - 1)?;
     let (cell, rest) = number_then(rest, u64::from(sizes.cells) - 1)?;
     let value = read_decimal(rest)?;
-    Some((PageNo::new(page as u16), cell as u16, value))
+    Some((PageNo::new(page as u32), cell as u16, value))
 }
 
 /// The operation that a line spells, for a machine, before a move or after it.
 fn read_op(line: &[u8], sizes: Sizes, when: When) -> Option<Op>
-    requires { IsExtent (record { pages = sizes.pages; cells = sizes.cells }) }
-    ensures { MatchOption result ((op : Done) → OpFitsAt when (record { pages = sizes.pages; cells = sizes.cells }) op → line.now ≢ op_line op) (λ op. OpFitsAt when (record { pages = sizes.pages; cells = sizes.cells }) op × (line.now ≡ op_line op)) }
+    requires { IsExtent (small_machine sizes.pages sizes.cells) }
+    ensures { MatchOption result ((op : Done) → OpFitsAt when (small_machine sizes.pages sizes.cells) op → line.now ≢ op_line op) (λ op. OpFitsAt when (small_machine sizes.pages sizes.cells) op × (line.now ≡ op_line op)) }
 {
     if let Some(text) = after_key(line, READ_KEY) {
         let (page, cell) = read_place(text, sizes)?;
@@ -71,7 +72,7 @@ fn read_op(line: &[u8], sizes: Sizes, when: When) -> Option<Op>
     let text = after_key(line, RELEASE_KEY)?;
     let page = read_limited(text, u64::from(sizes.pages) - 1)?;
     Some(Op::Release {
-        page: PageNo::new(page as u16),
+        page: PageNo::new(page as u32),
     })
 }
 
@@ -90,9 +91,9 @@ pub fn wanted_op(when: When) -> Wanted {
 
 /// Takes the line of an operation behind others, before a move or after it.
 pub fn take_op(ops: &mut Vec<Op>, sizes: Sizes, when: When, line: &[u8]) -> Result<(), FaultKind>
-    requires { IsExtent (record { pages = sizes.pages; cells = sizes.cells }) }
-    ensures ok { OnOk result (TakesOp when (record { pages = sizes.pages; cells = sizes.cells }) ops.old.items ops.new.items line.now) }
-    ensures refused { IfErr result (λ kind. kind ≢ FaultKind.Memory → (op : Done) → OpFitsAt when (record { pages = sizes.pages; cells = sizes.cells }) op → line.now ≢ op_line op) }
+    requires { IsExtent (small_machine sizes.pages sizes.cells) }
+    ensures ok { OnOk result (TakesOp when (small_machine sizes.pages sizes.cells) ops.old.items ops.new.items line.now) }
+    ensures refused { IfErr result (λ kind. kind ≢ FaultKind.Memory → (op : Done) → OpFitsAt when (small_machine sizes.pages sizes.cells) op → line.now ≢ op_line op) }
     ensures err { OnErr result (ops.new.items ≡ ops.old.items) }
 {
     let Some(op) = read_op(line, sizes, when) else {

@@ -12,7 +12,7 @@ use crate::op_form::{read_counts, take_op};
 use crate::stages::ScriptStage;
 use crate::versions::script_header;
 use migration_events::{Fate, Op};
-use migration_types::{Geometry, InitPage, Seq, Version};
+use migration_types::{Geometry, InitPage, Seq, Size, Version};
 use script::{MOST_PIVOTS, MOST_VCPUS, MOST_WINDOW, Script, Vcpu, When};
 use session_text::{INIT_KEY, InitLines, Sizes, read_cells, read_pages};
 use std::alloc::Global;
@@ -52,6 +52,7 @@ impl ScriptParts {
             version: Version::One,
             sizes: Sizes {
                 alloc,
+                size: Size::Small,
                 pages: 0,
                 cells: 0,
             },
@@ -75,7 +76,7 @@ impl ScriptParts {
         requires { ScriptFits ScriptStage.Done (draft_of self) }
         ensures { IsSomeAnd result (λ script. script ≡ scenario_of (draft_of self)) }
     {
-        match Geometry::new(self.sizes.pages, self.sizes.cells) {
+        match Geometry::new(Size::Small, self.sizes.pages, self.sizes.cells) {
             Ok(geometry) => Some(Script::of_parts(
                 self.version,
                 geometry,
@@ -135,7 +136,7 @@ impl ScriptParts {
         requires { ScriptLive ScriptStage.Pages (draft_of self.old) }
         ensures { ScriptStep ScriptStage.Pages (draft_of self.old) line.now (draft_of self.new) result }
     {
-        let pages = read_pages(line)?;
+        let pages = read_pages(Size::Small, line)?;
         self.sizes.pages = pages;
         Ok(ScriptStage::Cells)
     }
@@ -145,7 +146,7 @@ impl ScriptParts {
         requires { ScriptLive ScriptStage.Cells (draft_of self.old) }
         ensures { ScriptStep ScriptStage.Cells (draft_of self.old) line.now (draft_of self.new) result }
     {
-        let cells = read_cells(line, self.sizes.pages)?;
+        let cells = read_cells(Size::Small, line, self.sizes.pages)?;
         self.sizes.cells = cells;
         Ok(ScriptStage::InitCount)
     }

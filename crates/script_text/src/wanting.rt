@@ -4,7 +4,7 @@ use crate::fates::wanted_fates;
 use crate::op_form::{wanted_counts, wanted_op};
 use crate::script_steps::ScriptParts;
 use crate::stages::ScriptStage;
-use migration_types::Version;
+use migration_types::{Size, Version};
 use script::{MOST_PIVOTS, MOST_VCPUS, MOST_WINDOW, Vcpu, When};
 use session_text::{wanted_cells, wanted_init_count, wanted_init_page, wanted_pages};
 use text_lines::Wanted;
@@ -20,8 +20,8 @@ impl ScriptParts {
     pub fn wanted_at(&self, stage: ScriptStage) -> Wanted {
         let wanted = match stage {
             ScriptStage::Header => Wanted::one("the header of a script", HEADER_FORMS),
-            ScriptStage::Pages => wanted_pages(),
-            ScriptStage::Cells => wanted_cells(),
+            ScriptStage::Pages => wanted_pages(Size::Small),
+            ScriptStage::Cells => wanted_cells(Size::Small),
             ScriptStage::InitCount => wanted_init_count(self.sizes.pages),
             ScriptStage::Init => self.wanted_in_init(),
             ScriptStage::Window => {

@@ -66,6 +66,7 @@ lane_is version (Some fates) fits has = fits.0
 pub script_is : (s : Scenario) → IsScenario s → IsScript (scripted_of s)
 script_is s is = record {
   geometry = is.geometry;
+  small = is.small;
   init = is.init;
   lane = lane_is s.version s.lane is.lane;
   few_vcpus = rw (length-map s.vcpus vcpu_of) is.few_vcpus;

@@ -41,7 +41,7 @@ certified : (s : Recorded) (order : List Name) → IsFaultless s → IsMerging s
 certified s order faultless merges =
     let spelled_is : spelled (ones order) ≡ order = spells s at_start order (merging_is_walk s order merges).0 in
     let found = has_certificate s faultless (ones order) (subst (λ names. IsMerging s names) (sym spelled_is) merges) in
-    (record { version = s.version; entries = found.0; runs = ones order }, record { is_session = faultless.is_session; shape = faultless.shape; certificate = found.1 })
+    (record { version = s.version; size = s.geometry.size; entries = found.0; runs = ones order }, record { is_session = faultless.is_session; shape = faultless.shape; certificate = found.1 })
 
 pub reached_promised : (core : Recording) → IsReached core → IsPromised (session_of core.books) core.order
 reached_promised core k =

@@ -1,6 +1,7 @@
 -- The core: what it holds, and what it stands for in the events.
 use Rattle.std.specs.Prelude.{false, List, []}
 use Rattle.migration_types.specs.Receipts.{Name}
+use Rattle.migration_types.specs.declared.size.Size.TheVariants.{Small}
 use Rattle.migration_types.specs.declared.version.Version.TheVariants.{One}
 use Rattle.session_core.specs.States.{home_of, away_of}
 use Rattle.migration_model.specs.Books.{Books, Before, After, Recording}
@@ -10,7 +11,7 @@ use Rattle.session_core.specs.declared.state.State.TheVariants.{Before as Before
 
 -- no books at all
 abbrev pub no_books : Books
-no_books = (start (record { version = One; geometry = record { pages = 0; cells = 0 }; init = []; pivots = 0; window = 0; has_lane = false; vcpus = [] })).books
+no_books = (start (record { version = One; geometry = record { size = Small; pages = 0; cells = 0 }; init = []; pivots = 0; window = 0; has_lane = false; vcpus = [] })).books
 
 -- the books; inside a halt nothing is held, which no caller of a core sees
 abbrev pub books_of : State → Books

@@ -52,11 +52,11 @@ module _ (s : Recorded) (fits : IsSession s) where
   source_below p (Ask i) fit is = absurd (cc)
   source_below p Done fit is = absurd (cc)
 
-  link_below : (p : ℕ) (r : LinkRec) → LinkRecFits r → link_about r ≡ Page p → p < s.geometry.pages
+  link_below : (p : ℕ) (r : LinkRec) → LinkRecFits s.geometry r → link_about r ≡ Page p → p < s.geometry.pages
   link_below p (Down i) fit is = absurd (cc)
   link_below p (Up i) fit is = absurd (cc)
 
-  lane_below : (p : ℕ) (r : LaneRec) → LaneRecFits s.version r → lane_about r ≡ Page p → p < s.geometry.pages
+  lane_below : (p : ℕ) (r : LaneRec) → LaneRecFits s.version s.geometry r → lane_about r ≡ Page p → p < s.geometry.pages
   lane_below p (LaneDown i) fit is = absurd (cc)
 
   pager_below : (p : ℕ) (r : PagerRec) → PagerRecFits s.version s.geometry r → pager_about r ≡ Page p → p < s.geometry.pages
@@ -74,8 +74,8 @@ module _ (s : Recorded) (fits : IsSession s) where
   about_below : (name : Name) (p : ℕ) → about s name ≡ Page p → p < s.geometry.pages
   about_below (Guest, n) p is = below_in guest_about (GuestRecFits s.geometry) s.geometry.pages s.guest n p fits.guest (guest_below p) is
   about_below (Source, n) p is = below_in source_about (SourceRecFits s.geometry) s.geometry.pages s.source n p fits.source (source_below p) is
-  about_below (Link, n) p is = below_in link_about LinkRecFits s.geometry.pages s.link n p fits.link (link_below p) is
-  about_below (Lane, n) p is = below_in lane_about (LaneRecFits s.version) s.geometry.pages s.lane n p fits.lane (lane_below p) is
+  about_below (Link, n) p is = below_in link_about (LinkRecFits s.geometry) s.geometry.pages s.link n p fits.link (link_below p) is
+  about_below (Lane, n) p is = below_in lane_about (LaneRecFits s.version s.geometry) s.geometry.pages s.lane n p fits.lane (lane_below p) is
   about_below (Pager, n) p is = below_in pager_about (PagerRecFits s.version s.geometry) s.geometry.pages s.pager n p fits.pager (pager_below p) is
 
   pub within_below : (steps : ℕ) (name : Name) (p : ℕ) → page_within steps s name ≡ Some p → p < s.geometry.pages

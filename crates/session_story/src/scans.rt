@@ -1,7 +1,7 @@
 //! Passes over a log that ask one thing of each record.
 
 ghost use Rattle.std.specs.Prelude.{◌≡◌, ◌<◌, ◌≤◌, ℕ, Bool, length};
-ghost use Rattle.migration_types.specs.Limits.{most_records};
+ghost use Rattle.migration_types.specs.Limits.{longest_log};
 ghost use Rattle.migration_types.specs.Sessions.{Recorded};
 ghost use Rattle.page_facts.specs.Tables.{first_before};
 ghost use Rattle.session_story.specs.Scans.{last_before, how_many};
@@ -17,7 +17,7 @@ pub(crate) trait Question {
 
     /// Whether the record of this number is one of those that are sought. Takes no memory.
     fn holds(&self, session: &Session, n: usize, rec: &Self::Record) -> bool
-        requires { n < most_records }
+        requires { n < longest_log }
         ensures { result ≡ holds self.now session.now n rec.now };
 }
 
@@ -27,7 +27,7 @@ pub(crate) fn first_of<Q: Question>(
     question: &Q,
     log: &[Q::Record],
 ) -> Option<u32>
-    requires { length log.now ≤ most_records }
+    requires { length log.now ≤ longest_log }
     ensures { result ≡ first_before (Q.holds question.now session.now) log.now (length log.now) }
 {
     for n in 0..log.len() {
@@ -45,7 +45,7 @@ pub(crate) fn last_of<Q: Question>(
     log: &[Q::Record],
     to: usize,
 ) -> Option<u32>
-    requires few { length log.now ≤ most_records }
+    requires few { length log.now ≤ longest_log }
     requires within { to ≤ length log.now }
     ensures { result ≡ last_before (Q.holds question.now session.now) log.now to }
 {
@@ -60,7 +60,7 @@ pub(crate) fn last_of<Q: Question>(
 
 /// How many records are sought.
 pub(crate) fn count_of<Q: Question>(session: &Session, question: &Q, log: &[Q::Record]) -> u32
-    requires { length log.now ≤ most_records }
+    requires { length log.now ≤ longest_log }
     ensures { result ≡ how_many (Q.holds question.now session.now) log.now (length log.now) }
 {
     let mut count = 0;

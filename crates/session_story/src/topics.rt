@@ -141,7 +141,7 @@ pub fn told_of_page(
     if number >= session.geometry().pages() {
         return Ok(None);
     }
-    let told = page_told(alloc, session, PageNo::new(number as u16))?;
+    let told = page_told(alloc, session, PageNo::new(number))?;
     Ok(Some(told))
 }
 

@@ -19,7 +19,7 @@ use Rattle.session_text.specs.declared.parts.Stage.TheVariants.{Header, Pages, C
 use Rattle.session_text.specs.Records.{guest_line, source_line, link_line, lane_line, pager_line}
 use Rattle.session_text.specs.inner.InitPages.{Rise, next_from}
 use Rattle.session_text.specs.Grammar.{header, pages_key, cells_key, init_key, guest_key, source_key, link_key, lane_key, pager_key, page_line, closing}
-use Rattle.session_text.specs.inner.Held.{SessionDraft, Part, part_onto, geometry_onto, init_onto, guest_onto, source_onto, link_onto, lane_part_onto, lane_onto, held_onto, InitFits, LogFits, GuestFits, SourceFits, LinkFits, LaneFits, Live}
+use Rattle.session_text.specs.inner.Held.{SessionDraft, Part, part_onto, geometry_onto, init_onto, guest_onto, source_onto, link_onto, lane_part_onto, lane_onto, held_onto, InitFits, LogFits, most_of, GuestFits, SourceFits, LinkFits, LaneFits, Live}
 use Rattle.session_text.specs.inner.Steps.{count_at, StepsBack}
 use Rattle.session_text.proofs.ByVersion.{no_records_at, lane_is, lane_long}
 use Rattle.session_text.proofs.Laws.{live_at, guest_part, source_part, link_part, lane_part, pager_part}
@@ -32,9 +32,9 @@ all_front P (y ∷ ys) x h = (h.0, all_front P ys x h.1)
 
 -- ---- a list without its last item
 
-log_back : {X Y : Type 0} (Before : Type 0) (list : Part X) (Fits : Y → Type 0) (old new : Part Y) (y : Y) → LogFits Before list Fits old → old ≡ with_items new (y ∷ []) → LogFits Before list Fits new
-log_back {X} {Y} Before list Fits old new y f e =
-    let g : LogFits Before list Fits (with_items new (y ∷ [])) = subst (λ (p : Part Y). LogFits Before list Fits p) e f in
+log_back : {X Y : Type 0} (most : ℕ) (Before : Type 0) (list : Part X) (Fits : Y → Type 0) (old new : Part Y) (y : Y) → LogFits most Before list Fits old → old ≡ with_items new (y ∷ []) → LogFits most Before list Fits new
+log_back {X} {Y} most Before list Fits old new y f e =
+    let g : LogFits most Before list Fits (with_items new (y ∷ [])) = subst (λ (p : Part Y). LogFits most Before list Fits p) e f in
     let within = g.within in
     record {
       before = g.before;
@@ -59,13 +59,13 @@ pub back : (stage at : Stage) (d new : SessionDraft) (next : Stage) → stage �
 back stage at d new next is live f = subst (λ (s : Stage). StepsBack s d new next) (sym is) (f (live_at stage at d is live))
 
 pub pages_back : (d : SessionDraft) → Live Pages d → StepsBack Pages d d Header
-pages_back d live = (live, header d.version, refl)
+pages_back d live = (live, header d.version d.geometry.size, refl)
 
 pub cells_back : (d : SessionDraft) → Live Cells d → StepsBack Cells d d Pages
 cells_back d live = (live.0, pages_key ++ decimal d.geometry.pages, refl)
 
 pub init_count_back : (d : SessionDraft) → Live InitCount d → StepsBack InitCount d d Cells
-init_count_back d live = ((live.0, live.1.some_pages, live.1.few_pages), cells_key ++ decimal d.geometry.cells, refl)
+init_count_back d live = ((live.0, live.1.some_pages, live.1.own.pages), cells_key ++ decimal d.geometry.cells, refl)
 
 pub done_back : (d : SessionDraft) → Live Done d → StepsBack Done d d Pager
 done_back d live = (live.0, closing, refl)
@@ -106,31 +106,31 @@ pub init_none_back : (d : SessionDraft) (new : Part InitPage) → (d.init.items 
 init_none_back d new e live = (((still_none d.init new e, live.1), live.0.geometry), init_key ++ decimal d.init.count, ap (geometry_onto d) (onto_empty init_key page_line d.init e.0))
 
 pub guest_back : (d : SessionDraft) (new : Part GuestRec) (y : GuestRec) → d.guest ≡ with_items new (y ∷ []) → Live Guest d → StepsBack Guest d (record d { guest = new }) Guest
-guest_back d new y e live = ((log_back (InitFits d.geometry d.next_page d.init) d.init (GuestRecFits d.geometry) d.guest new y live.0 e, live.1), guest_line y, ap (init_onto d) (onto_back guest_key guest_line d.guest new y e))
+guest_back d new y e live = ((log_back (most_of d) (InitFits d.geometry d.next_page d.init) d.init (GuestRecFits d.geometry) d.guest new y live.0 e, live.1), guest_line y, ap (init_onto d) (onto_back guest_key guest_line d.guest new y e))
 
 pub guest_none_back : (d : SessionDraft) (new : Part GuestRec) → (d.guest.items ≡ []) × (new ≡ d.guest) → Live Guest d → StepsBack Guest d (record d { guest = new }) Init
 guest_none_back d new e live = ((live.0.before, (still_none d.guest new e, live.1)), guest_key ++ decimal d.guest.count, ap (init_onto d) (onto_empty guest_key guest_line d.guest e.0))
 
 pub source_back : (d : SessionDraft) (new : Part SourceRec) (y : SourceRec) → d.source ≡ with_items new (y ∷ []) → Live Source d → StepsBack Source d (record d { source = new }) Source
-source_back d new y e live = ((log_back (GuestFits d) d.guest (SourceRecFits d.geometry) d.source new y live.0 e, live.1), source_line y, ap (guest_onto d) (onto_back source_key source_line d.source new y e))
+source_back d new y e live = ((log_back (most_of d) (GuestFits d) d.guest (SourceRecFits d.geometry) d.source new y live.0 e, live.1), source_line y, ap (guest_onto d) (onto_back source_key source_line d.source new y e))
 
 pub source_none_back : (d : SessionDraft) (new : Part SourceRec) → (d.source.items ≡ []) × (new ≡ d.source) → Live Source d → StepsBack Source d (record d { source = new }) Guest
 source_none_back d new e live = ((live.0.before, (still_none d.source new e, live.1)), source_key ++ decimal d.source.count, ap (guest_onto d) (onto_empty source_key source_line d.source e.0))
 
 pub link_back : (d : SessionDraft) (new : Part LinkRec) (y : LinkRec) → d.link ≡ with_items new (y ∷ []) → Live Link d → StepsBack Link d (record d { link = new }) Link
-link_back d new y e live = ((log_back (SourceFits d) d.source LinkRecFits d.link new y live.0 e, live.1), link_line y, ap (source_onto d) (onto_back link_key link_line d.link new y e))
+link_back d new y e live = ((log_back (most_of d) (SourceFits d) d.source (LinkRecFits d.geometry) d.link new y live.0 e, live.1), link_line y, ap (source_onto d) (onto_back link_key link_line d.link new y e))
 
 pub link_none_back : (d : SessionDraft) (new : Part LinkRec) → (d.link.items ≡ []) × (new ≡ d.link) → Live Link d → StepsBack Link d (record d { link = new }) Source
 link_none_back d new e live = ((live.0.before, (still_none d.link new e, live.1)), link_key ++ decimal d.link.count, ap (source_onto d) (onto_empty link_key link_line d.link e.0))
 
 pub pager_back : (d : SessionDraft) (new : Part PagerRec) (y : PagerRec) → d.pager ≡ with_items new (y ∷ []) → Live Pager d → StepsBack Pager d (record d { pager = new }) Pager
-pager_back d new y e live = (log_back (LaneFits d) d.lane (PagerRecFits d.version d.geometry) d.pager new y live e, pager_line y, ap (lane_onto d) (onto_back pager_key pager_line d.pager new y e))
+pager_back d new y e live = (log_back (most_of d) (LaneFits d) d.lane (PagerRecFits d.version d.geometry) d.pager new y live e, pager_line y, ap (lane_onto d) (onto_back pager_key pager_line d.pager new y e))
 
 pub lane_back : (d : SessionDraft) (new : Part LaneRec) (y : LaneRec) → d.lane ≡ with_items new (y ∷ []) → Live Lane d → StepsBack Lane d (record d { lane = new }) Lane
 lane_back d new y e live =
     let lines = lane_line y ∷ [] in
     let held = lane_is d.version d.lane [] live.1 ∙ (onto_back lane_key lane_line d.lane new y e ∙ sym (lane_is d.version new lines live.1)) in
-    ((log_back (LinkFits d) d.link (LaneRecFits d.version) d.lane new y live.0 e, live.1, live.2), lane_line y, ap (link_onto d) held)
+    ((log_back (most_of d) (LinkFits d) d.link (LaneRecFits d.version d.geometry) d.lane new y live.0 e, live.1, live.2), lane_line y, ap (link_onto d) held)
 
 pub lane_none_back : (d : SessionDraft) (new : Part LaneRec) → (d.lane.items ≡ []) × (new ≡ d.lane) → Live Lane d → StepsBack Lane d (record d { lane = new }) Link
 lane_none_back d new e live =
@@ -140,7 +140,7 @@ lane_none_back d new e live =
 pub first_none_back : (d : SessionDraft) (new : Part PagerRec) → d.version ≡ One → (d.pager.items ≡ []) × (new ≡ d.pager) → Live Pager d → StepsBack Pager d (record d { pager = new }) Link
 first_none_back d new first e live =
     let line = pager_key ++ decimal d.pager.count in
-    ((live.before.before, (no_records_at d.version d.lane.items first live.before.each, still_none d.pager new e)), line, ap (lane_onto d) (onto_empty pager_key pager_line d.pager e.0) ∙ ap (λ (version : _). link_onto d (lane_part_onto version d.lane (line ∷ []))) first)
+    ((live.before.before, (no_records_at (most_of d) d.version d.lane.items first live.before.each, still_none d.pager new e)), line, ap (lane_onto d) (onto_empty pager_key pager_line d.pager e.0) ∙ ap (λ (version : _). link_onto d (lane_part_onto version d.lane (line ∷ []))) first)
 
 pub pager_none_back : (d : SessionDraft) (new : Part PagerRec) → d.version ≡ Two → (d.pager.items ≡ []) × (new ≡ d.pager) → Live Pager d → StepsBack Pager d (record d { pager = new }) Lane
 pager_none_back d new second e live = ((live.before, second, still_none d.pager new e), pager_key ++ decimal d.pager.count, ap (lane_onto d) (onto_empty pager_key pager_line d.pager e.0))

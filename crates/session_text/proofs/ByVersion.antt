@@ -1,5 +1,5 @@
--- Laws of what a text has by its version.
-use Rattle.std.proofs.Common.{◌≡◌, ◌≢◌, ℕ, ◌+◌, ◌<◌, ◌≤◌, List, [], ◌∷◌, ◌++◌, length, map, get_or, refl, ap, arith, length-append}
+-- Laws of what a text has by its version and its size.
+use Rattle.std.proofs.Common.{◌≡◌, ◌≢◌, ℕ, ◌+◌, ◌<◌, ◌≤◌, ◌^◌, List, [], ◌∷◌, ◌++◌, length, map, get_or, refl, ap, arith, length-append}
 use Rattle.std.specs.List.{AllByRecursion}
 use Rattle.std.proofs.lemmas.List.{length-map}
 use Rattle.text_lines.proofs.Sections.{CountedAgree}
@@ -7,7 +7,9 @@ use Rattle.migration_types.specs.declared.records.LaneRec.{LaneRec}
 use Rattle.migration_types.specs.declared.records.LaneRec.TheVariants.{Down}
 use Rattle.migration_types.specs.declared.version.Version.{Version}
 use Rattle.migration_types.specs.declared.version.Version.TheVariants.{One, Two}
-use Rattle.migration_types.specs.Sessions.{LaneRecFits, lane_lines}
+use Rattle.migration_types.specs.declared.size.Size.{Size}
+use Rattle.migration_types.specs.declared.size.Size.TheVariants.{Small}
+use Rattle.migration_types.specs.Sessions.{LaneRecIn, lane_lines}
 use Rattle.session_text.specs.Records.{lane_line}
 use Rattle.session_text.specs.Grammar.{header, lane_key, with_lane, counted}
 use Rattle.session_text.specs.inner.Held.{Part, part_onto, IsWhole, lane_part_onto}
@@ -17,15 +19,15 @@ use Rattle.session_text.proofs.Sections.{part_append, onto_whole, agrees}
 abbrev digit : List ℕ → ℕ
 digit line = get_or line 17 0
 
-pub header_tells : (a b : Version) → header a ≡ header b → a ≡ b
-header_tells One One e = refl
-header_tells One Two e = let same = ap digit e in absurd (omega (arith, same))
-header_tells Two One e = let same = ap digit e in absurd (omega (arith, same))
-header_tells Two Two e = refl
+pub header_tells : (a b : Version) (k l : Size) → header a k ≡ header b l → (a ≡ b) × (k ≡ l)
+header_tells One One Small Small e = (refl, refl)
+header_tells One Two Small Small e = let same = ap digit e in absurd (omega (arith, same))
+header_tells Two One Small Small e = let same = ap digit e in absurd (omega (arith, same))
+header_tells Two Two Small Small e = (refl, refl)
 
-pub no_header : (line : List ℕ) (version : Version) → line ≢ header One → line ≢ header Two → line ≢ header version
-no_header line One one two = one
-no_header line Two one two = two
+pub no_header : (line : List ℕ) (version : Version) (size : Size) → line ≢ header One Small → line ≢ header Two Small → line ≢ header version size
+no_header line One Small one two = one
+no_header line Two Small one two = two
 
 pub one_version : (version : Version) → version ≡ One → version ≡ Two → ⊥
 one_version One first second = absurd cc
@@ -34,13 +36,13 @@ one_version Two first second = absurd cc
 -- ---- the lane
 
 -- the first version has no record of it
-pub no_records : (records : List LaneRec) → AllByRecursion (LaneRecFits One) records → records ≡ []
-no_records [] h = refl
-no_records (Down n ∷ records) h = absurd h.0.0
+pub no_records : (past : ℕ) (records : List LaneRec) → AllByRecursion (LaneRecIn past One) records → records ≡ []
+no_records past [] h = refl
+no_records past (Down n ∷ records) h = absurd h.0.0
 
-pub no_records_at : (version : Version) (records : List LaneRec) → version ≡ One → AllByRecursion (LaneRecFits version) records → records ≡ []
-no_records_at One records is h = no_records records h
-no_records_at Two records is h = absurd cc
+pub no_records_at : (past : ℕ) (version : Version) (records : List LaneRec) → version ≡ One → AllByRecursion (LaneRecIn past version) records → records ≡ []
+no_records_at past One records is h = no_records past records h
+no_records_at past Two records is h = absurd cc
 
 -- the second has its lines
 pub lane_is : (version : Version) (part : Part LaneRec) (more : List (List ℕ)) → version ≡ Two → lane_part_onto version part more ≡ part_onto lane_key lane_line part more
@@ -67,18 +69,18 @@ lane_some One records more some = some
 lane_some Two records more some = omega arith
 
 -- what the lane of a text is, of which these lines came; in the first version nothing can come
-pub lane_agree : (a b : Version) (part : Part LaneRec) (xs : List LaneRec) (rest more : List (List ℕ)) → a ≡ b → (b ≡ One → IsWhole part) → part.count ≤ 1048576 → length xs ≤ 1048576 → AllByRecursion (LaneRecFits b) part.items → AllByRecursion (LaneRecFits a) xs → with_lane a xs rest ≡ lane_part_onto b part more → CountedAgree lane_line part.count xs part.items rest more
-lane_agree One One part xs rest more is whole p q f h e =
-    let none = no_records xs h in
-    let empty = no_records part.items f in
+pub lane_agree : (past bound : ℕ) (a b : Version) (part : Part LaneRec) (xs : List LaneRec) (rest more : List (List ℕ)) → a ≡ b → (b ≡ One → IsWhole part) → part.count < 2 ^ 64 → length xs < 2 ^ 64 → AllByRecursion (LaneRecIn bound b) part.items → AllByRecursion (LaneRecIn past a) xs → with_lane a xs rest ≡ lane_part_onto b part more → CountedAgree lane_line part.count xs part.items rest more
+lane_agree past bound One One part xs rest more is whole p q f h e =
+    let none = no_records past xs h in
+    let empty = no_records bound part.items f in
     let all = whole refl in
     record {
       count = omega (arith, ap (λ (t : List LaneRec). length t) none, ap (λ (t : List LaneRec). length t) empty);
       items = rw (none, empty) e;
     }
-lane_agree One Two part xs rest more is whole p q f h e = absurd cc
-lane_agree Two One part xs rest more is whole p q f h e = absurd cc
-lane_agree Two Two part xs rest more is whole p q f h e = agrees lane_key lane_line part xs rest more p q e
+lane_agree past bound One Two part xs rest more is whole p q f h e = absurd cc
+lane_agree past bound Two One part xs rest more is whole p q f h e = absurd cc
+lane_agree past bound Two Two part xs rest more is whole p q f h e = agrees lane_key lane_line part xs rest more p q e
 
 pub first_behind : (version : Version) (records : List LaneRec) (rest : List (List ℕ)) → version ≡ One → with_lane version records rest ≡ rest
 first_behind version records rest is = ap (λ (v : Version). with_lane v records rest) is

@@ -20,16 +20,21 @@ use Rattle.migration_types.specs.declared.version.Version.{Version}
 use Rattle.migration_types.specs.declared.version.Version.TheVariants.{One, Two}
 use Rattle.migration_types.specs.Extents.{Extent, IsExtent}
 use Rattle.migration_types.specs.Pages.{InitPageFits}
-use Rattle.migration_types.specs.Sessions.{Recorded, IsSession, GuestRecFits, SourceRecFits, LinkRecFits, LaneRecFits, PagerRecFits}
+use Rattle.migration_types.specs.declared.size.Size.{Size}
+use Rattle.migration_types.specs.declared.records.LogName.{LogName}
+use Rattle.migration_types.specs.declared.records.LogName.TheVariants as logs
+use Rattle.migration_types.specs.Limits.{limits, limits_at_most, longest_log}
+use Rattle.migration_types.specs.Sessions.{Recorded, IsSession, log_length, GuestRecFits, SourceRecFits, LinkRecFits, LaneRecFits, PagerRecFits}
 use Rattle.session_text.specs.declared.parts.Stage.{Stage}
 use Rattle.session_text.specs.declared.parts.Stage.TheVariants.{Header, Pages, Cells, InitCount, Init, Guest, Source, Link, Lane, Pager, Done}
 use Rattle.session_text.specs.Records.{guest_line, source_line, link_line, lane_line, pager_line}
 use Rattle.session_text.specs.inner.InitPages.{IsInitContent, Rise, next_from, next_push, rise_long, rise_of, few_init}
+use Rattle.session_text.specs.inner.Limits.{records_few}
 use Rattle.session_text.specs.Grammar.{header, pages_key, cells_key, init_key, guest_key, source_key, link_key, lane_key, pager_key, page_key, page_line, with_lane, closing, counted, session_lines, SpellsSession}
-use Rattle.session_text.specs.inner.Held.{SessionDraft, Part, part_onto, geometry_onto, init_onto, guest_onto, source_onto, link_onto, lane_part_onto, lane_onto, pager_onto, held_onto, IsWhole, InitFits, GuestFits, SourceFits, LinkFits, LaneFits, PagerFits, Live}
+use Rattle.session_text.specs.inner.Held.{SessionDraft, Part, part_onto, geometry_onto, init_onto, guest_onto, source_onto, link_onto, lane_part_onto, lane_onto, pager_onto, held_onto, IsWhole, InitFits, most_of, GuestFits, SourceFits, LinkFits, LaneFits, PagerFits, Live}
 use Rattle.session_text.proofs.Lists.{all_at, all_append}
 use Rattle.session_text.proofs.Sections.{part_append, with_items, agrees, item_at, count_at}
-use Rattle.session_text.proofs.ByVersion.{header_tells, no_header, one_version, lane_append, lane_agree, first_behind, second_behind}
+use Rattle.session_text.proofs.ByVersion.{header_tells, one_version, lane_append, lane_agree, first_behind, second_behind}
 
 -- ---- more lines behind those held
 
@@ -100,11 +105,11 @@ goes_from stage d line b = record { v = b.0; more = b.1; fits = b.2.0; whole = s
 pub keyed : (key : List ℕ) (m n : ℕ) → m < 2 ^ 64 → n < 2 ^ 64 → key ++ decimal m ≡ key ++ decimal n → m ≡ n
 keyed key m n p q e = decimal_injective m n p q (append_cancel_left key (decimal m) (decimal n) e)
 
-abbrev pub extent : ℕ → ℕ → Extent
-extent pages cells = record { pages = pages; cells = cells }
+abbrev pub extent : Size → ℕ → ℕ → Extent
+extent size pages cells = record { size = size; pages = pages; cells = cells }
 
-pub extent_same : (a b : Extent) → a.pages ≡ b.pages → a.cells ≡ b.cells → a ≡ b
-extent_same a b p q = ap (λ (n : ℕ). extent n a.cells) p ∙ ap (extent b.pages) q
+pub extent_same : (a b : Extent) → a.size ≡ b.size → a.pages ≡ b.pages → a.cells ≡ b.cells → a ≡ b
+extent_same a b s p q = ap (λ (n : Size). extent n a.pages a.cells) s ∙ (ap (λ (n : ℕ). extent b.size n a.cells) p ∙ ap (extent b.size b.pages) q)
 
 pub init_count_at : (d : SessionDraft) (line : List ℕ) → IsExtent d.geometry → Goes InitCount d line → (n : ℕ) × (n ≤ d.geometry.pages) × (line ≡ init_key ++ decimal n)
 init_count_at d line geo g =
@@ -152,33 +157,45 @@ init_agrees d more v f fits e =
     let fp = fits.geometry.few_pages in
     let fc = fits.geometry.few_cells in
     let few = few_init v fits in
-    let headers : header d.version ≡ header v.version = cc in
+    let headers : header d.version d.geometry.size ≡ header v.version v.geometry.size = cc in
+    let told = header_tells d.version v.version d.geometry.size v.geometry.size headers in
     let pages : pages_key ++ decimal d.geometry.pages ≡ pages_key ++ decimal v.geometry.pages = cc in
     let cells : cells_key ++ decimal d.geometry.cells ≡ cells_key ++ decimal v.geometry.cells = cc in
     let rest : part_onto init_key page_line d.init more ≡ counted init_key page_line v.init (guest_lines v) = cc in
     record {
-      version = header_tells d.version v.version headers;
-      geometry = extent_same d.geometry v.geometry (keyed pages_key d.geometry.pages v.geometry.pages (omega arith) (omega arith) pages) (keyed cells_key d.geometry.cells v.geometry.cells (omega arith) (omega arith) cells);
+      version = told.0;
+      geometry = extent_same d.geometry v.geometry told.1 (keyed pages_key d.geometry.pages v.geometry.pages (omega arith) (omega arith) pages) (keyed cells_key d.geometry.cells v.geometry.cells (omega arith) (omega arith) cells);
       init = counted_agree init_key page_line d.init.count v.init d.init.items (guest_lines v) more (omega arith) (omega arith) rest;
     }
 
 pub behind_init : (d : SessionDraft) (more : List (List ℕ)) (v : Recorded) → StartFits d → IsWhole d.init → IsSession v → init_onto d more ≡ session_lines v → guest_lines v ≡ more
 behind_init d more v f whole fits e = counted_end page_line d.init.count v.init d.init.items (guest_lines v) more (init_agrees d more v f fits e).init whole
 
+-- no list of a reader has more items than are told in 64 bits, nor has one of a text
+count_few : (size : Size) (count : ℕ) → count ≤ (limits size).records → count < 2 ^ 64
+count_few size count few = let most = records_few size in omega arith
+
+long_few : (count : ℕ) → count ≤ longest_log → count < 2 ^ 64
+long_few count few = omega arith
+
+-- no log of a text is longer than its size allows
+own_of : (e : Extent) (v : Recorded) → e ≡ v.geometry → IsSession v → (log : LogName) → log_length v log ≤ (limits e.size).records
+own_of e v same fits log = subst (λ (x : Extent). log_length v log ≤ (limits x.size).records) (sym same) (fits.own log)
+
 pub guest_agrees : (d : SessionDraft) (more : List (List ℕ)) (v : Recorded) → GuestFits d → IsSession v → guest_onto d more ≡ session_lines v → CountedAgree guest_line d.guest.count v.guest d.guest.items (source_lines v) more
-guest_agrees d more v f fits e = agrees guest_key guest_line d.guest v.guest (source_lines v) more f.few fits.few_guest (behind_init d (guest_part d more) v f.before f.whole fits e)
+guest_agrees d more v f fits e = agrees guest_key guest_line d.guest v.guest (source_lines v) more (count_few d.geometry.size d.guest.count f.few) (long_few (length v.guest) fits.few_guest) (behind_init d (guest_part d more) v f.before f.whole fits e)
 
 pub behind_guest : (d : SessionDraft) (more : List (List ℕ)) (v : Recorded) → GuestFits d → IsWhole d.guest → IsSession v → guest_onto d more ≡ session_lines v → source_lines v ≡ more
 behind_guest d more v f whole fits e = counted_end guest_line d.guest.count v.guest d.guest.items (source_lines v) more (guest_agrees d more v f fits e) whole
 
 pub source_agrees : (d : SessionDraft) (more : List (List ℕ)) (v : Recorded) → SourceFits d → IsSession v → source_onto d more ≡ session_lines v → CountedAgree source_line d.source.count v.source d.source.items (link_lines v) more
-source_agrees d more v f fits e = agrees source_key source_line d.source v.source (link_lines v) more f.few fits.few_source (behind_guest d (source_part d more) v f.before f.whole fits e)
+source_agrees d more v f fits e = agrees source_key source_line d.source v.source (link_lines v) more (count_few d.geometry.size d.source.count f.few) (long_few (length v.source) fits.few_source) (behind_guest d (source_part d more) v f.before f.whole fits e)
 
 pub behind_source : (d : SessionDraft) (more : List (List ℕ)) (v : Recorded) → SourceFits d → IsWhole d.source → IsSession v → source_onto d more ≡ session_lines v → link_lines v ≡ more
 behind_source d more v f whole fits e = counted_end source_line d.source.count v.source d.source.items (link_lines v) more (source_agrees d more v f fits e) whole
 
 pub link_agrees : (d : SessionDraft) (more : List (List ℕ)) (v : Recorded) → LinkFits d → IsSession v → link_onto d more ≡ session_lines v → CountedAgree link_line d.link.count v.link d.link.items (lane_lines v) more
-link_agrees d more v f fits e = agrees link_key link_line d.link v.link (lane_lines v) more f.few fits.few_link (behind_source d (link_part d more) v f.before f.whole fits e)
+link_agrees d more v f fits e = agrees link_key link_line d.link v.link (lane_lines v) more (count_few d.geometry.size d.link.count f.few) (long_few (length v.link) fits.few_link) (behind_source d (link_part d more) v f.before f.whole fits e)
 
 pub behind_link : (d : SessionDraft) (more : List (List ℕ)) (v : Recorded) → LinkFits d → IsWhole d.link → IsSession v → link_onto d more ≡ session_lines v → lane_lines v ≡ more
 behind_link d more v f whole fits e = counted_end link_line d.link.count v.link d.link.items (lane_lines v) more (link_agrees d more v f fits e) whole
@@ -186,16 +203,19 @@ behind_link d more v f whole fits e = counted_end link_line d.link.count v.link 
 version_agrees : (d : SessionDraft) (more : List (List ℕ)) (v : Recorded) → LinkFits d → IsSession v → link_onto d more ≡ session_lines v → v.version ≡ d.version
 version_agrees d more v f fits e = sym (init_agrees d (guest_part d (source_part d (link_part d more))) v f.before.before.before fits e).version
 
+geometry_agrees : (d : SessionDraft) (more : List (List ℕ)) (v : Recorded) → LinkFits d → IsSession v → link_onto d more ≡ session_lines v → d.geometry ≡ v.geometry
+geometry_agrees d more v f fits e = (init_agrees d (guest_part d (source_part d (link_part d more))) v f.before.before.before fits e).geometry
+
 pub lane_agrees : (d : SessionDraft) (more : List (List ℕ)) (v : Recorded) → LaneFits d → (d.version ≡ One → IsWhole d.lane) → IsSession v → lane_onto d more ≡ session_lines v → CountedAgree lane_line d.lane.count v.lane d.lane.items (pager_lines v) more
 lane_agrees d more v f first fits e =
     let rest = lane_part d more in
-    lane_agree v.version d.version d.lane v.lane (pager_lines v) more (version_agrees d rest v f.before fits e) first f.few fits.few_lane f.each fits.lane (behind_link d rest v f.before f.whole fits e)
+    lane_agree (limits v.geometry.size).records (most_of d) v.version d.version d.lane v.lane (pager_lines v) more (version_agrees d rest v f.before fits e) first (count_few d.geometry.size d.lane.count f.few) (long_few (length v.lane) fits.few_lane) f.each fits.lane (behind_link d rest v f.before f.whole fits e)
 
 pub behind_lane : (d : SessionDraft) (more : List (List ℕ)) (v : Recorded) → LaneFits d → IsWhole d.lane → IsSession v → lane_onto d more ≡ session_lines v → pager_lines v ≡ more
 behind_lane d more v f whole fits e = counted_end lane_line d.lane.count v.lane d.lane.items (pager_lines v) more (lane_agrees d more v f (λ _. whole) fits e) whole
 
 pub pager_agrees : (d : SessionDraft) (more : List (List ℕ)) (v : Recorded) → PagerFits d → IsSession v → pager_onto d more ≡ session_lines v → CountedAgree pager_line d.pager.count v.pager d.pager.items (closing ∷ []) more
-pager_agrees d more v f fits e = agrees pager_key pager_line d.pager v.pager (closing ∷ []) more f.few fits.few_pager (behind_lane d (pager_part d more) v f.before f.whole fits e)
+pager_agrees d more v f fits e = agrees pager_key pager_line d.pager v.pager (closing ∷ []) more (count_few d.geometry.size d.pager.count f.few) (long_few (length v.pager) fits.few_pager) (behind_lane d (pager_part d more) v f.before f.whole fits e)
 
 pub behind_pager : (d : SessionDraft) (more : List (List ℕ)) (v : Recorded) → PagerFits d → IsWhole d.pager → IsSession v → pager_onto d more ≡ session_lines v → closing ∷ [] ≡ more
 behind_pager d more v f whole fits e = counted_end pager_line d.pager.count v.pager d.pager.items (closing ∷ []) more (pager_agrees d more v f fits e) whole
@@ -265,7 +285,7 @@ page_at d line f less g =
       spelled = n.spelled;
     }
 
-rise_push : (low next : ℕ) (ps : List InitPage) (p : InitPage) → Rise low ps next → next ≤ p.page → Rise low (ps ++ p ∷ []) (p.page + 1)
+pub rise_push : (low next : ℕ) (ps : List InitPage) (p : InitPage) → Rise low ps next → next ≤ p.page → Rise low (ps ++ p ∷ []) (p.page + 1)
 rise_push low next [] p r le = (omega (arith, r), refl)
 rise_push low next (q ∷ ps) p r le = (r.0, rise_push (q.page + 1) next ps p r.1 le)
 
@@ -303,29 +323,35 @@ pages_push e old new high n bytes rest f below same within t room = record {
 
 -- ---- why a line is refused
 
-pub header_refused : (d : SessionDraft) (line : List ℕ) → line ≢ header One → line ≢ header Two → Begins SpellsSession (held_onto Header d (line ∷ [])) → ⊥
-header_refused d line one two b =
+pub header_refused : (d : SessionDraft) (line : List ℕ) → ((version : Version) (size : Size) → line ≢ header version size) → Begins SpellsSession (held_onto Header d (line ∷ [])) → ⊥
+header_refused d line none b =
     let g = goes_from Header d line b in
     let whole = g.whole in
-    let l : line ≡ header g.v.version = cc in
-    no_header line g.v.version one two l
+    let l : line ≡ header g.v.version g.v.geometry.size = cc in
+    none g.v.version g.v.geometry.size l
 
-pub pages_refused : (d : SessionDraft) (line : List ℕ) → ((n : ℕ) → 1 ≤ n → n ≤ 65536 → line ≢ pages_key ++ decimal n) → Begins SpellsSession (held_onto Pages d (line ∷ [])) → ⊥
+pub pages_refused : (d : SessionDraft) (line : List ℕ) → ((n : ℕ) → 1 ≤ n → n ≤ (limits d.geometry.size).pages → line ≢ pages_key ++ decimal n) → Begins SpellsSession (held_onto Pages d (line ∷ [])) → ⊥
 pages_refused d line none b =
     let g = goes_from Pages d line b in
     let whole = g.whole in
+    let headers : header d.version d.geometry.size ≡ header g.v.version g.v.geometry.size = cc in
+    let same = (header_tells d.version g.v.version d.geometry.size g.v.geometry.size headers).1 in
     let l : line ≡ pages_key ++ decimal g.v.geometry.pages = cc in
-    none g.v.geometry.pages g.fits.geometry.some_pages g.fits.geometry.few_pages l
+    none g.v.geometry.pages g.fits.geometry.some_pages (subst (λ (size : Size). g.v.geometry.pages ≤ (limits size).pages) (sym same) g.fits.geometry.own.pages) l
 
-pub cells_refused : (d : SessionDraft) (line : List ℕ) → d.geometry.pages ≤ 65536 → ((n : ℕ) → IsExtent (extent d.geometry.pages n) → line ≢ cells_key ++ decimal n) → Begins SpellsSession (held_onto Cells d (line ∷ [])) → ⊥
+pub cells_refused : (d : SessionDraft) (line : List ℕ) → d.geometry.pages ≤ (limits d.geometry.size).pages → ((n : ℕ) → IsExtent (extent d.geometry.size d.geometry.pages n) → line ≢ cells_key ++ decimal n) → Begins SpellsSession (held_onto Cells d (line ∷ [])) → ⊥
 cells_refused d line lp none b =
     let g = goes_from Cells d line b in
     let whole = g.whole in
+    let most = (limits_at_most d.geometry.size).few_pages in
     let fp = g.fits.geometry.few_pages in
+    let headers : header d.version d.geometry.size ≡ header g.v.version g.v.geometry.size = cc in
+    let size = (header_tells d.version g.v.version d.geometry.size g.v.geometry.size headers).1 in
     let l : line ≡ cells_key ++ decimal g.v.geometry.cells = cc in
     let p : pages_key ++ decimal d.geometry.pages ≡ pages_key ++ decimal g.v.geometry.pages = cc in
     let pages = keyed pages_key d.geometry.pages g.v.geometry.pages (omega arith) (omega arith) p in
-    none g.v.geometry.cells (subst (λ (n : ℕ). IsExtent (extent n g.v.geometry.cells)) (sym pages) g.fits.geometry) l
+    let same = extent_same (extent d.geometry.size d.geometry.pages g.v.geometry.cells) g.v.geometry size pages refl in
+    none g.v.geometry.cells (subst IsExtent (sym same) g.fits.geometry) l
 
 pub init_count_refused : (d : SessionDraft) (line : List ℕ) → IsExtent d.geometry → ((n : ℕ) → n ≤ d.geometry.pages → line ≢ init_key ++ decimal n) → Begins SpellsSession (held_onto InitCount d (line ∷ [])) → ⊥
 init_count_refused d line geo none b = let n = init_count_at d line geo (goes_from InitCount d line b) in none n.0 n.1 n.2
@@ -333,44 +359,54 @@ init_count_refused d line geo none b = let n = init_count_at d line geo (goes_fr
 pub page_refused : (d : SessionDraft) (line : List ℕ) (last : ℕ) → StartFits d → length d.init.items < d.init.count → last ≡ d.geometry.pages - (d.init.count - length d.init.items) → ((p : InitPage) → d.next_page ≤ p.page → p.page ≤ last → IsInitContent d.geometry.cells p.cells → line ≢ page_line p) → Begins SpellsSession (held_onto Init d (line ∷ [])) → ⊥
 page_refused d line last f less is none b = let p = page_at d line f less (goes_from Init d line b) in none p.page p.low (omega (arith, p.high)) p.content p.spelled
 
-pub guest_count_refused : (d : SessionDraft) (line : List ℕ) → StartFits d → IsWhole d.init → ((n : ℕ) → n ≤ 1048576 → line ≢ guest_key ++ decimal n) → Begins SpellsSession (held_onto Init d (line ∷ [])) → ⊥
+pub guest_count_refused : (d : SessionDraft) (line : List ℕ) → StartFits d → IsWhole d.init → ((n : ℕ) → n ≤ most_of d → line ≢ guest_key ++ decimal n) → Begins SpellsSession (held_onto Init d (line ∷ [])) → ⊥
 guest_count_refused d line f whole none b =
     let g = goes_from Init d line b in
-    let n = count_at guest_key guest_line g.v.guest (source_lines g.v) g.more line (behind_init d (line ∷ g.more) g.v f whole g.fits g.whole) g.fits.few_guest in
+    let more = line ∷ g.more in
+    let same = (init_agrees d more g.v f g.fits g.whole).geometry in
+    let n = count_at (most_of d) guest_key guest_line g.v.guest (source_lines g.v) g.more line (behind_init d more g.v f whole g.fits g.whole) (own_of d.geometry g.v same g.fits logs.Guest) in
     none n.0 n.1 n.2
 
-pub source_count_refused : (d : SessionDraft) (line : List ℕ) → GuestFits d → IsWhole d.guest → ((n : ℕ) → n ≤ 1048576 → line ≢ source_key ++ decimal n) → Begins SpellsSession (held_onto Guest d (line ∷ [])) → ⊥
+pub source_count_refused : (d : SessionDraft) (line : List ℕ) → GuestFits d → IsWhole d.guest → ((n : ℕ) → n ≤ most_of d → line ≢ source_key ++ decimal n) → Begins SpellsSession (held_onto Guest d (line ∷ [])) → ⊥
 source_count_refused d line f whole none b =
     let g = goes_from Guest d line b in
-    let n = count_at source_key source_line g.v.source (link_lines g.v) g.more line (behind_guest d (line ∷ g.more) g.v f whole g.fits g.whole) g.fits.few_source in
+    let more = line ∷ g.more in
+    let same = (init_agrees d (guest_part d more) g.v f.before g.fits g.whole).geometry in
+    let n = count_at (most_of d) source_key source_line g.v.source (link_lines g.v) g.more line (behind_guest d more g.v f whole g.fits g.whole) (own_of d.geometry g.v same g.fits logs.Source) in
     none n.0 n.1 n.2
 
-pub link_count_refused : (d : SessionDraft) (line : List ℕ) → SourceFits d → IsWhole d.source → ((n : ℕ) → n ≤ 1048576 → line ≢ link_key ++ decimal n) → Begins SpellsSession (held_onto Source d (line ∷ [])) → ⊥
+pub link_count_refused : (d : SessionDraft) (line : List ℕ) → SourceFits d → IsWhole d.source → ((n : ℕ) → n ≤ most_of d → line ≢ link_key ++ decimal n) → Begins SpellsSession (held_onto Source d (line ∷ [])) → ⊥
 link_count_refused d line f whole none b =
     let g = goes_from Source d line b in
-    let n = count_at link_key link_line g.v.link (lane_lines g.v) g.more line (behind_source d (line ∷ g.more) g.v f whole g.fits g.whole) g.fits.few_link in
+    let more = line ∷ g.more in
+    let same = (init_agrees d (guest_part d (source_part d more)) g.v f.before.before g.fits g.whole).geometry in
+    let n = count_at (most_of d) link_key link_line g.v.link (lane_lines g.v) g.more line (behind_source d more g.v f whole g.fits g.whole) (own_of d.geometry g.v same g.fits logs.Link) in
     none n.0 n.1 n.2
 
-pub pager_count_refused : (d : SessionDraft) (line : List ℕ) → LinkFits d → IsWhole d.link → d.version ≡ One → ((n : ℕ) → n ≤ 1048576 → line ≢ pager_key ++ decimal n) → Begins SpellsSession (held_onto Link d (line ∷ [])) → ⊥
+pub pager_count_refused : (d : SessionDraft) (line : List ℕ) → LinkFits d → IsWhole d.link → d.version ≡ One → ((n : ℕ) → n ≤ most_of d → line ≢ pager_key ++ decimal n) → Begins SpellsSession (held_onto Link d (line ∷ [])) → ⊥
 pager_count_refused d line f whole first none b =
     let g = goes_from Link d line b in
     let more = line ∷ g.more in
     let rest = sym (first_behind g.v.version g.v.lane (pager_lines g.v) (version_agrees d more g.v f g.fits g.whole ∙ first)) ∙ behind_link d more g.v f whole g.fits g.whole in
-    let n = count_at pager_key pager_line g.v.pager (closing ∷ []) g.more line rest g.fits.few_pager in
+    let same = geometry_agrees d more g.v f g.fits g.whole in
+    let n = count_at (most_of d) pager_key pager_line g.v.pager (closing ∷ []) g.more line rest (own_of d.geometry g.v same g.fits logs.Pager) in
     none n.0 n.1 n.2
 
-pub lane_count_refused : (d : SessionDraft) (line : List ℕ) → LinkFits d → IsWhole d.link → d.version ≡ Two → ((n : ℕ) → n ≤ 1048576 → line ≢ lane_key ++ decimal n) → Begins SpellsSession (held_onto Link d (line ∷ [])) → ⊥
+pub lane_count_refused : (d : SessionDraft) (line : List ℕ) → LinkFits d → IsWhole d.link → d.version ≡ Two → ((n : ℕ) → n ≤ most_of d → line ≢ lane_key ++ decimal n) → Begins SpellsSession (held_onto Link d (line ∷ [])) → ⊥
 lane_count_refused d line f whole second none b =
     let g = goes_from Link d line b in
     let more = line ∷ g.more in
     let rest = sym (second_behind g.v.version g.v.lane (pager_lines g.v) (version_agrees d more g.v f g.fits g.whole ∙ second)) ∙ behind_link d more g.v f whole g.fits g.whole in
-    let n = count_at lane_key lane_line g.v.lane (pager_lines g.v) g.more line rest g.fits.few_lane in
+    let same = geometry_agrees d more g.v f g.fits g.whole in
+    let n = count_at (most_of d) lane_key lane_line g.v.lane (pager_lines g.v) g.more line rest (own_of d.geometry g.v same g.fits logs.Lane) in
     none n.0 n.1 n.2
 
-pub behind_lane_refused : (d : SessionDraft) (line : List ℕ) → LaneFits d → IsWhole d.lane → ((n : ℕ) → n ≤ 1048576 → line ≢ pager_key ++ decimal n) → Begins SpellsSession (held_onto Lane d (line ∷ [])) → ⊥
+pub behind_lane_refused : (d : SessionDraft) (line : List ℕ) → LaneFits d → IsWhole d.lane → ((n : ℕ) → n ≤ most_of d → line ≢ pager_key ++ decimal n) → Begins SpellsSession (held_onto Lane d (line ∷ [])) → ⊥
 behind_lane_refused d line f whole none b =
     let g = goes_from Lane d line b in
-    let n = count_at pager_key pager_line g.v.pager (closing ∷ []) g.more line (behind_lane d (line ∷ g.more) g.v f whole g.fits g.whole) g.fits.few_pager in
+    let more = line ∷ g.more in
+    let same = geometry_agrees d (lane_part d more) g.v f.before g.fits g.whole in
+    let n = count_at (most_of d) pager_key pager_line g.v.pager (closing ∷ []) g.more line (behind_lane d more g.v f whole g.fits g.whole) (own_of d.geometry g.v same g.fits logs.Pager) in
     none n.0 n.1 n.2
 
 pub closing_refused : (d : SessionDraft) (line : List ℕ) → PagerFits d → IsWhole d.pager → line ≢ closing → Begins SpellsSession (held_onto Pager d (line ∷ [])) → ⊥
@@ -402,18 +438,22 @@ source_refused d line f less none b =
     let r = item_at source_line (SourceRecFits d.geometry) d.source g.v.source (link_lines g.v) g.more line (source_agrees d more g.v f g.fits g.whole) less (subst (λ (e : Extent). AllByRecursion (SourceRecFits e) g.v.source) (sym same) g.fits.source) in
     none r.0 r.1 r.2
 
-pub link_refused : (d : SessionDraft) (line : List ℕ) → LinkFits d → length d.link.items < d.link.count → ((r : LinkRec) → LinkRecFits r → line ≢ link_line r) → Begins SpellsSession (held_onto Link d (line ∷ [])) → ⊥
+pub link_refused : (d : SessionDraft) (line : List ℕ) → LinkFits d → length d.link.items < d.link.count → ((r : LinkRec) → LinkRecFits d.geometry r → line ≢ link_line r) → Begins SpellsSession (held_onto Link d (line ∷ [])) → ⊥
 link_refused d line f less none b =
     let g = goes_from Link d line b in
-    let r = item_at link_line LinkRecFits d.link g.v.link (lane_lines g.v) g.more line (link_agrees d (line ∷ g.more) g.v f g.fits g.whole) less g.fits.link in
+    let more = line ∷ g.more in
+    let same = geometry_agrees d more g.v f g.fits g.whole in
+    let r = item_at link_line (LinkRecFits d.geometry) d.link g.v.link (lane_lines g.v) g.more line (link_agrees d more g.v f g.fits g.whole) less (subst (λ (e : Extent). AllByRecursion (LinkRecFits e) g.v.link) (sym same) g.fits.link) in
     none r.0 r.1 r.2
 
-pub lane_refused : (d : SessionDraft) (line : List ℕ) → LaneFits d → d.version ≡ Two → length d.lane.items < d.lane.count → ((r : LaneRec) → LaneRecFits Two r → line ≢ lane_line r) → Begins SpellsSession (held_onto Lane d (line ∷ [])) → ⊥
+pub lane_refused : (d : SessionDraft) (line : List ℕ) → LaneFits d → d.version ≡ Two → length d.lane.items < d.lane.count → ((r : LaneRec) → LaneRecFits Two d.geometry r → line ≢ lane_line r) → Begins SpellsSession (held_onto Lane d (line ∷ [])) → ⊥
 lane_refused d line f second less none b =
     let g = goes_from Lane d line b in
     let more = line ∷ g.more in
     let same = version_agrees d (lane_part d more) g.v f.before g.fits g.whole ∙ second in
-    let r = item_at lane_line (LaneRecFits Two) d.lane g.v.lane (pager_lines g.v) g.more line (lane_agrees d more g.v f (λ first. absurd (one_version d.version first second)) g.fits g.whole) less (subst (λ (w : Version). AllByRecursion (LaneRecFits w) g.v.lane) same g.fits.lane) in
+    let geo = geometry_agrees d (lane_part d more) g.v f.before g.fits g.whole in
+    let each = subst (λ (e : Extent). AllByRecursion (LaneRecFits Two e) g.v.lane) (sym geo) (subst (λ (w : Version). AllByRecursion (LaneRecFits w g.v.geometry) g.v.lane) same g.fits.lane) in
+    let r = item_at lane_line (LaneRecFits Two d.geometry) d.lane g.v.lane (pager_lines g.v) g.more line (lane_agrees d more g.v f (λ first. absurd (one_version d.version first second)) g.fits g.whole) less each in
     none r.0 r.1 r.2
 
 pub pager_refused : (d : SessionDraft) (line : List ℕ) → PagerFits d → length d.pager.items < d.pager.count → ((r : PagerRec) → PagerRecFits d.version d.geometry r → line ≢ pager_line r) → Begins SpellsSession (held_onto Pager d (line ∷ [])) → ⊥

@@ -20,7 +20,7 @@ use Rattle.session_text.specs.declared.parts.Stage.TheVariants.{Header, Pages, C
 use Rattle.session_text.specs.Records.{guest_line, source_line, link_line, lane_line, pager_line}
 use Rattle.session_text.specs.inner.InitPages.{IsInitContent, next_from, next_push}
 use Rattle.session_text.specs.Grammar.{init_key, guest_key, source_key, link_key, lane_key, pager_key, page_line, closing}
-use Rattle.session_text.specs.inner.Held.{SessionDraft, Part, part_onto, geometry_onto, init_onto, guest_onto, source_onto, link_onto, lane_part_onto, lane_onto, IsWhole, LogFits, InitFits, GuestFits, SourceFits, LinkFits, LaneFits, PagerFits, Live, held_onto}
+use Rattle.session_text.specs.inner.Held.{SessionDraft, Part, part_onto, geometry_onto, init_onto, guest_onto, source_onto, link_onto, lane_part_onto, lane_onto, IsWhole, LogFits, most_of, InitFits, GuestFits, SourceFits, LinkFits, LaneFits, PagerFits, Live, held_onto}
 use Rattle.session_text.specs.inner.Steps.{left_at, stage_before, Drops, Stays, Steps, StepsBack}
 use Rattle.session_text.proofs.Sections.{with_items, onto_push, push_fits}
 use Rattle.session_text.proofs.ByVersion.{lane_is}
@@ -51,26 +51,26 @@ init_item d p line high (Err kind) next top t none same live some = (
 
 pub guest_item : (d : SessionDraft) (p : Part GuestRec) (line : List ℕ) (r : Result (Unit {0}) FaultKind) → OnOk r (TakesItem guest_line (GuestRecFits d.geometry) (λ _ _. ⊤) d.guest p line) → IfErr r (λ kind. kind ≢ Memory → (x : GuestRec) → GuestRecFits d.geometry x → ⊤ → line ≢ guest_line x) → OnErr r (p ≡ d.guest) → Live Guest d → left_at Guest d ≢ 0 → Stays Guest d line (record d { guest = p }) r
 guest_item d p line (Ok done) t none same live some =
-    let fits = push_fits (InitFits d.geometry d.next_page d.init) d.init (GuestRecFits d.geometry) d.guest t.item live.0 (less_of d.guest some) t.fits in
+    let fits = push_fits (most_of d) (InitFits d.geometry d.next_page d.init) d.init (GuestRecFits d.geometry) d.guest t.item live.0 (less_of d.guest some) t.fits in
     subst (λ (q : Part GuestRec). Live Guest (record d { guest = q }) × (held_onto Guest (record d { guest = q }) [] ≡ held_onto Guest d (line ∷ []))) (sym t.grown) ((fits, live.1), ap (init_onto d) (pushed guest_key guest_line d.guest t.item line t.spelled))
 guest_item d p line (Err kind) t none same live some = (ap (λ (q : Part GuestRec). record d { guest = q }) same, λ other b. guest_refused d line live.0 (less_of d.guest some) (λ x fits. none other x fits tt) b)
 
 pub source_item : (d : SessionDraft) (p : Part SourceRec) (line : List ℕ) (r : Result (Unit {0}) FaultKind) → OnOk r (TakesItem source_line (SourceRecFits d.geometry) (λ _ _. ⊤) d.source p line) → IfErr r (λ kind. kind ≢ Memory → (x : SourceRec) → SourceRecFits d.geometry x → ⊤ → line ≢ source_line x) → OnErr r (p ≡ d.source) → Live Source d → left_at Source d ≢ 0 → Stays Source d line (record d { source = p }) r
 source_item d p line (Ok done) t none same live some =
-    let fits = push_fits (GuestFits d) d.guest (SourceRecFits d.geometry) d.source t.item live.0 (less_of d.source some) t.fits in
+    let fits = push_fits (most_of d) (GuestFits d) d.guest (SourceRecFits d.geometry) d.source t.item live.0 (less_of d.source some) t.fits in
     subst (λ (q : Part SourceRec). Live Source (record d { source = q }) × (held_onto Source (record d { source = q }) [] ≡ held_onto Source d (line ∷ []))) (sym t.grown) ((fits, live.1), ap (guest_onto d) (pushed source_key source_line d.source t.item line t.spelled))
 source_item d p line (Err kind) t none same live some = (ap (λ (q : Part SourceRec). record d { source = q }) same, λ other b. source_refused d line live.0 (less_of d.source some) (λ x fits. none other x fits tt) b)
 
-pub link_item : (d : SessionDraft) (p : Part LinkRec) (line : List ℕ) (r : Result (Unit {0}) FaultKind) → OnOk r (TakesItem link_line LinkRecFits (λ _ _. ⊤) d.link p line) → IfErr r (λ kind. kind ≢ Memory → (x : LinkRec) → LinkRecFits x → ⊤ → line ≢ link_line x) → OnErr r (p ≡ d.link) → Live Link d → left_at Link d ≢ 0 → Stays Link d line (record d { link = p }) r
+pub link_item : (d : SessionDraft) (p : Part LinkRec) (line : List ℕ) (r : Result (Unit {0}) FaultKind) → OnOk r (TakesItem link_line (LinkRecFits d.geometry) (λ _ _. ⊤) d.link p line) → IfErr r (λ kind. kind ≢ Memory → (x : LinkRec) → LinkRecFits d.geometry x → ⊤ → line ≢ link_line x) → OnErr r (p ≡ d.link) → Live Link d → left_at Link d ≢ 0 → Stays Link d line (record d { link = p }) r
 link_item d p line (Ok done) t none same live some =
-    let fits = push_fits (SourceFits d) d.source LinkRecFits d.link t.item live.0 (less_of d.link some) t.fits in
+    let fits = push_fits (most_of d) (SourceFits d) d.source (LinkRecFits d.geometry) d.link t.item live.0 (less_of d.link some) t.fits in
     subst (λ (q : Part LinkRec). Live Link (record d { link = q }) × (held_onto Link (record d { link = q }) [] ≡ held_onto Link d (line ∷ []))) (sym t.grown) ((fits, live.1), ap (source_onto d) (pushed link_key link_line d.link t.item line t.spelled))
 link_item d p line (Err kind) t none same live some = (ap (λ (q : Part LinkRec). record d { link = q }) same, λ other b. link_refused d line live.0 (less_of d.link some) (λ x fits. none other x fits tt) b)
 
-pub lane_item : (d : SessionDraft) (p : Part LaneRec) (line : List ℕ) (r : Result (Unit {0}) FaultKind) → OnOk r (TakesItem lane_line (LaneRecFits Two) (λ _ _. ⊤) d.lane p line) → IfErr r (λ kind. kind ≢ Memory → (x : LaneRec) → LaneRecFits Two x → ⊤ → line ≢ lane_line x) → OnErr r (p ≡ d.lane) → Live Lane d → left_at Lane d ≢ 0 → Stays Lane d line (record d { lane = p }) r
+pub lane_item : (d : SessionDraft) (p : Part LaneRec) (line : List ℕ) (r : Result (Unit {0}) FaultKind) → OnOk r (TakesItem lane_line (LaneRecFits Two d.geometry) (λ _ _. ⊤) d.lane p line) → IfErr r (λ kind. kind ≢ Memory → (x : LaneRec) → LaneRecFits Two d.geometry x → ⊤ → line ≢ lane_line x) → OnErr r (p ≡ d.lane) → Live Lane d → left_at Lane d ≢ 0 → Stays Lane d line (record d { lane = p }) r
 lane_item d p line (Ok done) t none same live some =
-    let has = subst (λ (v : Version). LaneRecFits v t.item) (sym live.1) t.fits in
-    let fits = push_fits (LinkFits d) d.link (LaneRecFits d.version) d.lane t.item live.0 (less_of d.lane some) has in
+    let has = subst (λ (v : Version). LaneRecFits v d.geometry t.item) (sym live.1) t.fits in
+    let fits = push_fits (most_of d) (LinkFits d) d.link (LaneRecFits d.version d.geometry) d.lane t.item live.0 (less_of d.lane some) has in
     let log = with_items d.lane (t.item ∷ []) in
     let held = lane_is d.version log [] live.1 ∙ (pushed lane_key lane_line d.lane t.item line t.spelled ∙ sym (lane_is d.version d.lane (line ∷ []) live.1)) in
     subst (λ (q : Part LaneRec). Live Lane (record d { lane = q }) × (held_onto Lane (record d { lane = q }) [] ≡ held_onto Lane d (line ∷ []))) (sym t.grown) ((fits, live.1, live.2), ap (link_onto d) held)
@@ -78,7 +78,7 @@ lane_item d p line (Err kind) t none same live some = (ap (λ (q : Part LaneRec)
 
 pub pager_item : (d : SessionDraft) (p : Part PagerRec) (line : List ℕ) (r : Result (Unit {0}) FaultKind) → OnOk r (TakesItem pager_line (PagerRecFits d.version d.geometry) (λ _ _. ⊤) d.pager p line) → IfErr r (λ kind. kind ≢ Memory → (x : PagerRec) → PagerRecFits d.version d.geometry x → ⊤ → line ≢ pager_line x) → OnErr r (p ≡ d.pager) → Live Pager d → left_at Pager d ≢ 0 → Stays Pager d line (record d { pager = p }) r
 pager_item d p line (Ok done) t none same live some =
-    let fits = push_fits (LaneFits d) d.lane (PagerRecFits d.version d.geometry) d.pager t.item live (less_of d.pager some) t.fits in
+    let fits = push_fits (most_of d) (LaneFits d) d.lane (PagerRecFits d.version d.geometry) d.pager t.item live (less_of d.pager some) t.fits in
     subst (λ (q : Part PagerRec). Live Pager (record d { pager = q }) × (held_onto Pager (record d { pager = q }) [] ≡ held_onto Pager d (line ∷ []))) (sym t.grown) (fits, ap (lane_onto d) (pushed pager_key pager_line d.pager t.item line t.spelled))
 pager_item d p line (Err kind) t none same live some = (ap (λ (q : Part PagerRec). record d { pager = q }) same, λ other b. pager_refused d line live (less_of d.pager some) (λ x fits. none other x fits tt) b)
 
@@ -105,11 +105,11 @@ pub whole_of : {Y : Type 0} (log : Part Y) → length log.items ≤ log.count �
 whole_of log within none = omega (arith, within, none)
 
 -- a log was announced, and nothing came of it
-abbrev pub Begun : {Y : Type 0} → Stage → List ℕ → Part Y → List ℕ → Stage → Type 0
-Begun stage key p line next = (next ≡ stage) × (p.items ≡ []) × (p.count ≤ 1048576) × (line ≡ key ++ decimal p.count)
+abbrev pub Begun : {Y : Type 0} → ℕ → Stage → List ℕ → Part Y → List ℕ → Stage → Type 0
+Begun most stage key p line next = (next ≡ stage) × (p.items ≡ []) × (p.count ≤ most) × (line ≡ key ++ decimal p.count)
 
-begun_fits : {X Y : Type 0} (Before : Type 0) (list : Part X) (Fits : Y → Type 0) (p : Part Y) → Before → IsWhole list → p.items ≡ [] → p.count ≤ 1048576 → LogFits Before list Fits p
-begun_fits {X} {Y} Before list Fits p before whole empty few = record {
+begun_fits : {X Y : Type 0} (most : ℕ) (Before : Type 0) (list : Part X) (Fits : Y → Type 0) (p : Part Y) → Before → IsWhole list → p.items ≡ [] → p.count ≤ most → LogFits most Before list Fits p
+begun_fits {X} {Y} most Before list Fits p before whole empty few = record {
   before = before;
   whole = whole;
   few = few;
@@ -123,28 +123,28 @@ begun_line key spell p line empty is = onto_empty key spell p empty ∙ ap (λ (
 begun : (at stage : Stage) (d new : SessionDraft) (line : List ℕ) (next : Stage) → next ≡ stage → Live stage new → held_onto stage new [] ≡ held_onto at d (line ∷ []) → Steps at d line new (Ok next)
 begun at stage d new line next is live held = subst (λ (s : Stage). Live s new × (held_onto s new [] ≡ held_onto at d (line ∷ []))) (sym is) (live, held)
 
-pub guest_begins : (d : SessionDraft) (p : Part GuestRec) (line : List ℕ) (r : Result Stage FaultKind) → IfOk r (Begun Guest guest_key p line) → OnErr r ((n : ℕ) → n ≤ 1048576 → line ≢ guest_key ++ decimal n) → OnErr r (p ≡ d.guest) → Live Init d → left_at Init d ≡ 0 → Steps Init d line (record d { guest = p }) r
+pub guest_begins : (d : SessionDraft) (p : Part GuestRec) (line : List ℕ) (r : Result Stage FaultKind) → IfOk r (Begun (most_of d) Guest guest_key p line) → OnErr r ((n : ℕ) → n ≤ most_of d → line ≢ guest_key ++ decimal n) → OnErr r (p ≡ d.guest) → Live Init d → left_at Init d ≡ 0 → Steps Init d line (record d { guest = p }) r
 guest_begins d p line (Ok next) t none same live left =
     let whole = whole_of d.init live.0.within left in
-    begun Init Guest d (record d { guest = p }) line next t.0 (begun_fits (InitFits d.geometry d.next_page d.init) d.init (GuestRecFits d.geometry) p live.0 whole t.1 t.2, live.1.1) (ap (init_onto d) (begun_line guest_key guest_line p line t.1 t.3))
+    begun Init Guest d (record d { guest = p }) line next t.0 (begun_fits (most_of d) (InitFits d.geometry d.next_page d.init) d.init (GuestRecFits d.geometry) p live.0 whole t.1 t.2, live.1.1) (ap (init_onto d) (begun_line guest_key guest_line p line t.1 t.3))
 guest_begins d p line (Err kind) t none same live left = (ap (λ (q : Part GuestRec). record d { guest = q }) same, λ _ b. guest_count_refused d line live.0 (whole_of d.init live.0.within left) none b)
 
-pub source_begins : (d : SessionDraft) (p : Part SourceRec) (line : List ℕ) (r : Result Stage FaultKind) → IfOk r (Begun Source source_key p line) → OnErr r ((n : ℕ) → n ≤ 1048576 → line ≢ source_key ++ decimal n) → OnErr r (p ≡ d.source) → Live Guest d → left_at Guest d ≡ 0 → Steps Guest d line (record d { source = p }) r
+pub source_begins : (d : SessionDraft) (p : Part SourceRec) (line : List ℕ) (r : Result Stage FaultKind) → IfOk r (Begun (most_of d) Source source_key p line) → OnErr r ((n : ℕ) → n ≤ most_of d → line ≢ source_key ++ decimal n) → OnErr r (p ≡ d.source) → Live Guest d → left_at Guest d ≡ 0 → Steps Guest d line (record d { source = p }) r
 source_begins d p line (Ok next) t none same live left =
     let whole = whole_of d.guest live.0.within left in
-    begun Guest Source d (record d { source = p }) line next t.0 (begun_fits (GuestFits d) d.guest (SourceRecFits d.geometry) p live.0 whole t.1 t.2, live.1.1) (ap (guest_onto d) (begun_line source_key source_line p line t.1 t.3))
+    begun Guest Source d (record d { source = p }) line next t.0 (begun_fits (most_of d) (GuestFits d) d.guest (SourceRecFits d.geometry) p live.0 whole t.1 t.2, live.1.1) (ap (guest_onto d) (begun_line source_key source_line p line t.1 t.3))
 source_begins d p line (Err kind) t none same live left = (ap (λ (q : Part SourceRec). record d { source = q }) same, λ _ b. source_count_refused d line live.0 (whole_of d.guest live.0.within left) none b)
 
-pub link_begins : (d : SessionDraft) (p : Part LinkRec) (line : List ℕ) (r : Result Stage FaultKind) → IfOk r (Begun Link link_key p line) → OnErr r ((n : ℕ) → n ≤ 1048576 → line ≢ link_key ++ decimal n) → OnErr r (p ≡ d.link) → Live Source d → left_at Source d ≡ 0 → Steps Source d line (record d { link = p }) r
+pub link_begins : (d : SessionDraft) (p : Part LinkRec) (line : List ℕ) (r : Result Stage FaultKind) → IfOk r (Begun (most_of d) Link link_key p line) → OnErr r ((n : ℕ) → n ≤ most_of d → line ≢ link_key ++ decimal n) → OnErr r (p ≡ d.link) → Live Source d → left_at Source d ≡ 0 → Steps Source d line (record d { link = p }) r
 link_begins d p line (Ok next) t none same live left =
     let whole = whole_of d.source live.0.within left in
-    begun Source Link d (record d { link = p }) line next t.0 (begun_fits (SourceFits d) d.source LinkRecFits p live.0 whole t.1 t.2, live.1.1) (ap (source_onto d) (begun_line link_key link_line p line t.1 t.3))
+    begun Source Link d (record d { link = p }) line next t.0 (begun_fits (most_of d) (SourceFits d) d.source (LinkRecFits d.geometry) p live.0 whole t.1 t.2, live.1.1) (ap (source_onto d) (begun_line link_key link_line p line t.1 t.3))
 link_begins d p line (Err kind) t none same live left = (ap (λ (q : Part LinkRec). record d { link = q }) same, λ _ b. link_count_refused d line live.0 (whole_of d.source live.0.within left) none b)
 
-pub pager_begins : (d : SessionDraft) (p : Part PagerRec) (line : List ℕ) (r : Result Stage FaultKind) → IfOk r (Begun Pager pager_key p line) → OnErr r ((n : ℕ) → n ≤ 1048576 → line ≢ pager_key ++ decimal n) → OnErr r (p ≡ d.pager) → Live Lane d → left_at Lane d ≡ 0 → Steps Lane d line (record d { pager = p }) r
+pub pager_begins : (d : SessionDraft) (p : Part PagerRec) (line : List ℕ) (r : Result Stage FaultKind) → IfOk r (Begun (most_of d) Pager pager_key p line) → OnErr r ((n : ℕ) → n ≤ most_of d → line ≢ pager_key ++ decimal n) → OnErr r (p ≡ d.pager) → Live Lane d → left_at Lane d ≡ 0 → Steps Lane d line (record d { pager = p }) r
 pager_begins d p line (Ok next) t none same live left =
     let whole = whole_of d.lane live.0.within left in
-    begun Lane Pager d (record d { pager = p }) line next t.0 (begun_fits (LaneFits d) d.lane (PagerRecFits d.version d.geometry) p live.0 whole t.1 t.2) (ap (lane_onto d) (begun_line pager_key pager_line p line t.1 t.3))
+    begun Lane Pager d (record d { pager = p }) line next t.0 (begun_fits (most_of d) (LaneFits d) d.lane (PagerRecFits d.version d.geometry) p live.0 whole t.1 t.2) (ap (lane_onto d) (begun_line pager_key pager_line p line t.1 t.3))
 pager_begins d p line (Err kind) t none same live left = (ap (λ (q : Part PagerRec). record d { pager = q }) same, λ _ b. behind_lane_refused d line live.0 (whole_of d.lane live.0.within left) none b)
 
 pub ends : (d : SessionDraft) (line : List ℕ) (r : Result Stage FaultKind) → IfOk r (λ next. (next ≡ Done) × (line ≡ closing)) → OnErr r (line ≢ closing) → Live Pager d → left_at Pager d ≡ 0 → Steps Pager d line d r

@@ -6,7 +6,8 @@ use Rattle.std.proofs.lemmas.List.{length-map}
 use Rattle.migration_types.specs.declared.records.LaneRec.{LaneRec}
 use Rattle.migration_types.specs.declared.version.Version.{Version}
 use Rattle.migration_types.specs.declared.version.Version.TheVariants.{One, Two}
-use Rattle.migration_types.specs.Sessions.{Recorded, IsSession, LaneRecFits, lane_lines as lines_of_lane, line_of, log_length}
+use Rattle.migration_types.specs.Sessions.{Recorded, IsSession, LaneRecIn, lane_lines as lines_of_lane, line_of, log_length}
+use Rattle.migration_types.specs.Limits.{limits}
 use Rattle.migration_types.specs.declared.records.LogName.{LogName}
 use Rattle.migration_types.specs.declared.records.LogName.TheVariants.{Guest, Source, Link, Lane, Pager}
 use Rattle.session_text.specs.Records.{guest_line, source_line, link_line, lane_line, pager_line}
@@ -14,9 +15,9 @@ use Rattle.session_text.specs.Grammar.{init_key, guest_key, source_key, link_key
 use Rattle.session_text.proofs.ByVersion.{no_records}
 use Rattle.session_text.proofs.Laws.{guest_lines, source_lines, link_lines, lane_lines, pager_lines}
 
-past : (xs ys : List (List ℕ)) (k : ℕ) → slice_get (xs ++ ys) (length xs + k) ≡ slice_get ys k
-past [] ys k = ap (slice_get ys) (omega arith)
-past (x ∷ xs) ys k = let next : length (x ∷ xs) + k ≡ suc (length xs + k) = omega arith in ap (slice_get (x ∷ (xs ++ ys))) next ∙ past xs ys k
+beyond : (xs ys : List (List ℕ)) (k : ℕ) → slice_get (xs ++ ys) (length xs + k) ≡ slice_get ys k
+beyond [] ys k = ap (slice_get ys) (omega arith)
+beyond (x ∷ xs) ys k = let next : length (x ∷ xs) + k ≡ suc (length xs + k) = omega arith in ap (slice_get (x ∷ (xs ++ ys))) next ∙ beyond xs ys k
 
 within : (xs ys : List (List ℕ)) (k : ℕ) → k < length xs → slice_get (xs ++ ys) k ≡ slice_get xs k
 within [] ys k lt = absurd (omega arith)
@@ -30,12 +31,12 @@ in_list key spell xs more i k e lt = ap (slice_get (counted key spell xs more)) 
 behind_list : {X : Type 0} (key : List ℕ) (spell : X → List ℕ) (xs : List X) (more : List (List ℕ)) (i k : ℕ) → i ≡ suc (length xs + k) → slice_get (counted key spell xs more) i ≡ slice_get more k
 behind_list key spell xs more i k e =
     let same : i ≡ suc (length (map spell xs) + k) = omega (arith, length-map xs spell) in
-    ap (slice_get (counted key spell xs more)) same ∙ past (map spell xs) more k
+    ap (slice_get (counted key spell xs more)) same ∙ beyond (map spell xs) more k
 
 -- the lines of the lane, of which the first version has no record, and those behind it
-in_lane : (version : Version) (records : List LaneRec) (more : List (List ℕ)) (k : ℕ) → AllByRecursion (LaneRecFits version) records → k < length records → slice_get (with_lane version records more) (1 + k) ≡ slice_get (map lane_line records) k
-in_lane One records more k each lt = let none = ap (λ (t : List LaneRec). length t) (no_records records each) in absurd (omega arith)
-in_lane Two records more k each lt = in_list lane_key lane_line records more (1 + k) k (omega arith) lt
+in_lane : (past : ℕ) (version : Version) (records : List LaneRec) (more : List (List ℕ)) (k : ℕ) → AllByRecursion (LaneRecIn past version) records → k < length records → slice_get (with_lane version records more) (1 + k) ≡ slice_get (map lane_line records) k
+in_lane past One records more k each lt = let none = ap (λ (t : List LaneRec). length t) (no_records past records each) in absurd (omega arith)
+in_lane past Two records more k each lt = in_list lane_key lane_line records more (1 + k) k (omega arith) lt
 
 past_lane : (version : Version) (records : List LaneRec) (more : List (List ℕ)) (k : ℕ) → slice_get (with_lane version records more) (lines_of_lane version (length records) + k) ≡ slice_get more k
 past_lane One records more k = ap (slice_get more) (omega arith)
@@ -62,5 +63,5 @@ pub line_at : (s : Recorded) → IsSession s → (log : LogName) (n : ℕ) → n
 line_at s fits Guest n lt = behind_init s (line_of s (Guest, n) - 1) (1 + n) (omega arith) ∙ in_list guest_key guest_line s.guest (source_lines s) (1 + n) n (omega arith) lt
 line_at s fits Source n lt = behind_guest s (line_of s (Source, n) - 1) (1 + n) (omega arith) ∙ in_list source_key source_line s.source (link_lines s) (1 + n) n (omega arith) lt
 line_at s fits Link n lt = behind_source s (line_of s (Link, n) - 1) (1 + n) (omega arith) ∙ in_list link_key link_line s.link (lane_lines s) (1 + n) n (omega arith) lt
-line_at s fits Lane n lt = behind_link s (line_of s (Lane, n) - 1) (1 + n) (omega arith) ∙ in_lane s.version s.lane (pager_lines s) n fits.lane lt
+line_at s fits Lane n lt = behind_link s (line_of s (Lane, n) - 1) (1 + n) (omega arith) ∙ in_lane (limits s.geometry.size).records s.version s.lane (pager_lines s) n fits.lane lt
 line_at s fits Pager n lt = behind_lane s (line_of s (Pager, n) - 1) (1 + n) (omega arith) ∙ in_list pager_key pager_line s.pager (closing ∷ []) (1 + n) n (omega arith) lt

@@ -1,5 +1,5 @@
 -- Laws of a list that comes line by line.
-use Rattle.std.proofs.Common.{◌≡◌, ℕ, ◌-◌, ◌<◌, ◌≤◌, List, [], ◌∷◌, ◌++◌, length, map, replicate, sym, ap, subst, ◌∙◌, append_assoc, length-append, arith}
+use Rattle.std.proofs.Common.{◌≡◌, ℕ, ◌-◌, ◌<◌, ◌≤◌, ◌^◌, List, [], ◌∷◌, ◌++◌, length, map, replicate, sym, ap, subst, ◌∙◌, append_assoc, length-append, arith}
 use Rattle.std.specs.List.{AllByRecursion}
 use Rattle.std.specs.Fmt.{decimal}
 use Rattle.std.proofs.lemmas.List.{length-replicate, map-append}
@@ -34,11 +34,11 @@ onto_whole key spell part more rest whole e =
 abbrev pub fresh : {X : Type 0} → ℕ → Part X
 fresh n = record { count = n; items = [] }
 
-pub fresh_fits : {X Y : Type 0} (Before : Type 0) (list : Part X) (Fits : Y → Type 0) (n : ℕ) → Before → IsWhole list → n ≤ 1048576 → LogFits Before list Fits (fresh n)
-fresh_fits Before list Fits n before whole few = record { before = before; whole = whole; few = few; within = omega arith; each = tt }
+pub fresh_fits : {X Y : Type 0} (most : ℕ) (Before : Type 0) (list : Part X) (Fits : Y → Type 0) (n : ℕ) → Before → IsWhole list → n ≤ most → LogFits most Before list Fits (fresh n)
+fresh_fits most Before list Fits n before whole few = record { before = before; whole = whole; few = few; within = omega arith; each = tt }
 
-pub push_fits : {X Y : Type 0} (Before : Type 0) (list : Part X) (Fits : Y → Type 0) (log : Part Y) (y : Y) → LogFits Before list Fits log → length log.items < log.count → Fits y → LogFits Before list Fits (with_items log (y ∷ []))
-push_fits Before list Fits log y f less fits = record {
+pub push_fits : {X Y : Type 0} (most : ℕ) (Before : Type 0) (list : Part X) (Fits : Y → Type 0) (log : Part Y) (y : Y) → LogFits most Before list Fits log → length log.items < log.count → Fits y → LogFits most Before list Fits (with_items log (y ∷ []))
+push_fits most Before list Fits log y f less fits = record {
   before = f.before;
   whole = f.whole;
   few = f.few;
@@ -52,8 +52,8 @@ missing part x = replicate (part.count - length part.items) x
 pub filled_whole : {X : Type 0} (part : Part X) (x : X) → length part.items ≤ part.count → IsWhole (with_items part (missing part x))
 filled_whole part x le = let n = part.count - length part.items in omega (arith, length-append part.items (missing part x), length-replicate n x)
 
-pub filled_fits : {X Y : Type 0} (Before : Type 0) (list : Part X) (Fits : Y → Type 0) (log : Part Y) (y : Y) → LogFits Before list Fits log → Fits y → LogFits Before list Fits (with_items log (missing log y))
-filled_fits Before list Fits log y f fits =
+pub filled_fits : {X Y : Type 0} (most : ℕ) (Before : Type 0) (list : Part X) (Fits : Y → Type 0) (log : Part Y) (y : Y) → LogFits most Before list Fits log → Fits y → LogFits most Before list Fits (with_items log (missing log y))
+filled_fits most Before list Fits log y f fits =
     let whole = filled_whole log y f.within in
     record {
       before = f.before;
@@ -65,8 +65,8 @@ filled_fits Before list Fits log y f fits =
 
 -- ---- what a text that begins so has next
 
-pub agrees : {X : Type 0} (key : List ℕ) (spell : X → List ℕ) (part : Part X) (xs : List X) (rest more : List (List ℕ)) → part.count ≤ 1048576 → length xs ≤ 1048576 → counted key spell xs rest ≡ part_onto key spell part more → CountedAgree spell part.count xs part.items rest more
-agrees key spell part xs rest more p q e = counted_agree key spell part.count xs part.items rest more (omega arith) (omega arith) (sym e)
+pub agrees : {X : Type 0} (key : List ℕ) (spell : X → List ℕ) (part : Part X) (xs : List X) (rest more : List (List ℕ)) → part.count < 2 ^ 64 → length xs < 2 ^ 64 → counted key spell xs rest ≡ part_onto key spell part more → CountedAgree spell part.count xs part.items rest more
+agrees key spell part xs rest more p q e = counted_agree key spell part.count xs part.items rest more p q (sym e)
 
 -- an item, where one is missing
 pub item_at : {X : Type 0} (spell : X → List ℕ) (Fits : X → Type 0) (part : Part X) (xs : List X) (rest more : List (List ℕ)) (line : List ℕ) → CountedAgree spell part.count xs part.items rest (line ∷ more) → length part.items < part.count → AllByRecursion Fits xs → (x : X) × Fits x × (line ≡ spell x)
@@ -75,7 +75,7 @@ item_at spell Fits part xs rest more line a less each =
     (n.item, all_at Fits n.front n.item n.back (subst (AllByRecursion Fits) n.whole each), n.spelled)
 
 -- the number of a list's items
-pub count_at : {X : Type 0} (key : List ℕ) (spell : X → List ℕ) (xs : List X) (rest more : List (List ℕ)) (line : List ℕ) → counted key spell xs rest ≡ line ∷ more → length xs ≤ 1048576 → (n : ℕ) × (n ≤ 1048576) × (line ≡ key ++ decimal n)
-count_at key spell xs rest more line e few =
+pub count_at : {X : Type 0} (most : ℕ) (key : List ℕ) (spell : X → List ℕ) (xs : List X) (rest more : List (List ℕ)) (line : List ℕ) → counted key spell xs rest ≡ line ∷ more → length xs ≤ most → (n : ℕ) × (n ≤ most) × (line ≡ key ++ decimal n)
+count_at most key spell xs rest more line e few =
     let l : line ≡ key ++ decimal (length xs) = cc in
     (length xs, few, l)

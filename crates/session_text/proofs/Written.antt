@@ -48,7 +48,7 @@ lane_then Two records more rest e = counted_then lane_key lane_line records more
 
 -- the lists of a session, each whole, one after another
 abbrev start_lines : Recorded → List (List ℕ)
-start_lines s = header s.version ∷ (pages_key ++ decimal s.geometry.pages) ∷ (cells_key ++ decimal s.geometry.cells) ∷ []
+start_lines s = header s.version s.geometry.size ∷ (pages_key ++ decimal s.geometry.pages) ∷ (cells_key ++ decimal s.geometry.cells) ∷ []
 
 joined : (s : Recorded) → start_lines s ++ counted init_key page_line s.init [] ++ counted guest_key guest_line s.guest [] ++ counted source_key source_line s.source [] ++ counted link_key link_line s.link [] ++ with_lane s.version s.lane [] ++ counted pager_key pager_line s.pager [] ++ (closing ∷ []) ≡ session_lines s
 joined s =
@@ -68,13 +68,13 @@ joined s =
     regroup (start_lines s) init guest source link lane pager end ∙ ap (λ (t : List (List ℕ)). start_lines s ++ t) in_init
 
 -- each of these texts has a part of a session's behind the one before
-pub session_written : (s : Recorded) (a b c d e f g l h i : List ℕ) → a ≡ header s.version ++ 10 ∷ [] → b ≡ a ++ (pages_key ++ decimal s.geometry.pages ++ 10 ∷ []) → c ≡ b ++ (cells_key ++ decimal s.geometry.cells ++ 10 ∷ []) → d ≡ c ++ ended (counted init_key page_line s.init []) → e ≡ d ++ ended (counted guest_key guest_line s.guest []) → f ≡ e ++ ended (counted source_key source_line s.source []) → g ≡ f ++ ended (counted link_key link_line s.link []) → l ≡ g ++ ended (with_lane s.version s.lane []) → h ≡ l ++ ended (counted pager_key pager_line s.pager []) → i ≡ h ++ (closing ++ 10 ∷ []) → i ≡ ended (session_lines s)
+pub session_written : (s : Recorded) (a b c d e f g l h i : List ℕ) → a ≡ header s.version s.geometry.size ++ 10 ∷ [] → b ≡ a ++ (pages_key ++ decimal s.geometry.pages ++ 10 ∷ []) → c ≡ b ++ (cells_key ++ decimal s.geometry.cells ++ 10 ∷ []) → d ≡ c ++ ended (counted init_key page_line s.init []) → e ≡ d ++ ended (counted guest_key guest_line s.guest []) → f ≡ e ++ ended (counted source_key source_line s.source []) → g ≡ f ++ ended (counted link_key link_line s.link []) → l ≡ g ++ ended (with_lane s.version s.lane []) → h ≡ l ++ ended (counted pager_key pager_line s.pager []) → i ≡ h ++ (closing ++ 10 ∷ []) → i ≡ ended (session_lines s)
 session_written s a b c d e f g l h i pa pb pc pd pe pf pg pl ph pi =
     let p = pages_key ++ decimal s.geometry.pages in
     let q = cells_key ++ decimal s.geometry.cells in
-    let one = header s.version ∷ [] in
-    let two = header s.version ∷ p ∷ [] in
-    let three = header s.version ∷ p ∷ q ∷ [] in
+    let one = header s.version s.geometry.size ∷ [] in
+    let two = header s.version s.geometry.size ∷ p ∷ [] in
+    let three = header s.version s.geometry.size ∷ p ∷ q ∷ [] in
     let four = three ++ counted init_key page_line s.init [] in
     let five = four ++ counted guest_key guest_line s.guest [] in
     let six = five ++ counted source_key source_line s.source [] in

@@ -19,6 +19,8 @@ use Rattle.migration_types.specs.declared.pages.InitPage.{InitPage}
 use Rattle.migration_types.specs.declared.records.LogName.TheVariants.{Guest, Source, Link, Lane, Pager}
 use Rattle.migration_types.specs.declared.version.Version.{Version}
 use Rattle.migration_types.specs.declared.version.Version.TheVariants.{One, Two}
+use Rattle.migration_types.specs.declared.size.Size.{Size}
+use Rattle.migration_types.specs.declared.size.Size.TheVariants.{Small}
 use Rattle.migration_types.specs.Receipts.{Name}
 use Rattle.migration_types.specs.declared.records.LaneRec.{LaneRec}
 use Rattle.migration_types.specs.Sessions.{Recorded, IsSession}
@@ -28,9 +30,9 @@ pub use Rattle.session_text.specs.Records.{guest_key, source_key, link_key, lane
 use Rattle.session_text.specs.Records.{guest_line, source_line, link_line, lane_line, pager_line}
 
 -- the fixed lines, and the words that other lines begin with
-abbrev pub header : Version → List ℕ
-header One = codes "postcopy-session 1"
-header Two = codes "postcopy-session 2"
+abbrev pub header : Version → Size → List ℕ
+header One Small = codes "postcopy-session 1"
+header Two Small = codes "postcopy-session 2"
 
 abbrev pub pages_key : List ℕ
 pages_key = codes "pages "
@@ -56,7 +58,7 @@ with_lane Two records lines = counted lane_key lane_line records lines
 -- the lines of a session's text
 abbrev pub session_lines : Recorded → List (List ℕ)
 session_lines s =
-    header s.version ∷ (pages_key ++ decimal s.geometry.pages) ∷ (cells_key ++ decimal s.geometry.cells) ∷
+    header s.version s.geometry.size ∷ (pages_key ++ decimal s.geometry.pages) ∷ (cells_key ++ decimal s.geometry.cells) ∷
     counted init_key page_line s.init (
     counted guest_key guest_line s.guest (
     counted source_key source_line s.source (

@@ -2,6 +2,7 @@
 pub mod Forms
 pub mod Held
 pub mod InitPages
+pub mod Limits
 pub mod Plain
 pub mod RecordPlain
 pub mod Steps

@@ -8,7 +8,7 @@ use std::alloc::Global;
 use text_lines::{FaultKind, read_cell};
 
 /// The values of a page's cells that a text spells, cell 0 first. A text of another length takes no memory.
-pub fn read_contents(alloc: Global, text: &[u8], cells: u32) -> Result<Vec<u64>, FaultKind>
+pub(crate) fn read_contents(alloc: Global, text: &[u8], cells: u32) -> Result<Vec<u64>, FaultKind>
     ensures found { IfOk result (λ v. IsContent cells v.items × (text.now ≡ contents_text v.items)) }
     ensures refused { IfErr result (λ kind. kind ≢ FaultKind.Memory → (xs : List ℕ) → IsContent cells xs → text.now ≢ contents_text xs) }
 {

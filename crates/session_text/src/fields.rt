@@ -4,19 +4,22 @@ ghost use Rattle.std.specs.Prelude.{◌≡◌, ◌≢◌, ◌<◌, ◌≤◌, []
 ghost use Rattle.std.specs.Fmt.{decimal};
 ghost use Rattle.text_lines.specs.Contents.{contents_text};
 ghost use Rattle.migration_types.specs.Contents.{IsContent};
+ghost use Rattle.migration_types.specs.Limits.{most_pages};
+ghost use Rattle.migration_types.specs.Sessions.{IsNumber};
 
 use crate::contents::read_contents;
-use migration_types::{Contents, LAST_RECORD, PageNo};
+use crate::forms::past_records;
+use migration_types::{Contents, PageNo, Size};
 use std::alloc::Global;
 use text_lines::{FaultKind, after_key, number_last, read_cell};
 
 /// The number of a record behind a key at the front, and what follows. Nothing follows where the text is theirs alone.
 #[inline(always)]
-pub(crate) fn numbered_then<'a>(text: &'a [u8], key: &[u8]) -> Option<(u32, &'a [u8])>
-    ensures found { IfSome result (λ found. (found.0 < 1048576) × (text.now ≡ key.now ++ (decimal found.0 ++ found.1.now))) }
-    ensures whole { (n : ℕ) → n < 1048576 → text.now ≡ key.now ++ decimal n → IsSomeAnd result (λ found. found.1.now ≡ []) }
+pub(crate) fn numbered_then<'a>(size: Size, text: &'a [u8], key: &[u8]) -> Option<(u32, &'a [u8])>
+    ensures found { IfSome result (λ found. IsNumber size found.0 × (text.now ≡ key.now ++ (decimal found.0 ++ found.1.now))) }
+    ensures whole { (n : ℕ) → IsNumber size n → text.now ≡ key.now ++ decimal n → IsSomeAnd result (λ found. found.1.now ≡ []) }
 {
-    let (number, rest) = number_last(after_key(text, key)?, u64::from(LAST_RECORD))?;
+    let (number, rest) = number_last(after_key(text, key)?, u64::from(past_records(size)) - 1)?;
     Some((number as u32, rest))
 }
 
@@ -24,20 +27,16 @@ pub(crate) fn numbered_then<'a>(text: &'a [u8], key: &[u8]) -> Option<(u32, &'a 
 #[inline(always)]
 pub(crate) fn page_then<'a>(text: &'a [u8], key: &[u8], pages: u32) -> Option<(PageNo, &'a [u8])>
     requires some { 0 < pages }
-    requires few { pages ≤ 65536 }
+    requires few { pages ≤ most_pages }
     ensures found { IfSome result (λ found. (found.0 < pages) × (text.now ≡ key.now ++ (decimal found.0 ++ found.1.now))) }
     ensures whole { (p : ℕ) → p < pages → text.now ≡ key.now ++ decimal p → IsSomeAnd result (λ found. found.1.now ≡ []) }
 {
     let (page, rest) = number_last(after_key(text, key)?, u64::from(pages) - 1)?;
-    Some((PageNo::new(page as u16), rest))
+    Some((PageNo::new(page as u32), rest))
 }
 
 /// The values of a page's cells that a text spells, cell 0 first. Those of one cell take no memory.
-pub(crate) fn read_page_contents(
-    alloc: Global,
-    text: &[u8],
-    cells: u32,
-) -> Result<Contents, FaultKind>
+pub fn read_page_contents(alloc: Global, text: &[u8], cells: u32) -> Result<Contents, FaultKind>
     ensures found { IfOk result (λ xs. IsContent cells xs × (text.now ≡ contents_text xs)) }
     ensures refused { IfErr result (λ kind. kind ≢ FaultKind.Memory → (xs : List ℕ) → IsContent cells xs → text.now ≢ contents_text xs) }
 {

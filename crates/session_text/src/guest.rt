@@ -1,10 +1,10 @@
 //! Lines of the guest's records.
 
 ghost use Rattle.std.specs.Prelude.{◌≡◌, ◌≢◌, ◌<◌, ◌≤◌, ◌^◌, [], ◌∷◌, ◌++◌, ℕ, IfSome, IsSomeAnd, OnOk};
-ghost use Rattle.migration_types.specs.Extents.{Extent, IsExtent};
+ghost use Rattle.migration_types.specs.Extents.{IsExtent};
 ghost use Rattle.migration_types.specs.Sessions.{GuestRecFits};
 ghost use Rattle.migration_types.specs.declared.records.GuestRec.{GuestRec as Rec};
-ghost use Rattle.session_text.specs.inner.Forms.{IsEvent};
+ghost use Rattle.session_text.specs.inner.Forms.{extent_of, IsEvent};
 ghost use Rattle.session_text.specs.Records.{access_text, vcpu_page_text, guest_line};
 
 use crate::fields::numbered_then;
@@ -18,7 +18,7 @@ use text_lines::{
 };
 
 /// How the line with the number of the guest's records begins.
-pub(crate) const GUEST_KEY: &[u8] = b"guest ";
+pub const GUEST_KEY: &[u8] = b"guest ";
 
 /// How the guest's records are written.
 pub(crate) const GUEST_FORMS: &[&str] = &[
@@ -34,18 +34,18 @@ pub(crate) const GUEST_FORMS: &[&str] = &[
 /// The processor, page, cell and value of a read or a write at the front, and what follows. Nothing follows where the text
 /// is theirs alone.
 #[inline(always)]
-fn access_then(text: &[u8], pages: u32, cells: u32) -> Option<(u8, PageNo, u16, u64, &[u8])>
-    requires extent { IsExtent (record { pages = pages; cells = cells }) }
-    ensures found { IfSome result (λ a. (a.0 < 64) × (a.1 < pages) × (a.2 < cells) × (a.3 < 2 ^ 64) × (text.now ≡ access_text a.0 a.1 a.2 a.3 ++ a.4.now)) }
-    ensures whole { (v p c x : ℕ) → v < 64 → p < pages → c < cells → x < 2 ^ 64 → text.now ≡ access_text v p c x → IsSomeAnd result (λ a. a.4.now ≡ []) }
+fn access_then(on: Sizes, text: &[u8]) -> Option<(u8, PageNo, u16, u64, &[u8])>
+    requires extent { IsExtent (extent_of on) }
+    ensures found { IfSome result (λ a. (a.0 < 64) × (a.1 < on.pages) × (a.2 < on.cells) × (a.3 < 2 ^ 64) × (text.now ≡ access_text a.0 a.1 a.2 a.3 ++ a.4.now)) }
+    ensures whole { (v p c x : ℕ) → v < 64 → p < on.pages → c < on.cells → x < 2 ^ 64 → text.now ≡ access_text v p c x → IsSomeAnd result (λ a. a.4.now ≡ []) }
 {
     let (vcpu, rest) = number_then(text, u64::from(LAST_VCPU))?;
-    let (page, rest) = number_then(rest, u64::from(pages) - 1)?;
-    let (cell, rest) = number_then(rest, u64::from(cells) - 1)?;
+    let (page, rest) = number_then(rest, u64::from(on.pages) - 1)?;
+    let (cell, rest) = number_then(rest, u64::from(on.cells) - 1)?;
     let (value, rest) = value_last(rest)?;
     Some((
         vcpu as u8,
-        PageNo::new(page as u16),
+        PageNo::new(page as u32),
         cell as u16,
         value,
         rest,
@@ -55,15 +55,14 @@ fn access_then(text: &[u8], pages: u32, cells: u32) -> Option<(u8, PageNo, u16, 
 /// The processor and the page of a release or a miss at the front, and what follows. Nothing follows where the text is
 /// theirs alone.
 #[inline(always)]
-fn vcpu_page_then(text: &[u8], pages: u32) -> Option<(u8, PageNo, &[u8])>
-    requires some { 0 < pages }
-    requires few { pages ≤ 65536 }
-    ensures found { IfSome result (λ a. (a.0 < 64) × (a.1 < pages) × (text.now ≡ vcpu_page_text a.0 a.1 ++ a.2.now)) }
-    ensures whole { (v p : ℕ) → v < 64 → p < pages → text.now ≡ vcpu_page_text v p → IsSomeAnd result (λ a. a.2.now ≡ []) }
+fn vcpu_page_then(on: Sizes, text: &[u8]) -> Option<(u8, PageNo, &[u8])>
+    requires extent { IsExtent (extent_of on) }
+    ensures found { IfSome result (λ a. (a.0 < 64) × (a.1 < on.pages) × (text.now ≡ vcpu_page_text a.0 a.1 ++ a.2.now)) }
+    ensures whole { (v p : ℕ) → v < 64 → p < on.pages → text.now ≡ vcpu_page_text v p → IsSomeAnd result (λ a. a.2.now ≡ []) }
 {
     let (vcpu, rest) = number_then(text, u64::from(LAST_VCPU))?;
-    let (page, rest) = number_last(rest, u64::from(pages) - 1)?;
-    Some((vcpu as u8, PageNo::new(page as u16), rest))
+    let (page, rest) = number_last(rest, u64::from(on.pages) - 1)?;
+    Some((vcpu as u8, PageNo::new(page as u32), rest))
 }
 
 const RELEASE_KEY: &[u8] = b"z ";
@@ -77,28 +76,27 @@ const RESUME_KEY: &[u8] = b"resume ";
 const SEE_KEY: &[u8] = b"see ";
 
 /// A record that is no read or write at the front, and what follows. Nothing follows where the text is its line alone.
-fn event_then(text: &[u8], pages: u32) -> Option<(GuestRec, &[u8])>
-    requires some { 0 < pages }
-    requires few { pages ≤ 65536 }
-    ensures found { IfSome result (λ found. ((cells : ℕ) → GuestRecFits (record { pages = pages; cells = cells }) found.0) × (text.now ≡ guest_line found.0 ++ found.1.now)) }
-    ensures whole { (e : Extent) (r : Rec) → e.pages ≡ pages → GuestRecFits e r → IsEvent r → text.now ≡ guest_line r → IsSomeAnd result (λ found. found.1.now ≡ []) }
+fn event_then(on: Sizes, text: &[u8]) -> Option<(GuestRec, &[u8])>
+    requires extent { IsExtent (extent_of on) }
+    ensures found { IfSome result (λ found. GuestRecFits (extent_of on) found.0 × (text.now ≡ guest_line found.0 ++ found.1.now)) }
+    ensures whole { (r : Rec) → GuestRecFits (extent_of on) r → IsEvent r → text.now ≡ guest_line r → IsSomeAnd result (λ found. found.1.now ≡ []) }
 {
-    if let Some((placement, rest)) = numbered_then(text, SEE_KEY) {
+    if let Some((placement, rest)) = numbered_then(on.size, text, SEE_KEY) {
         return Some((GuestRec::See { placement }, rest));
     }
     if let Some(rest) = after_key(text, MISS_KEY) {
-        let Some((vcpu, page, rest)) = vcpu_page_then(rest, pages) else {
+        let Some((vcpu, page, rest)) = vcpu_page_then(on, rest) else {
             return None;
         };
         return Some((GuestRec::Miss { vcpu, page }, rest));
     }
     if let Some(rest) = after_key(text, RELEASE_KEY) {
-        let Some((vcpu, page, rest)) = vcpu_page_then(rest, pages) else {
+        let Some((vcpu, page, rest)) = vcpu_page_then(on, rest) else {
             return None;
         };
         return Some((GuestRec::Release { vcpu, page }, rest));
     }
-    if let Some((ready, rest)) = numbered_then(text, RESUME_KEY) {
+    if let Some((ready, rest)) = numbered_then(on.size, text, RESUME_KEY) {
         return Some((GuestRec::Resume { ready }, rest));
     }
     Some((GuestRec::Halt, after_key(text, HALT)?))
@@ -109,13 +107,13 @@ const READ_KEY: &[u8] = b"r ";
 const WRITE_KEY: &[u8] = b"w ";
 
 /// The record at the front, and what follows. Nothing follows where the text is its line alone.
-fn guest_then(text: &[u8], pages: u32, cells: u32) -> Option<(GuestRec, &[u8])>
-    requires extent { IsExtent (record { pages = pages; cells = cells }) }
-    ensures found { IfSome result (λ found. GuestRecFits (record { pages = pages; cells = cells }) found.0 × (text.now ≡ guest_line found.0 ++ found.1.now)) }
-    ensures whole { (r : Rec) → GuestRecFits (record { pages = pages; cells = cells }) r → text.now ≡ guest_line r → IsSomeAnd result (λ found. found.1.now ≡ []) }
+fn guest_then(on: Sizes, text: &[u8]) -> Option<(GuestRec, &[u8])>
+    requires extent { IsExtent (extent_of on) }
+    ensures found { IfSome result (λ found. GuestRecFits (extent_of on) found.0 × (text.now ≡ guest_line found.0 ++ found.1.now)) }
+    ensures whole { (r : Rec) → GuestRecFits (extent_of on) r → text.now ≡ guest_line r → IsSomeAnd result (λ found. found.1.now ≡ []) }
 {
     if let Some(text) = after_key(text, READ_KEY) {
-        let Some((vcpu, page, cell, value, rest)) = access_then(text, pages, cells) else {
+        let Some((vcpu, page, cell, value, rest)) = access_then(on, text) else {
             return None;
         };
         return Some((
@@ -129,7 +127,7 @@ fn guest_then(text: &[u8], pages: u32, cells: u32) -> Option<(GuestRec, &[u8])>
         ));
     }
     if let Some(text) = after_key(text, WRITE_KEY) {
-        let Some((vcpu, page, cell, value, rest)) = access_then(text, pages, cells) else {
+        let Some((vcpu, page, cell, value, rest)) = access_then(on, text) else {
             return None;
         };
         return Some((
@@ -142,27 +140,27 @@ fn guest_then(text: &[u8], pages: u32, cells: u32) -> Option<(GuestRec, &[u8])>
             rest,
         ));
     }
-    event_then(text, pages)
+    event_then(on, text)
 }
 
 /// The processor, page, cell and value of a read or a write at the front of a text of whole lines, and what follows
 /// the line. It may answer `None` at any text.
 #[inline(always)]
-fn front_access(text: &[u8], pages: u32, cells: u32) -> Option<(u8, PageNo, u16, u64, &[u8])>
-    requires extent { IsExtent (record { pages = pages; cells = cells }) }
-    ensures { IfSome result (λ a. (a.0 < 64) × (a.1 < pages) × (a.2 < cells) × (a.3 < 2 ^ 64) × (text.now ≡ access_text a.0 a.1 a.2 a.3 ++ 10 ∷ a.4.now)) }
+fn front_access(on: Sizes, text: &[u8]) -> Option<(u8, PageNo, u16, u64, &[u8])>
+    requires extent { IsExtent (extent_of on) }
+    ensures { IfSome result (λ a. (a.0 < 64) × (a.1 < on.pages) × (a.2 < on.cells) × (a.3 < 2 ^ 64) × (text.now ≡ access_text a.0 a.1 a.2 a.3 ++ 10 ∷ a.4.now)) }
 {
     if text.len() < 24 {
         return None;
     }
     let (vcpu, rest) = short_then(text, LAST_VCPU)?;
-    let (page, rest) = short_then(rest, pages - 1)?;
-    let (cell, rest) = short_then(rest, cells - 1)?;
+    let (page, rest) = short_then(rest, on.pages - 1)?;
+    let (cell, rest) = short_then(rest, on.cells - 1)?;
     let (value, rest) = front_number(rest)?;
     let rest = after_end(rest)?;
     Some((
         vcpu as u8,
-        PageNo::new(page as u16),
+        PageNo::new(page as u32),
         cell as u16,
         value,
         rest,
@@ -172,9 +170,9 @@ fn front_access(text: &[u8], pages: u32, cells: u32) -> Option<(u8, PageNo, u16,
 /// A read or a write in plain form at the front of a text of whole lines, and what follows its line: most lines of a large
 /// session, so they have a reader of their own, which tests the length of the text once. It may answer `None` at any text.
 #[inline(always)]
-fn front_use(text: &[u8], pages: u32, cells: u32) -> Option<(GuestRec, &[u8])>
-    requires extent { IsExtent (record { pages = pages; cells = cells }) }
-    ensures { IfSome result (λ found. GuestRecFits (record { pages = pages; cells = cells }) found.0 × (text.now ≡ guest_line found.0 ++ 10 ∷ found.1.now)) }
+fn front_use(on: Sizes, text: &[u8]) -> Option<(GuestRec, &[u8])>
+    requires extent { IsExtent (extent_of on) }
+    ensures { IfSome result (λ found. GuestRecFits (extent_of on) found.0 × (text.now ≡ guest_line found.0 ++ 10 ∷ found.1.now)) }
 {
     let (kind, after) = text.split_first()?;
     let (space, rest) = after.split_first()?;
@@ -182,7 +180,7 @@ fn front_use(text: &[u8], pages: u32, cells: u32) -> Option<(GuestRec, &[u8])>
     if *space != b' ' || (!is_read && *kind != b'w') {
         return None;
     }
-    let Some((vcpu, page, cell, value, rest)) = front_access(rest, pages, cells) else {
+    let Some((vcpu, page, cell, value, rest)) = front_access(on, rest) else {
         return None;
     };
     if is_read {
@@ -271,8 +269,6 @@ pub(crate) struct GuestLines(pub Sizes);
 impl RecordForm for GuestLines {
     type Record = GuestRec;
 
-    ghost use Rattle.session_text.specs.inner.Forms.{extent_of};
-
     ghost spell = { guest_line };
 
     ghost IsForm = { λ f. IsExtent (extent_of f.0) };
@@ -280,7 +276,7 @@ impl RecordForm for GuestLines {
     ghost Fits = { λ f r. GuestRecFits (extent_of f.0) r };
 
     fn record_then<'a>(&self, text: &'a [u8]) -> Result<(GuestRec, &'a [u8]), FaultKind> {
-        match guest_then(text, self.0.pages, self.0.cells) {
+        match guest_then(self.0, text) {
             Some((record, rest)) => Ok((record, rest)),
             None => Err(FaultKind::Form),
         }
@@ -288,10 +284,10 @@ impl RecordForm for GuestLines {
 
     #[inline(always)]
     fn front<'a>(&self, text: &'a [u8]) -> Option<(GuestRec, &'a [u8])> {
-        if let Some((record, rest)) = front_use(text, self.0.pages, self.0.cells) {
+        if let Some((record, rest)) = front_use(self.0, text) {
             return Some((record, rest));
         }
-        match guest_then(text, self.0.pages, self.0.cells) {
+        match guest_then(self.0, text) {
             Some((record, rest)) => Some((record, after_end(rest)?)),
             None => None,
         }

@@ -27,25 +27,32 @@ mod versions;
 mod wanting;
 mod writing;
 
-use crate::guest::{GUEST_KEY, GuestLines};
-use crate::link::{LINK_KEY, LinkLines};
-use crate::pager::{PAGER_KEY, PagerLines};
+use crate::guest::GuestLines;
+use crate::link::LinkLines;
+use crate::pager::PagerLines;
 use crate::records::Records;
-use crate::source::{SOURCE_KEY, SourceLines};
-use crate::versions::{header, push_lane};
-pub use contents::read_contents;
+use crate::source::SourceLines;
+use crate::versions::push_lane;
+pub use fields::read_page_contents;
 pub use forms::Sizes;
+pub use guest::GUEST_KEY;
 pub use keys::{CELLS_KEY, INIT_KEY, PAGES_KEY};
+pub use lane::LANE_KEY;
+pub use link::LINK_KEY;
 pub use machine::{read_cells, read_pages, wanted_cells, wanted_pages};
 use migration_types::Session;
+pub use pager::PAGER_KEY;
 pub use pages::{InitLines, wanted_init_count, wanted_init_page};
 use parts::Parts;
 pub use places::has_its_line;
 pub use rows::{lines_follow, push_row};
+pub use source::SOURCE_KEY;
 use std::alloc::{AllocError, Global};
 use text_lines::{
     CLOSING, Staged, TextFault, TextReader, push_counted, push_keyed, push_line, read_whole,
 };
+pub use versions::{read_header, session_header};
+pub use writing::push_contents;
 
 /// Reads a session's text line by line.
 pub type SessionLines = Staged<Parts>;
@@ -82,7 +89,7 @@ pub fn write_session(alloc: Global, session: &Session) -> Result<Vec<u8>, AllocE
     let mut out = Vec::new(alloc);
     session.keeps_limits();
     let geometry = session.geometry();
-    push_line(&mut out, header(session.version()))?;
+    push_line(&mut out, session_header(session.version(), geometry.size()))?;
     push_keyed(&mut out, PAGES_KEY, geometry.pages())?;
     push_keyed(&mut out, CELLS_KEY, geometry.cells())?;
     push_counted::<InitLines>(&mut out, INIT_KEY, session.init())?;

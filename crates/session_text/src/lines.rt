@@ -41,7 +41,11 @@ impl Stages for Parts {
 
     fn text(self, stage: Stage) -> Option<Session> {
         match stage {
-            Stage::Done => match Geometry::new(self.sizes.pages, self.sizes.cells) {
+            Stage::Done => match Geometry::new(
+                self.sizes.size,
+                self.sizes.pages,
+                self.sizes.cells,
+            ) {
                 Ok(geometry) => {
                     let version = self.version;
                     let (init, logs) = self.into_lists();

@@ -2,6 +2,7 @@
 
 ghost use Rattle.std.specs.Prelude.{◌≡◌, ◌≢◌, ◌≤◌, ◌<◌, ◌↔◌, List, ℕ, IsTrue, IfOk, IfErr};
 ghost use Rattle.text_lines.specs.Contents.{contents_text};
+ghost use Rattle.migration_types.specs.Limits.{most_pages};
 ghost use Rattle.migration_types.specs.Pages.{AreZeros};
 ghost use Rattle.migration_types.specs.declared.pages.InitPage.{InitPage as Page};
 ghost use Rattle.session_text.specs.Grammar.{page_line};
@@ -23,7 +24,7 @@ pub(crate) fn read_page(
     high: u32,
     cells: u32,
 ) -> Result<InitPage, FaultKind>
-    requires { high < 65536 }
+    requires { high < most_pages }
     ensures found { IfOk result (λ p. (low ≤ p.page) × (p.page ≤ high) × IsInitContent cells p.cells × (line.now ≡ page_line p)) }
     ensures refused { IfErr result (λ kind. kind ≢ FaultKind.Memory → (p : Page) → low ≤ p.page → p.page ≤ high → IsInitContent cells p.cells → line.now ≢ page_line p) }
 {
@@ -38,7 +39,7 @@ pub(crate) fn read_page(
     }
     let cells = read_init_content(alloc, text, cells)?;
     Ok(InitPage {
-        page: PageNo::new(number as u16),
+        page: PageNo::new(number as u32),
         cells,
     })
 }
@@ -70,7 +71,7 @@ pub(crate) fn next_page(before: &[InitPage]) -> u32
     ensures { result ≡ next_from 0 before.now }
 {
     match before.last() {
-        Some(page) => u32::from(page.page.number()) + 1,
+        Some(page) => page.page.number() + 1,
         None => 0,
     }
 }
@@ -99,7 +100,7 @@ impl LineForm for InitLines {
 
     ghost spell = { page_line };
 
-    ghost IsForm = { λ f. f.high < 65536 };
+    ghost IsForm = { λ f. f.high < most_pages };
 
     ghost Fits = { λ f p. (p.page ≤ f.high) × IsInitContent f.sizes.cells p.cells };
 
@@ -128,7 +129,7 @@ impl LineForm for InitLines {
     }
 
     fn may_follow(&self, before: &[InitPage], item: &InitPage) -> bool {
-        next_page(before) <= u32::from(item.page.number())
+        next_page(before) <= item.page.number()
     }
 
     fn push(item: &InitPage, out: &mut Vec<u8>) -> Result<(), AllocError> {

@@ -2,13 +2,14 @@
 
 ghost use Rattle.std.specs.Prelude.{◌≡◌, ◌≢◌, ◌+◌, ◌<◌, ◌≤◌, ◌^◌, ℕ, [], ◌∷◌, ◌++◌, length, IfOk, OnErr};
 ghost use Rattle.text_lines.specs.Text.{TakesLines};
+ghost use Rattle.migration_types.specs.Limits.{limits};
 ghost use Rattle.session_text.specs.inner.Held.{held_onto, IsWhole, Live};
 ghost use Rattle.std.specs.Fmt.{decimal};
 ghost use Rattle.session_text.specs.Grammar.{closing};
 ghost use Rattle.session_text.specs.inner.Steps.{count_at, draft_of, left_at, stage_before, Drops, Stays, Steps, StepsBack};
 
 use crate::crews::SessionCrew;
-use crate::forms::Sizes;
+use crate::forms::{Sizes, past_records};
 use crate::guest::{GUEST_KEY, GuestLines};
 use crate::keys::INIT_KEY;
 use crate::lane::{LANE_KEY, LaneLines};
@@ -18,13 +19,12 @@ use crate::pager::{PAGER_KEY, PagerLines};
 use crate::pages::{InitLines, next_page};
 use crate::records::Records;
 use crate::source::{SOURCE_KEY, SourceLines};
-use crate::versions::header;
+use crate::versions::read_header;
 use migration_types::{
-    GuestRec, InitPage, LaneRec, LinkRec, Logs, MOST_RECORDS, PagerRec, Seq, SourceRec, Version,
-    lane_lines,
+    GuestRec, InitPage, LaneRec, LinkRec, Logs, PagerRec, Seq, Size, SourceRec, Version, lane_lines,
 };
 use std::alloc::Global;
-use text_lines::{CLOSING, Counted, FaultKind, ItemCrew, expect_line, is_line};
+use text_lines::{CLOSING, Counted, FaultKind, ItemCrew, expect_line};
 
 /// Which line comes next.
 #[derive(Clone, Copy, PartialEq, Eq)]
@@ -53,7 +53,7 @@ pub enum Stage {
     Done,
 }
 
-/// What came of a session: its version and geometry, and of each list the number of its items and those so far. The first
+/// What came of a session: its version, size and geometry, and of each list the number of its items and those so far. The first
 /// version's lane has none.
 #[derive(Drop)]
 pub struct Parts {
@@ -76,6 +76,7 @@ impl Parts {
             version: Version::One,
             sizes: Sizes {
                 alloc,
+                size: Size::Small,
                 pages: 0,
                 cells: 0,
             },
@@ -151,8 +152,8 @@ impl Parts {
             }
             Stage::Guest => self.guest.line(&Records(GuestLines(sizes)), line),
             Stage::Source => self.source.line(&Records(SourceLines(sizes)), line),
-            Stage::Link => self.link.line(&Records(LinkLines), line),
-            Stage::Lane => self.lane.line(&Records(LaneLines), line),
+            Stage::Link => self.link.line(&Records(LinkLines(sizes.size)), line),
+            Stage::Lane => self.lane.line(&Records(LaneLines(sizes.size)), line),
             Stage::Pager => {
                 let form = Records(PagerLines { version, sizes });
                 self.pager.line(&form, line)
@@ -167,35 +168,33 @@ impl Parts {
         requires none { left_at stage (draft_of self.old) ≡ 0 }
         ensures { Steps stage (draft_of self.old) line.now (draft_of self.new) result }
     {
+        let size = self.sizes.size;
         match stage {
             Stage::Header => self.at_header(line),
             Stage::Pages => self.at_pages(line),
             Stage::Cells => self.at_cells(line),
             Stage::InitCount => self.at_init_count(line),
-            Stage::Init => begin_log(&mut self.guest, line, GUEST_KEY, Stage::Guest),
-            Stage::Guest => begin_log(&mut self.source, line, SOURCE_KEY, Stage::Source),
-            Stage::Source => begin_log(&mut self.link, line, LINK_KEY, Stage::Link),
+            Stage::Init => begin_log(&mut self.guest, line, GUEST_KEY, size, Stage::Guest),
+            Stage::Guest => begin_log(&mut self.source, line, SOURCE_KEY, size, Stage::Source),
+            Stage::Source => begin_log(&mut self.link, line, LINK_KEY, size, Stage::Link),
             Stage::Link => self.behind_link(line),
-            Stage::Lane => begin_log(&mut self.pager, line, PAGER_KEY, Stage::Pager),
+            Stage::Lane => begin_log(&mut self.pager, line, PAGER_KEY, size, Stage::Pager),
             Stage::Pager => take_closing(line),
             Stage::Done => Err(FaultKind::Ended),
         }
     }
 
-    /// Takes the header, which tells the version.
+    /// Takes the header, which tells the version and the size.
     fn at_header(&mut self, line: &[u8]) -> Result<Stage, FaultKind>
         requires { Live Stage.Header (draft_of self.old) }
         ensures { Steps Stage.Header (draft_of self.old) line.now (draft_of self.new) result }
     {
-        if is_line(line, header(Version::One)) {
-            self.version = Version::One;
-            return Ok(Stage::Pages);
-        }
-        if is_line(line, header(Version::Two)) {
-            self.version = Version::Two;
-            return Ok(Stage::Pages);
-        }
-        Err(FaultKind::Form)
+        let Some((version, size)) = read_header(line) else {
+            return Err(FaultKind::Form);
+        };
+        self.version = version;
+        self.sizes.size = size;
+        Ok(Stage::Pages)
     }
 
     /// Takes the number of pages.
@@ -203,7 +202,7 @@ impl Parts {
         requires { Live Stage.Pages (draft_of self.old) }
         ensures { Steps Stage.Pages (draft_of self.old) line.now (draft_of self.new) result }
     {
-        let pages = read_pages(line)?;
+        let pages = read_pages(self.sizes.size, line)?;
         self.sizes.pages = pages;
         Ok(Stage::Cells)
     }
@@ -213,7 +212,7 @@ impl Parts {
         requires { Live Stage.Cells (draft_of self.old) }
         ensures { Steps Stage.Cells (draft_of self.old) line.now (draft_of self.new) result }
     {
-        let cells = read_cells(line, self.sizes.pages)?;
+        let cells = read_cells(self.sizes.size, line, self.sizes.pages)?;
         self.sizes.cells = cells;
         Ok(Stage::InitCount)
     }
@@ -233,14 +232,15 @@ impl Parts {
         requires whole { IsWhole self.old.link }
         ensures { Steps Stage.Link (draft_of self.old) line.now (draft_of self.new) result }
     {
+        let most = past_records(self.sizes.size);
         match self.version {
             Version::One => {
-                self.pager.announce(line, PAGER_KEY, MOST_RECORDS)?;
+                self.pager.announce(line, PAGER_KEY, most)?;
                 self.lane = Counted::nothing(self.sizes.alloc);
                 Ok(Stage::Pager)
             }
             Version::Two => {
-                self.lane.announce(line, LANE_KEY, MOST_RECORDS)?;
+                self.lane.announce(line, LANE_KEY, most)?;
                 Ok(Stage::Lane)
             }
         }
@@ -323,8 +323,12 @@ impl Parts {
             Stage::Init => self.take_pages(crew, bytes),
             Stage::Guest => self.guest.lines(crew, &Records(GuestLines(sizes)), bytes),
             Stage::Source => self.source.lines(crew, &Records(SourceLines(sizes)), bytes),
-            Stage::Link => self.link.lines(crew, &Records(LinkLines), bytes),
-            Stage::Lane => self.lane.lines(crew, &Records(LaneLines), bytes),
+            Stage::Link => self
+                .link
+                .lines(crew, &Records(LinkLines(sizes.size)), bytes),
+            Stage::Lane => self
+                .lane
+                .lines(crew, &Records(LaneLines(sizes.size)), bytes),
             Stage::Pager => {
                 let form = Records(PagerLines { version, sizes });
                 self.pager.lines(crew, &form, bytes)
@@ -410,13 +414,14 @@ fn begin_log<X: Drop>(
     log: &mut Counted<X>,
     line: &[u8],
     key: &[u8],
+    size: Size,
     stage: Stage,
 ) -> Result<Stage, FaultKind>
-    ensures found { IfOk result (λ next. (next ≡ stage) × (log.new.items ≡ []) × (log.new.count ≤ 1048576) × (line.now ≡ key.now ++ decimal log.new.count)) }
-    ensures refused { OnErr result ((n : ℕ) → n ≤ 1048576 → line.now ≢ key.now ++ decimal n) }
+    ensures found { IfOk result (λ next. (next ≡ stage) × (log.new.items ≡ []) × (log.new.count ≤ (limits size).records) × (line.now ≡ key.now ++ decimal log.new.count)) }
+    ensures refused { OnErr result ((n : ℕ) → n ≤ (limits size).records → line.now ≢ key.now ++ decimal n) }
     ensures err { OnErr result (log.new ≡ log.old) }
 {
-    log.announce(line, key, MOST_RECORDS)?;
+    log.announce(line, key, past_records(size))?;
     Ok(stage)
 }
 
@@ -435,7 +440,7 @@ fn with_room(pages: &[InitPage], high: u32) -> usize
     ensures { result ≤ length pages.now }
 {
     for (at, page) in pages.iter().enumerate() {
-        if usize::from(page.page.number()) > high as usize + at {
+        if page.page.index() > high as usize + at {
             return at;
         }
     }

@@ -12,7 +12,7 @@ use crate::pager::pager_forms;
 use crate::pages::{wanted_init_count, wanted_init_page};
 use crate::parts::{Parts, Stage};
 use crate::source::SOURCE_FORMS;
-use migration_types::{MOST_RECORDS, Version};
+use migration_types::Version;
 use text_lines::Wanted;
 
 impl Parts {
@@ -46,20 +46,30 @@ impl Parts {
     fn wanted_behind(&self, stage: Stage) -> Wanted {
         match stage {
             Stage::Header => Wanted::one("the header of a session", HEADER_FORMS),
-            Stage::Pages => wanted_pages(),
-            Stage::Cells => wanted_cells(),
+            Stage::Pages => wanted_pages(self.sizes.size),
+            Stage::Cells => wanted_cells(self.sizes.size),
             Stage::InitCount => wanted_init_count(self.sizes.pages),
-            Stage::Init => records_of("the number of the guest's records", &["guest N"]),
-            Stage::Guest => records_of("the number of the source's records", &["source N"]),
-            Stage::Source => records_of("the number of the link's records", &["link N"]),
+            Stage::Init => self.records_of("the number of the guest's records", &["guest N"]),
+            Stage::Guest => self.records_of("the number of the source's records", &["source N"]),
+            Stage::Source => self.records_of("the number of the link's records", &["link N"]),
             Stage::Link => match self.version {
-                Version::One => wanted_pager_count(),
-                Version::Two => records_of("the number of the lane's records", &["lane N"]),
+                Version::One => self.wanted_pager_count(),
+                Version::Two => self.records_of("the number of the lane's records", &["lane N"]),
             },
-            Stage::Lane => wanted_pager_count(),
+            Stage::Lane => self.wanted_pager_count(),
             Stage::Pager => Wanted::closing_line(),
             Stage::Done => Wanted::nothing_more(),
         }
+    }
+
+    /// The number of a log's records.
+    fn records_of(&self, what: &'static str, forms: &'static [&'static str]) -> Wanted {
+        Wanted::one(what, forms).within(0, self.sizes.size.limits().records)
+    }
+
+    /// The number of the pager's records.
+    fn wanted_pager_count(&self) -> Wanted {
+        self.records_of("the number of the pager's records", &["pager N"])
     }
 
     /// The same, in a stage's list or behind its last item.
@@ -102,14 +112,4 @@ impl Parts {
 /// The line behind a list's items, where its number stands at this line.
 fn line_behind(count_line: u32, items: u32) -> u32 {
     count_line.saturating_add(items).saturating_add(1)
-}
-
-/// The number of a log's records.
-fn records_of(what: &'static str, forms: &'static [&'static str]) -> Wanted {
-    Wanted::one(what, forms).within(0, MOST_RECORDS)
-}
-
-/// The number of the pager's records.
-fn wanted_pager_count() -> Wanted {
-    records_of("the number of the pager's records", &["pager N"])
 }

@@ -24,7 +24,7 @@ pub(crate) fn push_page(
 }
 
 /// Adds sixteen digits for each cell.
-pub(crate) fn push_contents(out: &mut Vec<u8>, cells: &[u64]) -> Result<(), AllocError>
+pub fn push_contents(out: &mut Vec<u8>, cells: &[u64]) -> Result<(), AllocError>
     ensures { OnOk result (out.new.items ≡ out.old.items ++ contents_text cells.now) }
 {
     for value in cells {

@@ -330,7 +330,7 @@ impl SourceBook {
     fn owes(&self, page: PageNo) -> bool
         ensures { result ≡ owes (part_of self.now) page }
     {
-        u32::from(page.number()) < self.frames.geometry().pages() && !self.ledger.holds(page)
+        page.number() < self.frames.geometry().pages() && !self.ledger.holds(page)
     }
 
     /// Whether a push does nothing: all owed pages are sent, or the pager has them all.

@@ -110,7 +110,7 @@ module _ (number : Numbers) (count : ℕ) (s : Recorded) where
       let R2 : List (List ℕ) = counted source_key source_line s.source R3 in
       let R1 : List (List ℕ) = counted guest_key guest_line s.guest R2 in
       let R0 : List (List ℕ) = counted init_key page_line s.init R1 in
-      let F0 : List (List ℕ) = header s.version ∷ (pages_key ++ decimal s.geometry.pages) ∷ (cells_key ++ decimal s.geometry.cells) ∷ [] in
+      let F0 : List (List ℕ) = header s.version s.geometry.size ∷ (pages_key ++ decimal s.geometry.pages) ∷ (cells_key ++ decimal s.geometry.cells) ∷ [] in
       let f0 : From lines F0 4 R0 = record { parts = refl; number = refl } in
       let f1 = list_past init_key page_line s.init lines F0 4 R1 f0 in
       let F1 : List (List ℕ) = F0 ++ ((init_key ++ decimal (length s.init)) ∷ map page_line s.init) in
@@ -139,5 +139,5 @@ module _ (number : Numbers) (count : ℕ) (s : Recorded) where
             as_many link_key link_line (new_link s number) (marks s number Link) s.link (link_at s) _ _ (length-map s.link (keeps_link s number)) (
             as_many_lane (new_lane s number) s.version (marks s number Lane) s.lane (lane_at s) _ _ (length-map s.lane (keeps_lane s number)) (
             as_many pager_key pager_line (new_pager s number) (marks s number Pager) s.pager (pager_at s) (end_at s ∷ []) (closing ∷ []) (length-map s.pager (keeps_pager s number)) refl))))));
-        seen = ap (λ os. Some (header s.version) ∷ Some (pages_key ++ decimal s.geometry.pages) ∷ Some (cells_key ++ decimal s.geometry.cells) ∷ os) s0;
+        seen = ap (λ os. Some (header s.version s.geometry.size) ∷ Some (pages_key ++ decimal s.geometry.pages) ∷ Some (cells_key ++ decimal s.geometry.cells) ∷ os) s0;
       }

@@ -45,7 +45,7 @@ lane_text Two records more old = counted_text lane_key lane_line records more ol
 
 -- a session's text is these parts, one behind the other
 pub record AreParts (s : Recorded) (head pages cells init guest source link lane pager all : List ℕ) : Type 0 where
-  pub head_is : head ≡ header s.version ++ 10 ∷ []
+  pub head_is : head ≡ header s.version s.geometry.size ++ 10 ∷ []
   pub pages_is : pages ≡ head ++ (pages_key ++ (decimal s.geometry.pages ++ 10 ∷ []))
   pub cells_is : cells ≡ pages ++ (cells_key ++ (decimal s.geometry.cells ++ 10 ∷ []))
   pub init_is : init ≡ cells ++ ended ((init_key ++ decimal (length (map page_line s.init))) ∷ map page_line s.init)
@@ -94,4 +94,4 @@ module _ (s : Recorded) where
       ∙ ap (λ xs. xs ++ ended ((cells_key ++ decimal s.geometry.cells) ∷ counted init_key page_line s.init from_guest)) p.pages_is
       ∙ sym (line_text pages_key s.geometry.pages ((cells_key ++ decimal s.geometry.cells) ∷ counted init_key page_line s.init from_guest) head)
       ∙ ap (λ xs. xs ++ ended ((pages_key ++ decimal s.geometry.pages) ∷ (cells_key ++ decimal s.geometry.cells) ∷ counted init_key page_line s.init from_guest)) p.head_is
-      ∙ append_assoc (header s.version) (10 ∷ []) (ended ((pages_key ++ decimal s.geometry.pages) ∷ (cells_key ++ decimal s.geometry.cells) ∷ counted init_key page_line s.init from_guest))
+      ∙ append_assoc (header s.version s.geometry.size) (10 ∷ []) (ended ((pages_key ++ decimal s.geometry.pages) ∷ (cells_key ++ decimal s.geometry.cells) ∷ counted init_key page_line s.init from_guest))

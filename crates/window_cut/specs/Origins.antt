@@ -74,7 +74,7 @@ kept_lane_lines Two ms records = kept_lines lane_key lane_line ms records
 -- the lines of a session's text that are kept in a window, as they stand there
 abbrev pub seen_lines : Numbers → Recorded → List (List ℕ)
 seen_lines number s =
-    header s.version ∷ (pages_key ++ decimal s.geometry.pages) ∷ (cells_key ++ decimal s.geometry.cells) ∷ (
+    header s.version s.geometry.size ∷ (pages_key ++ decimal s.geometry.pages) ∷ (cells_key ++ decimal s.geometry.cells) ∷ (
     kept_lines init_key page_line (map (keeps_init number) s.init) s.init ++ (
     kept_lines guest_key guest_line (marks s number Guest) s.guest ++ (
     kept_lines source_key source_line (marks s number Source) s.source ++ (

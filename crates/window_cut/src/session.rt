@@ -4,30 +4,20 @@ ghost use Rattle.std.specs.Prelude.{◌≡◌, ℕ, [], ◌∷◌, ◌++◌, Lis
 ghost use Rattle.std.specs.Fmt.{decimal};
 ghost use Rattle.migration_types.specs.Sessions.{Recorded};
 ghost use Rattle.text_lines.specs.Text.{ended};
-ghost use Rattle.session_text.specs.Grammar.{header, session_lines};
+ghost use Rattle.migration_types.specs.declared.size.Size.TheVariants.{Small};
+ghost use Rattle.session_text.specs.Grammar.{session_lines};
 ghost use Rattle.window_cut.specs.inner.Met.{IsSection};
 ghost use Rattle.window_cut.specs.inner.Parts.{AreSections, lane_lines};
 
 use crate::sections::{Section, Sections};
-use migration_types::Version;
+use migration_types::{Size, Version};
 use recordings::Machine;
-use session_text::{CELLS_KEY, INIT_KEY, PAGES_KEY};
+use session_text::{
+    CELLS_KEY, GUEST_KEY, INIT_KEY, LANE_KEY, LINK_KEY, PAGER_KEY, PAGES_KEY, SOURCE_KEY,
+    session_header,
+};
 use std::alloc::{AllocError, Global};
 use text_lines::{CLOSING, push_keyed, push_line};
-
-const FIRST_HEADER: &[u8] = b"postcopy-session 1";
-
-const SECOND_HEADER: &[u8] = b"postcopy-session 2";
-
-const GUEST_KEY: &[u8] = b"guest ";
-
-const SOURCE_KEY: &[u8] = b"source ";
-
-const LINK_KEY: &[u8] = b"link ";
-
-const LANE_KEY: &[u8] = b"lane ";
-
-const PAGER_KEY: &[u8] = b"pager ";
 
 /// The session of the text of a window, and for each of its lines which line of the recording's text it is, counted from 1.
 #[derive(Drop)]
@@ -36,17 +26,17 @@ pub struct WindowText {
     pub lines: Vec<u64>,
 }
 
-/// The text of a session of so many pages on such a machine, of which these are the lines.
+/// The text of a session of so many pages on such a machine, of the small size, of which these are the lines.
 pub(crate) fn session_text(
     alloc: Global,
     pages: u64,
     machine: &Machine,
     sections: &Sections,
 ) -> Result<Vec<u8>, AllocError>
-    ensures { IfOk result (λ out. (s : Recorded) → AreSections sections.now s → machine.now.version ≡ s.version → pages ≡ s.geometry.pages → machine.now.cells ≡ s.geometry.cells → out.items ≡ ended (session_lines s)) }
+    ensures { IfOk result (λ out. (s : Recorded) → AreSections sections.now s → machine.now.version ≡ s.version → s.geometry.size ≡ Small → pages ≡ s.geometry.pages → machine.now.cells ≡ s.geometry.cells → out.items ≡ ended (session_lines s)) }
 {
     let mut out = Vec::new(alloc);
-    push_line(&mut out, header(machine.version))?;
+    push_line(&mut out, session_header(machine.version, Size::Small))?;
     push_keyed(&mut out, PAGES_KEY, pages)?;
     push_keyed(&mut out, CELLS_KEY, machine.cells)?;
     push_section(&mut out, INIT_KEY, &sections.init)?;
@@ -57,16 +47,6 @@ pub(crate) fn session_text(
     push_section(&mut out, PAGER_KEY, &sections.pager)?;
     push_line(&mut out, CLOSING)?;
     Ok(out)
-}
-
-/// The first line.
-fn header(version: Version) -> &'static [u8]
-    ensures { result.now ≡ header version }
-{
-    match version {
-        Version::One => FIRST_HEADER,
-        Version::Two => SECOND_HEADER,
-    }
 }
 
 /// Adds a line that says how many lines there are, and the lines.

@@ -149,7 +149,7 @@ fn said(missing: Option<Missing>) -> (&'static str, u32) {
     match missing {
         Some(Missing::Halt) => ("halt", 0),
         Some(Missing::Resume) => ("resume", 0),
-        Some(Missing::Page(page)) => ("page", page.number() as u32),
+        Some(Missing::Page(page)) => ("page", page.number()),
         Some(Missing::All) => ("all", 0),
         Some(Missing::Done) => ("done", 0),
         Some(Missing::Taken(n)) => ("taken", n),

@@ -52,9 +52,9 @@ const SEEN_BEFORE: Logs = Logs {
 /// What is said of a session.
 enum Said {
     /// These are the facts of the page of this number.
-    Facts(u16, PageFacts),
+    Facts(u32, PageFacts),
     /// For the page of this number the entry is right, or not.
-    Entry(u16, Entry, bool),
+    Entry(u32, Entry, bool),
     /// The first fault of a page: its log, its number there, and why.
     FirstFault(Option<PageFault>),
 }

@@ -211,7 +211,7 @@ fn stories(rt: HostRuntime) {
 }
 
 /// Whether a picture is about this faulty record and this page.
-fn is_about(picture: &Picture, fault: Option<(LogName, u32)>, page: Option<u16>) -> bool {
+fn is_about(picture: &Picture, fault: Option<(LogName, u32)>, page: Option<u32>) -> bool {
     picture.focus.fault == fault && picture.focus.page.map(|page| page.number()) == page
 }
 

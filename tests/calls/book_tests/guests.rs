@@ -2,18 +2,18 @@
 
 use guest_book::GuestBook;
 use migration_events::Op;
-use migration_types::{Contents, Geometry, GuestRec, InitPage, PageNo};
+use migration_types::{Contents, Geometry, GuestRec, InitPage, PageNo, Size};
 use page_stream::Packet;
 use std::alloc::AllocError;
 use std::test::Fail;
 use target_book::TargetFault;
 
-const FIRST: u16 = 0;
+const FIRST: u32 = 0;
 
-const SECOND: u16 = 1;
+const SECOND: u32 = 1;
 
 fn book(rt: &HostRuntime) -> Result<GuestBook, Fail> {
-    let geometry = Geometry::new(2, 1)?;
+    let geometry = Geometry::new(Size::Small, 2, 1)?;
     let init = vec![in rt.alloc();
         InitPage {
             page: PageNo::new(SECOND),

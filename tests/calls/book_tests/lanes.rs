@@ -9,7 +9,7 @@ use book_events::paging::pager_pull;
 use book_events::sending::push;
 use link_book::{LinkBook, LinkFault};
 use migration_events::{Direction, Fate};
-use migration_types::{Contents, Geometry, LaneRec, PageNo, PagerRec, Shared};
+use migration_types::{Contents, Geometry, LaneRec, PageNo, PagerRec, Shared, Size};
 use page_stream::Packet;
 use std::alloc::{AllocError, Global};
 use std::test::Fail;
@@ -115,7 +115,7 @@ fn is_of(geometry: Geometry, packet: &Packet) -> bool {
     match packet {
         Packet::State { released, .. } => released.as_slice().is_empty(),
         Packet::Page { page, contents, .. } => {
-            u32::from(page.number()) < geometry.pages()
+            page.number() < geometry.pages()
                 && contents.as_slice().len() == geometry.cells() as usize
         }
         Packet::Want { .. } | Packet::All { .. } => true,
@@ -157,7 +157,7 @@ fn is_pulled(log: &[PagerRec]) -> bool {
 
 #[test]
 fn the_pager_pulls_once_the_state_has_come(rt: HostRuntime) -> Result<(), Fail> {
-    let geometry = Geometry::new(2, 1)?;
+    let geometry = Geometry::new(Size::Small, 2, 1)?;
     let mut pager = PagerBook::new(rt.alloc(), geometry)?;
     let halted = TargetBook::halted(rt.alloc(), geometry, Vec::new(rt.alloc())).ok();
     let mut target = halted.expect(&rt, "memory for the target");

@@ -23,7 +23,7 @@ use migration_types::PageNo;
 use page_stream::Packet;
 
 /// A packet that asks for a page, by the pager's record of this number.
-pub fn want(number: u32, page: u16) -> Packet {
+pub fn want(number: u32, page: u32) -> Packet {
     Packet::Want {
         number,
         page: PageNo::new(page),

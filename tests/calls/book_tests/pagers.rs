@@ -2,7 +2,7 @@
 //! which another waits, and what a full log refuses.
 
 use migration_events::Op;
-use migration_types::{Contents, Geometry, MOST_RECORDS, PageNo, PagerRec, Shared};
+use migration_types::{Contents, Geometry, MOST_RECORDS, PageNo, PagerRec, Shared, Size};
 use page_stream::Packet;
 use std::alloc::Global;
 use std::test::Fail;
@@ -66,7 +66,7 @@ fn page_comes(pager: &mut PagerBook) -> Result<(), TargetFault> {
 }
 
 /// It is the packet that wants this page, by this record.
-fn is_want(packet: &Option<Packet>, record: u32, wanted: u16) -> bool {
+fn is_want(packet: &Option<Packet>, record: u32, wanted: u32) -> bool {
     match packet {
         Some(Packet::Want { number, page }) => *number == record && page.number() == wanted,
         _ => false,
@@ -74,7 +74,7 @@ fn is_want(packet: &Option<Packet>, record: u32, wanted: u16) -> bool {
 }
 
 /// A tick wants this page, by this record.
-fn ticks(pager: &mut PagerBook, record: u32, wanted: u16) -> bool {
+fn ticks(pager: &mut PagerBook, record: u32, wanted: u32) -> bool {
     match pager.tick() {
         Ok(packet) => is_want(&packet, record, wanted),
         Err(_) => false,
@@ -125,7 +125,7 @@ fn both_wake(pager: &mut PagerBook, target: &mut TargetBook) -> bool {
 
 #[test]
 fn two_wait_for_one_page(rt: HostRuntime) -> Result<(), Fail> {
-    let geometry = Geometry::new(2, 1)?;
+    let geometry = Geometry::new(Size::Small, 2, 1)?;
     let mut pager = PagerBook::new(rt.alloc(), geometry)?;
     let halted = TargetBook::halted(rt.alloc(), geometry, Vec::new(rt.alloc())).ok();
     let mut target = halted.expect(&rt, "memory for the target");
@@ -170,7 +170,7 @@ fn is_dropped(log: &[PagerRec]) -> bool {
 
 #[test]
 fn nobody_waits_for_a_released_page(rt: HostRuntime) -> Result<(), Fail> {
-    let geometry = Geometry::new(2, 1)?;
+    let geometry = Geometry::new(Size::Small, 2, 1)?;
     let mut pager = PagerBook::new(rt.alloc(), geometry)?;
     let halted = TargetBook::halted(rt.alloc(), geometry, Vec::new(rt.alloc())).ok();
     let mut target = halted.expect(&rt, "memory for the target");
@@ -195,7 +195,7 @@ fn fills(pager: &mut PagerBook) -> bool {
 
 #[test]
 fn refuses_at_a_full_log(rt: HostRuntime) -> Result<(), Fail> {
-    let geometry = Geometry::new(2, 1)?;
+    let geometry = Geometry::new(Size::Small, 2, 1)?;
     let mut pager = PagerBook::new(rt.alloc(), geometry)?;
     let halted = TargetBook::halted(rt.alloc(), geometry, Vec::new(rt.alloc())).ok();
     let mut target = halted.expect(&rt, "memory for the target");

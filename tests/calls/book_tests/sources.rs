@@ -4,18 +4,18 @@
 use crate::want;
 use source_book::{SourceBook, SourceFault};
 use balloon_ledger::Ledger;
-use migration_types::{Geometry, MOST_RECORDS, PageNo, SourceRec};
+use migration_types::{Geometry, MOST_RECORDS, PageNo, Size, SourceRec};
 use page_store::Store;
 use page_stream::Packet;
 use std::test::Fail;
 
-const FIRST: u16 = 0;
+const FIRST: u32 = 0;
 
-const SECOND: u16 = 1;
+const SECOND: u32 = 1;
 
 /// The machine's book after the halt, and its state packet.
 pub(crate) fn after_halt(rt: &HostRuntime) -> Result<(SourceBook, Packet), Fail> {
-    let geometry = Geometry::new(2, 1)?;
+    let geometry = Geometry::new(Size::Small, 2, 1)?;
     let mut store = Store::zeroed(rt.alloc(), geometry)?;
     store.write(PageNo::new(SECOND), 0, 7);
     let ledger = Ledger::new(rt.alloc(), geometry)?;
@@ -26,7 +26,7 @@ pub(crate) fn after_halt(rt: &HostRuntime) -> Result<(SourceBook, Packet), Fail>
 }
 
 /// Whether a packet is a page of this number with this cell.
-fn is_page(packet: &Packet, given: (u32, u16, u64)) -> bool {
+fn is_page(packet: &Packet, given: (u32, u32, u64)) -> bool {
     let (number, page, cell) = given;
     match packet {
         Packet::Page {
@@ -39,7 +39,7 @@ fn is_page(packet: &Packet, given: (u32, u16, u64)) -> bool {
 }
 
 /// Whether this page is offered.
-fn offers(offered: Result<Option<Packet>, SourceFault>, given: (u32, u16, u64)) -> bool {
+fn offers(offered: Result<Option<Packet>, SourceFault>, given: (u32, u32, u64)) -> bool {
     match offered {
         Ok(Some(packet)) => is_page(&packet, given),
         _ => false,
@@ -78,7 +78,7 @@ fn all() -> Packet {
 }
 
 /// Whether a record sends a page with this cell.
-fn sends(rec: &SourceRec, page: u16, cell: u64) -> bool {
+fn sends(rec: &SourceRec, page: u32, cell: u64) -> bool {
     match rec {
         SourceRec::Send { page: p, contents } => {
             p.number() == page && contents.as_slice() == [cell].as_slice()

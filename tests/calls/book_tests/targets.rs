@@ -1,7 +1,7 @@
 //! A guest that misses a page and goes on once it is placed, a page of zeros, releases, and logs without room.
 
 use migration_events::Op;
-use migration_types::{Geometry, GuestRec, PageNo};
+use migration_types::{Geometry, GuestRec, PageNo, Size};
 use page_store::Store;
 use std::alloc::Global;
 use std::test::Fail;
@@ -20,9 +20,9 @@ fn halted(alloc: Global, geometry: Geometry, releases: usize) -> Result<TargetBo
 }
 
 /// Reads a cell of a machine that has it.
-fn read(book: &mut TargetBook, vcpu: u8, page: u16, cell: u16) -> Option<Access> {
+fn read(book: &mut TargetBook, vcpu: u8, page: u32, cell: u16) -> Option<Access> {
     let geometry = book.geometry();
-    if u32::from(page) >= geometry.pages() || u32::from(cell) >= geometry.cells() {
+    if page >= geometry.pages() || u32::from(cell) >= geometry.cells() {
         return None;
     }
     let page = PageNo::new(page);
@@ -30,9 +30,9 @@ fn read(book: &mut TargetBook, vcpu: u8, page: u16, cell: u16) -> Option<Access>
 }
 
 /// Writes a cell of a machine that has it.
-fn write(book: &mut TargetBook, page: u16, cell: u16, value: u64) -> Option<Access> {
+fn write(book: &mut TargetBook, page: u32, cell: u16, value: u64) -> Option<Access> {
     let geometry = book.geometry();
-    if u32::from(page) >= geometry.pages() || u32::from(cell) >= geometry.cells() {
+    if page >= geometry.pages() || u32::from(cell) >= geometry.cells() {
         return None;
     }
     let page = PageNo::new(page);
@@ -40,8 +40,8 @@ fn write(book: &mut TargetBook, page: u16, cell: u16, value: u64) -> Option<Acce
 }
 
 /// Releases a page of a machine that has it.
-fn release(book: &mut TargetBook, vcpu: u8, page: u16) -> Option<Access> {
-    if u32::from(page) >= book.geometry().pages() {
+fn release(book: &mut TargetBook, vcpu: u8, page: u32) -> Option<Access> {
+    if page >= book.geometry().pages() {
         return None;
     }
     let page = PageNo::new(page);
@@ -49,14 +49,14 @@ fn release(book: &mut TargetBook, vcpu: u8, page: u16) -> Option<Access> {
 }
 
 /// Whether a machine has the page, and the pager's record of this number placed it.
-fn is_placed_at(book: &TargetBook, page: u16, number: u32) -> bool {
-    u32::from(page) < book.geometry().pages() && book.placed_at(PageNo::new(page)) == Some(number)
+fn is_placed_at(book: &TargetBook, page: u32, number: u32) -> bool {
+    page < book.geometry().pages() && book.placed_at(PageNo::new(page)) == Some(number)
 }
 
 /// Places an absent page with these cells.
-fn place(book: &mut TargetBook, page: u16, number: u32, cells: &[u64]) -> bool {
+fn place(book: &mut TargetBook, page: u32, number: u32, cells: &[u64]) -> bool {
     let geometry = book.geometry();
-    if u32::from(page) >= geometry.pages() || cells.len() != geometry.cells() as usize {
+    if page >= geometry.pages() || cells.len() != geometry.cells() as usize {
         return false;
     }
     let page = PageNo::new(page);
@@ -64,8 +64,8 @@ fn place(book: &mut TargetBook, page: u16, number: u32, cells: &[u64]) -> bool {
 }
 
 /// Places an absent page as zeros.
-fn zero(book: &mut TargetBook, page: u16, number: u32) -> bool {
-    if u32::from(page) >= book.geometry().pages() {
+fn zero(book: &mut TargetBook, page: u32, number: u32) -> bool {
+    if page >= book.geometry().pages() {
         return false;
     }
     let page = PageNo::new(page);
@@ -88,9 +88,9 @@ fn looks_at(log: &[GuestRec], at: usize, number: u32) -> bool {
 }
 
 /// The value of a cell of frames that have it.
-fn cell(frames: &Store, page: u16, cell: u16) -> Option<u64> {
+fn cell(frames: &Store, page: u32, cell: u16) -> Option<u64> {
     let geometry = frames.geometry();
-    if u32::from(page) >= geometry.pages() || u32::from(cell) >= geometry.cells() {
+    if page >= geometry.pages() || u32::from(cell) >= geometry.cells() {
         return None;
     }
     Some(frames.read(PageNo::new(page), cell))
@@ -138,7 +138,7 @@ fn reads_zeros(book: &mut TargetBook) -> bool {
 
 #[test]
 fn misses_looks_and_goes_on(rt: HostRuntime) -> Result<(), Fail> {
-    let geometry = Geometry::new(2, 2)?;
+    let geometry = Geometry::new(Size::Small, 2, 2)?;
     let mut book = halted(rt.alloc(), geometry, 0).expect(&rt, "a book");
     assert!(rt; misses_once(&mut book));
     assert!(rt; goes_on(&mut book));
@@ -181,7 +181,7 @@ fn looks_first(book: &mut TargetBook) -> bool {
 
 #[test]
 fn releases_at_the_target(rt: HostRuntime) -> Result<(), Fail> {
-    let geometry = Geometry::new(2, 2)?;
+    let geometry = Geometry::new(Size::Small, 2, 2)?;
     let mut book = halted(rt.alloc(), geometry, 0).expect(&rt, "a book");
     assert!(rt; resume(&mut book) == Some(Ok(())));
     assert!(rt; frees(&mut book));
@@ -193,7 +193,7 @@ fn releases_at_the_target(rt: HostRuntime) -> Result<(), Fail> {
 
 #[test]
 fn finds_no_room(rt: HostRuntime) -> Result<(), Fail> {
-    let geometry = Geometry::new(2, 2)?;
+    let geometry = Geometry::new(Size::Small, 2, 2)?;
     let full = halted(rt.alloc(), geometry, 1_048_576).map(|_| ());
     assert!(rt; full == Err(TargetFault::LogFull));
     let mut book = halted(rt.alloc(), geometry, 1_048_575).expect(&rt, "a book");

@@ -4,23 +4,23 @@ use crate::nearest;
 use arrayvec::ArrayVec;
 use balloon_ledger::Ledger;
 use bubbling::Bubbles;
-use migration_types::{Geometry, PageNo};
+use migration_types::{Geometry, PageNo, Size};
 use std::test::Fail;
 
 /// The guest faults at a page of the machine.
-fn fault_at(bubbles: &mut Bubbles, number: u16) {
-    if u32::from(number) < bubbles.geometry().pages() {
+fn fault_at(bubbles: &mut Bubbles, number: u32) {
+    if number < bubbles.geometry().pages() {
         bubbles.fault_at(PageNo::new(number));
     }
 }
 
 /// Counts a page of the machine as sent.
-fn mark_sent(bubbles: &mut Bubbles, number: u16) -> bool {
-    u32::from(number) < bubbles.geometry().pages() && bubbles.mark_sent(PageNo::new(number))
+fn mark_sent(bubbles: &mut Bubbles, number: u32) -> bool {
+    number < bubbles.geometry().pages() && bubbles.mark_sent(PageNo::new(number))
 }
 
 /// Whether these pages are pushed next, one after another.
-fn pushes(bubbles: &mut Bubbles, numbers: &[u16]) -> bool {
+fn pushes(bubbles: &mut Bubbles, numbers: &[u32]) -> bool {
     for number in numbers {
         if bubbles.next() != Some(PageNo::new(*number)) {
             return false;
@@ -36,7 +36,7 @@ fn is_done(bubbles: &mut Bubbles) -> bool {
 
 #[test]
 fn takes_turns(rt: HostRuntime) -> Result<(), Fail> {
-    let geometry = Geometry::new(8, 1)?;
+    let geometry = Geometry::new(Size::Small, 8, 1)?;
     let ledger = Ledger::new(rt.alloc(), geometry)?;
     let mut bubbles = Bubbles::new(rt.alloc(), geometry, 2, &ledger)?;
     assert!(rt; bubbles.geometry() == geometry && bubbles.left() == 8);
@@ -49,7 +49,7 @@ fn takes_turns(rt: HostRuntime) -> Result<(), Fail> {
 
 #[test]
 fn keeps_one_pivot(rt: HostRuntime) -> Result<(), Fail> {
-    let geometry = Geometry::new(8, 1)?;
+    let geometry = Geometry::new(Size::Small, 8, 1)?;
     let ledger = Ledger::new(rt.alloc(), geometry)?;
     let mut bubbles = Bubbles::new(rt.alloc(), geometry, 1, &ledger)?;
     fault_at(&mut bubbles, 6);
@@ -63,7 +63,7 @@ fn keeps_one_pivot(rt: HostRuntime) -> Result<(), Fail> {
 
 #[test]
 fn moves_edges_past_a_released_page(rt: HostRuntime) -> Result<(), Fail> {
-    let geometry = Geometry::new(8, 1)?;
+    let geometry = Geometry::new(Size::Small, 8, 1)?;
     let mut ledger = Ledger::new(rt.alloc(), geometry)?;
     ledger.release(PageNo::new(4));
     let mut bubbles = Bubbles::new(rt.alloc(), geometry, 2, &ledger)?;
@@ -115,7 +115,7 @@ impl Search {
 
     fn next(&mut self) -> Option<usize> {
         let pivot = *self.pivots.as_slice().get(self.turn)?;
-        let nearest = nearest(&self.unsent, PageNo::new((pivot % 64) as u16))?.index();
+        let nearest = nearest(&self.unsent, PageNo::new((pivot % 64) as u32))?.index();
         self.mark_sent(nearest);
         self.turn = self.turn.saturating_add(1).checked_rem(self.pivots.len())?;
         Some(nearest)
@@ -124,7 +124,7 @@ impl Search {
 
 /// Does the same with both, as a number chooses. Whether they answer alike.
 fn agrees(bubbles: &mut Bubbles, search: &mut Search, choice: u32) -> bool {
-    let page = PageNo::new((choice / 4 % 64) as u16);
+    let page = PageNo::new(choice / 4 % 64);
     match choice % 4 {
         0 => {
             fault_at(bubbles, page.number());
@@ -150,7 +150,7 @@ fn agree(bubbles: &mut Bubbles, search: &mut Search) -> bool {
 
 #[test]
 fn agrees_with_a_search(rt: HostRuntime) -> Result<(), Fail> {
-    let geometry = Geometry::new(64, 1)?;
+    let geometry = Geometry::new(Size::Small, 64, 1)?;
     let ledger = Ledger::new(rt.alloc(), geometry)?;
     for most in 1..17 {
         let mut bubbles = Bubbles::new(rt.alloc(), geometry, most, &ledger)?;
@@ -163,11 +163,11 @@ fn agrees_with_a_search(rt: HostRuntime) -> Result<(), Fail> {
 /// Faults at pages among those that were sent, one after another, and pushes a page after each. Now and then a page goes
 /// that was not pushed.
 fn agree_behind_new_pivots(bubbles: &mut Bubbles, search: &mut Search) -> bool {
-    for turn in 0..64u16 {
+    for turn in 0..64u32 {
         let page = 22 + turn * 7 % 20;
         fault_at(bubbles, page);
-        search.fault_at(usize::from(page));
-        if turn % 5 == 0 && mark_sent(bubbles, turn) != search.mark_sent(usize::from(turn)) {
+        search.fault_at(page as usize);
+        if turn % 5 == 0 && mark_sent(bubbles, turn) != search.mark_sent(turn as usize) {
             return false;
         }
         if bubbles.next().map(|p| p.index()) != search.next() {
@@ -179,13 +179,13 @@ fn agree_behind_new_pivots(bubbles: &mut Bubbles, search: &mut Search) -> bool {
 
 #[test]
 fn agrees_with_a_search_behind_new_pivots(rt: HostRuntime) -> Result<(), Fail> {
-    let geometry = Geometry::new(64, 1)?;
+    let geometry = Geometry::new(Size::Small, 64, 1)?;
     let ledger = Ledger::new(rt.alloc(), geometry)?;
     for most in 1..17 {
         let mut bubbles = Bubbles::new(rt.alloc(), geometry, most, &ledger)?;
         let mut search = Search::new(most as usize);
-        for page in 20..44u16 {
-            assert!(rt; mark_sent(&mut bubbles, page) && search.mark_sent(usize::from(page)));
+        for page in 20..44u32 {
+            assert!(rt; mark_sent(&mut bubbles, page) && search.mark_sent(page as usize));
         }
         assert!(rt; agree_behind_new_pivots(&mut bubbles, &mut search));
     }

@@ -5,12 +5,12 @@ use migration_types::PageNo;
 use std::test::Fail;
 
 /// Whether a fault is taken in and answered so.
-fn is_asked(queue: &mut FaultQueue, page: u16, vcpu: u8, wanted: Asked) -> bool {
+fn is_asked(queue: &mut FaultQueue, page: u32, vcpu: u8, wanted: Asked) -> bool {
     matches!(queue.fault(PageNo::new(page), vcpu), Ok(asked) if asked == wanted)
 }
 
 /// Whether a page's waiters are handed over, and are these.
-fn hands_over(queue: &mut FaultQueue, page: u16, wanted: &[u8]) -> bool {
+fn hands_over(queue: &mut FaultQueue, page: u32, wanted: &[u8]) -> bool {
     match queue.served(PageNo::new(page)) {
         Some(waiters) => waiters.as_slice() == wanted,
         None => false,
@@ -18,7 +18,7 @@ fn hands_over(queue: &mut FaultQueue, page: u16, wanted: &[u8]) -> bool {
 }
 
 /// Whether the fault of one that waits already is refused.
-fn is_refused(queue: &mut FaultQueue, page: u16, vcpu: u8) -> bool {
+fn is_refused(queue: &mut FaultQueue, page: u32, vcpu: u8) -> bool {
     matches!(
         queue.fault(PageNo::new(page), vcpu),
         Err(QueueFault::AlreadyWaiting)

@@ -6,7 +6,7 @@ use migration_types::PageNo;
 pub fn nearest(unsent: &[bool], pivot: PageNo) -> Option<PageNo> {
     let mut best = None;
     for n in 0..unsent.len() {
-        let page = PageNo::new(n as u16);
+        let page = PageNo::new(n as u32);
         if unsent[n] {
             best = Some(nearer(best, pivot, page));
         }
@@ -23,6 +23,6 @@ fn nearer(best: Option<PageNo>, pivot: PageNo, page: PageNo) -> PageNo {
 }
 
 /// How far apart two pages are.
-fn apart(a: PageNo, b: PageNo) -> u16 {
+fn apart(a: PageNo, b: PageNo) -> u32 {
     a.number().abs_diff(b.number())
 }

@@ -123,7 +123,7 @@ impl<R: Wait + Sync> Gate for Offers<'_, R> {
     }
 
     fn offered(&self, page: PageNo) {
-        let page = usize::from(page.number());
+        let page = page.index();
         if page < 4 {
             self.board.set(page);
         }

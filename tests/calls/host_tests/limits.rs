@@ -16,7 +16,7 @@ const SCRIPT: &[u8] =
 /// What records name: a virtual processor, a page, a cell and a record, and how many cells contents have.
 struct Named {
     vcpu: u8,
-    page: u16,
+    page: u32,
     cell: u16,
     number: u32,
     cells: usize,

@@ -133,7 +133,7 @@ end
 #[derive(Clone, Copy)]
 struct Expected<'a> {
     answers: [&'a [u64]; 2],
-    page: u16,
+    page: u32,
     value: u64,
 }
 

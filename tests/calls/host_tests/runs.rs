@@ -119,10 +119,10 @@ pub(crate) fn has_answers(migrated: &Migrated, first: &[u64], second: &[u64]) ->
 }
 
 /// The frames that a run left have this value in the first cell of a page.
-pub(crate) fn has_value(migrated: &Migrated, page: u16, value: u64) -> bool {
+pub(crate) fn has_value(migrated: &Migrated, page: u32, value: u64) -> bool {
     let geometry = migrated.store.geometry();
     geometry.keeps_limits();
-    u32::from(page) < geometry.pages() && migrated.store.read(PageNo::new(page), 0) == value
+    page < geometry.pages() && migrated.store.read(PageNo::new(page), 0) == value
 }
 
 /// What carries a run's packets.

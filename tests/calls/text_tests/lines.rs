@@ -2,7 +2,7 @@
 
 use crate::formats::none_is_wrong;
 use crate::{fault_of, refusal_line};
-use session_text::read_contents;
+use session_text::read_page_contents;
 use std::alloc::{AllocError, Global};
 use std::marker::Model;
 use text_lines::{
@@ -239,7 +239,7 @@ fn reads_keyed_numbers(rt: HostRuntime) {
 }
 
 fn reads_two_cells(alloc: Global) -> bool {
-    match read_contents(alloc, b"0000000000000001fedcba9876543210", 2) {
+    match read_page_contents(alloc, b"0000000000000001fedcba9876543210", 2) {
         Ok(cells) => cells.as_slice() == [1, 0xfedc_ba98_7654_3210].as_slice(),
         Err(_) => false,
     }

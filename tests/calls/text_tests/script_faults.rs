@@ -1,7 +1,7 @@
 //! Scripts that are made by hand, and those that are none.
 
 use migration_events::{Fate, Op};
-use migration_types::{Contents, Geometry, InitPage, PageNo, Seq, Version};
+use migration_types::{Contents, Geometry, InitPage, PageNo, Seq, Size, Version};
 use script::{Script, ScriptFault, Vcpu, VcpuFault};
 use script_text::write_script;
 use std::alloc::{AllocError, Global};
@@ -12,14 +12,14 @@ use std::test::Fail;
 /// before its move, and whether it releases page 0 after it or reads it.
 struct Parts {
     version: Version,
-    page: u16,
+    page: u32,
     value: u64,
     pivots: u32,
     window: u32,
     lost: usize,
     lane: Option<usize>,
     vcpus: usize,
-    read: u16,
+    read: u32,
     releases: bool,
 }
 
@@ -211,7 +211,7 @@ fn made_of(
 
 /// Whether these parts have this fault.
 fn has_fault(alloc: Global, parts: &Parts, fault: ScriptFault) -> bool {
-    let Ok(geometry) = Geometry::new(2, 1) else {
+    let Ok(geometry) = Geometry::new(Size::Small, 2, 1) else {
         return false;
     };
     match made_of(alloc, geometry, parts) {
@@ -222,7 +222,7 @@ fn has_fault(alloc: Global, parts: &Parts, fault: ScriptFault) -> bool {
 
 /// Whether these parts make the script of a text.
 fn has_text(alloc: Global, parts: &Parts, text: &[u8]) -> bool {
-    let Ok(geometry) = Geometry::new(2, 1) else {
+    let Ok(geometry) = Geometry::new(Size::Small, 2, 1) else {
         return false;
     };
     match made_of(alloc, geometry, parts) {

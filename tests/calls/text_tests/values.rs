@@ -2,7 +2,8 @@
 
 use migration_types::{
     Cert, Contents, Entry, First, Geometry, GeometryFault, GuestRec, LaneRec, LinkRec, LogName,
-    Logs, PageNo, PagerRec, Record, Run, Seq, Session, SourceRec, Version, lane_lines,
+    Logs, PageNo, PagerRec, Record, Run, Seq, Session, Size, SourceRec, Version,
+    lane_lines,
 };
 use std::alloc::{AllocError, Global};
 
@@ -10,8 +11,8 @@ use std::alloc::{AllocError, Global};
 static GEOMETRIES: [(u32, u32); 3] = [(1, 1), (65_536, 16), (2_048, 512)];
 
 fn is_geometry(pages: u32, cells: u32) -> bool {
-    match Geometry::new(pages, cells) {
-        Ok(geometry) => geometry.pages() == pages && geometry.cells() == cells,
+    match Geometry::new(Size::Small, pages, cells) {
+        Ok(geometry) => geometry.size() == Size::Small && geometry.pages() == pages && geometry.cells() == cells,
         Err(_) => false,
     }
 }
@@ -29,7 +30,7 @@ static NO_GEOMETRIES: [(u32, u32, GeometryFault); 8] = [
 ];
 
 fn is_refused(pages: u32, cells: u32, fault: GeometryFault) -> bool {
-    match Geometry::new(pages, cells) {
+    match Geometry::new(Size::Small, pages, cells) {
         Ok(_) => false,
         Err(found) => found == fault,
     }
@@ -59,10 +60,16 @@ fn tells_geometries(rt: HostRuntime) {
     assert!(rt; are_refused());
 }
 
+fn keeps_number(number: u32) -> bool {
+    let page = PageNo::new(number);
+    page.number() == number && page.index() == number as usize && page == PageNo::new(number)
+}
+
 #[test]
 fn numbers_pages(rt: HostRuntime) {
-    let last = PageNo::new(65_535);
-    assert!(rt; last.number() == 65_535 && last.index() == 65_535);
+    assert!(rt; keeps_number(0) && keeps_number(255) && keeps_number(256));
+    assert!(rt; keeps_number(65_535) && keeps_number(65_536) && keeps_number(16_777_215));
+    assert!(rt; PageNo::new(65_536) != PageNo::new(256) && PageNo::new(0) == PageNo::default());
 }
 
 fn keeps_list(alloc: Global) -> bool {
@@ -187,7 +194,7 @@ fn keeps_parts(alloc: Global, version: Version, geometry: Geometry) -> bool {
 }
 
 fn keeps_session(alloc: Global, version: Version) -> bool {
-    match Geometry::new(2, 1) {
+    match Geometry::new(Size::Small, 2, 1) {
         Ok(geometry) => keeps_parts(alloc, version, geometry),
         Err(_) => false,
     }
@@ -197,6 +204,12 @@ fn keeps_session(alloc: Global, version: Version) -> bool {
 fn keeps_a_session(rt: HostRuntime) {
     assert!(rt; keeps_session(rt.alloc(), Version::One));
     assert!(rt; keeps_session(rt.alloc(), Version::Two));
+}
+
+#[test]
+fn tells_limits(rt: HostRuntime) {
+    let limits = Size::Small.limits();
+    assert!(rt; limits.pages == 65_536 && limits.cells == 1_048_576 && limits.records == 1_048_576);
 }
 
 #[test]
@@ -220,12 +233,13 @@ const RUN: Run = Run {
 fn cert_of_one(alloc: Global, version: Version) -> Result<Cert, AllocError> {
     let entries = Vec::from_array(alloc, [ENTRY])?;
     let runs = Vec::from_array(alloc, [RUN])?;
-    Ok(Cert::new(version, Seq::from_vec(entries), Seq::from_vec(runs)))
+    Ok(Cert::new(version, Size::Small, Seq::from_vec(entries), Seq::from_vec(runs)))
 }
 
 fn is_of_one(cert: &Cert, version: Version) -> bool {
     cert.keeps_limits();
     cert.version() == version
+        && cert.size() == Size::Small
         && cert.entries() == [ENTRY].as_slice()
         && cert.runs() == [RUN].as_slice()
 }

@@ -3,6 +3,7 @@ use Rattle.std.specs.Prelude.{◌≡◌, ℕ, ◌+◌, ◌≤◌, List, length, 
 use Rattle.std.specs.List.{filter}
 use Rattle.migration_types.specs.declared.records.LogName.{LogName}
 use Rattle.migration_types.specs.declared.cert.Run.{Run}
+use Rattle.migration_types.specs.Limits.{longest_log}
 use Rattle.migration_types.specs.Certs.{Alternate}
 use Rattle.migration_types.specs.Sessions.{Recorded}
 use Rattle.audit_model.specs.Names.{log_length}
@@ -17,7 +18,7 @@ ends runs = cursors_from at_start (spelled runs)
 
 -- runs as long as they can be, of logs with no more records than a session's can have
 pub record AreBlocks (runs : List Run) : Type 0 where
-  pub small : (log : LogName) → ends runs log ≤ 1048576
+  pub small : (log : LogName) → ends runs log ≤ longest_log
   pub each : TakeRecords runs
   pub alternate : Alternate runs
   pub last : (k : ℕ) (d : Run) → k + 1 ≡ length runs → (slice_index_or runs k d).count ≤ ends runs (slice_index_or runs k d).log

@@ -5,7 +5,7 @@ use Rattle.cert_text.specs.declared.cert_lines.Stage.{Stage}
 use Rattle.cert_text.specs.inner.Held.{CertDraft, held_by, Live}
 
 abbrev pub draft_of : CertParts → CertDraft
-draft_of p = record { version = p.runs.version; pages = p.pages; entries = p.entries.items; runs = p.runs.lines }
+draft_of p = record { version = p.runs.version; size = p.runs.size; pages = p.pages; entries = p.entries.items; runs = p.runs.lines }
 
 abbrev pub held_at : Stage → CertParts → List (List ℕ)
 held_at stage p = held_by stage (draft_of p)

@@ -10,7 +10,9 @@ use Rattle.migration_types.specs.declared.cert.Run.{Run}
 use Rattle.migration_types.specs.declared.cert.Entry.{Entry}
 use Rattle.migration_types.specs.declared.version.Version.{Version}
 use Rattle.migration_types.specs.declared.version.Version.TheVariants.{Two}
-use Rattle.migration_types.specs.Limits.{most_pages, most_runs}
+use Rattle.migration_types.specs.declared.size.Size.{Size}
+use Rattle.migration_types.specs.declared.size.Size.TheVariants.{Small}
+use Rattle.migration_types.specs.Limits.{limits, most_pages, most_runs}
 use Rattle.migration_types.specs.Certs.{RunFits, EntryFits, Alternate}
 use Rattle.cert_text.specs.declared.run_lines.RunStage.{RunStage}
 use Rattle.cert_text.specs.declared.run_lines.RunStage.TheVariants.{Count, Runs, Done}
@@ -46,21 +48,22 @@ runs_held Count d more = more
 runs_held Runs d more = runs_onto d more
 runs_held Done d more = runs_onto d (closing ∷ more)
 
--- the runs so far, of a version
-pub record RunsFit (version : Version) (d : Part Run) : Type 0 where
-  pub few : d.count ≤ most_runs version
+-- the runs so far, of a version and a size
+pub record RunsFit (version : Version) (size : Size) (d : Part Run) : Type 0 where
+  pub few : d.count ≤ most_runs version size
   pub count : length d.items ≤ d.count
-  pub each : AllByRecursion (RunFits version) d.items
+  pub each : AllByRecursion (RunFits version size) d.items
   pub alternate : Alternate d.items
 
-abbrev pub RunsLive : Version → RunStage → Part Run → Type 0
-RunsLive version Count d = Unit {0}
-RunsLive version Runs d = RunsFit version d
-RunsLive version Done d = RunsFit version d × IsWhole d
+abbrev pub RunsLive : Version → Size → RunStage → Part Run → Type 0
+RunsLive version size Count d = Unit {0}
+RunsLive version size Runs d = RunsFit version size d
+RunsLive version size Done d = RunsFit version size d × IsWhole d
 
--- the lines of runs so far, and the version of which they are
+-- the lines of runs so far, and the version and the size of which they are
 pub record RunsSoFar : Type 0 where
   pub version : Version
+  pub size : Size
   pub lines : List (List ℕ)
 
 -- ---- a text of runs
@@ -75,27 +78,28 @@ abbrev pub IsHeaded : Bool → List (List ℕ) → Type 0
 IsHeaded false runs = runs ≡ []
 IsHeaded true runs = Unit {0}
 
--- a text of runs has what the second version may have
+-- a text of runs has what the second version may have, of the small size
 abbrev pub HeadedLive : Bool → RunsSoFar → Type 0
-HeadedLive headed runs = (runs.version ≡ Two) × IsHeaded headed runs.lines
+HeadedLive headed runs = (runs.version ≡ Two) × (runs.size ≡ Small) × IsHeaded headed runs.lines
 
 -- ---- a certificate
 
 -- what came of a certificate, and the lines of its runs
 pub record CertDraft : Type 0 where
   pub version : Version
+  pub size : Size
   pub pages : ℕ
   pub entries : List Entry
   pub runs : List (List ℕ)
 
-abbrev pub entries_onto : Version → ℕ → List Entry → List (List ℕ) → List (List ℕ)
-entries_onto version pages entries more = header version ∷ (pages_key ++ decimal pages) ∷ (entry_lines 0 entries ++ more)
+abbrev pub entries_onto : Version → Size → ℕ → List Entry → List (List ℕ) → List (List ℕ)
+entries_onto version size pages entries more = header version size ∷ (pages_key ++ decimal pages) ∷ (entry_lines 0 entries ++ more)
 
 -- the lines so far
 abbrev pub held_by : Stage → CertDraft → List (List ℕ)
 held_by Header d = []
-held_by Pages d = header d.version ∷ []
-held_by Entries d = entries_onto d.version d.pages d.entries d.runs
+held_by Pages d = header d.version d.size ∷ []
+held_by Entries d = entries_onto d.version d.size d.pages d.entries d.runs
 
 -- nothing of the lists came
 pub record IsEmpty (d : CertDraft) : Type 0 where
@@ -106,8 +110,9 @@ pub record IsEmpty (d : CertDraft) : Type 0 where
 pub record EntriesFit (d : CertDraft) : Type 0 where
   pub some_pages : 1 ≤ d.pages
   pub few_pages : d.pages ≤ most_pages
+  pub own : d.pages ≤ (limits d.size).pages
   pub count : length d.entries ≤ d.pages
-  pub each : AllByRecursion (EntryFits d.version) d.entries
+  pub each : AllByRecursion (EntryFits d.version d.size) d.entries
   pub runs : length d.entries < d.pages → d.runs ≡ []
 
 abbrev pub Live : Stage → CertDraft → Type 0

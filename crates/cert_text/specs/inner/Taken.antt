@@ -4,23 +4,24 @@ use Rattle.std.specs.List.{AllByRecursion}
 use Rattle.text_lines.specs.Text.{ended}
 use Rattle.migration_types.specs.declared.cert.Entry.{Entry}
 use Rattle.migration_types.specs.declared.version.Version.{Version}
+use Rattle.migration_types.specs.declared.size.Size.{Size}
 use Rattle.migration_types.specs.Certs.{EntryFits}
 use Rattle.cert_text.specs.Grammar.{entry_line, entry_lines}
 
--- so many entries of this version were read at the front of the bytes, those of the pages that follow, and put behind
+-- so many entries of this version and size were read at the front of the bytes, those of the pages that follow, and put behind
 -- those of old
-pub record TakesEntries (version : Version) (old new : List Entry) (bytes rest : List ℕ) (count : ℕ) : Type 0 where
+pub record TakesEntries (version : Version) (size : Size) (old new : List Entry) (bytes rest : List ℕ) (count : ℕ) : Type 0 where
   pub taken : List Entry
   pub items : new ≡ old ++ taken
   pub parts : bytes ≡ ended (entry_lines (length old) taken) ++ rest
   pub counted : length taken ≡ count
-  pub fits : AllByRecursion (EntryFits version) taken
+  pub fits : AllByRecursion (EntryFits version size) taken
 
 -- an entry that fits and has this line, of the page that follows, was put behind those of old
-pub record TakesEntry (version : Version) (old new : List Entry) (line : List ℕ) : Type 0 where
+pub record TakesEntry (version : Version) (size : Size) (old new : List Entry) (line : List ℕ) : Type 0 where
   pub entry : Entry
   pub grown : new ≡ old ++ entry ∷ []
-  pub fits : EntryFits version entry
+  pub fits : EntryFits version size entry
   pub spelled : line ≡ entry_line (length old) entry
 
 -- entries without their last, or none

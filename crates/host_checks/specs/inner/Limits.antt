@@ -7,7 +7,7 @@ use Rattle.migration_types.specs.declared.version.Version.{Version}
 use Rattle.migration_types.specs.Limits.{most_records}
 use Rattle.migration_types.specs.Sessions.{GuestRecFits, SourceRecFits, LinkRecFits, LaneRecFits, PagerRecFits}
 
--- no log has more records than a log may have
+-- no log has more records than a host's log may have
 pub record AreShort (logs : Logs) : Type 0 where
   pub guest : length logs.guest ≤ most_records
   pub source : length logs.source ≤ most_records
@@ -19,6 +19,6 @@ pub record AreShort (logs : Logs) : Type 0 where
 pub record AreOfMachine (version : Version) (e : Extent) (logs : Logs) : Type 0 where
   pub guest : AllByRecursion (GuestRecFits e) logs.guest
   pub source : AllByRecursion (SourceRecFits e) logs.source
-  pub link : AllByRecursion LinkRecFits logs.link
-  pub lane : AllByRecursion (LaneRecFits version) logs.lane
+  pub link : AllByRecursion (LinkRecFits e) logs.link
+  pub lane : AllByRecursion (LaneRecFits version e) logs.lane
   pub pager : AllByRecursion (PagerRecFits version e) logs.pager

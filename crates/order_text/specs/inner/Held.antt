@@ -1,6 +1,7 @@
 -- The lines that a reader of orders holds: those of a text of runs or of a certificate, and perhaps one above them.
 use Rattle.std.specs.Prelude.{◌≡◌, ℕ, ◌<◌, Bool, true, false, List, [], ◌∷◌, ◌++◌, length}
 use Rattle.migration_types.specs.declared.version.Version.{Version}
+use Rattle.migration_types.specs.declared.size.Size.{Size}
 use Rattle.cert_text.specs.Runs.{runs_text_header}
 use Rattle.cert_text.specs.Grammar.{header}
 use Rattle.order_text.specs.declared.forms.Form.{Form}
@@ -10,7 +11,7 @@ use Rattle.order_text.specs.Order.{clean_line, faulty_line, IsLineNumber}
 -- ---- the first line
 
 abbrev pub IsCertHeader : List ℕ → Type 0
-IsCertHeader line = (version : Version) × (line ≡ header version)
+IsCertHeader line = (version : Version) × (size : Size) × (line ≡ header version size)
 
 -- texts of this form begin with this line
 abbrev pub IsFirst : Form → List ℕ → Type 0

@@ -23,10 +23,10 @@ IsNoFields e kind number fields = (p : Packet) → AreFields e kind number field
 -- what stands at the front of some bytes
 abbrev pub IsFront : Extent → List ℕ → Front → Type 0
 IsFront e bytes (FrontPacket p rest) = Fits e p × (bytes ≡ packet_bytes p ++ rest.now) × (length rest.now < length bytes)
-IsFront e bytes FrontPartial = IsPartial bytes
+IsFront e bytes FrontPartial = IsPartial e bytes
 IsFront e bytes (FrontFault kind) = HasFault e bytes kind
 
 -- the fault that a rest shows, if any
 abbrev pub IsEnd : Extent → List ℕ → Option StreamFaultKind → Type 0
-IsEnd e rest None = IsPartial rest
+IsEnd e rest None = IsPartial e rest
 IsEnd e rest (Some kind) = HasFault e rest kind

@@ -31,7 +31,7 @@ pub record PassesOn (writer : Known) (start end : Flow) (piece : List ℕ) (coun
   pub packets : List Packet
   pub takes : Takes start end piece packets
   pub going : end.is_broken ≡ false
-  pub partial : IsPartial end.rest
+  pub partial : IsPartial start.geometry end.rest
   pub appended : Appends writer.before writer.after (flat_map packet_bytes packets)
   pub count_is : length packets ≡ count
 

@@ -48,7 +48,7 @@ impl PagerBook {
             let number = append(&mut self.log, PagerRec::All);
             return Ok(Some(Packet::All { number }));
         }
-        let page = oldest_or(&self.waiting, PageNo::new(absent as u16));
+        let page = oldest_or(&self.waiting, PageNo::new(absent));
         let number = want_page(&mut self.log, &mut self.wants, page);
         Ok(Some(Packet::Want { number, page }))
     }

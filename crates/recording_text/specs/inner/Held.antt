@@ -1,5 +1,5 @@
 -- What came of a recording so far, with what is announced.
-use Rattle.std.specs.Prelude.{◌≡◌, ℕ, ◌+◌, ◌-◌, ◌≤◌, length}
+use Rattle.std.specs.Prelude.{◌≡◌, ℕ, ◌+◌, ◌-◌, ◌≤◌, ◌^◌, length}
 use Rattle.std.specs.List.{AllByRecursion}
 use Rattle.migration_types.specs.declared.pages.InitPage.{InitPage}
 use Rattle.migration_types.specs.declared.version.Version.TheVariants.{Two}
@@ -10,7 +10,7 @@ use Rattle.migration_types.specs.inner.InitPages.{Rise}
 use Rattle.recordings.specs.Recordings.{IsCount, IsMachine, IsGuestRecOf, IsSourceRecOf, IsLinkRecOf, IsLaneRecOf, IsPagerRecOf}
 use Rattle.session_text.specs.declared.parts.Stage.{Stage}
 use Rattle.session_text.specs.declared.parts.Stage.TheVariants.{Header, Pages, Cells, InitCount, Init, Guest, Source, Link, Lane, Pager, Done}
-pub use Rattle.session_text.specs.inner.Held.{SessionDraft, Part, IsWhole, held_onto, NoInit, NoGuest, NoSource, NoLink, NoLane, NoPager}
+pub use Rattle.session_text.specs.inner.Held.{SessionDraft, Part, IsWhole, held_onto, LogFits, NoInit, NoGuest, NoSource, NoLink, NoLane, NoPager}
 
 -- what came of it
 abbrev pub recorded_of : SessionDraft → Recorded
@@ -24,31 +24,27 @@ pub record InitFits (e : Extent) (next : ℕ) (part : Part InitPage) : Type 0 wh
   pub rising : Rise 0 part.items next
   pub room : next + (part.count - length part.items) ≤ e.pages
 
--- what stands before a log, the list right before it, which is whole, and the log's records so far
-pub record LogFits {X Y : Type 0} (Before : Type 0) (list : Part X) (Fits : Y → Type 0) (log : Part Y) : Type 0 where
-  pub before : Before
-  pub whole : IsWhole list
-  pub few : IsCount log.count
-  pub within : length log.items ≤ log.count
-  pub each : AllByRecursion Fits log.items
+-- a log has at most so many records
+abbrev pub most_count : ℕ
+most_count = 2 ^ 63 - 1
 
 abbrev pub StartFits : SessionDraft → Type 0
 StartFits d = InitFits d.geometry d.next_page d.init
 
 abbrev pub GuestFits : SessionDraft → Type 0
-GuestFits d = LogFits (StartFits d) d.init (IsGuestRecOf d.geometry) d.guest
+GuestFits d = LogFits most_count (StartFits d) d.init (IsGuestRecOf d.geometry) d.guest
 
 abbrev pub SourceFits : SessionDraft → Type 0
-SourceFits d = LogFits (GuestFits d) d.guest (IsSourceRecOf d.geometry) d.source
+SourceFits d = LogFits most_count (GuestFits d) d.guest (IsSourceRecOf d.geometry) d.source
 
 abbrev pub LinkFits : SessionDraft → Type 0
-LinkFits d = LogFits (SourceFits d) d.source IsLinkRecOf d.link
+LinkFits d = LogFits most_count (SourceFits d) d.source IsLinkRecOf d.link
 
 abbrev pub LaneFits : SessionDraft → Type 0
-LaneFits d = LogFits (LinkFits d) d.link (IsLaneRecOf d.version) d.lane
+LaneFits d = LogFits most_count (LinkFits d) d.link (IsLaneRecOf d.version) d.lane
 
 abbrev pub PagerFits : SessionDraft → Type 0
-PagerFits d = LogFits (LaneFits d) d.lane (IsPagerRecOf d.version d.geometry) d.pager
+PagerFits d = LogFits most_count (LaneFits d) d.lane (IsPagerRecOf d.version d.geometry) d.pager
 
 -- what holds where no line was refused
 abbrev pub Live : Stage → SessionDraft → Type 0

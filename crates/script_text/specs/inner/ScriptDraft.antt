@@ -8,7 +8,7 @@ use Rattle.script.specs.Scenarios.{Scenario}
 use Rattle.script_text.specs.inner.ScriptHeld.{ScriptDraft, ScriptLive, ScriptRest, script_held, vcpu_of}
 
 abbrev pub draft_of : ScriptParts → ScriptDraft
-draft_of p = record { version = p.version; geometry = record { pages = p.sizes.pages; cells = p.sizes.cells }; init = p.init; pivots = p.pivots; window = p.window; down = p.down; up = p.up; lane = p.lane; count = p.count; vcpus = p.vcpus.items; before = record { count = p.before_count; items = p.before.items }; after = record { count = p.after_count; items = p.after.items } }
+draft_of p = record { version = p.version; pages = p.sizes.pages; cells = p.sizes.cells; init = p.init; pivots = p.pivots; window = p.window; down = p.down; up = p.up; lane = p.lane; count = p.count; vcpus = p.vcpus.items; before = record { count = p.before_count; items = p.before.items }; after = record { count = p.after_count; items = p.after.items } }
 
 -- the line is taken, and a stage follows; or nothing changes, and, memory aside, no script goes on with the line
 abbrev pub ScriptStep : ScriptStage → ScriptDraft → List ℕ → ScriptDraft → Result ScriptStage FaultKind → Type 0

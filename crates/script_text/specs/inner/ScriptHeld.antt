@@ -4,9 +4,11 @@ use Rattle.std.specs.List.{AllByRecursion}
 use Rattle.std.specs.Fmt.{decimal}
 use Rattle.text_lines.specs.Counted.{Part}
 use Rattle.migration_types.specs.declared.pages.InitPage.{InitPage}
+use Rattle.migration_types.specs.declared.size.Size.TheVariants.{Small}
 use Rattle.migration_types.specs.declared.version.Version.{Version}
 use Rattle.migration_types.specs.declared.version.Version.TheVariants.{Two}
 use Rattle.migration_types.specs.Extents.{Extent, IsExtent}
+use Rattle.migration_types.specs.Limits.{limits}
 use Rattle.migration_types.specs.Pages.{AreInitPages}
 use Rattle.migration_events.specs.declared.events.Fate.{Fate}
 use Rattle.migration_events.specs.declared.ops.Op.{Op}
@@ -24,7 +26,8 @@ use Rattle.script_text.specs.inner.Exact.{Exact}
 -- what came so far
 pub record ScriptDraft : Type 0 where
   pub version : Version
-  pub geometry : Extent
+  pub pages : ℕ
+  pub cells : ℕ
   pub init : Part InitPage
   pub pivots : ℕ
   pub window : ℕ
@@ -36,14 +39,21 @@ pub record ScriptDraft : Type 0 where
   pub before : Part Op
   pub after : Part Op
 
+-- a script's machine is a small one
+abbrev pub small_machine : ℕ → ℕ → Extent
+small_machine pages cells = record { size = Small; pages = pages; cells = cells }
+
+abbrev pub machine_of : ScriptDraft → Extent
+machine_of d = small_machine d.pages d.cells
+
 -- the script, where all of it came
 abbrev pub scenario_of : ScriptDraft → Scenario
-scenario_of d = record { version = d.version; geometry = d.geometry; init = d.init.items; pivots = d.pivots; window = d.window; down = d.down; up = d.up; lane = d.lane; vcpus = d.vcpus }
+scenario_of d = record { version = d.version; geometry = machine_of d; init = d.init.items; pivots = d.pivots; window = d.window; down = d.down; up = d.up; lane = d.lane; vcpus = d.vcpus }
 
 -- ---- the lines so far
 
 abbrev pub held_init : ScriptDraft → List (List ℕ)
-held_init d = script_header d.version ∷ (pages_key ++ decimal d.geometry.pages) ∷ (cells_key ++ decimal d.geometry.cells) ∷ (init_key ++ decimal d.init.count) ∷ map page_line d.init.items
+held_init d = script_header d.version ∷ (pages_key ++ decimal d.pages) ∷ (cells_key ++ decimal d.cells) ∷ (init_key ++ decimal d.init.count) ∷ map page_line d.init.items
 
 abbrev pub held_pivots : ScriptDraft → List (List ℕ)
 held_pivots d = held_init d ++ (pivots_key ++ decimal d.pivots) ∷ []
@@ -69,8 +79,8 @@ held_ops d = held_vcpus d ++ counts_line d.before.count d.after.count ∷ (map o
 abbrev pub script_held : ScriptStage → ScriptDraft → List (List ℕ)
 script_held Header d = []
 script_held Pages d = script_header d.version ∷ []
-script_held Cells d = script_header d.version ∷ (pages_key ++ decimal d.geometry.pages) ∷ []
-script_held InitCount d = script_header d.version ∷ (pages_key ++ decimal d.geometry.pages) ∷ (cells_key ++ decimal d.geometry.cells) ∷ []
+script_held Cells d = script_header d.version ∷ (pages_key ++ decimal d.pages) ∷ []
+script_held InitCount d = script_header d.version ∷ (pages_key ++ decimal d.pages) ∷ (cells_key ++ decimal d.cells) ∷ []
 script_held Init d = held_init d
 script_held Window d = held_pivots d
 script_held Down d = held_window d
@@ -85,7 +95,7 @@ script_held Done d = held_vcpus d ++ closing ∷ []
 -- ---- what may still come
 
 abbrev pub AgreesInit : ScriptDraft → Scenario → Type 0
-AgreesInit d v = (v.version ≡ d.version) × (v.geometry ≡ d.geometry) × (v.init ≡ d.init.items)
+AgreesInit d v = (v.version ≡ d.version) × (v.geometry ≡ machine_of d) × (v.init ≡ d.init.items)
 
 abbrev pub AgreesPivots : ScriptDraft → Scenario → Type 0
 AgreesPivots d v = AgreesInit d v × (v.pivots ≡ d.pivots)
@@ -114,7 +124,7 @@ pub record LaneLeft (d : ScriptDraft) (v : Scenario) (more : List (List ℕ)) : 
 pub record InitLeft (d : ScriptDraft) (v : Scenario) (more : List (List ℕ)) : Type 0 where
   pub fits : IsScenario v
   pub version : v.version ≡ d.version
-  pub geometry : v.geometry ≡ d.geometry
+  pub geometry : v.geometry ≡ machine_of d
   pub count : length v.init ≡ d.init.count
   pub back : List InitPage
   pub whole : v.init ≡ d.init.items ++ back
@@ -140,8 +150,8 @@ pub record OpsLeft (d : ScriptDraft) (v : Scenario) (more : List (List ℕ)) : T
 abbrev pub ScriptRest : ScriptStage → ScriptDraft → Scenario → List (List ℕ) → Type 0
 ScriptRest Header d v more = SpellsScript v more
 ScriptRest Pages d v more = IsScenario v × (v.version ≡ d.version) × (more ≡ pages_lines v)
-ScriptRest Cells d v more = IsScenario v × (v.version ≡ d.version) × (v.geometry.pages ≡ d.geometry.pages) × (more ≡ cells_lines v)
-ScriptRest InitCount d v more = IsScenario v × (v.version ≡ d.version) × (v.geometry ≡ d.geometry) × (more ≡ init_lines v)
+ScriptRest Cells d v more = IsScenario v × (v.version ≡ d.version) × (v.geometry.pages ≡ d.pages) × (more ≡ cells_lines v)
+ScriptRest InitCount d v more = IsScenario v × (v.version ≡ d.version) × (v.geometry ≡ machine_of d) × (more ≡ init_lines v)
 ScriptRest Init d v more = InitLeft d v more
 ScriptRest Window d v more = IsScenario v × AgreesPivots d v × (more ≡ window_lines v)
 ScriptRest Down d v more = IsScenario v × AgreesWindow d v × (more ≡ down_lines v)
@@ -156,11 +166,11 @@ ScriptRest Done d v more = IsScenario v × AgreesLane d v × (v.vcpus ≡ d.vcpu
 -- ---- what holds of what came
 
 abbrev pub InitPart : ScriptDraft → Type 0
-InitPart d = InitFits d.geometry (next_from 0 d.init.items) d.init
+InitPart d = InitFits (machine_of d) (next_from 0 d.init.items) d.init
 
 pub record FitsPivots (d : ScriptDraft) : Type 0 where
-  pub geometry : IsExtent d.geometry
-  pub init : AreInitPages d.geometry d.init.items
+  pub geometry : IsExtent (machine_of d)
+  pub init : AreInitPages (machine_of d) d.init.items
   pub some : 1 ≤ d.pivots
   pub few : d.pivots ≤ 16
 
@@ -185,7 +195,7 @@ pub record FitsCount (d : ScriptDraft) : Type 0 where
   pub before : FitsLane d
   pub some : 1 ≤ d.count
   pub few : d.count ≤ 64
-  pub vcpus : AllByRecursion (VcpuFits d.version d.geometry) d.vcpus
+  pub vcpus : AllByRecursion (VcpuFits d.version (machine_of d)) d.vcpus
 
 pub record FitsOps (d : ScriptDraft) : Type 0 where
   pub before : FitsCount d
@@ -194,15 +204,15 @@ pub record FitsOps (d : ScriptDraft) : Type 0 where
   pub few_after : d.after.count ≤ 65536
   pub within_before : length d.before.items ≤ d.before.count
   pub within_after : length d.after.items ≤ d.after.count
-  pub before_move : AllByRecursion (OpFits d.geometry) d.before.items
-  pub after_move : AllByRecursion (LateOpFits d.version d.geometry) d.after.items
+  pub before_move : AllByRecursion (OpFits (machine_of d)) d.before.items
+  pub after_move : AllByRecursion (LateOpFits d.version (machine_of d)) d.after.items
   pub in_turn : length d.before.items < d.before.count → d.after.items ≡ []
 
 abbrev pub ScriptFits : ScriptStage → ScriptDraft → Type 0
 ScriptFits Header d = Unit {0}
 ScriptFits Pages d = Unit {0}
-ScriptFits Cells d = (1 ≤ d.geometry.pages) × (d.geometry.pages ≤ 65536)
-ScriptFits InitCount d = IsExtent d.geometry
+ScriptFits Cells d = (1 ≤ d.pages) × (d.pages ≤ (limits Small).pages)
+ScriptFits InitCount d = IsExtent (machine_of d)
 ScriptFits Init d = InitPart d
 ScriptFits Window d = FitsPivots d
 ScriptFits Down d = FitsWindow d

@@ -15,7 +15,7 @@ use std::alloc::{AllocError, Global};
 
 /// Adds that a page was owed and did not come.
 #[tactic(auto, unfolding(crate::specs::MissingWords::owed_words))]
-fn push_owed(out: &mut String, page: u16) -> Result<(), AllocError>
+fn push_owed(out: &mut String, page: u32) -> Result<(), AllocError>
     ensures { OnOk result (string_bytes out.new ≡ string_bytes out.old ++ owed_words page) }
 {
     push_around(

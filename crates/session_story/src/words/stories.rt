@@ -51,7 +51,7 @@ fn push_step(
 
 /// Adds of which page the story is.
 #[tactic(auto, unfolding(crate::specs::StoryWords::page_heading))]
-fn push_heading(out: &mut String, page: u16) -> Result<(), AllocError>
+fn push_heading(out: &mut String, page: u32) -> Result<(), AllocError>
     ensures { OnOk result (string_bytes out.new ≡ string_bytes out.old ++ page_heading page) }
 {
     push_around(out, "What the logs say of page ", page, ":\n")

@@ -61,7 +61,7 @@ fn push_no_page(out: &mut String, session: &Session, number: u32) -> Result<(), 
 
 /// Adds of which page it is told whether it has a fault.
 #[tactic(auto, unfolding(crate::specs::TopicWords::page_has))]
-fn push_has(out: &mut String, page: u16) -> Result<(), AllocError>
+fn push_has(out: &mut String, page: u32) -> Result<(), AllocError>
     ensures { OnOk result (string_bytes out.new ≡ string_bytes out.old ++ page_has page) }
 {
     push_around(out, "Page ", page, " has ")
@@ -69,7 +69,7 @@ fn push_has(out: &mut String, page: u16) -> Result<(), AllocError>
 
 /// Adds whether a page has a fault.
 #[tactic(auto, unfolding(crate::specs::TopicWords::verdict_words))]
-fn push_verdict(out: &mut String, page: u16, is_faulty: bool) -> Result<(), AllocError>
+fn push_verdict(out: &mut String, page: u32, is_faulty: bool) -> Result<(), AllocError>
     ensures { OnOk result (string_bytes out.new ≡ string_bytes out.old ++ verdict_words page is_faulty) }
 {
     push_has(out, page)?;

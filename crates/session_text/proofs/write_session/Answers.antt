@@ -6,7 +6,7 @@ use Rattle.session_text.proofs.write_session.Goals as goal
 pub returns : goal.returns
 returns c =
     let s = c.args.session.now in
-    let first = rw (c.new-out.ensures.items, c.header.ensures, c.version.ensures) at c.in_ok-push_line.ensures in
+    let first = rw (c.new-out.ensures.items, c.session_header.ensures, c.version.ensures, c.size.ensures, c.geometry-geometry.ensures) at c.in_ok-push_line.ensures in
     let pages = rw (c.pages.ensures, c.geometry-geometry.ensures) at c.in_ok-push_keyed.ensures in
     let cells = rw (c.cells.ensures, c.geometry-geometry.ensures) at c.in_ok-push_keyed-2.ensures in
     let init = rw c.init.ensures at c.in_ok-push_counted.ensures in

@@ -9,7 +9,7 @@ use Rattle.session_text.specs.declared.forms.Sizes.{Sizes}
 use Rattle.migration_types.specs.Extents.{Extent}
 
 abbrev pub extent_of : Sizes → Extent
-extent_of m = record { pages = m.pages; cells = m.cells }
+extent_of m = record { size = m.size; pages = m.pages; cells = m.cells }
 
 -- no read and no write
 abbrev pub IsEvent : GuestRec → Type 0

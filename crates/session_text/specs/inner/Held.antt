@@ -11,6 +11,7 @@ use Rattle.migration_types.specs.declared.pages.InitPage.{InitPage}
 use Rattle.migration_types.specs.declared.version.Version.{Version}
 use Rattle.migration_types.specs.declared.version.Version.TheVariants.{One, Two}
 use Rattle.migration_types.specs.Extents.{Extent, IsExtent}
+use Rattle.migration_types.specs.Limits.{limits}
 use Rattle.migration_types.specs.Pages.{InitPageFits}
 use Rattle.migration_types.specs.Sessions.{GuestRecFits, SourceRecFits, LinkRecFits, LaneRecFits, PagerRecFits}
 use Rattle.session_text.specs.declared.parts.Stage.{Stage}
@@ -33,7 +34,7 @@ pub record SessionDraft : Type 0 where
   pub pager : Part PagerRec
 
 abbrev pub geometry_onto : SessionDraft → List (List ℕ) → List (List ℕ)
-geometry_onto d more = header d.version ∷ (pages_key ++ decimal d.geometry.pages) ∷ (cells_key ++ decimal d.geometry.cells) ∷ more
+geometry_onto d more = header d.version d.geometry.size ∷ (pages_key ++ decimal d.geometry.pages) ∷ (cells_key ++ decimal d.geometry.cells) ∷ more
 
 abbrev pub init_onto : SessionDraft → List (List ℕ) → List (List ℕ)
 init_onto d more = geometry_onto d (part_onto init_key page_line d.init more)
@@ -61,8 +62,8 @@ pager_onto d more = lane_onto d (part_onto pager_key pager_line d.pager more)
 -- the lines so far, and then more
 abbrev pub held_onto : Stage → SessionDraft → List (List ℕ) → List (List ℕ)
 held_onto Header d more = more
-held_onto Pages d more = header d.version ∷ more
-held_onto Cells d more = header d.version ∷ (pages_key ++ decimal d.geometry.pages) ∷ more
+held_onto Pages d more = header d.version d.geometry.size ∷ more
+held_onto Cells d more = header d.version d.geometry.size ∷ (pages_key ++ decimal d.geometry.pages) ∷ more
 held_onto InitCount d more = geometry_onto d more
 held_onto Init d more = init_onto d more
 held_onto Guest d more = guest_onto d more
@@ -80,28 +81,32 @@ pub record InitFits (e : Extent) (next : ℕ) (part : Part InitPage) : Type 0 wh
   pub rising : Rise 0 part.items next
   pub room : next + (part.count - length part.items) ≤ e.pages
 
--- what stands before a log, the list right before it, which is whole, and the log's records so far
-pub record LogFits {X Y : Type 0} (Before : Type 0) (list : Part X) (Fits : Y → Type 0) (log : Part Y) : Type 0 where
+-- what stands before a log, the list right before it, which is whole, and the log's records so far, of at most so many
+pub record LogFits {X Y : Type 0} (most : ℕ) (Before : Type 0) (list : Part X) (Fits : Y → Type 0) (log : Part Y) : Type 0 where
   pub before : Before
   pub whole : IsWhole list
-  pub few : log.count ≤ 1048576
+  pub few : log.count ≤ most
   pub within : length log.items ≤ log.count
   pub each : AllByRecursion Fits log.items
 
+-- a log has at most so many records
+abbrev pub most_of : SessionDraft → ℕ
+most_of d = (limits d.geometry.size).records
+
 abbrev pub GuestFits : SessionDraft → Type 0
-GuestFits d = LogFits (InitFits d.geometry d.next_page d.init) d.init (GuestRecFits d.geometry) d.guest
+GuestFits d = LogFits (most_of d) (InitFits d.geometry d.next_page d.init) d.init (GuestRecFits d.geometry) d.guest
 
 abbrev pub SourceFits : SessionDraft → Type 0
-SourceFits d = LogFits (GuestFits d) d.guest (SourceRecFits d.geometry) d.source
+SourceFits d = LogFits (most_of d) (GuestFits d) d.guest (SourceRecFits d.geometry) d.source
 
 abbrev pub LinkFits : SessionDraft → Type 0
-LinkFits d = LogFits (SourceFits d) d.source LinkRecFits d.link
+LinkFits d = LogFits (most_of d) (SourceFits d) d.source (LinkRecFits d.geometry) d.link
 
 abbrev pub LaneFits : SessionDraft → Type 0
-LaneFits d = LogFits (LinkFits d) d.link (LaneRecFits d.version) d.lane
+LaneFits d = LogFits (most_of d) (LinkFits d) d.link (LaneRecFits d.version d.geometry) d.lane
 
 abbrev pub PagerFits : SessionDraft → Type 0
-PagerFits d = LogFits (LaneFits d) d.lane (PagerRecFits d.version d.geometry) d.pager
+PagerFits d = LogFits (most_of d) (LaneFits d) d.lane (PagerRecFits d.version d.geometry) d.pager
 
 -- nothing came of the logs from this one on
 abbrev pub NoPager : SessionDraft → Type 0
@@ -126,7 +131,7 @@ NoInit d = (d.init.items ≡ []) × NoGuest d
 abbrev pub Live : Stage → SessionDraft → Type 0
 Live Header d = NoInit d
 Live Pages d = NoInit d
-Live Cells d = NoInit d × (1 ≤ d.geometry.pages) × (d.geometry.pages ≤ 65536)
+Live Cells d = NoInit d × (1 ≤ d.geometry.pages) × (d.geometry.pages ≤ (limits d.geometry.size).pages)
 Live InitCount d = NoInit d × IsExtent d.geometry
 Live Init d = InitFits d.geometry d.next_page d.init × NoGuest d
 Live Guest d = GuestFits d × NoSource d

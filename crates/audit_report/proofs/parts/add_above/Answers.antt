@@ -1,5 +1,6 @@
 use Rattle.std.proofs.Common.{◌+◌, ◌≤◌, get_or, min, ◌-◌, ap, ◌∙◌, arith}
 use Rattle.std.specs.List.{filter}
+use Rattle.migration_types.specs.Limits.{longest_log}
 use Rattle.migration_types.specs.declared.records.LogName.TheVariants.{Guest}
 use Rattle.migration_types.specs.declared.cert.Run.{Run}
 use Rattle.audit_model.specs.Names.{log_length}
@@ -27,7 +28,7 @@ whole c = (c.mergings_are_walks.ensures.walks c.args.session.now (spelled c.args
 fits : (c : In-loop-run) → cursors_of c.loop-run.taken (run_of c).log + (run_of c).count ≤ log_length c.args.session.now (run_of c).log
 fits c = room_at c.args.session.now c.args.runs.now (whole c) c.loop-run.taken c.loop-run.run-index no_run c.loop-run.invariant.at c.loop-run-test.true
 
-small : (c : In-loop-run) → cursors_of c.loop-run.taken (run_of c).log + (run_of c).count ≤ 1048576
+small : (c : In-loop-run) → cursors_of c.loop-run.taken (run_of c).log + (run_of c).count ≤ longest_log
 small c = omega (arith, fits c, log_fits c.args.session.now (run_of c).log c.requires.limits)
 
 pub loop-run-init : goal.loop-run-init

@@ -1,4 +1,5 @@
 use Rattle.std.proofs.Common.{◌+◌, ◌≤◌, get_or, min, ◌-◌, sym, ap, ◌∙◌, subst, arith, take, List}
+use Rattle.migration_types.specs.Limits.{longest_log}
 use Rattle.migration_types.specs.declared.records.LogName.TheVariants.{Guest}
 use Rattle.migration_types.specs.declared.cert.Run.{Run}
 use Rattle.audit_model.specs.Mergings.{Cursors, spelled}
@@ -22,7 +23,7 @@ run_of c = get_or c.args.runs.now c.loop-run.run-index no_run
 whole : (c : In-loop-run) → IsWholeWalk c.args.session.now (spelled c.args.runs.now)
 whole c = (c.mergings_are_walks.ensures.walks c.args.session.now (spelled c.args.runs.now)).0 c.requires.merging
 
-small : (c : In-loop-run) → cursors_of c.loop-run.taken (run_of c).log + (run_of c).count ≤ 1048576
+small : (c : In-loop-run) → cursors_of c.loop-run.taken (run_of c).log + (run_of c).count ≤ longest_log
 small c = omega (arith, room_at c.args.session.now c.args.runs.now (whole c) c.loop-run.taken c.loop-run.run-index no_run c.loop-run.invariant.at c.loop-run-test.true, log_fits c.args.session.now (run_of c).log c.requires.limits)
 
 pub loop-run-init : goal.loop-run-init

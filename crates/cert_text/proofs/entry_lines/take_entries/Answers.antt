@@ -10,6 +10,6 @@ loop-at-preserved c =
     let count = c.loop-at.invariant.count in
     let grown : c.push.new.self.items ≡ before ++ entry ∷ [] = grind (arith, common_steps, c.push.ensures.items, c.if-is_err.ensures.value) in
     record {
-      taken = took_entry c.args.version c.args.entries.now.items before c.push.new.self.items c.args.bytes.now c.loop-at.rest.now c.in-Some.after.now c.loop-at.at c.len-page.result entry c.loop-at.invariant.taken (omega (arith, c.loop-at.entries.ok.0)) grown c.in-Some.ensures.0 c.in-Some.ensures.1;
+      taken = took_entry c.args.version c.args.size c.args.entries.now.items before c.push.new.self.items c.args.bytes.now c.loop-at.rest.now c.in-Some.after.now c.loop-at.at c.len-page.result entry c.loop-at.invariant.taken (omega (arith, c.loop-at.entries.ok.0)) grown c.in-Some.ensures.0 c.in-Some.ensures.1;
       count = rw grown (omega (arith, length-append before (entry ∷ [])));
     }

@@ -6,7 +6,7 @@ use Rattle.migration_types.specs.Receipts.{Name}
 use Rattle.audit_model.specs.Mergings.{Cursors, run_names, spelled, moved}
 use Rattle.merge_runs.specs.Taken.{cursors_of}
 use Rattle.merge_runs.proofs.Walking.{cursors_on, nothing_within, own_moved, with_it, within_after}
-use Rattle.merge_runs.proofs.AllRuns.{few_records}
+use Rattle.cert_maker.proofs.Fitting.{log_fits}
 use Rattle.order_picture.proofs.Names.{run_fits}
 use Rattle.order_picture.proofs.order.push_runs.Goals as goal
 
@@ -25,7 +25,7 @@ push_run-requires c =
     let run = get_or runs place no_run in
     let i = c.loop-place.invariant in
     let fits = run_fits s runs place no_run c.loop-place-test.true (cursors_of c.loop-place.taken) i.at c.requires.walk (i.within run.log) in
-    let few = few_records s c.requires.limits run.log in
+    let few = log_fits s run.log c.requires.limits in
     omega (arith, fits, few, c.of.ensures)
 
 pub loop-place-preserved : goal.loop-place-preserved

@@ -7,5 +7,5 @@ use Rattle.page_stream.proofs.encoding.put_page.Goals as goal
 pub returns : goal.returns
 returns c =
     c.in_ok-put_cells.ensures
-    ∙ ap (λ t. t ++ flat_map cell_bytes c.args.cells.now) (c.in_ok-put_number.ensures ∙ ap (λ t. t ++ number_bytes c.from.result) c.in_ok-put_head.ensures)
-    ∙ rw (c.from.ensures, c.number.ensures) (page_bytes c.args.out.now.items c.args.number c.args.page c.args.cells.now)
+    ∙ ap (λ t. t ++ flat_map cell_bytes c.args.cells.now) (c.in_ok-put_number.ensures ∙ ap (λ t. t ++ number_bytes c.number.result) c.in_ok-put_head.ensures)
+    ∙ rw c.number.ensures.value (page_bytes c.args.out.now.items c.args.number c.args.page c.args.cells.now)

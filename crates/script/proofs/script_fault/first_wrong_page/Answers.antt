@@ -10,7 +10,7 @@ returns-then-not-page_fits c = page_wrong c.args.geometry c.args.init.now c.loop
 pub loop-place-preserved : goal.loop-place-preserved
 loop-place-preserved c =
     let more = page_more c.args.geometry c.args.init.now c.loop-place.place c.index-init-place.result c.loop-place.least c.loop-place-test.true c.index-init-place.is c.loop-place.invariant c.if-not-page_fits.ensures in
-    rw (c.from-least.ensures, c.number.ensures) more
+    rw c.number-least.ensures.value more
 
 pub returns : goal.returns
 returns c = subst (AreInitPages c.args.geometry) (take_all c.loop-place.place c.args.init.now c.loop-place-test.false) c.loop-place.invariant.fit

@@ -11,4 +11,4 @@ returns-in-Err-clause-refused c = λ n fits e.
     let few = fits.few_cells in
     let most = found.0 in
     let same = keyed cells_key n c.in_ok-cells.cells (omega arith) (omega arith) (sym e ∙ found.1) in
-    no_fault c.args.pages c.in_ok-cells.cells c.in-Err.field-0 c.in-Err.ensures (subst (λ (m : ℕ). IsExtent (extent c.args.pages m)) same fits)
+    no_fault c.args.size c.args.pages c.in_ok-cells.cells c.in-Err.field-0 c.in-Err.ensures (subst (λ (m : ℕ). IsExtent (extent c.args.size c.args.pages m)) same fits)

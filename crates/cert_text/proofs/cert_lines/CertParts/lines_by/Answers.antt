@@ -1,5 +1,6 @@
 use Rattle.std.proofs.Common.{subst, arith, refl}
 use Rattle.migration_types.specs.declared.version.Version.{Version}
+use Rattle.migration_types.specs.declared.size.Size.{Size}
 use Rattle.cert_text.specs.inner.Taken.{TakesEntries}
 use Rattle.cert_text.specs.inner.CertDraft.{draft_of}
 use Rattle.cert_text.specs.inner.Held.{held_by}
@@ -13,4 +14,4 @@ returns-else-len-self-clause-taken g c =
     let d = draft_of i in
     let live = live_at c.args.stage Entries d c.in-Entries.is c.requires.live in
     let count = live.count in
-    entries_taken c.args.stage d (held_by c.args.stage (draft_of i)) c.take_entries.new.entries.items c.args.bytes.now c.take_entries.result.0.now c.take_entries.result.1 c.in-Entries.is refl c.requires.live (omega (arith, i.entries.ok.0)) (subst (λ (version : Version). TakesEntries version i.entries.items c.take_entries.new.entries.items c.args.bytes.now c.take_entries.result.0.now c.take_entries.result.1) c.version.ensures c.take_entries.ensures.taken)
+    entries_taken c.args.stage d (held_by c.args.stage (draft_of i)) c.take_entries.new.entries.items c.args.bytes.now c.take_entries.result.0.now c.take_entries.result.1 c.in-Entries.is refl c.requires.live (omega (arith, i.entries.ok.0)) (subst (λ (size : Size). TakesEntries i.runs.version size i.entries.items c.take_entries.new.entries.items c.args.bytes.now c.take_entries.result.0.now c.take_entries.result.1) c.size-size.ensures (subst (λ (version : Version). TakesEntries version c.size-size.result i.entries.items c.take_entries.new.entries.items c.args.bytes.now c.take_entries.result.0.now c.take_entries.result.1) c.version-version.ensures c.take_entries.ensures.taken))

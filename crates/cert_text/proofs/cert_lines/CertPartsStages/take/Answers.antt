@@ -10,7 +10,7 @@ pub returns-in_ok-line-in-Entries-clause-ok : goal.returns-in_ok-line-in-Entries
 returns-in_ok-line-in-Entries-clause-ok c =
     let i = c.args.self.now in
     let d = draft_of i in
-    run_taken c.args.stage d c.line.new.self.version c.line.new.self.lines c.args.line.now c.in-Entries.is c.requires (omega (arith, i.entries.ok.0)) c.in_ok-line-in-Entries.ensures.version c.in_ok-line-in-Entries.ensures.ok
+    run_taken c.args.stage d c.line.new.self.version c.line.new.self.size c.line.new.self.lines c.args.line.now c.in-Entries.is c.requires (omega (arith, i.entries.ok.0)) c.in_ok-line-in-Entries.ensures.version c.in_ok-line-in-Entries.ensures.size c.in_ok-line-in-Entries.ensures.ok
 
 pub returns-in_err-line-in-Entries-clause-refused : goal.returns-in_err-line-in-Entries-clause-refused
 returns-in_err-line-in-Entries-clause-refused c =
@@ -24,7 +24,7 @@ returns-in_ok-take_entry-in-Entries-clause-ok c =
     let i = c.args.self.now in
     let d = draft_of i in
     let count = (live_at c.args.stage Entries d c.in-Entries.is c.requires).count in
-    entry_came c.args.stage d c.version.result c.args.line.now c.take_entry.new.entries.items c.version.ensures c.in-Entries.is c.requires (omega (arith, i.entries.ok.0)) c.in_ok-take_entry-in-Entries.ensures.ok
+    entry_came c.args.stage d c.version-version.result c.size-else-len-self.result c.args.line.now c.take_entry.new.entries.items c.version-version.ensures c.size-else-len-self.ensures c.in-Entries.is c.requires (omega (arith, i.entries.ok.0)) c.in_ok-take_entry-in-Entries.ensures.ok
 
 pub returns-in_err-take_entry-in-Entries-clause-refused : goal.returns-in_err-take_entry-in-Entries-clause-refused
 returns-in_err-take_entry-in-Entries-clause-refused c =
@@ -32,4 +32,4 @@ returns-in_err-take_entry-in-Entries-clause-refused c =
     let i = c.args.self.now in
     let d = draft_of i in
     let count = (live_at c.args.stage Entries d c.in-Entries.is c.requires).count in
-    rw (p.1, p.2) (λ other. no_entry_line c.args.stage d c.version.result c.args.line.now c.version.ensures c.in-Entries.is c.requires (omega (arith, i.entries.ok.0)) (c.in_err-take_entry-in-Entries.ensures.refused other))
+    rw (p.1, p.2) (λ other. no_entry_line c.args.stage d c.version-version.result c.size-else-len-self.result c.args.line.now c.version-version.ensures c.size-else-len-self.ensures c.in-Entries.is c.requires (omega (arith, i.entries.ok.0)) (c.in_err-take_entry-in-Entries.ensures.refused other))

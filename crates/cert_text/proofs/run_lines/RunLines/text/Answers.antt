@@ -8,4 +8,5 @@ returns-in_default c =
     let i = c.self.inside in
     let held = ap (λ (r : RunsSoFar). r.lines) c.self.view_is in
     let version = ap (λ (r : RunsSoFar). r.version) c.self.view_is in
-    record { found = tt; none = rw (← version) (not_whole i.form.version i.stage i.runs c.args.self.lines held c.self.invariant c.in_default.not-Done) }
+    let size = ap (λ (r : RunsSoFar). r.size) c.self.view_is in
+    record { found = tt; none = rw (← version, ← size) (not_whole i.form.version i.form.size i.stage i.runs c.args.self.lines held c.self.invariant c.in_default.not-Done) }

@@ -5,11 +5,11 @@ use Rattle.session_story.proofs.words.records.GuestRecSpoken.push.Goals as goal
 
 pub returns-in-Release : goal.returns-in-Release
 unfolding guest_words
-returns-in-Release c = words_of guest_words _ _ _ _ _ c.in-Release.is (rw (sym c.number.ensures) c.push_two.ensures)
+returns-in-Release c = words_of guest_words _ _ _ _ _ c.in-Release.is (rw (sym c.number.ensures.value) c.push_two.ensures)
 
 pub returns-in-Miss : goal.returns-in-Miss
 unfolding guest_words
-returns-in-Miss c = words_of guest_words _ _ _ _ _ c.in-Miss.is (rw (sym c.number-in-Miss.ensures) c.push_two-in-Miss.ensures)
+returns-in-Miss c = words_of guest_words _ _ _ _ _ c.in-Miss.is (rw (sym c.number-in-Miss.ensures.value) c.push_two-in-Miss.ensures)
 
 pub returns-in-Halt : goal.returns-in-Halt
 unfolding guest_words
