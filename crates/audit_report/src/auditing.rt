@@ -1,46 +1,103 @@
 //! The audit of a session.
 
-ghost use Rattle.std.specs.Prelude.{◌↔◌, IfOk};
+ghost use Rattle.std.specs.Prelude.{⊤, ◌↔◌, IfOk, MatchOption};
+ghost use Rattle.std.specs.Thread.{IsSync};
 ghost use Rattle.migration_types.specs.Sessions.{IsSession};
 ghost use Rattle.audit_model.specs.Mergings.{HasMerging};
 ghost use Rattle.audit_model.specs.World.{IsSafe};
 ghost use Rattle.audit_model.specs.Shape.{IsRightShape};
 ghost use Rattle.audit_model.specs.Faults.{HasNoPageFault};
 ghost use Rattle.audit_model.specs.FirstFault.{IsFirstPageFault};
-ghost use Rattle.page_facts.specs.Findings.{AreFindings};
+ghost use Rattle.page_facts.specs.PageFaults.{IsFirstFaultFrom};
 ghost use Rattle.cert_maker.specs.Orders.{AreFoundRuns};
+ghost use Rattle.cert_maker.specs.inner.Entries.{AreMadeFrom, HasBarePage};
 ghost use Rattle.audit_report.specs.Reports.{IsReport, IsClean, ReportFits};
 
 use crate::orders::order_for;
 use crate::report::Report;
 use audit_model::{clean_is_certified, faults_are_unsafe};
 use cert_check::shape;
-use cert_maker::{MakeFault, Order, find_order, make_over};
-use migration_types::{Run, Seq, Session, line_of};
-use page_facts::{Findings, InThreads, Judges, PageFault, first_fault_in};
+use cert_maker::{MadeEntries, Order, find_order, make_over};
+use migration_types::{Entry, PageNo, Run, Seq, Session, line_of};
+use page_facts::{
+    Findings, FirstFault, InThreads, Judges, PageFault, Question, answer_apart,
+    first_of_pages_is_first,
+};
 use std::alloc::{AllocError, Global};
 use std::marker::Sync;
 use std::thread::Threads;
 
-/// The report on a session with no fault, over the runs of its found order, by what is found of its pages.
-fn clean(
-    alloc: Global,
-    session: &Session,
-    pages: &[Findings],
-    found: Seq<Run>,
-) -> Result<Report, AllocError>
+/// What an audit takes of what is found of pages.
+#[derive(Drop)]
+pub struct Audited {
+    /// Their first fault.
+    pub fault: Option<PageFault>,
+    /// Their entries in a certificate; none where one has no right entry.
+    pub entries: Option<Vec<Entry>>,
+}
+
+/// What is the first fault of the pages, and what are their entries?
+#[derive(Clone, Copy)]
+pub struct FaultAndEntries;
+
+impl Question for FaultAndEntries {
+    type Answer = Audited;
+
+    ghost IsFor = { λ q s. ⊤ };
+
+    ghost IsAnswer = { λ q s first count audited. IsFirstFaultFrom s first count audited.fault × MatchOption audited.entries (HasBarePage s) (λ entries. AreMadeFrom s first count entries.items) };
+
+    fn blank(&self, alloc: Global, room: usize) -> Result<Audited, AllocError> {
+        let fault = FirstFault.blank(alloc, room)?;
+        let entries = MadeEntries.blank(alloc, room)?;
+        Ok(Audited { fault, entries })
+    }
+
+    fn take(
+        &self,
+        audited: &mut Audited,
+        session: &Session,
+        page: PageNo,
+        findings: &Findings,
+    ) -> Result<(), AllocError> {
+        FirstFault.take(&mut audited.fault, session, page, findings)?;
+        MadeEntries.take(&mut audited.entries, session, page, findings)?;
+        Ok(())
+    }
+
+    fn add(&self, audited: &mut Audited, next: Audited) -> Result<(), AllocError> {
+        FirstFault.add(&mut audited.fault, next.fault)?;
+        MadeEntries.add(&mut audited.entries, next.entries)?;
+        Ok(())
+    }
+}
+
+impl<R: Threads + Sync> Judges<FaultAndEntries> for InThreads<'_, R> {
+    ghost ready = { IsSync R.row };
+
+    fn ask(
+        &self,
+        question: &FaultAndEntries,
+        alloc: Global,
+        session: &Session,
+    ) -> Result<Audited, AllocError> {
+        answer_apart(self.rt, question, alloc, session)
+    }
+}
+
+/// The report on a session with no fault, over the runs of its found order, with the entries of its pages.
+fn clean(session: &Session, entries: Option<Vec<Entry>>, found: Seq<Run>) -> Report
     requires limits { IsSession session.now }
     requires shape { IsRightShape session.now }
-    requires pages { AreFindings session.now pages.now }
+    requires entries { MatchOption entries (HasBarePage session.now) (λ made. AreMadeFrom session.now 0 session.now.geometry.pages made.items) }
     requires found { AreFoundRuns session.now found }
     requires no_fault { HasNoPageFault session.now }
-    ensures { IfOk result (IsReport session.now) }
+    ensures { IsReport session.now result }
 {
     clean_is_certified();
-    match make_over(alloc, session, pages, found) {
-        Ok(cert) => Ok(Report::Clean(cert)),
-        Err(MakeFault::Memory) => Err(AllocError),
-        Err(MakeFault::NoCertificate) => unreachable!(),
+    match entries {
+        Some(entries) => Report::Clean(make_over(session, entries, found)),
+        None => unreachable!(),
     }
 }
 
@@ -66,8 +123,33 @@ fn faulty(
     })
 }
 
+/// The report on a session of the right shape, over the runs of its found order, by what is taken of its pages.
+fn by_pages(
+    alloc: Global,
+    session: &Session,
+    found: Seq<Run>,
+    audited: Audited,
+) -> Result<Report, AllocError>
+    requires limits { IsSession session.now }
+    requires shape { IsRightShape session.now }
+    requires found { AreFoundRuns session.now found }
+    requires fault { IsFirstFaultFrom session.now 0 session.now.geometry.pages audited.fault }
+    requires entries { MatchOption audited.entries (HasBarePage session.now) (λ made. AreMadeFrom session.now 0 session.now.geometry.pages made.items) }
+    ensures { IfOk result (IsReport session.now) }
+{
+    first_of_pages_is_first();
+    match audited.fault {
+        Some(fault) => faulty(alloc, session, found, &fault),
+        None => Ok(clean(session, audited.entries, found)),
+    }
+}
+
 /// The report on a session.
-fn report<J: Judges>(judges: &J, alloc: Global, session: &Session) -> Result<Report, AllocError>
+fn report<J: Judges<FaultAndEntries>>(
+    judges: &J,
+    alloc: Global,
+    session: &Session,
+) -> Result<Report, AllocError>
     requires ready { J.ready }
     requires limits { IsSession session.now }
     ensures { IfOk result (IsReport session.now) }
@@ -80,16 +162,13 @@ fn report<J: Judges>(judges: &J, alloc: Global, session: &Session) -> Result<Rep
         Order::Found(found) => found,
         Order::Knot { left, found } => return Ok(Report::Knot { left, found }),
     };
-    let pages = judges.findings(alloc, session)?;
-    match first_fault_in(session, &pages) {
-        Some(fault) => faulty(alloc, session, found, &fault),
-        None => clean(alloc, session, &pages, found),
-    }
+    let audited = judges.ask(&FaultAndEntries, alloc, session)?;
+    by_pages(alloc, session, found, audited)
 }
 
 /// The report on a session that [`audit`] answers, whoever judges the pages. It promises what `audit` promises, and takes
 /// the memory that these judges take.
-pub fn audit_by<J: Judges>(
+pub fn audit_by<J: Judges<FaultAndEntries>>(
     judges: &J,
     alloc: Global,
     session: &Session,

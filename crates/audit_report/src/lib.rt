@@ -9,6 +9,6 @@ mod parts;
 mod placements;
 mod report;
 
-pub use auditing::{audit, audit_by};
+pub use auditing::{Audited, FaultAndEntries, audit, audit_by};
 pub use placements::first_placement;
 pub use report::Report;

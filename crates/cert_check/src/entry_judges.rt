@@ -12,7 +12,7 @@ use crate::shape_fault::shape;
 use crate::verdict::Verdict;
 use merge_runs::first_bad_run;
 use migration_types::{Cert, Session};
-use page_facts::{Alone, InThreads, Judges, is_small};
+use page_facts::{Alone, InThreads, JudgesEntries, is_small};
 use std::alloc::{AllocError, Global};
 use std::marker::Sync;
 use std::thread::{Threads, join};
@@ -53,7 +53,7 @@ fn by_shape_and_runs(
 }
 
 /// The first page whose entry is not right. An error: there is no memory to judge the pages.
-fn first_bad_page<J: Judges>(
+fn first_bad_page<J: JudgesEntries>(
     judges: &J,
     alloc: Global,
     session: &Session,

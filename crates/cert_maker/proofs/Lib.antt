@@ -2,3 +2,4 @@ pub mod Fitting
 pub mod Found
 pub mod Making
 pub mod Certifying
+pub mod MorePages

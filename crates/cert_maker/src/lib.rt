@@ -6,6 +6,6 @@ mod maker;
 mod order;
 mod ready;
 
-pub use made_entries::made_entry;
+pub use made_entries::{MadeEntries, made_entry};
 pub use maker::{MakeFault, make, make_over};
 pub use order::{FoundRuns, Left, Order, find_order, found_runs};

@@ -1,19 +1,18 @@
 //! The entries of a certificate, by the facts of the pages.
 
-ghost use Rattle.std.specs.Prelude.{◌≡◌, ◌<◌, length, slice_get, IfOk, MatchOption};
+ghost use Rattle.std.specs.Prelude.{⊤, ◌≡◌, length, slice_get, MatchOption};
 ghost use Rattle.std.specs.List.{list_any};
-ghost use Rattle.migration_types.specs.Sessions.{IsSession};
 ghost use Rattle.audit_model.specs.Names.{if_there};
 ghost use Rattle.audit_model.specs.Certificates.{is_fresh};
 ghost use Rattle.page_facts.specs.Facts.{IsFacts};
-ghost use Rattle.page_facts.specs.Findings.{AreFindings, IsFindings};
+ghost use Rattle.page_facts.specs.Findings.{IsFindings};
 ghost use Rattle.page_facts.specs.Looks.{first_look};
 ghost use Rattle.cert_maker.specs.Made.{HasNoEntry, IsMadeEntry};
-ghost use Rattle.cert_maker.specs.inner.Entries.{send_of, first_of, entry_at, unplaced_entry, entry_of, AreMade, HasBarePage, version_for};
+ghost use Rattle.cert_maker.specs.inner.Entries.{send_of, first_of, entry_at, unplaced_entry, entry_of, AreMadeFrom, HasBarePage, version_for};
 
 use audit_model::delivery;
 use migration_types::{Entry, First, PageNo, PagerRec, Seq, Session, SourceRec, Version};
-use page_facts::{Findings, PageFacts, facts_of, is_right_entry};
+use page_facts::{Findings, PageFacts, Question, facts_of, is_right_entry};
 use std::alloc::{AllocError, Global};
 
 /// The `send` whose contents came with a `got` of the pager, itself or by an `again`.
@@ -101,6 +100,56 @@ pub fn made_entry(session: &Session, findings: &Findings, page: PageNo) -> Optio
     entry_by_facts(session, page, &facts, findings.look)
 }
 
+/// What are the right entries of the pages, page after page, each with the earliest look that serves? None where a page has no
+/// right entry.
+#[derive(Clone, Copy)]
+pub struct MadeEntries;
+
+impl Question for MadeEntries {
+    type Answer = Option<Vec<Entry>>;
+
+    ghost IsFor = { λ q s. ⊤ };
+
+    ghost IsAnswer = { λ q s first count made. MatchOption made (HasBarePage s) (λ entries. AreMadeFrom s first count entries.items) };
+
+    fn blank(&self, alloc: Global, room: usize) -> Result<Option<Vec<Entry>>, AllocError> {
+        Ok(Some(Vec::with_capacity(alloc, room)?))
+    }
+
+    fn take(
+        &self,
+        made: &mut Option<Vec<Entry>>,
+        session: &Session,
+        page: PageNo,
+        findings: &Findings,
+    ) -> Result<(), AllocError> {
+        let Some(entries) = made else {
+            return Ok(());
+        };
+        match made_entry(session, findings, page) {
+            Some(entry) => entries.push(entry)?,
+            None => *made = None,
+        }
+        Ok(())
+    }
+
+    fn add(
+        &self,
+        made: &mut Option<Vec<Entry>>,
+        next: Option<Vec<Entry>>,
+    ) -> Result<(), AllocError> {
+        let Some(mut more) = next else {
+            *made = None;
+            return Ok(());
+        };
+        let Some(entries) = made else {
+            return Ok(());
+        };
+        entries.append(&mut more)?;
+        Ok(())
+    }
+}
+
 /// Whether it is of a fresh page.
 fn is_fresh(entry: &Entry) -> bool
     ensures { result ≡ is_fresh entry.now }
@@ -123,27 +172,4 @@ pub(crate) fn version_for(session: &Session, entries: &Seq<Entry>) -> Version
         return Version::Two;
     }
     session.version()
-}
-
-/// A right entry for each page, with the earliest look that serves, by what is found of the pages. None: a page has no
-/// right entry. An error: there is no memory for the entries.
-pub(crate) fn entries_in(
-    alloc: Global,
-    session: &Session,
-    found: &[Findings],
-) -> Result<Option<Seq<Entry>>, AllocError>
-    requires limits { IsSession session.now }
-    requires found { AreFindings session.now found.now }
-    ensures { IfOk result (λ o. MatchOption o (HasBarePage session.now) (AreMade session.now)) }
-{
-    let pages = session.geometry().pages() as usize;
-    let mut entries = Vec::with_capacity(alloc, pages)?;
-    for page in 0..pages {
-        let number = PageNo::new(page as u32);
-        let Some(entry) = made_entry(session, &found[page], number) else {
-            return Ok(None);
-        };
-        entries.push(entry)?;
-    }
-    Ok(Some(Seq::from_vec(entries)))
 }

@@ -4,14 +4,14 @@ ghost use Rattle.std.specs.Prelude.{MatchResult};
 ghost use Rattle.migration_types.specs.declared.version.Version.TheVariants.{Two};
 ghost use Rattle.migration_types.specs.Certs.{AreRuns};
 ghost use Rattle.audit_model.specs.Mergings.{IsMerging, spelled};
-ghost use Rattle.page_facts.specs.Findings.{AreFindings};
 ghost use Rattle.cert_maker.specs.Made.{IsMade, IsRefused};
+ghost use Rattle.cert_maker.specs.inner.Entries.{AreMadeFrom};
 
-use crate::made_entries::{entries_in, version_for};
+use crate::made_entries::{MadeEntries, version_for};
 use audit_model::first_version_is_plain;
 use merge_runs::is_merging;
-use migration_types::{Cert, Run, Seq, Session};
-use page_facts::{Findings, findings_of};
+use migration_types::{Cert, Entry, Run, Seq, Session};
+use page_facts::{Alone, Judges};
 use std::alloc::Global;
 use thiserror::Error;
 
@@ -38,34 +38,27 @@ pub fn make(alloc: Global, session: &Session, runs: Seq<Run>) -> Result<Cert, Ma
     if !is_merging(session, runs.as_slice()) {
         return Err(MakeFault::NoCertificate);
     }
-    let Ok(found) = findings_of(alloc, session) else {
-        return Err(MakeFault::Memory);
-    };
-    make_over(alloc, session, &found, runs)
-}
-
-/// The same over the runs of a merging, which are not walked again, by what is found of each page, page 0 first. Takes two
-/// passes over the pages, and memory for the entries alone.
-pub fn make_over(
-    alloc: Global,
-    session: &Session,
-    found: &[Findings],
-    runs: Seq<Run>,
-) -> Result<Cert, MakeFault>
-    requires runs { AreRuns Two session.now.geometry.size runs }
-    requires merging { IsMerging session.now (spelled runs) }
-    requires found { AreFindings session.now found.now }
-    ensures { MatchResult result (IsMade session.now runs) (IsRefused session.now runs) }
-{
-    first_version_is_plain();
-    session.keeps_limits();
-    let Ok(made) = entries_in(alloc, session, found) else {
+    let Ok(made) = Alone.ask(&MadeEntries, alloc, session) else {
         return Err(MakeFault::Memory);
     };
     let Some(entries) = made else {
         return Err(MakeFault::NoCertificate);
     };
+    Ok(make_over(session, entries, runs))
+}
+
+/// The right certificate with these right entries of all pages, over the runs of a merging. Takes a look at each entry, and
+/// no memory.
+pub fn make_over(session: &Session, entries: Vec<Entry>, runs: Seq<Run>) -> Cert
+    requires runs { AreRuns Two session.now.geometry.size runs }
+    requires merging { IsMerging session.now (spelled runs) }
+    requires entries { AreMadeFrom session.now 0 session.now.geometry.pages entries.items }
+    ensures { IsMade session.now runs result }
+{
+    first_version_is_plain();
+    session.keeps_limits();
+    let entries = Seq::from_vec(entries);
     let version = version_for(session, &entries);
     let size = session.geometry().size();
-    Ok(Cert::new(version, size, entries, runs))
+    Cert::new(version, size, entries, runs)
 }

@@ -1,5 +1,5 @@
 -- The pages with a fault.
-use Rattle.std.specs.Prelude.{◌≡◌, ◌≢◌, ℕ, ◌<◌, List}
+use Rattle.std.specs.Prelude.{◌≡◌, ◌≢◌, ℕ, ◌+◌, ◌<◌, ◌≤◌, List}
 use Rattle.std.specs.List.{All, AllPairs}
 use Rattle.migration_types.specs.Sessions.{Recorded, line_of}
 use Rattle.page_facts.specs.PageFaults.{IsClean, IsFirstFault}
@@ -16,6 +16,14 @@ pub record AreFaultyBelow (s : Recorded) (n : ℕ) (found : List FaultyPage) : T
   pub within : All (λ f. f.page < n) found
   pub faulty : All (IsFaultyPage s) found
   pub others : (page : ℕ) → page < n → All (λ f. f.page ≢ page) found → IsClean s page
+
+-- the same of so many pages from the first on
+pub record AreFaultyFrom (s : Recorded) (first count : ℕ) (found : List FaultyPage) : Type 0 where
+  pub ascending : AllPairs (λ a b. a.page < b.page) found
+  pub from : All (λ f. first ≤ f.page) found
+  pub within : All (λ f. f.page < first + count) found
+  pub faulty : All (IsFaultyPage s) found
+  pub others : (page : ℕ) → first ≤ page → page < first + count → All (λ f. f.page ≢ page) found → IsClean s page
 
 -- of all pages of the machine
 abbrev pub AreFaultyPages : Recorded → List FaultyPage → Type 0

@@ -1,16 +1,18 @@
 //! Each page of a session that has a fault, with its first.
 #![tactic(auto)]
 
-ghost use Rattle.std.specs.Prelude.{◌≡◌, ◌+◌, [], IfOk, OnOk};
-ghost use Rattle.migration_types.specs.Sessions.{IsSession, Recorded};
+ghost use Rattle.std.specs.Prelude.{⊤, ◌≡◌, [], IfOk};
+ghost use Rattle.std.specs.Thread.{IsSync};
+ghost use Rattle.migration_types.specs.Sessions.{Recorded};
 ghost use Rattle.audit_model.specs.Faults.{HasNoPageFault};
-ghost use Rattle.page_facts.specs.Findings.{AreFindings, IsFindings};
 ghost use Rattle.page_facts.specs.PageFaults.{IsFirstFault};
-ghost use Rattle.faulty_pages.specs.FaultyPages.{AreFaultyBelow, AreFaultyPages, IsFaultyPage};
+ghost use Rattle.faulty_pages.specs.FaultyPages.{AreFaultyFrom, AreFaultyPages, IsFaultyPage};
 
 use migration_types::{PageNo, Session, line_of};
-use page_facts::{Findings, Judges, PageFault, fault_of};
+use page_facts::{Findings, InThreads, Judges, PageFault, Question, answer_apart, fault_of};
 use std::alloc::{AllocError, Global};
+use std::marker::Sync;
+use std::thread::Threads;
 
 /// A page with a fault, and its first.
 #[derive(Clone, Copy, Debug, PartialEq, Eq)]
@@ -33,40 +35,53 @@ fn with_line(session: &Session, page: PageNo, fault: PageFault) -> FaultyPage
     FaultyPage { page, line, fault }
 }
 
-/// Adds the page with these findings, where it has a fault.
-fn take_page(
-    session: &Session,
-    findings: &Findings,
-    page: PageNo,
-    faulty: &mut Vec<FaultyPage>,
-) -> Result<(), AllocError>
-    requires findings { IsFindings session.now page findings.now }
-    requires below { AreFaultyBelow session.now page faulty.old.items }
-    ensures { OnOk result (AreFaultyBelow session.now (page + 1) faulty.new.items) }
-{
-    match fault_of(session, findings, page) {
-        Some(fault) => faulty.push(with_line(session, page, fault))?,
-        None => {}
+/// Which pages have a fault, and which is the first of each?
+#[derive(Clone, Copy)]
+pub struct Faults;
+
+impl Question for Faults {
+    type Answer = Vec<FaultyPage>;
+
+    ghost IsFor = { λ q s. ⊤ };
+
+    ghost IsAnswer = { λ q s first count found. AreFaultyFrom s first count found.items };
+
+    fn blank(&self, alloc: Global, _room: usize) -> Result<Vec<FaultyPage>, AllocError> {
+        Ok(Vec::new(alloc))
     }
-    Ok(())
+
+    fn take(
+        &self,
+        faulty: &mut Vec<FaultyPage>,
+        session: &Session,
+        page: PageNo,
+        findings: &Findings,
+    ) -> Result<(), AllocError> {
+        match fault_of(session, findings, page) {
+            Some(fault) => faulty.push(with_line(session, page, fault))?,
+            None => {}
+        }
+        Ok(())
+    }
+
+    fn add(&self, faulty: &mut Vec<FaultyPage>, next: Vec<FaultyPage>) -> Result<(), AllocError> {
+        let mut next = next;
+        faulty.append(&mut next)?;
+        Ok(())
+    }
 }
 
-/// Each page with a fault, by what is found of each.
-fn faulty_among(
-    alloc: Global,
-    session: &Session,
-    found: &[Findings],
-) -> Result<Vec<FaultyPage>, AllocError>
-    requires limits { IsSession session.now }
-    requires found { AreFindings session.now found.now }
-    ensures { IfOk result (λ pages. AreFaultyPages session.now pages.items) }
-{
-    let mut faulty = Vec::new(alloc);
-    for index in 0..session.geometry().pages() {
-        let page = PageNo::new(index);
-        take_page(session, &found[index as usize], page, &mut faulty)?;
+impl<R: Threads + Sync> Judges<Faults> for InThreads<'_, R> {
+    ghost ready = { IsSync R.row };
+
+    fn ask(
+        &self,
+        question: &Faults,
+        alloc: Global,
+        session: &Session,
+    ) -> Result<Vec<FaultyPage>, AllocError> {
+        answer_apart(self.rt, question, alloc, session)
     }
-    Ok(faulty)
 }
 
 /// A law: a session with no fault of a page has no page with a fault. Runs nothing.
@@ -80,7 +95,7 @@ pub fn clean_sessions_have_no_faulty_page()
 ///
 /// Takes a few passes over each log, and memory for some numbers for each page, for the cells of all pages, and for a number or
 /// two for each faulty page. The only error: there is no memory for them.
-pub fn faulty_pages<J: Judges>(
+pub fn faulty_pages<J: Judges<Faults>>(
     judges: &J,
     alloc: Global,
     session: &Session,
@@ -88,7 +103,5 @@ pub fn faulty_pages<J: Judges>(
     requires ready { J.ready }
     ensures { IfOk result (λ found. AreFaultyPages session.now found.items) }
 {
-    session.keeps_limits();
-    let found = judges.findings(alloc, session)?;
-    faulty_among(alloc, session, &found)
+    judges.ask(&Faults, alloc, session)
 }

@@ -1,8 +1,7 @@
 -- The first fault of one page more, and of all pages.
-use Rattle.std.proofs.Common.{◌≡◌, ℕ, ◌+◌, ◌<◌, ◌≤◌, ◌⊎◌, inl, inr, Bool, true, false, cond, Option, Some, None, refl, sym, ap, ◌∙◌, subst, arith, List, length}
-use Rattle.std.specs.Prelude.{slice_get, slice_index_or}
+use Rattle.std.proofs.Common.{◌≡◌, ℕ, ◌+◌, ◌<◌, ◌≤◌, ◌⊎◌, inl, inr, Bool, true, false, cond, Option, Some, None, refl, sym, ap, ◌∙◌, subst, arith, List}
+use Rattle.std.specs.Prelude.{slice_get}
 use Rattle.std.specs.Option.{MatchOption}
-use Rattle.std.proofs.lemmas.Option.{slice_get-get_or}
 use Rattle.std.proofs.lemmas.Bool.{cases_lt}
 use Rattle.migration_types.specs.declared.records.LogName.{LogName}
 use Rattle.migration_types.specs.declared.records.LogName.TheVariants.{Guest, Source, Link, Lane, Pager}
@@ -21,68 +20,90 @@ use Rattle.audit_model.specs.Faults.{GuestFault, SourceFault, PagerFault, if_fau
 use Rattle.audit_model.specs.FirstFault.{IsFirstPageFault}
 use Rattle.paged.specs.Paged.{AreWithin}
 use Rattle.paged.specs.Paged.{guest_page, source_page, pager_page}
-use Rattle.page_facts.specs.declared.findings.Findings.{Findings}
 use Rattle.page_facts.specs.declared.page_fault.PageFault.{PageFault}
-use Rattle.page_facts.specs.Findings.{AreFindings, IsFindings}
 use Rattle.page_facts.specs.inner.FirstOfLog.{reason_at, IsCleanLog, IsFirstOfLog}
-use Rattle.page_facts.specs.PageFaults.{page_at, Precedes, AreClean, IsFirstFaultOf, IsClean, IsFirstFault, precedes, least}
+use Rattle.page_facts.specs.PageFaults.{page_at, Precedes, AreClean, IsFirstFaultOf, IsClean, IsFirstFault, IsPageOf, IsFirstFaultFrom, precedes, least}
 use Rattle.page_facts.proofs.FirstOfAll.{none_at, guest_first, moved_of_all}
 use Rattle.page_facts.proofs.Lines.{precedes_is, is_precedes, passes_on, before_both}
 use Rattle.page_facts.proofs.Within.{guest_within, source_within, pager_within}
 
-module _ (s : Recorded) (n : ℕ) where
-  abbrev Below : ℕ → Type 0
-  Below p = p < n
+-- the first fault of pages of two kinds, from those of each
+module _ (s : Recorded) (Low High All : ℕ → Type 0) (low : (p : ℕ) → Low p → All p) (high : (p : ℕ) → High p → All p) (each : (p : ℕ) → All p → (Low p) ⊎ (High p)) where
+  abbrev AreCleanIf : (ℕ → Type 0) → (Name → Type 0) → Type 0
+  AreCleanIf Among C = (p : ℕ) (name : Name) → Among p → page_at s name ≡ Some p → C name → reason_at s name ≡ None
 
-  abbrev Up : ℕ → Type 0
-  Up p = p < n + 1
-
-  each_up : (p : ℕ) → Up p → (Below p) ⊎ (p ≡ n)
-  each_up p up = go (cases_lt p n)
+  both : (C : Name → Type 0) → AreCleanIf Low C → AreCleanIf High C → AreCleanIf All C
+  both C below above p name among at c = go (each p among)
     where
-      go : (p < n) ⊎ (n ≤ p) → (Below p) ⊎ (p ≡ n)
-      go (inl lt) = inl lt
-      go (inr ge) = inr (omega (arith, up))
+      go : (Low p) ⊎ (High p) → reason_at s name ≡ None
+      go (inl is) = below p name is at c
+      go (inr is) = above p name is at c
 
-  -- what is said of the pages below this one and of this one is said of one page more
-  both : (C : ℕ → Name → Type 0) → ((p : ℕ) (name : Name) → Below p → page_at s name ≡ Some p → C p name → reason_at s name ≡ None) → ((p : ℕ) (name : Name) → p ≡ n → page_at s name ≡ Some p → C p name → reason_at s name ≡ None) → (p : ℕ) (name : Name) → Up p → page_at s name ≡ Some p → C p name → reason_at s name ≡ None
-  both C old here p name up at c = go (each_up p up)
+  keeps : (f : PageFault) → IsFirstFaultOf s Low f → AreCleanIf High (λ name. Precedes name (f.log, f.place)) → IsFirstFaultOf s All f
+  keeps f below above = record {
+    page = below.page;
+    is_among = low below.page below.is_among;
+    is_of = below.is_of;
+    is_reason = below.is_reason;
+    is_first = both (λ name. Precedes name (f.log, f.place)) below.is_first above;
+  }
+
+  takes : (f : PageFault) → IsFirstFaultOf s High f → AreCleanIf Low (λ name. Precedes name (f.log, f.place)) → IsFirstFaultOf s All f
+  takes f above below = record {
+    page = above.page;
+    is_among = high above.page above.is_among;
+    is_of = above.is_of;
+    is_reason = above.is_reason;
+    is_first = both (λ name. Precedes name (f.log, f.place)) below above.is_first;
+  }
+
+  least_both : (a b : Option PageFault) → MatchOption a (AreClean s Low) (IsFirstFaultOf s Low) → MatchOption b (AreClean s High) (IsFirstFaultOf s High) → MatchOption (least a b) (AreClean s All) (IsFirstFaultOf s All)
+  least_both None None below above = record { each = λ p name among at. both (λ x. Unit {0}) (λ q x is e _. below.each q x is e) (λ q x is e _. above.each q x is e) p name among at tt }
+  least_both None (Some g) below above = takes g above (λ p name is at less. below.each p name is at)
+  least_both (Some f) None below above = keeps f below (λ p name is at less. above.each p name is at)
+  least_both (Some f) (Some g) below above = go (precedes g f) refl
     where
-      go : (Below p) ⊎ (p ≡ n) → reason_at s name ≡ None
-      go (inl lt) = old p name lt at c
-      go (inr same) = here p name same at c
+      go : (b : Bool) → precedes g f ≡ b → MatchOption (cond b (Some g) (Some f)) (AreClean s All) (IsFirstFaultOf s All)
+      go true e = takes g above (λ p name is at less. below.is_first p name is at (passes_on name (g.log, g.place) (f.log, f.place) less (precedes_is g f e)))
+      go false e = keeps f below (λ p name is at less. above.is_first p name is at (before_both name (f.log, f.place) (g.log, g.place) less (λ more. let t = is_precedes g f more in absurd (cc))))
 
-  keeps : (f : PageFault) → (old : IsFirstFaultOf s Below f) → ((name : Name) → page_at s name ≡ Some n → Precedes name (f.log, f.place) → reason_at s name ≡ None) → IsFirstFaultOf s Up f
-  keeps f old here =
-      let among = old.is_among in
-      record {
-        page = old.page;
-        is_among = omega (arith, among);
-        is_of = old.is_of;
-        is_reason = old.is_reason;
-        is_first = both (λ p name. Precedes name (f.log, f.place)) old.is_first (λ p name same at less. here name (at ∙ ap (λ k. Some k) same) less);
-      }
+-- no page
+pub least_none : (s : Recorded) (first : ℕ) → IsFirstFaultFrom s first 0 None
+least_none s first = record { each = λ p name among at. absurd (let ge = among.0 in let lt = among.1 in omega arith) }
 
-  takes : (f : PageFault) → (here : IsFirstFault s n f) → ((p : ℕ) (name : Name) → Below p → page_at s name ≡ Some p → Precedes name (f.log, f.place) → reason_at s name ≡ None) → IsFirstFaultOf s Up f
-  takes f here old =
-      let among = here.is_among in
-      record {
-        page = here.page;
-        is_among = omega (arith, among);
-        is_of = here.is_of;
-        is_reason = here.is_reason;
-        is_first = both (λ p name. Precedes name (f.log, f.place)) old here.is_first;
-      }
+-- so many pages, and more behind them
+pub least_joined : (s : Recorded) (first count more : ℕ) (a b : Option PageFault) → IsFirstFaultFrom s first count a → IsFirstFaultFrom s (first + count) more b → IsFirstFaultFrom s first (count + more) (least a b)
+least_joined s first count more a b below above = least_both s (IsPageOf first count) (IsPageOf (first + count) more) (IsPageOf first (count + more)) low high each a b below above
+  where
+    low : (p : ℕ) → IsPageOf first count p → IsPageOf first (count + more) p
+    low p is = (is.0, omega (arith, is.1))
 
-  pub least_more : (a b : Option PageFault) → MatchOption a (AreClean s Below) (IsFirstFaultOf s Below) → MatchOption b (IsClean s n) (IsFirstFault s n) → MatchOption (least a b) (AreClean s Up) (IsFirstFaultOf s Up)
-  least_more None None old here = record { each = λ p name up at. both (λ q x. Unit {0}) (λ q x lt e _. old.each q x lt e) (λ q x same e _. here.each q x same e) p name up at tt }
-  least_more None (Some g) old here = takes g here (λ p name lt at less. old.each p name lt at)
-  least_more (Some f) None old here = keeps f old (λ name at less. here.each n name refl at)
-  least_more (Some f) (Some g) old here = go (precedes g f) refl
-    where
-      go : (b : Bool) → precedes g f ≡ b → MatchOption (cond b (Some g) (Some f)) (AreClean s Up) (IsFirstFaultOf s Up)
-      go true e = takes g here (λ p name lt at less. old.is_first p name lt at (passes_on name (g.log, g.place) (f.log, f.place) less (precedes_is g f e)))
-      go false e = keeps f old (λ name at less. here.is_first n name refl at (before_both name (f.log, f.place) (g.log, g.place) less (λ more. let t = is_precedes g f more in absurd (cc))))
+    high : (p : ℕ) → IsPageOf (first + count) more p → IsPageOf first (count + more) p
+    high p is = (omega (arith, is.0), omega (arith, is.1))
+
+    each : (p : ℕ) → IsPageOf first (count + more) p → (IsPageOf first count p) ⊎ (IsPageOf (first + count) more p)
+    each p is = go (cases_lt p (first + count))
+      where
+        go : (p < first + count) ⊎ (first + count ≤ p) → (IsPageOf first count p) ⊎ (IsPageOf (first + count) more p)
+        go (inl lt) = inl (is.0, lt)
+        go (inr ge) = inr (ge, omega (arith, is.1))
+
+-- so many pages, and this one behind them
+pub least_more : (s : Recorded) (first count page : ℕ) (a b : Option PageFault) → page ≡ first + count → IsFirstFaultFrom s first count a → MatchOption b (IsClean s page) (IsFirstFault s page) → IsFirstFaultFrom s first (count + 1) (least a b)
+least_more s first count page a b here below above = least_both s (IsPageOf first count) (λ p. p ≡ page) (IsPageOf first (count + 1)) low high each a b below above
+  where
+    low : (p : ℕ) → IsPageOf first count p → IsPageOf first (count + 1) p
+    low p is = (is.0, omega (arith, is.1))
+
+    high : (p : ℕ) → p ≡ page → IsPageOf first (count + 1) p
+    high p same = (omega (arith, same, here), omega (arith, same, here))
+
+    each : (p : ℕ) → IsPageOf first (count + 1) p → (IsPageOf first count p) ⊎ (p ≡ page)
+    each p is = go (cases_lt p (first + count))
+      where
+        go : (p < first + count) ⊎ (first + count ≤ p) → (IsPageOf first count p) ⊎ (p ≡ page)
+        go (inl lt) = inl (is.0, lt)
+        go (inr ge) = inr (omega (arith, ge, here, is.1))
 
 -- ---- all pages
 
@@ -138,14 +159,17 @@ module _ (s : Recorded) where
     page_below (Pager, n) p e = below_in pager_page s.pager n p (pager_within s.version s.geometry s.pager limits.pager) e
 
     abbrev Pages : ℕ → Type 0
-    Pages p = p < s.geometry.pages
+    Pages = IsPageOf 0 s.geometry.pages
+
+    among : (name : Name) (p : ℕ) → page_at s name ≡ Some p → Pages p
+    among name p e = (omega arith, omega (arith, page_below name p e))
 
     all_clean : AreClean s Pages → (name : Name) → reason_at s name ≡ None
     all_clean clean name = go (page_at s name) refl
       where
         go : (o : Option ℕ) → page_at s name ≡ o → reason_at s name ≡ None
         go None e = no_page name e
-        go (Some p) e = clean.each p name (page_below name p e) e
+        go (Some p) e = clean.each p name (among name p e) e
 
     module _ (f : PageFault) (first : IsFirstFaultOf s Pages f) where
       clean_before : (name : Name) → Precedes name (f.log, f.place) → reason_at s name ≡ None
@@ -153,7 +177,7 @@ module _ (s : Recorded) where
         where
           go : (o : Option ℕ) → page_at s name ≡ o → reason_at s name ≡ None
           go None e = no_page name e
-          go (Some p) e = first.is_first p name (page_below name p e) e less
+          go (Some p) e = first.is_first p name (among name p e) e less
 
       in_log : (log : LogName) → f.log ≡ log → IsFirstOfLog s log f
       in_log log e = record {
@@ -175,10 +199,6 @@ module _ (s : Recorded) where
           go Lane e = let r = first.is_reason in let none : reason_at s (f.log, f.place) ≡ None = ap (λ (l : LogName). reason_at s (l, f.place)) e in absurd (cc)
           go Pager e = moved_of_all s (Some f) (clean_log Pager Guest e (omega arith)) (inr (clean_log Pager Source e (omega arith), in_log Pager e))
 
-    pub all_is : (o : Option PageFault) → MatchOption o (AreClean s Pages) (IsFirstFaultOf s Pages) → MatchOption o (HasNoPageFault s) (λ f. IsFirstPageFault s f.reason (f.log, f.place))
+    pub all_is : (o : Option PageFault) → IsFirstFaultFrom s 0 s.geometry.pages o → MatchOption o (HasNoPageFault s) (λ f. IsFirstPageFault s f.reason (f.log, f.place))
     all_is None clean = moved_of_all s None (λ n. all_clean clean (Guest, n)) (λ n. all_clean clean (Source, n), λ n. all_clean clean (Pager, n))
     all_is (Some f) first = first_fault_is f first
-
--- what is found of each page, at a place
-pub found_at : (s : Recorded) (found : List Findings) (n page : ℕ) (d : Findings) → AreFindings s found → n < length found → page ≡ n → IsFindings s page (slice_index_or found n d)
-found_at s found n page d h lt e = subst (λ (p : ℕ). IsFindings s p (slice_index_or found n d)) (sym e) (h.each n _ (slice_get-get_or found n d lt))

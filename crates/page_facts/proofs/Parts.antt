@@ -1,34 +1,14 @@
--- Findings, and judged entries, of pages that follow those of others.
-use Rattle.std.proofs.Common.{◌≡◌, ℕ, ◌+◌, ◌<◌, ◌≤◌, ◌⊎◌, inl, inr, Bool, true, false, List, ◌++◌, Option, Some, None, length, get_or, refl, sym, ap, ◌∙◌, subst, arith}
+-- Judged entries of pages that follow those of others.
+use Rattle.std.proofs.Common.{◌≡◌, ℕ, ◌+◌, ◌<◌, ◌≤◌, ◌⊎◌, inl, inr, true, false, List, Option, Some, None, length, get_or, refl, sym, subst, arith}
 use Rattle.std.specs.Prelude.{slice_get}
 use Rattle.std.proofs.lemmas.Bool.{cases_lt}
-use Rattle.std.proofs.lemmas.List.{length-append}
 use Rattle.std.proofs.lemmas.Option.{slice_get-get_or}
 use Rattle.migration_types.specs.declared.cert.Entry.{Entry}
 use Rattle.migration_types.specs.declared.cert.Entry.TheVariants.{Nothing}
 use Rattle.migration_types.specs.Sessions.{Recorded}
 use Rattle.audit_model.specs.Certificates.{IsRightEntry}
-use Rattle.page_facts.specs.declared.findings.Findings.{Findings}
-use Rattle.page_facts.specs.Findings.{IsFindings, AreFindings, AreFindingsFrom}
 use Rattle.page_facts.specs.Entries.{AreRight, IsFirstWrong, AreJudged}
 use Rattle.page_facts.specs.inner.EntryAt.{IsRightAt}
-use Rattle.page_facts.proofs.Growing.{each_joined}
-
--- one list after the other
-pub findings_joined : (s : Recorded) (first count more : ℕ) (xs ys new : List Findings) → new ≡ xs ++ ys → AreFindingsFrom s first count xs → AreFindingsFrom s (first + count) more ys → AreFindingsFrom s first (count + more) new
-findings_joined s first count more xs ys new e low high = record {
-  pages = let a = low.pages in let b = high.pages in let both = ap (λ (zs : List Findings). length zs) e ∙ length-append xs ys in omega (arith, a, b, both);
-  each = each_joined (λ k f. IsFindings s (first + k) f) xs ys new e low.each (λ k f is. let a = low.pages in let here : (first + count) + k ≡ first + (length xs + k) = omega (arith, a) in subst (λ (p : ℕ). IsFindings s p f) here (high.each k f is));
-}
-
--- from page 0 on, as many as there are
-pub findings_of_all : (s : Recorded) (found : List Findings) → AreFindingsFrom s 0 s.geometry.pages found → AreFindings s found
-findings_of_all s found are = record {
-  pages = are.pages;
-  each = λ page f is. let here : 0 + page ≡ page = omega arith in subst (λ (p : ℕ). IsFindings s p f) here (are.each page f is);
-}
-
--- ---- entries
 
 -- right entries, and behind them more
 right_joined : (s : Recorded) (entries : List Entry) (from mid to : ℕ) → AreRight s entries from mid → AreRight s entries mid to → AreRight s entries from to

@@ -1,5 +1,5 @@
 -- What the logs of a session say of a page, each by the first record that says so.
-use Rattle.std.specs.Prelude.{◌≡◌, ℕ, ◌+◌, List, length, Some, slice_get}
+use Rattle.std.specs.Prelude.{◌≡◌, ℕ, length}
 use Rattle.migration_types.specs.Sessions.{Recorded}
 use Rattle.audit_model.specs.Flat.{in_ledger, at_halt}
 use Rattle.audit_model.specs.Shape.{is_placement_of}
@@ -20,13 +20,3 @@ pub record IsFindings (s : Recorded) (page : ℕ) (f : Findings) : Type 0 where
   pub releases : f.releases ≡ releases_at s f.touch
   pub look : f.look ≡ first_look s (length s.guest) page
   pub released : f.released ≡ in_ledger s (at_halt s) page
-
--- of each page of the machine, page 0 first
-pub record AreFindings (s : Recorded) (found : List Findings) : Type 0 where
-  pub pages : length found ≡ s.geometry.pages
-  pub each : (page : ℕ) (f : Findings) → slice_get found page ≡ Some f → IsFindings s page f
-
--- what the whole logs say of so many pages from the first on
-pub record AreFindingsFrom (s : Recorded) (first count : ℕ) (found : List Findings) : Type 0 where
-  pub pages : length found ≡ count
-  pub each : (k : ℕ) (f : Findings) → slice_get found k ≡ Some f → IsFindings s (first + k) f

@@ -1,5 +1,6 @@
 -- The first fault of a page, and of some pages.
-use Rattle.std.specs.Prelude.{◌≡◌, ℕ, ◌<◌, ◌⊎◌, Bool, ◌==◌, ◌&&◌, ◌||◌, nat_lt, Option, Some, None, slice_get, if◌then◌else◌}
+use Rattle.std.specs.Prelude.{◌≡◌, ℕ, ◌+◌, ◌<◌, ◌≤◌, ◌⊎◌, Bool, ◌==◌, ◌&&◌, ◌||◌, nat_lt, Option, Some, None, slice_get, if◌then◌else◌}
+use Rattle.std.specs.Option.{MatchOption}
 use Rattle.migration_types.specs.declared.records.LogName.{LogName}
 use Rattle.migration_types.specs.declared.records.LogName.TheVariants.{Guest, Source, Link, Lane, Pager}
 use Rattle.migration_types.specs.declared.records.PagerRec.{PagerRec}
@@ -45,6 +46,14 @@ IsClean s page = AreClean s (λ p. p ≡ page)
 
 abbrev pub IsFirstFault : Recorded → ℕ → PageFault → Type 0
 IsFirstFault s page f = IsFirstFaultOf s (λ p. p ≡ page) f
+
+-- the page is one of so many from the first on
+abbrev pub IsPageOf : ℕ → ℕ → ℕ → Type 0
+IsPageOf first count page = (first ≤ page) × (page < first + count)
+
+-- the first fault of so many pages from the first on
+abbrev pub IsFirstFaultFrom : Recorded → ℕ → ℕ → Option PageFault → Type 0
+IsFirstFaultFrom s first count fault = MatchOption fault (AreClean s (IsPageOf first count)) (IsFirstFaultOf s (IsPageOf first count))
 
 -- ---- by a page's findings
 

@@ -1,25 +1,19 @@
 //! The entries of a certificate, judged where their pages are.
 
 ghost use Rattle.std.specs.Prelude.{◌≡◌, ◌+◌, ◌<◌, ◌↔◌, IsTrue, length};
-ghost use Rattle.migration_types.specs.Sessions.{IsSession};
 ghost use Rattle.audit_model.specs.Certificates.{IsRightEntry};
-ghost use Rattle.page_facts.specs.Tables.{IsTable};
-ghost use Rattle.page_facts.specs.Looks.{first_look};
-ghost use Rattle.page_facts.specs.RangeFindings.{IsJudged};
 ghost use Rattle.page_facts.specs.Findings.{IsFindings};
 ghost use Rattle.page_facts.specs.Entries.{AreJudged};
 ghost use Rattle.page_facts.specs.inner.EntryAt.{IsRightAt};
 
 use crate::facts::facts_of;
-use crate::findings::{Findings, findings_at};
+use crate::findings::Findings;
 use crate::question::Question;
-use crate::range_judge::Judged;
 use crate::right_entry::is_right_entry;
 use migration_types::{Entry, PageNo, Session};
-use page_tables::Table;
 use std::alloc::{AllocError, Global};
 
-/// Which is the first page whose entry is not right?
+/// Which is the first page whose entry in a certificate is not right?
 #[derive(Clone, Copy)]
 pub(crate) struct Entries<'a> {
     /// An entry for each page, page 0 first.
@@ -35,24 +29,13 @@ fn is_right(session: &Session, findings: &Findings, page: PageNo, entry: &Entry)
     is_right_entry(session, page, &facts, entry)
 }
 
-/// Whether the entry of the page at an index of a judged range is right.
-fn is_right_at(
-    session: &Session,
-    looks: &Table<Option<u32>>,
-    judged: &Judged,
-    entries: &[Entry],
-    index: usize,
-) -> bool
-    requires limits { IsSession session.now }
-    requires looks { IsTable session.now.geometry.pages looks.now (first_look session.now (length session.now.guest)) }
-    requires judged { IsJudged session.now judged.now }
-    requires index { index < length judged.now.range.seen.items }
-    requires entries { length entries.now ≡ session.now.geometry.pages }
-    ensures { IsRightAt session.now entries.now (judged.now.range.first + index) result }
+/// Whether the entry of this page among those of all is right.
+fn is_right_at(session: &Session, findings: &Findings, page: PageNo, entries: &[Entry]) -> bool
+    requires findings { IsFindings session.now page findings.now }
+    requires entries { page < length entries.now }
+    ensures { IsRightAt session.now entries.now page result }
 {
-    let page = judged.range.first + index;
-    let findings = findings_at(session, looks, judged, index);
-    is_right(session, &findings, PageNo::new(page as u32), &entries[page])
+    is_right(session, findings, page, &entries[page.index()])
 }
 
 impl Question for Entries<'_> {
@@ -62,34 +45,28 @@ impl Question for Entries<'_> {
 
     ghost IsAnswer = { λ q s first count wrong. AreJudged s q.entries.now first (first + count) wrong };
 
-    fn blank(&self, _alloc: Global, _session: &Session, _first: usize) -> Option<usize> {
-        None
-    }
-
-    fn answer(
-        &self,
-        _alloc: Global,
-        session: &Session,
-        looks: &Table<Option<u32>>,
-        judged: &Judged,
-    ) -> Result<Option<usize>, AllocError> {
-        for index in 0..judged.range.seen.len() {
-            if !is_right_at(session, looks, judged, self.entries, index) {
-                return Ok(Some(judged.range.first + index));
-            }
-        }
+    fn blank(&self, _alloc: Global, _room: usize) -> Result<Option<usize>, AllocError> {
         Ok(None)
     }
 
-    fn add(
+    fn take(
         &self,
         wrong: &mut Option<usize>,
-        next: Option<usize>,
-        _session: &Session,
-        _first: usize,
-        _count: usize,
-        _more: usize,
+        session: &Session,
+        page: PageNo,
+        findings: &Findings,
     ) -> Result<(), AllocError> {
+        if let Some(_) = wrong {
+            return Ok(());
+        }
+        if is_right_at(session, findings, page, self.entries) {
+            return Ok(());
+        }
+        *wrong = Some(page.index());
+        Ok(())
+    }
+
+    fn add(&self, wrong: &mut Option<usize>, next: Option<usize>) -> Result<(), AllocError> {
         match wrong {
             Some(_) => {}
             None => *wrong = next,

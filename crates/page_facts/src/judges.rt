@@ -2,14 +2,10 @@
 
 ghost use Rattle.std.specs.Prelude.{⊤, ◌≡◌, ◌<◌, length, IfOk};
 ghost use Rattle.std.specs.Thread.{IsSync};
-ghost use Rattle.page_facts.specs.Findings.{AreFindings};
 ghost use Rattle.page_facts.specs.Entries.{AreJudged};
 
 use crate::entries::Entries;
-use crate::findings::Findings;
-use crate::listed::Listed;
-use crate::question::{answer_alone, answer_apart};
-use crate::range_judge::findings_of;
+use crate::question::{Question, answer_alone, answer_apart};
 use migration_types::{Entry, Session, logs};
 use std::alloc::{AllocError, Global};
 use std::marker::Sync;
@@ -18,18 +14,24 @@ use std::thread::Threads;
 /// How many records and pages are worth a thread of their own.
 const WORTH_A_THREAD: usize = 16384;
 
-/// Who judges pages. What is answered is the same whoever does.
-pub trait Judges {
+/// Who judges the pages of which this is asked. What is answered is the same whoever does.
+pub trait Judges<Q: Question> {
     // What lets them work.
     ghost ready: { Type 0 } = { ⊤ };
 
-    /// What the logs of a session say of each page, page 0 first. An error: there is no memory for it.
-    fn findings(&self, alloc: Global, session: &Session) -> Result<Vec<Findings>, AllocError>
+    /// What is answered of all pages of a session. An error: there is no memory to judge them, or for the answer.
+    fn ask(&self, question: &Q, alloc: Global, session: &Session) -> Result<Q::Answer, AllocError>
         requires ready { ready }
-        ensures { IfOk result (λ found. AreFindings session.now found.items) };
+        requires asked { Q.IsFor question.now session.now }
+        ensures { IfOk result (Q.IsAnswer question.now session.now 0 session.now.geometry.pages) };
+}
 
-    /// The first page whose entry in a certificate is not right. No list of what is found of the pages is made. An error:
-    /// there is no memory to judge the pages.
+/// Who judges the entries of a certificate.
+pub trait JudgesEntries {
+    // What lets them work.
+    ghost ready: { Type 0 } = { ⊤ };
+
+    /// The first page whose entry in a certificate is not right. An error: there is no memory to judge the pages.
     fn first_wrong_entry(
         &self,
         alloc: Global,
@@ -45,11 +47,13 @@ pub trait Judges {
 #[derive(Clone, Copy)]
 pub struct Alone;
 
-impl Judges for Alone {
-    fn findings(&self, alloc: Global, session: &Session) -> Result<Vec<Findings>, AllocError> {
-        findings_of(alloc, session)
+impl<Q: Question> Judges<Q> for Alone {
+    fn ask(&self, question: &Q, alloc: Global, session: &Session) -> Result<Q::Answer, AllocError> {
+        answer_alone(question, alloc, session)
     }
+}
 
+impl JudgesEntries for Alone {
     fn first_wrong_entry(
         &self,
         alloc: Global,
@@ -60,19 +64,16 @@ impl Judges for Alone {
     }
 }
 
-/// As many threads as there are processors, side by side. A small session is judged by the calling thread.
+/// As many threads as there are processors, side by side. A small session is judged by the calling thread. Of each question
+/// that threads are asked, the question's crate says that they answer it, by [`answer_apart`].
 #[derive(Clone, Copy)]
 pub struct InThreads<'a, R> {
     /// What starts threads.
     pub rt: &'a R,
 }
 
-impl<R: Threads + Sync> Judges for InThreads<'_, R> {
+impl<R: Threads + Sync> JudgesEntries for InThreads<'_, R> {
     ghost ready = { IsSync R.row };
-
-    fn findings(&self, alloc: Global, session: &Session) -> Result<Vec<Findings>, AllocError> {
-        answer_apart(self.rt, &Listed, alloc, session)
-    }
 
     fn first_wrong_entry(
         &self,

@@ -2,16 +2,16 @@
 //!
 //! A checker, a maker of certificates and an audit all judge a page by the same few facts: whether a read of it gave
 //! another value than one machine would, what was sent of it, where it was placed, and when it was first used after
-//! handover. [`findings_of`] finds the facts of all pages in one pass over each log, with the cells of the pages beside
-//! it, [`findings_for`] those of one page, [`Judges`] those of all pages by ranges of them side by side; [`fault_of`]
-//! tells a page's first fault, and [`first_fault_in`] the first fault of all.
+//! handover. [`Judges`] find these of all pages, in one pass over each log with the cells of the pages beside it, alone or by
+//! ranges of pages side by side. What is found of a page is not kept: each asks a [`Question`], which takes of it what it
+//! wants, as [`FirstFault`] the first fault of all pages; [`JudgesEntries`] the first entry of a certificate that is not right.
+//! [`findings_for`] tells what is found of one page, and [`fault_of`] the first fault of a page.
 #![tactic(auto)]
 
 mod entries;
 mod facts;
 mod findings;
 mod judges;
-mod listed;
 mod looks;
 mod machine;
 mod moved;
@@ -25,8 +25,9 @@ mod right_entry;
 
 pub use facts::{PageFacts, facts_of};
 pub use findings::Findings;
-pub use judges::{Alone, InThreads, Judges, is_small};
+pub use judges::{Alone, InThreads, Judges, JudgesEntries, is_small};
 pub use machine::halt_place;
-pub use page_fault::{PageFault, fault_of, first_fault_in, first_page_fault};
-pub use range_judge::{findings_for, findings_of};
+pub use page_fault::{FirstFault, PageFault, fault_of, first_of_pages_is_first, first_page_fault};
+pub use question::{Question, answer_apart};
+pub use range_judge::findings_for;
 pub use right_entry::is_right_entry;

@@ -1,14 +1,14 @@
 //! The first fault of a session's pages.
 
-ghost use Rattle.std.specs.Prelude.{◌≡◌, ◌<◌, IfOk, MatchOption};
-ghost use Rattle.migration_types.specs.Sessions.{IsSession};
+ghost use Rattle.std.specs.Prelude.{⊤, ◌≡◌, IfOk, MatchOption, Option};
+ghost use Rattle.migration_types.specs.Sessions.{IsSession, Recorded};
 ghost use Rattle.audit_model.specs.Faults.{HasNoPageFault};
 ghost use Rattle.audit_model.specs.FirstFault.{IsFirstPageFault};
-ghost use Rattle.page_facts.specs.Findings.{AreFindings, IsFindings};
-ghost use Rattle.page_facts.specs.PageFaults.{told, precedes, least, or_next, page_fault, AreClean, IsFirstFaultOf, IsClean, IsFirstFault};
+ghost use Rattle.page_facts.specs.Findings.{IsFindings};
+ghost use Rattle.page_facts.specs.PageFaults.{told, precedes, least, or_next, page_fault, IsClean, IsFirstFault, IsFirstFaultFrom};
 
 use crate::findings::{Findings, guest_fault, pager_fault, source_fault};
-use crate::range_judge::findings_of;
+use crate::question::{Question, answer_alone};
 use audit_model::PageReason;
 use migration_types::{LogName, PageNo, Session};
 use std::alloc::{AllocError, Global};
@@ -85,30 +85,46 @@ pub fn fault_of(session: &Session, findings: &Findings, page: PageNo) -> Option<
     first_in_logs(session, findings)
 }
 
-/// The first fault of the pages, one after the other.
-fn first_of_pages(session: &Session, found: &[Findings]) -> Option<PageFault>
-    requires limits { IsSession session.now }
-    requires found { AreFindings session.now found.now }
-    ensures { MatchOption result (AreClean session.now (λ p. p < session.now.geometry.pages)) (IsFirstFaultOf session.now (λ p. p < session.now.geometry.pages)) }
-{
-    let mut first: Option<PageFault> = None;
-    for index in 0..session.geometry().pages() {
-        let page = PageNo::new(index);
-        let findings = &found[index as usize];
-        first = least(first, fault_of(session, findings, page));
+/// Which is the fault of least line, and then of least reason, of the pages?
+#[derive(Clone, Copy)]
+pub struct FirstFault;
+
+impl Question for FirstFault {
+    type Answer = Option<PageFault>;
+
+    ghost IsFor = { λ q s. ⊤ };
+
+    ghost IsAnswer = { λ q s first count fault. IsFirstFaultFrom s first count fault };
+
+    fn blank(&self, _alloc: Global, _room: usize) -> Result<Option<PageFault>, AllocError> {
+        Ok(None)
     }
-    first
+
+    fn take(
+        &self,
+        first: &mut Option<PageFault>,
+        session: &Session,
+        page: PageNo,
+        findings: &Findings,
+    ) -> Result<(), AllocError> {
+        *first = least(*first, fault_of(session, findings, page));
+        Ok(())
+    }
+
+    fn add(
+        &self,
+        first: &mut Option<PageFault>,
+        next: Option<PageFault>,
+    ) -> Result<(), AllocError> {
+        *first = least(*first, next);
+        Ok(())
+    }
 }
 
-/// The fault of least line, and then of least reason, of a session's pages by what is found of each; none where no
-/// record is a fault. Takes no memory.
-pub fn first_fault_in(session: &Session, found: &[Findings]) -> Option<PageFault>
-    requires { AreFindings session.now found.now }
-    ensures { MatchOption result (HasNoPageFault session.now) (λ f. IsFirstPageFault session.now f.reason (f.log, f.place)) }
-{
-    session.keeps_limits();
-    first_of_pages(session, found)
-}
+/// A law: the first fault of all pages of a session is its first of any page. Runs nothing.
+pub fn first_of_pages_is_first()
+    ensures { (s : Recorded) (fault : Option PageFault) → IsSession s → IsFirstFaultFrom s 0 s.geometry.pages fault → MatchOption fault (HasNoPageFault s) (λ f. IsFirstPageFault s f.reason (f.log, f.place)) }
+{}
 
 /// The fault of least line, and then of least reason, of a session's pages; none where no record is a fault. Takes a
 /// few passes over each log, and memory for some numbers for each page and for the cells of all pages. The only error:
@@ -116,6 +132,6 @@ pub fn first_fault_in(session: &Session, found: &[Findings]) -> Option<PageFault
 pub fn first_page_fault(alloc: Global, session: &Session) -> Result<Option<PageFault>, AllocError>
     ensures { IfOk result (λ fault. MatchOption fault (HasNoPageFault session.now) (λ f. IsFirstPageFault session.now f.reason (f.log, f.place))) }
 {
-    let found = findings_of(alloc, session)?;
-    Ok(first_fault_in(session, &found))
+    session.keeps_limits();
+    answer_alone(&FirstFault, alloc, session)
 }

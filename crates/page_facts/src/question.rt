@@ -1,26 +1,27 @@
-//! What is asked of all pages of a session, and is answered of each range of them where it is judged: by the calling
-//! thread alone, or by threads side by side.
+//! What is asked of all pages of a session, and taken of what is found of each where it is judged: by the calling thread
+//! alone, or by threads side by side. No list of what is found is kept.
 
 ghost use Rattle.std.specs.Prelude.{◌≡◌, ◌<◌, ◌≤◌, ◌+◌, ℕ, length, IfOk, OnOk};
 ghost use Rattle.std.specs.List.{AllByRecursion};
 ghost use Rattle.migration_types.specs.Sessions.{IsSession, Recorded};
 ghost use Rattle.page_facts.specs.Tables.{IsTable};
 ghost use Rattle.page_facts.specs.Looks.{first_look};
-ghost use Rattle.page_facts.specs.RangeFindings.{IsJudged};
+ghost use Rattle.page_facts.specs.Findings.{IsFindings};
 ghost use Rattle.page_facts.specs.inner.Parts.{IsPart};
 
+use crate::findings::{Findings, findings_at};
 use crate::judges::is_small;
 use crate::looks::first_looks;
-use crate::range_judge::{Judged, judge_range};
-use migration_types::Session;
+use crate::range_judge::judge_range;
+use migration_types::{PageNo, Session};
 use page_tables::Table;
 use rayon::current_num_threads;
 use std::alloc::{AllocError, Global};
 use std::marker::Sync;
 use std::thread::{Threads, map_indices};
 
-/// What is asked of pages.
-pub(crate) trait Question {
+/// What is asked of pages: what is taken of what is found of each, as [`FirstFault`](crate::FirstFault) or a user's own.
+pub trait Question {
     /// What is answered of some pages that follow one another.
     type Answer: Drop;
 
@@ -30,37 +31,28 @@ pub(crate) trait Question {
     /// The answer is of so many pages from the first on.
     ghost IsAnswer: { Self → Recorded → ℕ → ℕ → Self.Answer → Type 0 };
 
-    /// What is answered of no page, before the first of some.
-    fn blank(&self, alloc: Global, _session: &Session, _first: usize) -> Self::Answer
-        ensures { IsAnswer self.now _session.now _first 0 result };
+    /// What is answered of no page, before the first of some. There are about to be `room` of them. An error: there is no
+    /// memory for it.
+    fn blank(&self, alloc: Global, room: usize) -> Result<Self::Answer, AllocError>
+        ensures { IfOk result (λ answer. (s : Recorded) (first : ℕ) → IsAnswer self.now s first 0 answer) };
 
-    /// What is answered of the pages of a judged range. An error: there is no memory for it.
-    fn answer(
-        &self,
-        alloc: Global,
-        session: &Session,
-        looks: &Table<Option<u32>>,
-        judged: &Judged,
-    ) -> Result<Self::Answer, AllocError>
-        requires limits { IsSession session.now }
-        requires asked { IsFor self.now session.now }
-        requires looks { IsTable session.now.geometry.pages looks.now (first_look session.now (length session.now.guest)) }
-        requires judged { IsJudged session.now judged.now }
-        ensures { IfOk result (IsAnswer self.now session.now judged.now.range.first (length judged.now.range.seen.items)) };
-
-    /// Adds what is answered of the pages behind those so far. An error: there is no memory for it.
-    fn add(
+    /// Takes what is found of the page behind those so far. An error: there is no memory for it.
+    fn take(
         &self,
         answer: &mut Self::Answer,
-        next: Self::Answer,
-        _session: &Session,
-        _first: usize,
-        _count: usize,
-        _more: usize,
+        session: &Session,
+        page: PageNo,
+        findings: &Findings,
     ) -> Result<(), AllocError>
-        requires answer { IsAnswer self.now _session.now _first _count answer.old }
-        requires next { IsAnswer self.now _session.now (_first + _count) _more next }
-        ensures { OnOk result (IsAnswer self.now _session.now _first (_count + _more) answer.new) };
+        requires limits { IsSession session.now }
+        requires asked { IsFor self.now session.now }
+        requires page { page < session.now.geometry.pages }
+        requires findings { IsFindings session.now page findings.now }
+        ensures { OnOk result ((first count : ℕ) → page ≡ first + count → IsAnswer self.now session.now first count answer.old → IsAnswer self.now session.now first (count + 1) answer.new) };
+
+    /// Adds what is answered of the pages behind those so far. An error: there is no memory for it.
+    fn add(&self, answer: &mut Self::Answer, next: Self::Answer) -> Result<(), AllocError>
+        ensures { OnOk result ((s : Recorded) (first count more : ℕ) → IsAnswer self.now s first count answer.old → IsAnswer self.now s (first + count) more next → IsAnswer self.now s first (count + more) answer.new) };
 }
 
 /// What is answered of some pages that follow one another.
@@ -71,7 +63,7 @@ pub(crate) struct Part<A> {
     pub(crate) answer: A,
 }
 
-/// Judges so many pages from the first on, and answers of them.
+/// Judges so many pages from the first on, and takes what is found of each.
 fn answer_range<Q: Question>(
     question: &Q,
     alloc: Global,
@@ -88,7 +80,13 @@ fn answer_range<Q: Question>(
     ensures { IfOk result (Q.IsAnswer question.now session.now first count) }
 {
     let judged = judge_range(alloc, session, first, count)?;
-    question.answer(alloc, session, looks, &judged)
+    let mut answer = question.blank(alloc, count)?;
+    for index in 0..count {
+        let page = PageNo::new((first + index) as u32);
+        let findings = findings_at(session, looks, &judged, index);
+        question.take(&mut answer, session, page, &findings)?;
+    }
+    Ok(answer)
 }
 
 /// What is answered of all pages, which are judged as one range. An error: there is no memory for it.
@@ -124,7 +122,7 @@ fn answer_part<Q: Question>(
     let first = number.saturating_mul(size).min(pages);
     let count = size.min(pages - first);
     if count == 0 {
-        let answer = question.blank(alloc, session, first);
+        let answer = question.blank(alloc, 0)?;
         return Ok(Part {
             first,
             count,
@@ -142,25 +140,18 @@ fn answer_part<Q: Question>(
 /// Adds a part to the pages before it, where it begins where they end.
 fn add_part<Q: Question>(
     question: &Q,
-    session: &Session,
+    _session: &Session,
     all: &mut Part<Q::Answer>,
     part: Part<Q::Answer>,
 ) -> Result<(), AllocError>
-    requires limits { IsSession session.now }
-    requires all { IsPart (Q.IsAnswer question.now session.now) session.now.geometry.pages all.old.first all.old.count all.old.answer }
-    requires part { IsPart (Q.IsAnswer question.now session.now) session.now.geometry.pages part.first part.count part.answer }
+    requires limits { IsSession _session.now }
+    requires all { IsPart (Q.IsAnswer question.now _session.now) _session.now.geometry.pages all.old.first all.old.count all.old.answer }
+    requires part { IsPart (Q.IsAnswer question.now _session.now) _session.now.geometry.pages part.first part.count part.answer }
     ensures first { all.new.first ≡ all.old.first }
-    ensures all { OnOk result (IsPart (Q.IsAnswer question.now session.now) session.now.geometry.pages all.new.first all.new.count all.new.answer) }
+    ensures all { OnOk result (IsPart (Q.IsAnswer question.now _session.now) _session.now.geometry.pages all.new.first all.new.count all.new.answer) }
 {
     if part.first == all.first + all.count {
-        question.add(
-            &mut all.answer,
-            part.answer,
-            session,
-            all.first,
-            all.count,
-            part.count,
-        )?;
+        question.add(&mut all.answer, part.answer)?;
         all.count += part.count;
     }
     Ok(())
@@ -208,13 +199,13 @@ fn complete<Q: Question>(
     }
     let left = pages - count;
     let rest = answer_range(question, alloc, session, looks, count, left)?;
-    question.add(&mut answer, rest, session, 0, count, left)?;
+    question.add(&mut answer, rest)?;
     Ok(answer)
 }
 
 /// What is answered of all pages by threads side by side, a range of pages for each processor; where it is little work, by
 /// the calling thread. An error: there is no memory for it.
-pub(crate) fn answer_apart<R: Threads + Sync, X: Send + Drop, Q: Question<Answer = X> + Sync>(
+pub fn answer_apart<R: Threads + Sync, X: Send + Drop, Q: Question<Answer = X> + Sync>(
     rt: &R,
     question: &Q,
     alloc: Global,
@@ -239,7 +230,7 @@ pub(crate) fn answer_apart<R: Threads + Sync, X: Send + Drop, Q: Question<Answer
     let mut all = Part {
         first: 0,
         count: 0,
-        answer: question.blank(alloc, session, 0),
+        answer: question.blank(alloc, pages)?,
     };
     add_parts(question, session, &mut all, judged)?;
     complete(question, alloc, session, &looks, all)

@@ -5,13 +5,11 @@ ghost use Rattle.migration_types.specs.Sessions.{IsSession};
 ghost use Rattle.audit_model.specs.Flat.{at_halt};
 ghost use Rattle.page_facts.specs.Ranges.{AreSeen, IsRange};
 ghost use Rattle.page_facts.specs.RangeFindings.{AreReleased, IsJudged};
-ghost use Rattle.page_facts.specs.Findings.{IsFindings, AreFindings};
+ghost use Rattle.page_facts.specs.Findings.{IsFindings};
 
 use crate::findings::{Findings, Placed, Sent, findings_at};
-use crate::listed::Listed;
 use crate::looks::first_looks;
 use crate::machine::halt_place;
-use crate::question::answer_alone;
 use crate::range::{Range, run_range};
 use crate::range_moved::{run_pager, run_source};
 use crate::range_start::range_for;
@@ -97,15 +95,7 @@ pub(crate) fn judge_range(
     judge_from_start(alloc, session, start)
 }
 
-/// What the logs say of each page of a session, page 0 first, by one pass over each log and one more for the looks. Takes
-/// memory for the cells of all pages and some numbers for each. An error: there is no memory for them.
-pub fn findings_of(alloc: Global, session: &Session) -> Result<Vec<Findings>, AllocError>
-    ensures { IfOk result (λ found. AreFindings session.now found.items) }
-{
-    answer_alone(&Listed, alloc, session)
-}
-
-/// What the logs say of one page, by the same passes. Takes memory for the cells of this page and a number for each. An
+/// What the logs say of one page, by one pass over each log and one more for the looks. Takes memory for the cells of this page and a number for each. An
 /// error: there is no memory for them.
 pub fn findings_for(alloc: Global, session: &Session, page: PageNo) -> Result<Findings, AllocError>
     requires { page < session.now.geometry.pages }

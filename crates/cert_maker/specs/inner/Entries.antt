@@ -1,5 +1,5 @@
 -- The one entry that can be right for a page, by its facts and its first look.
-use Rattle.std.specs.Prelude.{◌≡◌, ℕ, ◌<◌, Bool, true, false, List, length, Option, Some, None, slice_get, if◌then◌else◌}
+use Rattle.std.specs.Prelude.{◌≡◌, ℕ, ◌+◌, ◌<◌, Bool, true, false, List, length, Option, Some, None, slice_get, if◌then◌else◌}
 use Rattle.std.specs.List.{list_any}
 use Rattle.migration_types.specs.declared.records.SourceRec.{SourceRec}
 use Rattle.migration_types.specs.declared.records.SourceRec.TheVariants.{Again}
@@ -55,6 +55,11 @@ pub record HasBarePage (s : Recorded) : Type 0 where
   pub page : ℕ
   pub within : page < s.geometry.pages
   pub is_bare : HasNoEntry s page
+
+-- an entry for each of so many pages from the first on
+pub record AreMadeFrom (s : Recorded) (first count : ℕ) (entries : List Entry) : Type 0 where
+  pub pages : length entries ≡ count
+  pub each : (k : ℕ) (entry : Entry) → slice_get entries k ≡ Some entry → IsMadeEntry s (first + k) entry
 
 -- an entry for each page
 pub record AreMade (s : Recorded) (entries : List Entry) : Type 0 where

@@ -1,6 +1,0 @@
-use Rattle.std.proofs.lemmas.Result.{IfOk-weaker}
-use Rattle.page_facts.proofs.Parts.{findings_of_all}
-use Rattle.page_facts.proofs.range_judge.findings_of.Goals as goal
-
-pub returns : goal.returns
-returns c = IfOk-weaker c.answer_alone.result _ _ (λ found h. findings_of_all c.args.session.now found.items h) c.answer_alone.ensures
