@@ -9,7 +9,7 @@ use Rattle.migration_types.specs.declared.records.LogName.{LogName}
 use Rattle.migration_types.specs.declared.version.Version.{Version}
 use Rattle.migration_types.specs.declared.version.Version.TheVariants.{One, Two}
 use Rattle.migration_types.specs.declared.size.Size.{Size}
-use Rattle.migration_types.specs.Limits.{limits, most_pages, most_runs}
+use Rattle.migration_types.specs.Limits.{HasSize, limits, most_pages, most_runs}
 use Rattle.migration_types.specs.Sessions.{IsNumber, HasLog}
 
 -- what a certificate says, in which version, and within the limits of which size: an entry for each page, and the runs of a merging
@@ -51,8 +51,9 @@ pub record AreRuns (version : Version) (size : Size) (runs : List Run) : Type 0 
   pub each : AllByRecursion (RunFits version size) runs
   pub alternate : Alternate runs
 
--- what a certificate says is within all limits
+-- what a certificate says is of a size that its version has, and within all limits
 pub record IsCert (c : Certified) : Type 0 where
+  pub size : HasSize c.version c.size
   pub some_pages : 1 ≤ length c.entries
   pub few_pages : length c.entries ≤ most_pages
   pub own : length c.entries ≤ (limits c.size).pages

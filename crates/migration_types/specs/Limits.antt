@@ -1,26 +1,33 @@
 -- The limits of what is recorded.
-use Rattle.std.specs.Prelude.{ℕ, ◌≤◌}
+use Rattle.std.specs.Prelude.{ℕ, ◌*◌, ◌≤◌}
 use Rattle.std.proofs.Common.{arith}
 use Rattle.migration_types.specs.declared.version.Version.{Version}
 use Rattle.migration_types.specs.declared.version.Version.TheVariants.{One, Two}
 use Rattle.migration_types.specs.declared.size.Size.{Size}
-use Rattle.migration_types.specs.declared.size.Size.TheVariants.{Small}
+use Rattle.migration_types.specs.declared.size.Size.TheVariants.{Small, Large}
 use Rattle.migration_types.specs.declared.size.Limits.{Limits}
 
 -- A machine has 1 to so many pages, and at most so many cells in all. A log has at most so many records, and a record's
 -- number is below this one.
 abbrev pub limits : Size → Limits
 limits Small = record { pages = 65536; cells = 1048576; records = 1048576 }
+limits Large = record { pages = 16777216; cells = 16777216; records = 134217728 }
+
+-- only what is recorded in the second version may be of the large size
+abbrev pub HasSize : Version → Size → Type 0
+HasSize version Small = Unit {0}
+HasSize One Large = ⊥
+HasSize Two Large = Unit {0}
 
 -- the greatest of the limits, of all sizes
 abbrev pub most_pages : ℕ
-most_pages = 65536
+most_pages = 16777216
 
 abbrev pub most_cells_in_all : ℕ
-most_cells_in_all = 1048576
+most_cells_in_all = 16777216
 
 abbrev pub longest_log : ℕ
-longest_log = 1048576
+longest_log = 134217728
 
 -- no size has a greater one
 pub record AreAtMost (l : Limits) : Type 0 where
@@ -30,6 +37,7 @@ pub record AreAtMost (l : Limits) : Type 0 where
 
 pub limits_at_most : (size : Size) → AreAtMost (limits size)
 limits_at_most Small = record { few_pages = omega arith; few_cells = omega arith; few_records = omega arith }
+limits_at_most Large = record { few_pages = omega arith; few_cells = omega arith; few_records = omega arith }
 
 -- a page has 1 to so many cells
 abbrev pub most_cells : ℕ
@@ -43,7 +51,8 @@ vcpus = 64
 abbrev pub most_records : ℕ
 most_records = 1048576
 
--- a certificate has at most so many runs: of four logs in the first version, and of five in the second
+-- A certificate has at most so many runs: one for each record that four logs may have in the first version, and five in
+-- the second.
 abbrev pub most_runs : Version → Size → ℕ
-most_runs One Small = 4194304
-most_runs Two Small = 5242880
+most_runs One size = 4 * (limits size).records
+most_runs Two size = 5 * (limits size).records

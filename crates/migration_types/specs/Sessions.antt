@@ -19,7 +19,7 @@ use Rattle.migration_types.specs.declared.records.PagerRec.{PagerRec}
 use Rattle.migration_types.specs.declared.records.PagerRec.TheVariants.{Got, Pull, Ready, Fault, Join, Want, Place, Zero, Skip, All}
 use Rattle.migration_types.specs.declared.session.Logs.{Logs}
 use Rattle.migration_types.specs.declared.size.Size.{Size}
-use Rattle.migration_types.specs.Limits.{limits, longest_log, vcpus}
+use Rattle.migration_types.specs.Limits.{HasSize, limits, longest_log, vcpus}
 use Rattle.migration_types.specs.Extents.{Extent, IsExtent}
 use Rattle.migration_types.specs.Pages.{AreInitPages}
 use Rattle.migration_types.specs.Receipts.{Name}
@@ -114,8 +114,10 @@ log_length s Link = length s.link
 log_length s Lane = length s.lane
 log_length s Pager = length s.pager
 
--- what was recorded is within all limits, those of its size and the greatest; so in the first version there is no record of the lane
+-- What was recorded is of a size that its version has, and within all limits, those of its size and the greatest; so in
+-- the first version there is no record of the lane.
 pub record IsSession (s : Recorded) : Type 0 where
+  pub size : HasSize s.version s.geometry.size
   pub geometry : IsExtent s.geometry
   pub init : AreInitPages s.geometry s.init
   pub few_guest : length s.guest ≤ longest_log

@@ -10,16 +10,15 @@ use crate::size::Size;
 use crate::version::Version;
 use std::marker::Model;
 
-/// A certificate has at most so many runs, whatever its version and size.
-pub const MOST_RUNS: u32 = 5_242_880;
-
 /// So many runs a certificate of a version and a size may have.
+#[tactic(auto, using(crate::specs::Limits::limits_at_most))]
 pub fn most_runs(version: Version, size: Size) -> u32
     ensures { result ≡ most_runs version size }
 {
-    match (version, size) {
-        (Version::One, Size::Small) => 4_194_304,
-        (Version::Two, Size::Small) => MOST_RUNS,
+    let records = size.limits().records;
+    match version {
+        Version::One => 4 * records,
+        Version::Two => 5 * records,
     }
 }
 

@@ -31,19 +31,16 @@ impl Model for Geometry {
 /// Why there is no machine of so many pages and cells.
 #[derive(Clone, Copy, Debug, PartialEq, Eq, Error)]
 pub enum GeometryFault {
-    /// Not 1 to 65,536 pages.
-    #[error("a machine has 1 to 65,536 pages")]
+    /// No page, or more pages than the size allows.
+    #[error("a machine has at least one page, and no more than its size allows")]
     Pages,
     /// Not 1 to 512 cells a page.
     #[error("a page has 1 to 512 cells")]
     Cells,
-    /// More than 1,048,576 cells in all.
-    #[error("a machine has at most 1,048,576 cells")]
+    /// More cells in all than the size allows.
+    #[error("a machine has no more cells than its size allows")]
     TooMany,
 }
-
-/// A machine has at most so many pages, whatever its size.
-pub const MOST_PAGES: u32 = 65_536;
 
 /// A page has at most so many cells.
 pub const MOST_CELLS: u32 = 512;

@@ -34,6 +34,7 @@ impl Model for PageNo {
 
 impl PageNo {
     /// The page of this number.
+    #[inline(always)]
     pub fn new(number: u32) -> Self
         requires { number < 2 ^ 24 }
         ensures { result ≡ number }
@@ -46,6 +47,7 @@ impl PageNo {
     }
 
     /// Its number.
+    #[inline(always)]
     pub fn number(self) -> u32
         ensures value { result ≡ self }
         ensures small { result < 2 ^ 24 }
@@ -54,6 +56,7 @@ impl PageNo {
     }
 
     /// Its number, as an index into a table of pages.
+    #[inline(always)]
     pub fn index(self) -> usize
         ensures value { result ≡ self }
         ensures small { result < 2 ^ 24 }

@@ -1,12 +1,15 @@
 //! How large what is recorded may be.
 
-ghost use Rattle.std.specs.Prelude.{◌≡◌};
-ghost use Rattle.migration_types.specs.Limits.{limits};
+ghost use Rattle.std.specs.Prelude.{◌≡◌, ◌↔◌, IsTrue};
+ghost use Rattle.migration_types.specs.Limits.{limits, HasSize};
+
+use crate::version::Version;
 
 /// Which limits a machine and its logs have.
 #[derive(Clone, Copy, Debug, PartialEq, Eq)]
 pub enum Size {
     Small,
+    Large,
 }
 
 /// The limits of a size, each the greatest number that is still within it.
@@ -21,7 +24,18 @@ pub struct Limits {
 }
 
 impl Size {
+    /// Whether what is recorded in a version may be of this size.
+    pub fn is_in(self, version: Version) -> bool
+        ensures { IsTrue result ↔ HasSize version self }
+    {
+        match (version, self) {
+            (Version::One, Size::Large) => false,
+            (Version::One, Size::Small) | (Version::Two, _) => true,
+        }
+    }
+
     /// Its limits.
+    #[inline(always)]
     pub fn limits(self) -> Limits
         ensures { result ≡ limits self }
     {
@@ -30,6 +44,11 @@ impl Size {
                 pages: 65_536,
                 cells: 1_048_576,
                 records: 1_048_576,
+            },
+            Size::Large => Limits {
+                pages: 16_777_216,
+                cells: 16_777_216,
+                records: 134_217_728,
             },
         }
     }

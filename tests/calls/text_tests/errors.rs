@@ -8,11 +8,11 @@ use text_lines::{FaultKind, TextFault};
 #[test]
 fn a_geometry_says_which_limit_is_missed(rt: HostRuntime) -> Result<(), Fail> {
     for (fault, said) in [
-        (GeometryFault::Pages, "a machine has 1 to 65,536 pages"),
+        (GeometryFault::Pages, "a machine has at least one page, and no more than its size allows"),
         (GeometryFault::Cells, "a page has 1 to 512 cells"),
         (
             GeometryFault::TooMany,
-            "a machine has at most 1,048,576 cells",
+            "a machine has no more cells than its size allows",
         ),
     ] {
         assert_eq!(rt; format!(in rt.alloc(); "{fault}")?.as_str(), said);
