@@ -125,6 +125,7 @@ right_a = record { pages = refl; entries = entries_a; merging = merging_a }
 
 limits_a : IsSession session_a
 limits_a = record {
+  size = tt;
   geometry = record { some_pages = omega arith; few_pages = omega arith; some_cells = omega arith; few_cells = omega arith; few_in_all = omega arith; own = record { pages = omega arith; cells = omega arith } };
   init = record {
     each = (record { page = omega arith; content = record { count = refl; each = (omega arith, tt) }; not_zeros = λ zeros. absurd (let e = zeros.0 in cc) }, tt);

@@ -96,6 +96,7 @@ right_b = record { pages = refl; entries = entries_b; merging = merging_b }
 
 limits_b : IsSession session_b
 limits_b = record {
+  size = tt;
   geometry = record { some_pages = omega arith; few_pages = omega arith; some_cells = omega arith; few_cells = omega arith; few_in_all = omega arith; own = record { pages = omega arith; cells = omega arith } };
   init = record {
     each = (

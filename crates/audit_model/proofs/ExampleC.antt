@@ -72,6 +72,7 @@ right_c = record { pages = refl; entries = entries_c; merging = merging_c }
 
 limits_c : IsSession session_c
 limits_c = record {
+  size = tt;
   geometry = record { some_pages = omega arith; few_pages = omega arith; some_cells = omega arith; few_cells = omega arith; few_in_all = omega arith; own = record { pages = omega arith; cells = omega arith } };
   init = record {
     each = (record { page = omega arith; content = record { count = refl; each = (omega arith, tt) }; not_zeros = λ zeros. absurd (let e = zeros.0 in cc) }, tt);

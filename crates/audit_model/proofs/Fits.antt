@@ -135,7 +135,7 @@ module _ (s : Recorded) where
         contents (Lane, n) content is = absurd (cc)
 
     session_within : IsWithinLimits s
-    session_within = record { small = record { extent = h.geometry; few = h.own }; numbers = numbers }
+    session_within = record { size = record { size = h.size; extent = h.geometry; few = h.own }; numbers = numbers }
       where
         numbers : (name : Name) (row : Consists) → row_of s name ≡ Some row → InFields (NamesInReach s.geometry.size) row
         numbers (Guest, n) row is = let f = row_from (GuestRecFits s.geometry) guest_row s.guest n row h.guest is in subst (InFields (NamesInReach s.geometry.size)) f.2 ((guest_splits s.version s.geometry f.0).0 f.1).numbers
@@ -149,18 +149,19 @@ module _ (s : Recorded) where
     splits_at name row is contents at = record { fields = fits.fields name row is; numbers = within.numbers name row is; contents = λ content e. fits.contents name content (at content e) }
 
     few_at_most : (log : LogName) → log_length s log ≤ longest_log
-    few_at_most log = let few = within.small.few log in let most = (limits_at_most s.geometry.size).few_records in omega (arith, few, most)
+    few_at_most log = let few = within.size.few log in let most = (limits_at_most s.geometry.size).few_records in omega (arith, few, most)
 
     pub is_session : IsSession s
     is_session = record {
-      geometry = within.small.extent;
+      size = within.size.size;
+      geometry = within.size.extent;
       init = fits.init;
       few_guest = few_at_most Guest;
       few_source = few_at_most Source;
       few_link = few_at_most Link;
       few_lane = few_at_most Lane;
       few_pager = few_at_most Pager;
-      own = within.small.few;
+      own = within.size.few;
       guest = each_from (GuestRecFits s.geometry) s.guest (λ n r is. (guest_splits s.version s.geometry r).1 (splits_at (Guest, n) (guest_row r) (ap (option_map guest_row) is) None (λ content e. absurd (cc))));
       source = each_from (SourceRecFits s.geometry) s.source (λ n r is. (source_splits s.version s.geometry r).1 (splits_at (Source, n) (source_row r) (ap (option_map source_row) is) (source_contents r) (λ content e. ap (if_there source_contents) is ∙ e)));
       link = each_from (LinkRecFits s.geometry) s.link (λ n r is. (link_splits s.version s.geometry r).1 (splits_at (Link, n) (link_row r) (ap (option_map link_row) is) None (λ content e. absurd (cc))));

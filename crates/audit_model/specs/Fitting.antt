@@ -8,7 +8,7 @@ use Rattle.migration_types.specs.declared.records.LogName.TheVariants.{Guest, So
 use Rattle.migration_types.specs.declared.rows.Field.{Field}
 use Rattle.migration_types.specs.declared.rows.Field.TheVariants.{Vcpu, Page, Cell, Value, Number, Handover}
 use Rattle.migration_types.specs.declared.size.Size.{Size}
-use Rattle.migration_types.specs.Limits.{limits, vcpus}
+use Rattle.migration_types.specs.Limits.{HasSize, limits, vcpus}
 use Rattle.migration_types.specs.Extents.{Extent, IsExtent}
 use Rattle.migration_types.specs.Contents.{IsContent}
 use Rattle.migration_types.specs.Pages.{AreInitPages}
@@ -44,8 +44,9 @@ pub record Fits (s : Recorded) : Type 0 where
   pub fields : (name : Name) (row : Consists) → row_of s name ≡ Some row → AllByRecursion (FieldIsOf s.version s.geometry) row.fields
   pub contents : (name : Name) (content : List ℕ) → contents_of s name ≡ Some content → IsContent s.geometry.cells content
 
--- the machine and the logs are within the limits of the machine's size
-pub record IsSmall (s : Recorded) : Type 0 where
+-- the version has machines of this size, and the machine and the logs are within its limits
+pub record FitsSize (s : Recorded) : Type 0 where
+  pub size : HasSize s.version s.geometry.size
   pub extent : IsExtent s.geometry
   pub few : (log : LogName) → log_length s log ≤ (limits s.geometry.size).records
 
@@ -55,5 +56,5 @@ NamesInReach size field = IfSome (field_name field) (λ named. IsNumber size nam
 
 -- the limits of the size: of the machine and the logs, and of the numbers by which records are named
 pub record IsWithinLimits (s : Recorded) : Type 0 where
-  pub small : IsSmall s
+  pub size : FitsSize s
   pub numbers : (name : Name) (row : Consists) → row_of s name ≡ Some row → AllByRecursion (NamesInReach s.geometry.size) row.fields

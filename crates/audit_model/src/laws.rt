@@ -12,7 +12,7 @@ ghost use Rattle.audit_model.specs.FoundOrder.{IsKnot};
 ghost use Rattle.audit_model.specs.World.{IsSafe};
 ghost use Rattle.audit_model.specs.Worlds.{FollowsCursors, TargetIsFlat};
 ghost use Rattle.audit_model.specs.Shape.{IsRightShape};
-ghost use Rattle.audit_model.specs.Fitting.{Fits, IsSmall, IsWithinLimits};
+ghost use Rattle.audit_model.specs.Fitting.{Fits, FitsSize, IsWithinLimits};
 ghost use Rattle.audit_model.specs.Faults.{HasNoPageFault};
 ghost use Rattle.audit_model.specs.Windows.{Numbers, numbers_from, IsNumbering, IsWindow, window};
 ghost use Rattle.audit_model.specs.WindowLaws.{KeepsPageFaults, MergesThrough, IsCleanThroughWindows};
@@ -116,5 +116,5 @@ pub fn windows_are_sessions()
     ensures contiguous { (first count : ℕ) → IsWindow (numbers_from first count) count }
     ensures numbering { (number : Numbers) (count : ℕ) → IsWindow number count → IsNumbering number }
     ensures fits { (s : Recorded) (number : Numbers) (count : ℕ) → IsWindow number count → Fits s → Fits (window number count s) }
-    ensures session { (s : Recorded) (number : Numbers) (count : ℕ) → IsWindow number count → Fits s → IsRightShape s → IsSmall (window number count s) → IsSession (window number count s) }
+    ensures session { (s : Recorded) (number : Numbers) (count : ℕ) → IsWindow number count → Fits s → IsRightShape s → FitsSize (window number count s) → IsSession (window number count s) }
 {}

@@ -11,7 +11,8 @@ use Rattle.migration_types.specs.declared.cert.Entry.TheVariants.{Nothing, Fresh
 use Rattle.migration_types.specs.declared.version.Version.{Version}
 use Rattle.migration_types.specs.declared.version.Version.TheVariants.{One, Two}
 use Rattle.migration_types.specs.declared.size.Size.{Size}
-use Rattle.migration_types.specs.Limits.{limits}
+use Rattle.migration_types.specs.declared.size.Size.TheVariants.{Small, Large}
+use Rattle.migration_types.specs.Limits.{HasSize, limits}
 use Rattle.migration_types.specs.declared.records.LogName.TheVariants.{Guest as GuestLog, Source as SourceLog, Pager as PagerLog}
 use Rattle.migration_types.specs.Certs.{Certified, FirstFits, EntryFits, AreRuns, IsCert}
 use Rattle.migration_types.specs.Sessions.{Recorded, IsSession, IsNumber}
@@ -81,8 +82,21 @@ made_runs s version entries runs is_version limits merging fits = subst (λ (v :
     go true = fits
     go false = own
 
+-- a size that a session's version has, the certificate's version has too
+made_size : (s : Recorded) (version : Version) (entries : List Entry) → version ≡ version_for s.version entries → IsSession s → HasSize version s.geometry.size
+made_size s version entries is_version limits = subst (λ (v : Version). HasSize v s.geometry.size) (sym is_version) (go (list_any is_fresh entries))
+  where
+    in_second : (size : Size) → HasSize Two size
+    in_second Small = tt
+    in_second Large = tt
+
+    go : (b : Bool) → HasSize (if b then Two else s.version) s.geometry.size
+    go true = in_second s.geometry.size
+    go false = limits.size
+
 pub made_cert : (s : Recorded) (version : Version) (entries : List Entry) (runs : List Run) → version ≡ version_for s.version entries → IsSession s → AreMade s entries → IsMerging s (spelled runs) → AreRuns Two s.geometry.size runs → IsCert (record { version = version; size = s.geometry.size; entries = entries; runs = runs })
 made_cert s version entries runs is_version limits made merging fits = record {
+  size = made_size s version entries is_version limits;
   some_pages = let some = limits.geometry.some_pages in let e = made.pages in omega arith;
   few_pages = let few = limits.geometry.few_pages in let e = made.pages in omega arith;
   own = let few = limits.geometry.own.pages in let e = made.pages in omega arith;

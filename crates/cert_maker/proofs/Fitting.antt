@@ -10,7 +10,7 @@ use Rattle.migration_types.specs.declared.cert.Run.{Run}
 use Rattle.migration_types.specs.declared.version.Version.{Version}
 use Rattle.migration_types.specs.declared.version.Version.TheVariants.{One, Two}
 use Rattle.migration_types.specs.declared.size.Size.{Size}
-use Rattle.migration_types.specs.declared.size.Size.TheVariants.{Small}
+use Rattle.migration_types.specs.declared.size.Size.TheVariants.{Large}
 use Rattle.migration_types.specs.Limits.{limits, limits_at_most, longest_log, most_runs}
 use Rattle.migration_types.specs.Certs.{LogFits, RunFits, Alternate, AreRuns}
 use Rattle.migration_types.specs.Sessions.{Recorded, IsSession, HasLane, LaneRecFits}
@@ -76,20 +76,13 @@ log_of_version s Lane limits some = go s.lane limits.lane some
 log_of_version s Pager limits some = tt
 
 -- a certificate may have a run of each record
-record HaveRoom (size : Size) : Type 0 where
-  one : 4 * (limits size).records ≤ most_runs One size
-  two : 5 * (limits size).records ≤ most_runs Two size
-
-have_room : (size : Size) → HaveRoom size
-have_room Small = record { one = omega arith; two = omega arith }
-
 few_records : (s : Recorded) (version : Version) → s.version ≡ version → IsSession s → total (log_length s) ≤ most_runs version s.geometry.size
 few_records s One first limits = go (cases_lt 0 (length s.lane))
   where
     go : (0 < length s.lane) ⊎ (length s.lane ≤ 0) → total (log_length s) ≤ most_runs One s.geometry.size
     go (inl some) = absurd (subst HasLane first (log_of_version s Lane limits some))
-    go (inr none) = omega (arith, none, limits.own Guest, limits.own Source, limits.own Link, limits.own Pager, (have_room s.geometry.size).one)
-few_records s Two second limits = omega (arith, limits.own Guest, limits.own Source, limits.own Link, limits.own Lane, limits.own Pager, (have_room s.geometry.size).two)
+    go (inr none) = omega (arith, none, limits.own Guest, limits.own Source, limits.own Link, limits.own Pager)
+few_records s Two second limits = omega (arith, limits.own Guest, limits.own Source, limits.own Link, limits.own Lane, limits.own Pager)
 
 -- ---- the limits
 
@@ -130,19 +123,19 @@ log_in_second Link = tt
 log_in_second Lane = tt
 log_in_second Pager = tt
 
-each_in_text : (version : Version) (size : Size) (runs : List Run) → AllByRecursion (RunFits version size) runs → AllByRecursion (RunFits Two Small) runs
+each_in_text : (version : Version) (size : Size) (runs : List Run) → AllByRecursion (RunFits version size) runs → AllByRecursion (RunFits Two Large) runs
 each_in_text version size [] each = tt
 each_in_text version size (run ∷ runs) each =
     let few = each.0.few in
     let most = (limits_at_most size).few_records in
     (record { log = log_in_second run.log; some = each.0.some; few = omega (arith, few, most) }, each_in_text version size runs each.1)
 
-most_in_text : (version : Version) (size : Size) → most_runs version size ≤ most_runs Two Small
-most_in_text One Small = omega arith
-most_in_text Two Small = omega arith
+most_in_text : (version : Version) (size : Size) → most_runs version size ≤ most_runs Two Large
+most_in_text One size = let most = (limits_at_most size).few_records in omega (arith, most)
+most_in_text Two size = let most = (limits_at_most size).few_records in omega (arith, most)
 
 -- runs that fit a version and a size fit a text of runs
-pub in_text : (version : Version) (size : Size) (runs : List Run) → AreRuns version size runs → AreRuns Two Small runs
+pub in_text : (version : Version) (size : Size) (runs : List Run) → AreRuns version size runs → AreRuns Two Large runs
 in_text version size runs fits = record {
   few = omega (arith, fits.few, most_in_text version size);
   each = each_in_text version size runs fits.each;
