@@ -1,7 +1,8 @@
 //! Who judges the pages of a session: the calling thread alone, or threads side by side.
 
-ghost use Rattle.std.specs.Prelude.{⊤, ◌≡◌, ◌<◌, length, IfOk};
+ghost use Rattle.std.specs.Prelude.{⊤, ◌≡◌, ◌+◌, ◌*◌, ◌<◌, ◌≤◌, length, IfOk};
 ghost use Rattle.std.specs.Thread.{IsSync};
+ghost use Rattle.migration_types.specs.Limits.{longest_log, most_pages};
 ghost use Rattle.page_facts.specs.Entries.{AreJudged};
 
 use crate::entries::Entries;
@@ -85,16 +86,34 @@ impl<R: Threads + Sync> JudgesEntries for InThreads<'_, R> {
     }
 }
 
-/// How many pages and records there are to judge.
-fn work_of(session: &Session) -> usize
-    ensures { 0 < result }
+/// At least so many pages are judged at once.
+const PAGES_AT_ONCE: usize = 262_144;
+
+/// How many records there are, with the pages that do not begin as zeros.
+#[tactic(auto, using(migration_types::specs::inner::InitPages::few_init))]
+fn records_of(session: &Session) -> usize
+    ensures { result ≤ most_pages + 5 * longest_log }
 {
     session.keeps_limits();
-    let mut work = session.geometry().pages() as usize;
+    let mut records = session.init().len();
     for log in logs() {
-        work += session.len(log);
+        records += session.len(log);
     }
-    work
+    records
+}
+
+/// How many pages a thread judges at once: as many as there are records, so that memory follows the records and not the
+/// machine, and yet all walks over the logs, one for so many pages, take no more steps than there are pages and records.
+pub(crate) fn pages_at_once(session: &Session) -> usize
+    ensures { 0 < result }
+{
+    records_of(session).max(PAGES_AT_ONCE)
+}
+
+/// How much there is to judge: pages and records.
+fn work_of(session: &Session) -> usize {
+    session.keeps_limits();
+    session.geometry().pages() as usize + records_of(session)
 }
 
 /// Whether a session has too little to judge for two threads.

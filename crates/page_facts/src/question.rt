@@ -10,7 +10,7 @@ ghost use Rattle.page_facts.specs.Findings.{IsFindings};
 ghost use Rattle.page_facts.specs.inner.Parts.{IsPart};
 
 use crate::findings::{Findings, findings_at};
-use crate::judges::is_small;
+use crate::judges::{is_small, pages_at_once};
 use crate::looks::first_looks;
 use crate::range_judge::judge_range;
 use migration_types::{PageNo, Session};
@@ -63,7 +63,33 @@ pub(crate) struct Part<A> {
     pub(crate) answer: A,
 }
 
-/// Judges so many pages from the first on, and takes what is found of each.
+/// Judges the next so many pages, and takes what is found of each. An error: there is no memory for it.
+fn answer_next<Q: Question>(
+    question: &Q,
+    alloc: Global,
+    session: &Session,
+    looks: &Table<Option<u32>>,
+    answer: &mut Q::Answer,
+    next: usize,
+    count: usize,
+) -> Result<(), AllocError>
+    requires limits { IsSession session.now }
+    requires asked { Q.IsFor question.now session.now }
+    requires looks { IsTable session.now.geometry.pages looks.now (first_look session.now (length session.now.guest)) }
+    requires some { 0 < count }
+    requires within { next + count ≤ session.now.geometry.pages }
+    ensures { OnOk result ((first before : ℕ) → next ≡ first + before → Q.IsAnswer question.now session.now first before answer.old → Q.IsAnswer question.now session.now first (before + count) answer.new) }
+{
+    let judged = judge_range(alloc, session, next, count)?;
+    for index in 0..count {
+        let page = PageNo::new((next + index) as u32);
+        let findings = findings_at(session, looks, &judged, index);
+        question.take(answer, session, page, &findings)?;
+    }
+    Ok(())
+}
+
+/// Judges so many pages from the first on, some at a time, and takes what is found of each.
 fn answer_range<Q: Question>(
     question: &Q,
     alloc: Global,
@@ -79,17 +105,26 @@ fn answer_range<Q: Question>(
     requires within { first + count ≤ session.now.geometry.pages }
     ensures { IfOk result (Q.IsAnswer question.now session.now first count) }
 {
-    let judged = judge_range(alloc, session, first, count)?;
     let mut answer = question.blank(alloc, count)?;
-    for index in 0..count {
-        let page = PageNo::new((first + index) as u32);
-        let findings = findings_at(session, looks, &judged, index);
-        question.take(&mut answer, session, page, &findings)?;
+    let most = pages_at_once(session);
+    let mut done = 0;
+    while done < count {
+        let some = most.min(count - done);
+        answer_next(
+            question,
+            alloc,
+            session,
+            looks,
+            &mut answer,
+            first + done,
+            some,
+        )?;
+        done += some;
     }
     Ok(answer)
 }
 
-/// What is answered of all pages, which are judged as one range. An error: there is no memory for it.
+/// What is answered of all pages. An error: there is no memory for it.
 pub(crate) fn answer_alone<Q: Question>(
     question: &Q,
     alloc: Global,
@@ -176,7 +211,7 @@ fn add_parts<Q: Question>(
     Ok(())
 }
 
-/// What is answered of all pages, where it is answered of the first of them: the others are judged as one range.
+/// What is answered of all pages, where it is answered of the first of them: the others are judged by the calling thread.
 fn complete<Q: Question>(
     question: &Q,
     alloc: Global,
