@@ -16,7 +16,7 @@ use Rattle.cert_text.specs.declared.cert_lines.Stage.TheVariants.{Header, Pages,
 use Rattle.cert_text.specs.Runs.{runs_lines, SpellsRunLines}
 use Rattle.cert_text.specs.Grammar.{header, pages_key, entry_line, entry_lines, cert_lines, SpellsCert}
 use Rattle.cert_text.specs.inner.Held.{CertDraft, entries_onto, held_by, EntriesFit, Live}
-use Rattle.cert_text.specs.inner.Limits.{limits_some}
+use Rattle.migration_types.specs.inner.Room.{limits_some}
 use Rattle.cert_text.proofs.EntryLaws.{entries_length}
 use Rattle.cert_text.proofs.RunGoes.{one_list_of_runs}
 use Rattle.cert_text.proofs.Laws.{entries_onto_append, runs_of_version, runs_at, entries_agree, entry_held, entry_push}

@@ -20,7 +20,8 @@ use Rattle.migration_types.specs.Limits.{most_runs}
 use Rattle.migration_types.specs.Certs.{LogFits, RunFits, Alternate, AreRuns}
 use Rattle.cert_text.specs.Runs.{runs_key, closing, log_word, run_text, run_line, runs_lines}
 use Rattle.cert_text.specs.inner.Held.{MayFollow}
-use Rattle.cert_text.specs.inner.Limits.{limits_some, few_runs, count_small}
+use Rattle.migration_types.specs.inner.Room.{limits_some}
+use Rattle.cert_text.specs.inner.Limits.{few_runs, count_small}
 
 -- ---- one spelling for each run
 

@@ -3,7 +3,7 @@ use Rattle.std.proofs.Common.{◌≤◌, arith, subst, sym}
 use Rattle.migration_types.specs.declared.records.LogName.{LogName}
 use Rattle.migration_types.specs.declared.records.LogName.TheVariants.{Guest, Source, Link, Lane, Pager}
 use Rattle.migration_types.specs.declared.session.Logs.{Logs}
-use Rattle.migration_types.specs.Limits.{limits, most_records}
+use Rattle.migration_types.specs.Limits.{HasSize, limits, most_records}
 use Rattle.migration_types.specs.Sessions.{recorded, log_length, IsSession}
 use Rattle.script.specs.Scenarios.{Scenario, IsScenario}
 use Rattle.host_checks.specs.inner.Limits.{AreShort, AreOfMachine}
@@ -18,6 +18,7 @@ short_logs s logs short Pager = short.pager
 
 pub is_session : (s : Scenario) (logs : Logs) → IsScenario s → AreShort logs → AreOfMachine s.version s.geometry logs → IsSession (recorded s.version s.geometry s.init logs)
 is_session s logs script short fits = record {
+  size = subst (HasSize s.version) (sym script.small) tt;
   geometry = script.geometry;
   init = script.init;
   few_guest = omega (arith, short.guest);

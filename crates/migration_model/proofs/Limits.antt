@@ -5,7 +5,7 @@ use Rattle.migration_types.specs.Extents.{Extent, IsExtent}
 use Rattle.migration_types.specs.Memory.{Memory, initial, page_of, with_cell, with_content, with_zeros}
 use Rattle.migration_types.specs.PageSets.{Pages}
 use Rattle.migration_types.specs.Pages.{AreInitPages, InitPageFits}
-use Rattle.migration_types.specs.Limits.{limits, most_records}
+use Rattle.migration_types.specs.Limits.{HasSize, limits, most_records}
 use Rattle.migration_types.specs.Sessions.{log_length, GuestRecFits, HasLane, IsNumber, IsSession, LaneRecFits, LinkRecFits, PagerRecFits, Recorded, SourceRecFits}
 use Rattle.migration_types.specs.declared.pages.InitPage.{InitPage}
 use Rattle.migration_types.specs.declared.records.GuestRec.{GuestRec}
@@ -221,6 +221,7 @@ module _ (s : Recorded) (room : HasRoom s) (named : IsNamed s) (k : IsLimited s)
 
     pub is_session : IsSession s
     is_session = record {
+      size = subst (HasSize s.version) (sym k.small) tt;
       geometry = k.extent;
       init = k.init;
       few_guest = omega (arith, room.guest);

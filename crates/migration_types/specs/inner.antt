@@ -2,3 +2,4 @@ pub mod Bytes
 pub mod Stored
 pub mod InitPages
 pub mod Places
+pub mod Room

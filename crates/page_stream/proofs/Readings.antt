@@ -7,7 +7,7 @@ use Rattle.std.proofs.Math.Seq.{take-append_seam, drop-append_seam}
 use Rattle.std.proofs.lemmas.Nat.{from_be_bytes-to_be_bytes_4, from_be_bytes-to_be_bytes_8}
 use Rattle.migration_types.specs.Contents.{IsContent}
 use Rattle.migration_types.specs.declared.size.Size.{Size}
-use Rattle.migration_types.specs.declared.size.Size.TheVariants.{Small}
+use Rattle.migration_types.specs.declared.size.Size.TheVariants.{Small, Large}
 use Rattle.migration_types.specs.Extents.{Extent, IsExtent}
 use Rattle.migration_types.specs.Limits.{limits, limits_at_most, most_cells, most_pages}
 use Rattle.page_stream.specs.Packets.{number_of}
@@ -101,6 +101,7 @@ fits_short e (AllPacket n) x f = tt
 -- all pages of a machine take no less room in a state than a page's cells in its packet
 roomy : (size : Size) → 2 * most_cells ≤ (limits size).pages
 roomy Small = omega arith
+roomy Large = omega arith
 
 body_length : (e : Extent) (p : Packet) → IsExtent e → Fits e p → IsLength e (length (body_of p))
 body_length e (StatePacket n ps) x f = (omega arith, omega (arith, length_numbers ps, rises_few e.pages ps f.fields, x.own.pages))

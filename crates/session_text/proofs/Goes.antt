@@ -22,7 +22,7 @@ use Rattle.migration_types.specs.Sessions.{Recorded, IsSession, log_length, Gues
 use Rattle.session_text.specs.declared.parts.Stage.{Stage}
 use Rattle.session_text.specs.declared.parts.Stage.TheVariants.{Header, Pages, Cells, InitCount, Init, Guest, Source, Link, Lane, Pager, Done}
 use Rattle.session_text.specs.Records.{guest_line, source_line, link_line, lane_line, pager_line}
-use Rattle.session_text.specs.inner.Limits.{limits_some}
+use Rattle.migration_types.specs.inner.Room.{limits_some}
 use Rattle.session_text.specs.inner.InitPages.{Rise, rise_long, rise_increases}
 use Rattle.session_text.specs.Grammar.{header, pages_key, cells_key, init_key, guest_key, source_key, link_key, lane_key, pager_key, page_line, closing, session_lines, SpellsSession}
 use Rattle.session_text.specs.inner.Held.{SessionDraft, Part, part_onto, geometry_onto, init_onto, guest_onto, source_onto, link_onto, lane_onto, pager_onto, held_onto, IsWhole, InitFits, LogFits, most_of, GuestFits, SourceFits, LinkFits, LaneFits, PagerFits, Live}
