@@ -10,6 +10,7 @@ use Rattle.migration_types.specs.declared.records.LinkRec.{LinkRec}
 use Rattle.migration_types.specs.declared.records.LaneRec.{LaneRec}
 use Rattle.migration_types.specs.declared.records.PagerRec.{PagerRec}
 use Rattle.migration_types.specs.declared.pages.InitPage.{InitPage}
+use Rattle.migration_types.specs.declared.version.Version.{Version}
 use Rattle.migration_types.specs.declared.version.Version.TheVariants.{One, Two}
 use Rattle.migration_types.specs.Extents.{Extent}
 use Rattle.migration_types.specs.Pages.{InitPageFits}
@@ -59,13 +60,13 @@ pub back : (stage at : Stage) (d new : SessionDraft) (next : Stage) → stage �
 back stage at d new next is live f = subst (λ (s : Stage). StepsBack s d new next) (sym is) (f (live_at stage at d is live))
 
 pub pages_back : (d : SessionDraft) → Live Pages d → StepsBack Pages d d Header
-pages_back d live = (live, header d.version d.geometry.size, refl)
+pages_back d live = (live.0, header d.version d.geometry.size, refl)
 
 pub cells_back : (d : SessionDraft) → Live Cells d → StepsBack Cells d d Pages
-cells_back d live = (live.0, pages_key ++ decimal d.geometry.pages, refl)
+cells_back d live = ((live.0, live.3), pages_key ++ decimal d.geometry.pages, refl)
 
 pub init_count_back : (d : SessionDraft) → Live InitCount d → StepsBack InitCount d d Cells
-init_count_back d live = ((live.0, live.1.some_pages, live.1.own.pages), cells_key ++ decimal d.geometry.cells, refl)
+init_count_back d live = ((live.0, live.1.some_pages, live.1.own.pages, live.2), cells_key ++ decimal d.geometry.cells, refl)
 
 pub done_back : (d : SessionDraft) → Live Done d → StepsBack Done d d Pager
 done_back d live = (live.0, closing, refl)
@@ -78,9 +79,9 @@ rise_front : (low high : ℕ) (ps : List InitPage) (p : InitPage) → Rise low (
 rise_front low high [] p r = (low, refl, r.0, r.1)
 rise_front low high (q ∷ qs) p r = let t = rise_front (q.page + 1) high qs p r.1 in (t.0, (r.0, t.1), t.2, t.3)
 
-init_fits_back : (e : Extent) (next : ℕ) (old new : Part InitPage) (p : InitPage) → old ≡ with_items new (p ∷ []) → InitFits e next old → InitFits e (next_from 0 new.items) new
-init_fits_back e next old new p is f =
-    let g : InitFits e next (with_items new (p ∷ [])) = subst (λ (t : Part InitPage). InitFits e next t) is f in
+init_fits_back : (version : Version) (e : Extent) (next : ℕ) (old new : Part InitPage) (p : InitPage) → old ≡ with_items new (p ∷ []) → InitFits version e next old → InitFits version e (next_from 0 new.items) new
+init_fits_back version e next old new p is f =
+    let g : InitFits version e next (with_items new (p ∷ [])) = subst (λ (t : Part InitPage). InitFits version e next t) is f in
     let r = rise_front 0 next new.items p g.rising in
     let same = rise_next 0 r.0 new.items r.1 in
     let within = g.within in
@@ -89,6 +90,7 @@ init_fits_back e next old new p is f =
     let high = r.3 in
     let long = length-append new.items (p ∷ []) in
     record {
+      size = g.size;
       geometry = g.geometry;
       within = omega arith;
       each = all_front (InitPageFits e) new.items p g.each;
@@ -100,13 +102,13 @@ abbrev pub with_init : SessionDraft → Part InitPage → SessionDraft
 with_init d new = record d { init = new; next_page = next_from 0 new.items }
 
 pub init_back : (d : SessionDraft) (new : Part InitPage) (p : InitPage) → d.init ≡ with_items new (p ∷ []) → Live Init d → StepsBack Init d (with_init d new) Init
-init_back d new p e live = ((init_fits_back d.geometry d.next_page d.init new p e live.0, live.1), page_line p, ap (geometry_onto d) (onto_back init_key page_line d.init new p e))
+init_back d new p e live = ((init_fits_back d.version d.geometry d.next_page d.init new p e live.0, live.1), page_line p, ap (geometry_onto d) (onto_back init_key page_line d.init new p e))
 
 pub init_none_back : (d : SessionDraft) (new : Part InitPage) → (d.init.items ≡ []) × (new ≡ d.init) → Live Init d → StepsBack Init d (with_init d new) InitCount
-init_none_back d new e live = (((still_none d.init new e, live.1), live.0.geometry), init_key ++ decimal d.init.count, ap (geometry_onto d) (onto_empty init_key page_line d.init e.0))
+init_none_back d new e live = (((still_none d.init new e, live.1), live.0.geometry, live.0.size), init_key ++ decimal d.init.count, ap (geometry_onto d) (onto_empty init_key page_line d.init e.0))
 
 pub guest_back : (d : SessionDraft) (new : Part GuestRec) (y : GuestRec) → d.guest ≡ with_items new (y ∷ []) → Live Guest d → StepsBack Guest d (record d { guest = new }) Guest
-guest_back d new y e live = ((log_back (most_of d) (InitFits d.geometry d.next_page d.init) d.init (GuestRecFits d.geometry) d.guest new y live.0 e, live.1), guest_line y, ap (init_onto d) (onto_back guest_key guest_line d.guest new y e))
+guest_back d new y e live = ((log_back (most_of d) (InitFits d.version d.geometry d.next_page d.init) d.init (GuestRecFits d.geometry) d.guest new y live.0 e, live.1), guest_line y, ap (init_onto d) (onto_back guest_key guest_line d.guest new y e))
 
 pub guest_none_back : (d : SessionDraft) (new : Part GuestRec) → (d.guest.items ≡ []) × (new ≡ d.guest) → Live Guest d → StepsBack Guest d (record d { guest = new }) Init
 guest_none_back d new e live = ((live.0.before, (still_none d.guest new e, live.1)), guest_key ++ decimal d.guest.count, ap (init_onto d) (onto_empty guest_key guest_line d.guest e.0))

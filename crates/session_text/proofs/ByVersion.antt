@@ -1,5 +1,5 @@
 -- Laws of what a text has by its version and its size.
-use Rattle.std.proofs.Common.{◌≡◌, ◌≢◌, ℕ, ◌+◌, ◌<◌, ◌≤◌, ◌^◌, List, [], ◌∷◌, ◌++◌, length, map, get_or, refl, ap, arith, length-append}
+use Rattle.std.proofs.Common.{◌≡◌, ◌≢◌, ◌==◌, ℕ, ◌+◌, ◌<◌, ◌≤◌, ◌^◌, List, [], ◌∷◌, ◌++◌, length, map, get_or, if◌then◌else◌, refl, sym, ap, ◌∙◌, arith, length-append}
 use Rattle.std.specs.List.{AllByRecursion}
 use Rattle.std.proofs.lemmas.List.{length-map}
 use Rattle.text_lines.proofs.Sections.{CountedAgree}
@@ -8,26 +8,41 @@ use Rattle.migration_types.specs.declared.records.LaneRec.TheVariants.{Down}
 use Rattle.migration_types.specs.declared.version.Version.{Version}
 use Rattle.migration_types.specs.declared.version.Version.TheVariants.{One, Two}
 use Rattle.migration_types.specs.declared.size.Size.{Size}
-use Rattle.migration_types.specs.declared.size.Size.TheVariants.{Small}
+use Rattle.migration_types.specs.declared.size.Size.TheVariants.{Small, Large}
+use Rattle.migration_types.specs.Limits.{HasSize}
 use Rattle.migration_types.specs.Sessions.{LaneRecIn, lane_lines}
 use Rattle.session_text.specs.Records.{lane_line}
 use Rattle.session_text.specs.Grammar.{header, lane_key, with_lane, counted}
 use Rattle.session_text.specs.inner.Held.{Part, part_onto, IsWhole, lane_part_onto}
 use Rattle.session_text.proofs.Sections.{part_append, onto_whole, agrees}
 
--- the digit that headers differ in
-abbrev digit : List ℕ → ℕ
-digit line = get_or line 17 0
+-- what a header's digit tells
+abbrev version_in : List ℕ → Version
+version_in line = if get_or line 17 49 == 49 then One else Two
+
+abbrev size_in : List ℕ → Size
+size_in line = if get_or line 17 51 == 51 then Large else Small
+
+version_told : (version : Version) (size : Size) → version_in (header version size) ≡ version
+version_told One Small = refl
+version_told One Large = refl
+version_told Two Small = refl
+version_told Two Large = refl
+
+size_told : (version : Version) (size : Size) → size_in (header version size) ≡ size
+size_told One Small = refl
+size_told One Large = refl
+size_told Two Small = refl
+size_told Two Large = refl
 
 pub header_tells : (a b : Version) (k l : Size) → header a k ≡ header b l → (a ≡ b) × (k ≡ l)
-header_tells One One Small Small e = (refl, refl)
-header_tells One Two Small Small e = let same = ap digit e in absurd (omega (arith, same))
-header_tells Two One Small Small e = let same = ap digit e in absurd (omega (arith, same))
-header_tells Two Two Small Small e = (refl, refl)
+header_tells a b k l e = (sym (version_told a k) ∙ ap version_in e ∙ version_told b l, sym (size_told a k) ∙ ap size_in e ∙ size_told b l)
 
-pub no_header : (line : List ℕ) (version : Version) (size : Size) → line ≢ header One Small → line ≢ header Two Small → line ≢ header version size
-no_header line One Small one two = one
-no_header line Two Small one two = two
+pub no_header : (line : List ℕ) (version : Version) (size : Size) → HasSize version size → line ≢ header One Small → line ≢ header Two Small → line ≢ header Two Large → line ≢ header version size
+no_header line One Small has first second third = first
+no_header line One Large has first second third = absurd has
+no_header line Two Small has first second third = second
+no_header line Two Large has first second third = third
 
 pub one_version : (version : Version) → version ≡ One → version ≡ Two → ⊥
 one_version One first second = absurd cc

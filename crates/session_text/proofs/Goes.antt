@@ -11,13 +11,14 @@ use Rattle.migration_types.specs.declared.records.LinkRec.TheVariants.{Down}
 use Rattle.migration_types.specs.declared.records.LaneRec.TheVariants.{Down as LaneDown}
 use Rattle.migration_types.specs.declared.records.PagerRec.TheVariants.{All}
 use Rattle.migration_types.specs.declared.pages.InitPage.{InitPage}
+use Rattle.migration_types.specs.declared.size.Size.TheVariants.{Small}
 use Rattle.migration_types.specs.declared.version.Version.{Version}
-use Rattle.migration_types.specs.declared.version.Version.TheVariants.{Two}
+use Rattle.migration_types.specs.declared.version.Version.TheVariants.{One, Two}
 use Rattle.migration_types.specs.Extents.{Extent, IsExtent}
 use Rattle.migration_types.specs.Pages.{InitPageFits}
 use Rattle.migration_types.specs.declared.records.LogName.{LogName}
 use Rattle.migration_types.specs.declared.records.LogName.TheVariants as logs
-use Rattle.migration_types.specs.Limits.{limits, limits_at_most, most_pages, longest_log}
+use Rattle.migration_types.specs.Limits.{HasSize, limits, limits_at_most, most_pages, longest_log}
 use Rattle.migration_types.specs.Sessions.{Recorded, IsSession, log_length, GuestRecFits, SourceRecFits, LinkRecFits, LaneRecFits, PagerRecFits}
 use Rattle.session_text.specs.declared.parts.Stage.{Stage}
 use Rattle.session_text.specs.declared.parts.Stage.TheVariants.{Header, Pages, Cells, InitCount, Init, Guest, Source, Link, Lane, Pager, Done}
@@ -58,6 +59,7 @@ whole_fits d f =
     let guest = source.before in
     let init = guest.before in
     record {
+      size = init.size;
       geometry = init.geometry;
       init = record { each = init.each; rising = rise_increases 0 d.next_page d.init.items init.rising };
       few_guest = few_at d f logs.Guest;
@@ -180,8 +182,8 @@ rise_append low mid high [] ys r s = subst (λ (n : ℕ). Rise n ys high) (sym r
 rise_append low mid high (x ∷ xs) ys r s = (r.0, rise_append (x.page + 1) mid high xs ys r.1 s)
 
 -- initial pages that came go on to all that were announced
-pub init_filled : (e : Extent) (next : ℕ) (part : Part InitPage) → InitFits e next part → (more : List InitPage) × (top : ℕ) × InitFits e top (with_items part more) × IsWhole (with_items part more)
-init_filled e next part f =
+pub init_filled : (version : Version) (e : Extent) (next : ℕ) (part : Part InitPage) → InitFits version e next part → (more : List InitPage) × (top : ℕ) × InitFits version e top (with_items part more) × IsWhole (with_items part more)
+init_filled version e next part f =
     let m = part.count - length part.items in
     let more = pages_from e.cells next m in
     let within = f.within in
@@ -191,6 +193,7 @@ init_filled e next part f =
       more,
       next + m,
       record {
+        size = f.size;
         geometry = f.geometry;
         within = omega arith;
         each = all_append (InitPageFits e) part.items more f.each (pages_fit e next m f.geometry.some_cells room);
@@ -202,7 +205,7 @@ init_filled e next part f =
 
 init_begins : (d : SessionDraft) → StartFits d → Begins SpellsSession (held_onto Init d [])
 init_begins d f =
-    let filled = init_filled d.geometry d.next_page d.init f in
+    let filled = init_filled d.version d.geometry d.next_page d.init f in
     let more = filled.0 in
     let top = filled.1 in
     let list = with_items d.init more in
@@ -214,30 +217,32 @@ init_begins d f =
 abbrev empty_draft : Version → Extent → SessionDraft
 empty_draft version e = record { version = version; geometry = e; next_page = 0; init = fresh 0; guest = fresh 0; source = fresh 0; link = fresh 0; lane = fresh 0; pager = fresh 0 }
 
-count_begins : (d : SessionDraft) → IsExtent d.geometry → Begins SpellsSession (held_onto InitCount d [])
-count_begins d geo =
+count_begins : (d : SessionDraft) → IsExtent d.geometry → HasSize d.version d.geometry.size → Begins SpellsSession (held_onto InitCount d [])
+count_begins d geo has =
     let e = empty_draft d.version d.geometry in
-    step InitCount Init d e ((init_key ++ decimal 0) ∷ []) refl (init_begins e (record { geometry = geo; within = omega arith; each = tt; rising = refl; room = omega arith }))
+    step InitCount Init d e ((init_key ++ decimal 0) ∷ []) refl (init_begins e (record { size = has; geometry = geo; within = omega arith; each = tt; rising = refl; room = omega arith }))
 
-cells_begins : (d : SessionDraft) → 1 ≤ d.geometry.pages → d.geometry.pages ≤ (limits d.geometry.size).pages → Begins SpellsSession (held_onto Cells d [])
-cells_begins d low high =
+cells_begins : (d : SessionDraft) → 1 ≤ d.geometry.pages → d.geometry.pages ≤ (limits d.geometry.size).pages → HasSize d.version d.geometry.size → Begins SpellsSession (held_onto Cells d [])
+cells_begins d low high has =
     let e = empty_draft d.version (extent d.geometry.size d.geometry.pages 1) in
     let most = limits_at_most d.geometry.size in
     let few_pages = most.few_pages in
     let few_cells = most.few_cells in
     let some = (limits_some d.geometry.size).cells in
-    step Cells InitCount d e ((cells_key ++ decimal 1) ∷ []) refl (count_begins e (record { some_pages = low; few_pages = omega arith; some_cells = omega arith; few_cells = omega arith; few_in_all = omega arith; own = record { pages = high; cells = omega arith } }))
+    step Cells InitCount d e ((cells_key ++ decimal 1) ∷ []) refl (count_begins e (record { some_pages = low; few_pages = omega arith; some_cells = omega arith; few_cells = omega arith; few_in_all = omega arith; own = record { pages = high; cells = omega arith } }) has)
 
-pages_begins : (d : SessionDraft) → Begins SpellsSession (held_onto Pages d [])
-pages_begins d =
+pages_begins : (d : SessionDraft) → HasSize d.version d.geometry.size → Begins SpellsSession (held_onto Pages d [])
+pages_begins d has =
     let e = empty_draft d.version (extent d.geometry.size 1 1) in
-    step Pages Cells d e ((pages_key ++ decimal 1) ∷ []) refl (cells_begins e (omega arith) (limits_some d.geometry.size).pages)
+    step Pages Cells d e ((pages_key ++ decimal 1) ∷ []) refl (cells_begins e (omega arith) (limits_some d.geometry.size).pages has)
 
 pub live_begins : (stage : Stage) (d : SessionDraft) → Live stage d → Begins SpellsSession (held_onto stage d [])
-live_begins Header d live = step Header Pages d d (header d.version d.geometry.size ∷ []) refl (pages_begins d)
-live_begins Pages d live = pages_begins d
-live_begins Cells d live = cells_begins d live.1 live.2
-live_begins InitCount d live = count_begins d live.1
+live_begins Header d live =
+    let e = empty_draft One (extent Small 1 1) in
+    step Header Pages d e (header One Small ∷ []) refl (pages_begins e tt)
+live_begins Pages d live = pages_begins d live.1
+live_begins Cells d live = cells_begins d live.1 live.2 live.3
+live_begins InitCount d live = count_begins d live.1 live.2
 live_begins Init d live = init_begins d live.0
 live_begins Guest d live = guest_begins d live.0
 live_begins Source d live = source_begins d live.0

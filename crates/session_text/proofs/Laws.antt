@@ -23,7 +23,7 @@ use Rattle.migration_types.specs.Pages.{InitPageFits}
 use Rattle.migration_types.specs.declared.size.Size.{Size}
 use Rattle.migration_types.specs.declared.records.LogName.{LogName}
 use Rattle.migration_types.specs.declared.records.LogName.TheVariants as logs
-use Rattle.migration_types.specs.Limits.{limits, limits_at_most, longest_log}
+use Rattle.migration_types.specs.Limits.{HasSize, limits, limits_at_most, longest_log}
 use Rattle.migration_types.specs.Sessions.{Recorded, IsSession, log_length, GuestRecFits, SourceRecFits, LinkRecFits, LaneRecFits, PagerRecFits}
 use Rattle.session_text.specs.declared.parts.Stage.{Stage}
 use Rattle.session_text.specs.declared.parts.Stage.TheVariants.{Header, Pages, Cells, InitCount, Init, Guest, Source, Link, Lane, Pager, Done}
@@ -145,7 +145,7 @@ pub record InitAgrees (d : SessionDraft) (more : List (List ℕ)) (v : Recorded)
   pub init : CountedAgree page_line d.init.count v.init d.init.items (guest_lines v) more
 
 abbrev pub StartFits : SessionDraft → Type 0
-StartFits d = InitFits d.geometry d.next_page d.init
+StartFits d = InitFits d.version d.geometry d.next_page d.init
 
 pub init_agrees : (d : SessionDraft) (more : List (List ℕ)) (v : Recorded) → StartFits d → IsSession v → init_onto d more ≡ session_lines v → InitAgrees d more v
 init_agrees d more v f fits e =
@@ -289,11 +289,12 @@ pub rise_push : (low next : ℕ) (ps : List InitPage) (p : InitPage) → Rise lo
 rise_push low next [] p r le = (omega (arith, r), refl)
 rise_push low next (q ∷ ps) p r le = (r.0, rise_push (q.page + 1) next ps p r.1 le)
 
-pub page_push : (e : Extent) (part : Part InitPage) (next after : ℕ) (p : InitPage) → after ≡ p.page + 1 → InitFits e next part → length part.items < part.count → next ≤ p.page → p.page ≤ e.pages - (part.count - length part.items) → IsInitContent e.cells p.cells → InitFits e after (with_items part (p ∷ []))
-page_push e part next after p is f less low high has =
+pub page_push : (version : Version) (e : Extent) (part : Part InitPage) (next after : ℕ) (p : InitPage) → after ≡ p.page + 1 → InitFits version e next part → length part.items < part.count → next ≤ p.page → p.page ≤ e.pages - (part.count - length part.items) → IsInitContent e.cells p.cells → InitFits version e after (with_items part (p ∷ []))
+page_push version e part next after p is f less low high has =
     let room = f.room in
     let len = length-append part.items (p ∷ []) in
     record {
+      size = f.size;
       geometry = f.geometry;
       within = omega (arith, len);
       each = all_append (InitPageFits e) part.items (p ∷ []) f.each (record { page = omega arith; content = has.content; not_zeros = has.not_zeros }, tt);
@@ -312,8 +313,9 @@ all_fit e high [] lt h = tt
 all_fit e high (p ∷ ps) lt h = (record { page = omega (arith, h.0.0, lt); content = h.0.1.content; not_zeros = h.0.1.not_zeros }, all_fit e high ps lt h.1)
 
 -- many pages that rise, with room for those to come
-pub pages_push : (e : Extent) (old new : Part InitPage) (high n : ℕ) (bytes rest : List ℕ) → InitFits e (next_from 0 old.items) old → high < e.pages → new.count ≡ old.count → length new.items ≤ new.count → TakesItems page_line (λ p. (p.page ≤ high) × IsInitContent e.cells p.cells) (λ before p. next_from 0 before ≤ p.page) old.items new.items bytes rest n → next_from 0 new.items + (new.count - length new.items) ≤ e.pages → InitFits e (next_from 0 new.items) new
-pages_push e old new high n bytes rest f below same within t room = record {
+pub pages_push : (version : Version) (e : Extent) (old new : Part InitPage) (high n : ℕ) (bytes rest : List ℕ) → InitFits version e (next_from 0 old.items) old → high < e.pages → new.count ≡ old.count → length new.items ≤ new.count → TakesItems page_line (λ p. (p.page ≤ high) × IsInitContent e.cells p.cells) (λ before p. next_from 0 before ≤ p.page) old.items new.items bytes rest n → next_from 0 new.items + (new.count - length new.items) ≤ e.pages → InitFits version e (next_from 0 new.items) new
+pages_push version e old new high n bytes rest f below same within t room = record {
+  size = f.size;
   geometry = f.geometry;
   within = within;
   each = subst (AllByRecursion (InitPageFits e)) (sym t.items) (all_append (InitPageFits e) old.items t.taken f.each (all_fit e high t.taken below t.fits));
@@ -323,12 +325,12 @@ pages_push e old new high n bytes rest f below same within t room = record {
 
 -- ---- why a line is refused
 
-pub header_refused : (d : SessionDraft) (line : List ℕ) → ((version : Version) (size : Size) → line ≢ header version size) → Begins SpellsSession (held_onto Header d (line ∷ [])) → ⊥
+pub header_refused : (d : SessionDraft) (line : List ℕ) → ((version : Version) (size : Size) → HasSize version size → line ≢ header version size) → Begins SpellsSession (held_onto Header d (line ∷ [])) → ⊥
 header_refused d line none b =
     let g = goes_from Header d line b in
     let whole = g.whole in
     let l : line ≡ header g.v.version g.v.geometry.size = cc in
-    none g.v.version g.v.geometry.size l
+    none g.v.version g.v.geometry.size g.fits.size l
 
 pub pages_refused : (d : SessionDraft) (line : List ℕ) → ((n : ℕ) → 1 ≤ n → n ≤ (limits d.geometry.size).pages → line ≢ pages_key ++ decimal n) → Begins SpellsSession (held_onto Pages d (line ∷ [])) → ⊥
 pages_refused d line none b =

@@ -42,7 +42,7 @@ pub init_item : (d : SessionDraft) (p : Part InitPage) (line : List ℕ) (high :
 init_item d p line high (Ok done) next top t none same live some =
     let less = less_of d.init some in
     let page = t.item in
-    let fits = page_push d.geometry d.init d.next_page (next_from 0 (d.init.items ++ page ∷ [])) page (next_push 0 d.init.items page) live.0 less (omega (arith, next, t.follows)) (omega (arith, top, t.fits.0)) t.fits.1 in
+    let fits = page_push d.version d.geometry d.init d.next_page (next_from 0 (d.init.items ++ page ∷ [])) page (next_push 0 d.init.items page) live.0 less (omega (arith, next, t.follows)) (omega (arith, top, t.fits.0)) t.fits.1 in
     subst (λ (q : Part InitPage). Live Init (with_init d q) × (held_onto Init (with_init d q) [] ≡ held_onto Init d (line ∷ []))) (sym t.grown) ((fits, live.1), ap (geometry_onto d) (pushed init_key page_line d.init page line t.spelled))
 init_item d p line high (Err kind) next top t none same live some = (
   ap (with_init d) same ∙ ap (λ (n : ℕ). record d { next_page = n }) (sym next),
@@ -51,7 +51,7 @@ init_item d p line high (Err kind) next top t none same live some = (
 
 pub guest_item : (d : SessionDraft) (p : Part GuestRec) (line : List ℕ) (r : Result (Unit {0}) FaultKind) → OnOk r (TakesItem guest_line (GuestRecFits d.geometry) (λ _ _. ⊤) d.guest p line) → IfErr r (λ kind. kind ≢ Memory → (x : GuestRec) → GuestRecFits d.geometry x → ⊤ → line ≢ guest_line x) → OnErr r (p ≡ d.guest) → Live Guest d → left_at Guest d ≢ 0 → Stays Guest d line (record d { guest = p }) r
 guest_item d p line (Ok done) t none same live some =
-    let fits = push_fits (most_of d) (InitFits d.geometry d.next_page d.init) d.init (GuestRecFits d.geometry) d.guest t.item live.0 (less_of d.guest some) t.fits in
+    let fits = push_fits (most_of d) (InitFits d.version d.geometry d.next_page d.init) d.init (GuestRecFits d.geometry) d.guest t.item live.0 (less_of d.guest some) t.fits in
     subst (λ (q : Part GuestRec). Live Guest (record d { guest = q }) × (held_onto Guest (record d { guest = q }) [] ≡ held_onto Guest d (line ∷ []))) (sym t.grown) ((fits, live.1), ap (init_onto d) (pushed guest_key guest_line d.guest t.item line t.spelled))
 guest_item d p line (Err kind) t none same live some = (ap (λ (q : Part GuestRec). record d { guest = q }) same, λ other b. guest_refused d line live.0 (less_of d.guest some) (λ x fits. none other x fits tt) b)
 
@@ -126,7 +126,7 @@ begun at stage d new line next is live held = subst (λ (s : Stage). Live s new 
 pub guest_begins : (d : SessionDraft) (p : Part GuestRec) (line : List ℕ) (r : Result Stage FaultKind) → IfOk r (Begun (most_of d) Guest guest_key p line) → OnErr r ((n : ℕ) → n ≤ most_of d → line ≢ guest_key ++ decimal n) → OnErr r (p ≡ d.guest) → Live Init d → left_at Init d ≡ 0 → Steps Init d line (record d { guest = p }) r
 guest_begins d p line (Ok next) t none same live left =
     let whole = whole_of d.init live.0.within left in
-    begun Init Guest d (record d { guest = p }) line next t.0 (begun_fits (most_of d) (InitFits d.geometry d.next_page d.init) d.init (GuestRecFits d.geometry) p live.0 whole t.1 t.2, live.1.1) (ap (init_onto d) (begun_line guest_key guest_line p line t.1 t.3))
+    begun Init Guest d (record d { guest = p }) line next t.0 (begun_fits (most_of d) (InitFits d.version d.geometry d.next_page d.init) d.init (GuestRecFits d.geometry) p live.0 whole t.1 t.2, live.1.1) (ap (init_onto d) (begun_line guest_key guest_line p line t.1 t.3))
 guest_begins d p line (Err kind) t none same live left = (ap (λ (q : Part GuestRec). record d { guest = q }) same, λ _ b. guest_count_refused d line live.0 (whole_of d.init live.0.within left) none b)
 
 pub source_begins : (d : SessionDraft) (p : Part SourceRec) (line : List ℕ) (r : Result Stage FaultKind) → IfOk r (Begun (most_of d) Source source_key p line) → OnErr r ((n : ℕ) → n ≤ most_of d → line ≢ source_key ++ decimal n) → OnErr r (p ≡ d.source) → Live Guest d → left_at Guest d ≡ 0 → Steps Guest d line (record d { source = p }) r

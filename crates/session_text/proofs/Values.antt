@@ -53,7 +53,7 @@ drafted_fits s fits next le rising =
     let d = drafted s next in
     let e = s.geometry in
     let most = (limits e.size).records in
-    let init : StartFits d = record { geometry = fits.geometry; within = omega arith; each = fits.init.each; rising = rising; room = omega arith } in
+    let init : StartFits d = record { size = fits.size; geometry = fits.geometry; within = omega arith; each = fits.init.each; rising = rising; room = omega arith } in
     let guest = whole_log most (StartFits d) s.init (GuestRecFits e) s.guest init (fits.own logs.Guest) fits.guest in
     let source = whole_log most (GuestFits d) s.guest (SourceRecFits e) s.source guest (fits.own logs.Source) fits.source in
     let link = whole_log most (SourceFits d) s.source (LinkRecFits e) s.link source (fits.own logs.Link) fits.link in

@@ -1,14 +1,14 @@
 -- The text of a recorded session. Its lines, each ended by a line feed:
---     postcopy-session 1  or postcopy-session 2
---     pages N             the machine's pages: 1 to 65,536
---     cells C             the cells of each page: 1 to 512, and N times C is at most 1,048,576
+--     postcopy-session 1  or postcopy-session 2, or postcopy-session 3, which differs from the second in its limits
+--     pages N             the machine's pages: 1 to 65,536, in the third 16,777,216
+--     cells C             the cells of each page: 1 to 512, and N times C is at most 1,048,576, in the third 16,777,216
 --     init K              the pages that do not begin as zeros
 --     page P CONTENTS     K such lines: P rises and is below N, and CONTENTS has sixteen hexadecimal digits, in lower
 --                         case, for each of the C cells, not all of them zero
---     guest G             the records of the guest's log: 0 to 1,048,576, and then a line for each
+--     guest G             the records of the guest's log: 0 to 1,048,576, in the third 134,217,728, and then a line for each
 --     source S            so for the source's log,
 --     link L              the link's
---     lane E              in the second version alone, the lane's
+--     lane E              but in the first, the lane's
 --     pager R             and the pager's
 --     end
 -- All other numbers are in decimal form, with no leading zero. The limits are those of a session, `IsSession`.
@@ -20,7 +20,7 @@ use Rattle.migration_types.specs.declared.records.LogName.TheVariants.{Guest, So
 use Rattle.migration_types.specs.declared.version.Version.{Version}
 use Rattle.migration_types.specs.declared.version.Version.TheVariants.{One, Two}
 use Rattle.migration_types.specs.declared.size.Size.{Size}
-use Rattle.migration_types.specs.declared.size.Size.TheVariants.{Small}
+use Rattle.migration_types.specs.declared.size.Size.TheVariants.{Small, Large}
 use Rattle.migration_types.specs.Receipts.{Name}
 use Rattle.migration_types.specs.declared.records.LaneRec.{LaneRec}
 use Rattle.migration_types.specs.Sessions.{Recorded, IsSession}
@@ -29,10 +29,12 @@ pub use Rattle.text_lines.specs.Counted.{counted}
 pub use Rattle.session_text.specs.Records.{guest_key, source_key, link_key, lane_key, pager_key}
 use Rattle.session_text.specs.Records.{guest_line, source_line, link_line, lane_line, pager_line}
 
--- the fixed lines, and the words that other lines begin with
+-- The fixed lines, and the words that other lines begin with. No session of the first version is of the large size.
 abbrev pub header : Version → Size → List ℕ
 header One Small = codes "postcopy-session 1"
+header One Large = []
 header Two Small = codes "postcopy-session 2"
+header Two Large = codes "postcopy-session 3"
 
 abbrev pub pages_key : List ℕ
 pages_key = codes "pages "

@@ -17,7 +17,7 @@ pub struct Sizes {
 
 /// The numbers of records are below this one.
 #[inline(always)]
-#[tactic(auto, using(crate::specs::inner::Limits::limits_some))]
+#[tactic(auto, using(migration_types::specs::inner::Room::limits_some))]
 pub(crate) fn past_records(size: Size) -> u32
     ensures value { result ≡ (limits size).records }
     ensures some { 0 < result }

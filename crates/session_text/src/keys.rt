@@ -4,8 +4,14 @@ pub(crate) const FIRST_HEADER: &[u8] = b"postcopy-session 1";
 
 pub(crate) const SECOND_HEADER: &[u8] = b"postcopy-session 2";
 
+pub(crate) const THIRD_HEADER: &[u8] = b"postcopy-session 3";
+
 /// How the header is written.
-pub(crate) const HEADER_FORMS: &[&str] = &["postcopy-session 1", "postcopy-session 2"];
+pub(crate) const HEADER_FORMS: &[&str] = &[
+    "postcopy-session 1",
+    "postcopy-session 2",
+    "postcopy-session 3",
+];
 
 /// How the line with the number of pages begins.
 pub const PAGES_KEY: &[u8] = b"pages ";

@@ -47,5 +47,6 @@ pub fn wanted_cells(size: Size) -> Wanted {
 fn few_cells(size: Size) -> &'static str {
     match size {
         Size::Small => "the cells of all pages are at most 1,048,576",
+        Size::Large => "the cells of all pages are at most 16,777,216",
     }
 }

@@ -11,7 +11,7 @@ use Rattle.migration_types.specs.declared.pages.InitPage.{InitPage}
 use Rattle.migration_types.specs.declared.version.Version.{Version}
 use Rattle.migration_types.specs.declared.version.Version.TheVariants.{One, Two}
 use Rattle.migration_types.specs.Extents.{Extent, IsExtent}
-use Rattle.migration_types.specs.Limits.{limits}
+use Rattle.migration_types.specs.Limits.{HasSize, limits}
 use Rattle.migration_types.specs.Pages.{InitPageFits}
 use Rattle.migration_types.specs.Sessions.{GuestRecFits, SourceRecFits, LinkRecFits, LaneRecFits, PagerRecFits}
 use Rattle.session_text.specs.declared.parts.Stage.{Stage}
@@ -73,8 +73,9 @@ held_onto Lane d more = lane_onto d more
 held_onto Pager d more = pager_onto d more
 held_onto Done d more = pager_onto d (closing ∷ more)
 
--- the pages so far, with room for those to come
-pub record InitFits (e : Extent) (next : ℕ) (part : Part InitPage) : Type 0 where
+-- the machine, of a size that the version has, and its pages so far, with room for those to come
+pub record InitFits (version : Version) (e : Extent) (next : ℕ) (part : Part InitPage) : Type 0 where
+  pub size : HasSize version e.size
   pub geometry : IsExtent e
   pub within : length part.items ≤ part.count
   pub each : AllByRecursion (InitPageFits e) part.items
@@ -94,7 +95,7 @@ abbrev pub most_of : SessionDraft → ℕ
 most_of d = (limits d.geometry.size).records
 
 abbrev pub GuestFits : SessionDraft → Type 0
-GuestFits d = LogFits (most_of d) (InitFits d.geometry d.next_page d.init) d.init (GuestRecFits d.geometry) d.guest
+GuestFits d = LogFits (most_of d) (InitFits d.version d.geometry d.next_page d.init) d.init (GuestRecFits d.geometry) d.guest
 
 abbrev pub SourceFits : SessionDraft → Type 0
 SourceFits d = LogFits (most_of d) (GuestFits d) d.guest (SourceRecFits d.geometry) d.source
@@ -130,10 +131,10 @@ NoInit d = (d.init.items ≡ []) × NoGuest d
 -- what holds of a reader that no line was refused by
 abbrev pub Live : Stage → SessionDraft → Type 0
 Live Header d = NoInit d
-Live Pages d = NoInit d
-Live Cells d = NoInit d × (1 ≤ d.geometry.pages) × (d.geometry.pages ≤ (limits d.geometry.size).pages)
-Live InitCount d = NoInit d × IsExtent d.geometry
-Live Init d = InitFits d.geometry d.next_page d.init × NoGuest d
+Live Pages d = NoInit d × HasSize d.version d.geometry.size
+Live Cells d = NoInit d × (1 ≤ d.geometry.pages) × (d.geometry.pages ≤ (limits d.geometry.size).pages) × HasSize d.version d.geometry.size
+Live InitCount d = NoInit d × IsExtent d.geometry × HasSize d.version d.geometry.size
+Live Init d = InitFits d.version d.geometry d.next_page d.init × NoGuest d
 Live Guest d = GuestFits d × NoSource d
 Live Source d = SourceFits d × NoLink d
 Live Link d = LinkFits d × NoLane d

@@ -11,7 +11,7 @@ use Rattle.migration_types.specs.declared.records.LaneRec.{LaneRec}
 use Rattle.migration_types.specs.declared.version.Version.{Version}
 use Rattle.migration_types.specs.declared.version.Version.TheVariants.{One, Two}
 use Rattle.migration_types.specs.declared.size.Size.{Size}
-use Rattle.migration_types.specs.declared.size.Size.TheVariants.{Small}
+use Rattle.migration_types.specs.declared.size.Size.TheVariants.{Small, Large}
 use Rattle.migration_types.specs.Extents.{Extent}
 use Rattle.migration_types.specs.Pages.{InitPageFits}
 use Rattle.migration_types.specs.Limits.{limits, most_pages}
@@ -32,7 +32,9 @@ plain_counted key spell P xs more k le f h rest = (plain_keyed key (length xs) k
 
 plain_header : (version : Version) (size : Size) → IsLine (header version size)
 plain_header One Small = plain_codes (header One Small) refl
+plain_header One Large = tt
 plain_header Two Small = plain_codes (header Two Small) refl
+plain_header Two Large = plain_codes (header Two Large) refl
 
 plain_lane : (past : ℕ) → past ≤ 2 ^ 64 → (version : Version) (records : List LaneRec) (more : List (List ℕ)) → length records < 2 ^ 64 → AllByRecursion (LaneRecIn past version) records → AllByRecursion IsLine more → AllByRecursion IsLine (with_lane version records more)
 plain_lane past le One records more few each rest = rest

@@ -19,7 +19,7 @@ returns-then-next_page-self-clause-live g c =
     let few = f.geometry.some_pages in
     let last = ap (next_from 0) c.items.ensures in
     let longer = ap length t.taken.items ∙ length-append d.init.items t.taken.taken in
-    (pages_push (extent_of d.sizes) d.init c.lines_up_to-count.new.self (d.sizes.pages - 1) c.lines_up_to-count.result.1 c.args.bytes.now c.lines_up_to-count.result.0.now f (omega arith) t.count t.within t.taken (omega (arith, last, longer)), c.requires.live.1)
+    (pages_push d.version (extent_of d.sizes) d.init c.lines_up_to-count.new.self (d.sizes.pages - 1) c.lines_up_to-count.result.1 c.args.bytes.now c.lines_up_to-count.result.0.now f (omega arith) t.count t.within t.taken (omega (arith, last, longer)), c.requires.live.1)
 
 pub returns-clause-live : goal.returns-clause-live
 returns-clause-live g c =
