@@ -7,7 +7,8 @@ use Rattle.migration_types.specs.declared.cert.Run.{Run}
 use Rattle.migration_types.specs.declared.version.Version.{Version}
 use Rattle.migration_types.specs.declared.version.Version.TheVariants.{One, Two}
 use Rattle.migration_types.specs.declared.size.Size.{Size}
-use Rattle.migration_types.specs.declared.size.Size.TheVariants.{Small}
+use Rattle.migration_types.specs.declared.size.Size.TheVariants.{Small, Large}
+use Rattle.migration_types.specs.Limits.{HasSize}
 use Rattle.cert_text.specs.Runs.{runs_text_header}
 use Rattle.cert_text.specs.Grammar.{header}
 use Rattle.order_text.specs.declared.forms.Form.{Form}
@@ -26,14 +27,16 @@ mark_of (Faulty line reason) = 26222
 mark_of Cert = 28771
 mark_of Clean = 25344
 
-marked_header : (version : Version) (size : Size) → mark (header version size) ≡ 28771
-marked_header One Small = refl
-marked_header Two Small = refl
+marked_header : (version : Version) (size : Size) → HasSize version size → mark (header version size) ≡ 28771
+marked_header One Small has = refl
+marked_header Two Small has = refl
+marked_header One Large has = absurd has
+marked_header Two Large has = refl
 
 marked : (form : Form) (line : List ℕ) → IsFirst form line → mark line ≡ mark_of form
 marked Runs line e = ap mark e
 marked (Faulty n reason) line e = ap mark e.1
-marked Cert line e = ap mark e.2 ∙ marked_header e.0 e.1
+marked Cert line e = ap mark e.3 ∙ marked_header e.0 e.1 e.2
 marked Clean line e = ap mark e
 
 -- a line is the first of one form alone
@@ -43,7 +46,7 @@ same_mark f g line p q = sym (marked f line p) ∙ marked g line q
 pub first_is : (form : Form) (order : List Run) (line : List ℕ) (more : List (List ℕ)) → SpellsAs form order (line ∷ more) → IsFirst form line
 first_is Runs order line more s = let e = s.1 in cc
 first_is (Faulty n reason) order line more s = let e = s.1.2 in (s.0, cc)
-first_is Cert order line more s = let e = s.1.1 in (s.0.version, s.0.size, cc)
+first_is Cert order line more s = let e = s.1.1 in (s.0.version, s.0.size, s.1.0.size, cc)
 first_is Clean order line more s = let e = s.2 in cc
 
 -- a line that is the first of no form begins no text
@@ -56,14 +59,6 @@ no_form line a b c d Runs e = a e
 no_form line a b c d (Faulty n reason) e = d n reason e.0 e.1
 no_form line a b c d Cert e = b e
 no_form line a b c d Clean e = c e
-
--- a line that no first line of a certificate is
-pub no_cert_header : (line : List ℕ) → line ≢ header One Small → line ≢ header Two Small → IsCertHeader line → ⊥
-no_cert_header line one two e = none e.0 e.1 e.2
-  where
-    none : (version : Version) (size : Size) → line ≢ header version size
-    none One Small = one
-    none Two Small = two
 
 -- what a test does not find is not so
 pub not_this : {P : Type 0} (found : Bool) → found ≡ false → IsTrue found ↔ P → P → ⊥

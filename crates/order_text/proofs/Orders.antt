@@ -7,11 +7,13 @@ use Rattle.migration_types.specs.declared.cert.Run.{Run}
 use Rattle.migration_types.specs.declared.records.LogName.{LogName}
 use Rattle.migration_types.specs.declared.records.LogName.TheVariants.{Guest, Source, Link, Lane, Pager}
 use Rattle.migration_types.specs.declared.size.Size.{Size}
-use Rattle.migration_types.specs.declared.size.Size.TheVariants.{Small}
+use Rattle.migration_types.specs.declared.size.Size.TheVariants.{Large}
 use Rattle.migration_types.specs.declared.version.Version.{Version}
-use Rattle.migration_types.specs.declared.version.Version.TheVariants.{One, Two}
+use Rattle.migration_types.specs.declared.version.Version.TheVariants.{Two}
+use Rattle.migration_types.specs.Limits.{limits_at_most}
 use Rattle.migration_types.specs.Certs.{LogFits, RunFits, AreRuns}
 use Rattle.cert_text.specs.Runs.{SpellsRuns}
+use Rattle.cert_text.specs.inner.Limits.{few_runs}
 use Rattle.cert_text.specs.Grammar.{SpellsCertRuns}
 use Rattle.order_text.specs.declared.forms.Form.{Form}
 use Rattle.order_text.specs.declared.forms.Form.TheVariants.{Runs, Faulty, Cert, Clean}
@@ -94,31 +96,33 @@ spells_back form order lines fits some b s =
     subst (SpellsInner form order) (append-nil lines)
     (back_in form b.0 order lines b.1 [] some (as_begun form lines fits b) (subst (SpellsOrder order) (sym (append-nil (front_of form ++ lines))) s))
 
--- ---- an order is within the limits of the second version
+-- ---- an order is within the limits of the second version and of the large size
 
-log_in : (log : LogName) → LogFits One log → LogFits Two log
-log_in Guest h = tt
-log_in Source h = tt
-log_in Link h = tt
-log_in Lane h = tt
-log_in Pager h = tt
+log_in : (log : LogName) → LogFits Two log
+log_in Guest = tt
+log_in Source = tt
+log_in Link = tt
+log_in Lane = tt
+log_in Pager = tt
 
-runs_in : (size : Size) (runs : List Run) → AllByRecursion (RunFits One size) runs → AllByRecursion (RunFits Two size) runs
-runs_in size [] h = tt
-runs_in size (run ∷ runs) h = (record { log = log_in run.log h.0.log; some = h.0.some; few = h.0.few }, runs_in size runs h.1)
+run_in : (version : Version) (size : Size) (run : Run) → RunFits version size run → RunFits Two Large run
+run_in version size run h = let most = (limits_at_most size).few_records in record { log = log_in run.log; some = h.some; few = omega (arith, most, h.few) }
 
-in_second : (version : Version) (size : Size) (runs : List Run) → AreRuns version size runs → AreRuns Two Small runs
-in_second One Small runs h = record { few = omega (arith, h.few); each = runs_in Small runs h.each; alternate = h.alternate }
-in_second Two Small runs h = h
+runs_in : (version : Version) (size : Size) (runs : List Run) → AllByRecursion (RunFits version size) runs → AllByRecursion (RunFits Two Large) runs
+runs_in version size [] h = tt
+runs_in version size (run ∷ runs) h = (run_in version size run h.0, runs_in version size runs h.1)
 
-of_cert : (order : List Run) (lines : List (List ℕ)) → SpellsCertRuns order lines → AreRuns Two Small order
-of_cert order lines s = subst (AreRuns Two Small) (sym s.2) (in_second s.0.version s.0.size s.0.runs s.1.0.runs)
+in_large : (version : Version) (size : Size) (runs : List Run) → AreRuns version size runs → AreRuns Two Large runs
+in_large version size runs h = record { few = few_runs version size (length runs) h.few; each = runs_in version size runs h.each; alternate = h.alternate }
 
-of_form : (form : Form) (order : List Run) (lines : List (List ℕ)) → SpellsAs form order lines → AreRuns Two Small order
+of_cert : (order : List Run) (lines : List (List ℕ)) → SpellsCertRuns order lines → AreRuns Two Large order
+of_cert order lines s = subst (AreRuns Two Large) (sym s.2) (in_large s.0.version s.0.size s.0.runs s.1.0.runs)
+
+of_form : (form : Form) (order : List Run) (lines : List (List ℕ)) → SpellsAs form order lines → AreRuns Two Large order
 of_form Runs order lines s = s.0
 of_form (Faulty line reason) order lines s = s.1.1.0
 of_form Cert order lines s = of_cert order lines s
 of_form Clean order lines s = of_cert order s.0 s.1
 
-pub keeps_limits : (order : List Run) (lines : List (List ℕ)) → SpellsOrder order lines → AreRuns Two Small order
+pub keeps_limits : (order : List Run) (lines : List (List ℕ)) → SpellsOrder order lines → AreRuns Two Large order
 keeps_limits order lines s = of_form s.0 order lines s.1

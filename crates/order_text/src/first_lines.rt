@@ -80,6 +80,7 @@ fn is_cert_header(line: &[u8]) -> bool
 {
     is_line(line, cert_header(Version::One, Size::Small))
         || is_line(line, cert_header(Version::Two, Size::Small))
+        || is_line(line, cert_header(Version::Two, Size::Large))
 }
 
 /// The form of the texts that begin with this line.
@@ -107,6 +108,7 @@ const FIRST_LINES: &[&str] = &[
     "postcopy-runs 1",
     "postcopy-certificate 1",
     "postcopy-certificate 2",
+    "postcopy-certificate 3",
     "clean",
     "faulty line N read",
     "faulty line N early",

@@ -6,7 +6,7 @@ ghost use Rattle.std.specs.Prelude.{List, ℕ};
 ghost use Rattle.text_lines.specs.Answer.{Reads};
 ghost use Rattle.migration_types.specs.declared.cert.Run.{Run as Told};
 ghost use Rattle.migration_types.specs.declared.version.Version.TheVariants.{Two};
-ghost use Rattle.migration_types.specs.declared.size.Size.TheVariants.{Small};
+ghost use Rattle.migration_types.specs.declared.size.Size.TheVariants.{Large};
 ghost use Rattle.migration_types.specs.Certs.{AreRuns};
 ghost use Rattle.order_text.specs.Order.{SpellsOrder};
 
@@ -28,11 +28,11 @@ pub type OrderText = Staged<OrderParts>;
 /// Reads a text that tells an order and comes in pieces.
 pub type OrderReader = TextReader<OrderText>;
 
-/// A law: an order that a text tells is within the limits of runs of the second version and of the small size, whatever the
+/// A law: an order that a text tells is within the limits of runs of the second version and of the large size, whatever the
 /// text's form.
 #[tactic(auto, using(crate::proofs::Orders::keeps_limits))]
 pub fn orders_keep_limits()
-    ensures { (runs : List Told) (lines : List (List ℕ)) → SpellsOrder runs lines → AreRuns Two Small runs }
+    ensures { (runs : List Told) (lines : List (List ℕ)) → SpellsOrder runs lines → AreRuns Two Large runs }
 {}
 
 /// The order that the bytes tell: the runs of a text of runs or of a certificate, alone or below the first line of the report

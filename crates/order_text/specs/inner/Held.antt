@@ -2,6 +2,7 @@
 use Rattle.std.specs.Prelude.{◌≡◌, ℕ, ◌<◌, Bool, true, false, List, [], ◌∷◌, ◌++◌, length}
 use Rattle.migration_types.specs.declared.version.Version.{Version}
 use Rattle.migration_types.specs.declared.size.Size.{Size}
+use Rattle.migration_types.specs.Limits.{HasSize}
 use Rattle.cert_text.specs.Runs.{runs_text_header}
 use Rattle.cert_text.specs.Grammar.{header}
 use Rattle.order_text.specs.declared.forms.Form.{Form}
@@ -11,7 +12,7 @@ use Rattle.order_text.specs.Order.{clean_line, faulty_line, IsLineNumber}
 -- ---- the first line
 
 abbrev pub IsCertHeader : List ℕ → Type 0
-IsCertHeader line = (version : Version) × (size : Size) × (line ≡ header version size)
+IsCertHeader line = (version : Version) × (size : Size) × HasSize version size × (line ≡ header version size)
 
 -- texts of this form begin with this line
 abbrev pub IsFirst : Form → List ℕ → Type 0
