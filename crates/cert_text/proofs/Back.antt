@@ -66,6 +66,7 @@ entry_fits_back version size pages old new entry runs e none f =
     let g : EntriesFit (record { version = version; size = size; pages = pages; entries = new ++ entry ∷ []; runs = runs }) = subst (λ (t : List Entry). EntriesFit (record { version = version; size = size; pages = pages; entries = t; runs = runs })) e f in
     let count = g.count in
     record {
+      size = g.size;
       some_pages = g.some_pages;
       few_pages = g.few_pages;
       own = g.own;

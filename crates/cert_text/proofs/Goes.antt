@@ -9,7 +9,7 @@ use Rattle.migration_types.specs.declared.cert.Entry.{Entry}
 use Rattle.migration_types.specs.declared.cert.Entry.TheVariants.{Nothing}
 use Rattle.migration_types.specs.declared.version.Version.{Version}
 use Rattle.migration_types.specs.declared.size.Size.{Size}
-use Rattle.migration_types.specs.Limits.{limits}
+use Rattle.migration_types.specs.Limits.{HasSize, limits}
 use Rattle.migration_types.specs.Certs.{Certified, IsCert}
 use Rattle.cert_text.specs.declared.cert_lines.Stage.{Stage}
 use Rattle.cert_text.specs.declared.cert_lines.Stage.TheVariants.{Header, Pages, Entries}
@@ -34,7 +34,7 @@ full_begins d f full b =
       cert_of d b.0,
       b.1,
       (
-        record { some_pages = omega arith; few_pages = omega arith; own = subst (λ (n : ℕ). n ≤ (limits d.size).pages) full f.own; entries = f.each; runs = b.2.0 },
+        record { size = f.size; some_pages = omega arith; few_pages = omega arith; own = subst (λ (n : ℕ). n ≤ (limits d.size).pages) full f.own; entries = f.each; runs = b.2.0 },
         entries_onto_append d.version d.size d.pages d.entries d.runs b.1 ∙ (ap (λ (n : ℕ). entries_onto d.version d.size n d.entries (d.runs ++ b.1)) full ∙ ap (λ (t : List (List ℕ)). entries_onto d.version d.size (length d.entries) d.entries t) b.2.1),
       ),
     )
@@ -51,15 +51,15 @@ entries_begin (suc m) d f e b =
     Begins-front SpellsCert (entries_onto d.version d.size d.pages d.entries d.runs) (entry_line (length d.entries) Nothing ∷ []) (subst (Begins SpellsCert) same goes)
 
 -- a text of one page begins with the header
-header_begins : (version : Version) (size : Size) → Begins (SpellsRunLines version size) [] → Begins SpellsCert (header version size ∷ [])
-header_begins version size b =
+header_begins : (version : Version) (size : Size) → HasSize version size → Begins (SpellsRunLines version size) [] → Begins SpellsCert (header version size ∷ [])
+header_begins version size has b =
     let first : CertDraft = record { version = version; size = size; pages = 1; entries = []; runs = [] } in
-    let fits : EntriesFit first = record { some_pages = omega arith; few_pages = omega arith; own = (limits_some size).pages; count = omega arith; each = tt; runs = λ _. refl } in
+    let fits : EntriesFit first = record { size = has; some_pages = omega arith; few_pages = omega arith; own = (limits_some size).pages; count = omega arith; each = tt; runs = λ _. refl } in
     Begins-front SpellsCert (header version size ∷ []) ((pages_key ++ decimal 1) ∷ []) (entries_begin 1 first fits (omega arith) b)
 
 pub live_begins : (stage : Stage) (d : CertDraft) → Live stage d → Begins (SpellsRunLines d.version d.size) d.runs → Begins SpellsCert (held_by stage d)
-live_begins Header d live b = Begins-front SpellsCert [] (header d.version d.size ∷ []) (header_begins d.version d.size (subst (Begins (SpellsRunLines d.version d.size)) live.runs b))
-live_begins Pages d live b = header_begins d.version d.size (subst (Begins (SpellsRunLines d.version d.size)) live.runs b)
+live_begins Header d live b = Begins-front SpellsCert [] (header d.version d.size ∷ []) (header_begins d.version d.size live.size (subst (Begins (SpellsRunLines d.version d.size)) live.runs b))
+live_begins Pages d live b = header_begins d.version d.size live.size (subst (Begins (SpellsRunLines d.version d.size)) live.runs b)
 live_begins Entries d live b = let count = live.count in entries_begin (d.pages - length d.entries) d live (omega arith) b
 
 -- ---- what is not whole is no text

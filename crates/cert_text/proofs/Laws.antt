@@ -10,8 +10,8 @@ use Rattle.migration_types.specs.declared.cert.Entry.{Entry}
 use Rattle.migration_types.specs.declared.version.Version.{Version}
 use Rattle.migration_types.specs.declared.version.Version.TheVariants.{One, Two}
 use Rattle.migration_types.specs.declared.size.Size.{Size}
-use Rattle.migration_types.specs.declared.size.Size.TheVariants.{Small}
-use Rattle.migration_types.specs.Limits.{most_pages}
+use Rattle.migration_types.specs.declared.size.Size.TheVariants.{Small, Large}
+use Rattle.migration_types.specs.Limits.{HasSize, most_pages}
 use Rattle.migration_types.specs.Certs.{Certified, EntryFits, AreRuns, IsCert}
 use Rattle.cert_text.specs.declared.cert_lines.Stage.{Stage}
 use Rattle.cert_text.specs.declared.cert_lines.Stage.TheVariants.{Header, Pages, Entries}
@@ -55,10 +55,24 @@ header_tells One One Small Small e = (refl, refl)
 header_tells Two Two Small Small e = (refl, refl)
 header_tells One Two Small Small e = let last : 49 ≡ 50 = ap (λ (line : List ℕ). get_or line 21 0) e in absurd (omega (arith, last))
 header_tells Two One Small Small e = let last : 50 ≡ 49 = ap (λ (line : List ℕ). get_or line 21 0) e in absurd (omega (arith, last))
+header_tells One One Large Large e = (refl, refl)
+header_tells Two Two Large Large e = (refl, refl)
+header_tells One Two Large Large e = absurd cc
+header_tells Two One Large Large e = absurd cc
+header_tells One One Large Small e = absurd cc
+header_tells One Two Large Small e = absurd cc
+header_tells One One Small Large e = absurd cc
+header_tells Two One Small Large e = absurd cc
+header_tells One Two Small Large e = let last : 49 ≡ 51 = ap (λ (line : List ℕ). get_or line 21 0) e in absurd (omega (arith, last))
+header_tells Two One Large Small e = let last : 51 ≡ 49 = ap (λ (line : List ℕ). get_or line 21 0) e in absurd (omega (arith, last))
+header_tells Two Two Small Large e = let last : 50 ≡ 51 = ap (λ (line : List ℕ). get_or line 21 0) e in absurd (omega (arith, last))
+header_tells Two Two Large Small e = let last : 51 ≡ 50 = ap (λ (line : List ℕ). get_or line 21 0) e in absurd (omega (arith, last))
 
-pub no_header : (line : List ℕ) (version : Version) (size : Size) → line ≢ header One Small → line ≢ header Two Small → line ≢ header version size
-no_header line One Small one two = one
-no_header line Two Small one two = two
+pub no_header : (line : List ℕ) (version : Version) (size : Size) → line ≢ header One Small → line ≢ header Two Small → line ≢ header Two Large → HasSize version size → line ≢ header version size
+no_header line One Small one two large has = one
+no_header line Two Small one two large has = two
+no_header line One Large one two large has = absurd has
+no_header line Two Large one two large has = large
 
 -- the version, the size and the number of pages of the text, and what follows them
 pub record EntriesAgree (version : Version) (size : Size) (pages : ℕ) (entries : List Entry) (more : List (List ℕ)) (c : Certified) : Type 0 where
@@ -119,7 +133,7 @@ pub run_taken : (stage : Stage) (d : CertDraft) (version : Version) (size : Size
 run_taken Header d version size runs line is live full same sized grown = absurd cc
 run_taken Pages d version size runs line is live full same sized grown = absurd cc
 run_taken Entries d version size runs line is live full same sized grown = rw (same, sized, grown) (
-  record { some_pages = live.some_pages; few_pages = live.few_pages; own = live.own; count = live.count; each = live.each; runs = λ less. absurd (omega (arith, full, less)) },
+  record { size = live.size; some_pages = live.some_pages; few_pages = live.few_pages; own = live.own; count = live.count; each = live.each; runs = λ less. absurd (omega (arith, full, less)) },
   sym (entries_onto_append d.version d.size d.pages d.entries d.runs (line ∷ [])),
 )
 
@@ -133,6 +147,7 @@ entry_held d entry =
 
 pub entry_push : (d : CertDraft) (entry : Entry) → EntriesFit d → length d.entries < d.pages → EntryFits d.version d.size entry → EntriesFit (record d { entries = d.entries ++ entry ∷ [] })
 entry_push d entry f less fits = record {
+  size = f.size;
   some_pages = f.some_pages;
   few_pages = f.few_pages;
   own = f.own;

@@ -8,13 +8,16 @@ use Rattle.migration_types.specs.declared.cert.Entry.TheVariants.{Nothing, Fresh
 use Rattle.migration_types.specs.declared.version.Version.{Version}
 use Rattle.migration_types.specs.declared.version.Version.TheVariants.{One, Two}
 use Rattle.migration_types.specs.declared.size.Size.{Size}
-use Rattle.migration_types.specs.declared.size.Size.TheVariants.{Small}
+use Rattle.migration_types.specs.declared.size.Size.TheVariants.{Small, Large}
 use Rattle.migration_types.specs.Certs.{Certified, IsCert}
 use Rattle.cert_text.specs.Runs.{runs_lines}
 
+-- The first line. No certificate of the first version is of the large size.
 abbrev pub header : Version → Size → List ℕ
 header One Small = codes "postcopy-certificate 1"
 header Two Small = codes "postcopy-certificate 2"
+header One Large = []
+header Two Large = codes "postcopy-certificate 3"
 
 abbrev pub pages_key : List ℕ
 pages_key = codes "pages "
@@ -52,7 +55,7 @@ entry_lines page [] = []
 entry_lines page (entry ∷ entries) = entry_line page entry ∷ entry_lines (page + 1) entries
 
 -- A certificate of four pages and one run of three records, line by line. Its first line ends in 1 where it is of the
--- first version, in which no page is fresh and no run is of the lane:
+-- first version, in which no page is fresh and no run is of the lane, and in 3 where it is of the large size:
 --   postcopy-certificate 2
 --   pages 4
 --   page 0 source 3 5 5 4

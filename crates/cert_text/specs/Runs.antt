@@ -7,7 +7,7 @@ use Rattle.migration_types.specs.declared.cert.Run.{Run}
 use Rattle.migration_types.specs.declared.version.Version.{Version}
 use Rattle.migration_types.specs.declared.version.Version.TheVariants.{Two}
 use Rattle.migration_types.specs.declared.size.Size.{Size}
-use Rattle.migration_types.specs.declared.size.Size.TheVariants.{Small}
+use Rattle.migration_types.specs.declared.size.Size.TheVariants.{Large}
 use Rattle.migration_types.specs.Certs.{AreRuns}
 pub use Rattle.migration_types.specs.Receipts.{log_word}
 
@@ -32,12 +32,12 @@ runs_lines runs = counted runs_key run_line runs (closing ∷ [])
 abbrev pub SpellsRunLines : Version → Size → List Run → List (List ℕ) → Type 0
 SpellsRunLines version size runs lines = AreRuns version size runs × (lines ≡ runs_lines runs)
 
--- These lines are the text of these runs, which are within the limits of the second version and of the small size: runs have
--- one text for sessions of both versions. A text of two runs, line by line:
+-- These lines are the text of these runs, which are within the limits of the second version and of the large size: runs
+-- have one text for sessions of both versions and of both sizes. A text of two runs, line by line:
 --   postcopy-runs 1
 --   runs 2
 --   run guest 3
 --   run link 1
 --   end
 abbrev pub SpellsRuns : List Run → List (List ℕ) → Type 0
-SpellsRuns runs lines = AreRuns Two Small runs × (lines ≡ runs_text_header ∷ runs_lines runs)
+SpellsRuns runs lines = AreRuns Two Large runs × (lines ≡ runs_text_header ∷ runs_lines runs)

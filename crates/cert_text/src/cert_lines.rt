@@ -3,6 +3,7 @@
 ghost use Rattle.std.specs.Prelude.{◌≡◌, ◌≢◌, ℕ, [], MatchOption, IfSome, IfNone};
 ghost use Rattle.migration_types.specs.declared.version.Version.{Version as Told};
 ghost use Rattle.migration_types.specs.declared.size.Size.{Size as Limited};
+ghost use Rattle.migration_types.specs.Limits.{HasSize};
 ghost use Rattle.migration_types.specs.Certs.{Certified};
 ghost use Rattle.text_lines.specs.Text.{TakesLines};
 ghost use Rattle.cert_text.specs.Grammar.{header, SpellsCert};
@@ -102,7 +103,11 @@ impl CertParts {
 }
 
 /// How the header is written.
-const HEADER_FORMS: &[&str] = &["postcopy-certificate 1", "postcopy-certificate 2"];
+const HEADER_FORMS: &[&str] = &[
+    "postcopy-certificate 1",
+    "postcopy-certificate 2",
+    "postcopy-certificate 3",
+];
 
 impl Stages for CertParts {
     type Stage = Stage;
@@ -223,26 +228,31 @@ impl StagesApart for CertParts {
     }
 }
 
-/// The first line of a certificate of this version and size.
+/// The first line of a certificate of this version and size. It is empty where the version has no such size.
 pub fn cert_header(version: Version, size: Size) -> &'static [u8]
     ensures { result.now ≡ header version size }
 {
     match (version, size) {
         (Version::One, Size::Small) => b"postcopy-certificate 1",
         (Version::Two, Size::Small) => b"postcopy-certificate 2",
+        (Version::One, Size::Large) => b"",
+        (Version::Two, Size::Large) => b"postcopy-certificate 3",
     }
 }
 
 /// The version and the size whose certificates have this first line.
 #[tactic(auto, using(crate::proofs::Laws::no_header))]
 fn version_of(line: &[u8]) -> Option<(Version, Size)>
-    ensures { MatchOption result ((version : Told) (size : Limited) → line.now ≢ header version size) (λ told. line.now ≡ header told.0 told.1) }
+    ensures { MatchOption result ((version : Told) (size : Limited) → HasSize version size → line.now ≢ header version size) (λ told. HasSize told.0 told.1 × (line.now ≡ header told.0 told.1)) }
 {
     if is_line(line, cert_header(Version::One, Size::Small)) {
         return Some((Version::One, Size::Small));
     }
     if is_line(line, cert_header(Version::Two, Size::Small)) {
         return Some((Version::Two, Size::Small));
+    }
+    if is_line(line, cert_header(Version::Two, Size::Large)) {
+        return Some((Version::Two, Size::Large));
     }
     None
 }

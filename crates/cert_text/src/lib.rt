@@ -5,7 +5,7 @@ ghost use Rattle.std.specs.Prelude.{IfOk};
 ghost use Rattle.text_lines.specs.Answer.{Reads};
 ghost use Rattle.text_lines.specs.Text.{IsSpelling, IsUnambiguous};
 ghost use Rattle.migration_types.specs.declared.version.Version.TheVariants.{Two};
-ghost use Rattle.migration_types.specs.declared.size.Size.TheVariants.{Small};
+ghost use Rattle.migration_types.specs.declared.size.Size.TheVariants.{Large};
 ghost use Rattle.migration_types.specs.Certs.{AreRuns};
 ghost use Rattle.cert_text.specs.Grammar.{SpellsCert};
 ghost use Rattle.cert_text.specs.Runs.{SpellsRuns};
@@ -50,10 +50,12 @@ pub fn cert_texts_are_unambiguous()
     ensures { IsUnambiguous SpellsCert }
 {}
 
-/// The certificate that the bytes spell: a header, an entry for each of 1 to 65,536 pages in order, at most 5,242,880
-/// runs of 1 to 1,048,576 records, of which no two neighbours are of one log, and a closing line. An LF ends each line.
-/// The header tells the version and the size; where the version is the first, a fresh page's entry is no entry, a run of the lane is no run, and
-/// there are at most 4,194,304 runs.
+/// The certificate that the bytes spell: a header, an entry for each page in order, runs of 1 or more records, of which no
+/// two neighbours are of one log, and a closing line. An LF ends each line. The header tells the version and the size. Of
+/// the small size are 1 to 65,536 pages, and at most 5,242,880 runs of up to 1,048,576 records; of the large size, which the
+/// second version alone has, 1 to 16,777,216 pages, and at most 671,088,640 runs of up to 134,217,728 records. Where the
+/// version is the first, a fresh page's entry is no entry, a run of the lane is no run, and there are at most 4,194,304
+/// runs.
 ///
 /// Any other input is refused, at the line with which it stops being the beginning of such a text. Lines count from 1.
 /// Where memory is refused, the fault's line is 0.
@@ -82,8 +84,9 @@ pub fn runs_texts_are_unambiguous()
     ensures { IsUnambiguous SpellsRuns }
 {}
 
-/// The runs that the bytes spell: a header, at most 5,242,880 runs of 1 to 1,048,576 records, of which no two
-/// neighbours are of one log, and a closing line. An LF ends each line.
+/// The runs that the bytes spell: a header, at most 671,088,640 runs of 1 to 134,217,728 records, of which no two
+/// neighbours are of one log, and a closing line. An LF ends each line. So it may tell the runs of a session of either
+/// size.
 ///
 /// Any other input is refused, at the line with which it stops being the beginning of such a text. Lines count from 1.
 /// Where memory is refused, the fault's line is 0.
@@ -93,10 +96,10 @@ pub fn read_runs(alloc: Global, bytes: &[u8]) -> Result<Seq<Run>, TextFault>
     read_whole::<RunsText>(alloc, bytes)
 }
 
-/// The text of runs within the limits of the second version and of the small size, which `read_runs` reads back. An error: there is no memory for
-/// it.
+/// The text of runs within the limits of the second version and of the large size, which `read_runs` reads back. An error:
+/// there is no memory for it.
 pub fn write_runs(alloc: Global, runs: &[Run]) -> Result<Vec<u8>, AllocError>
-    requires { AreRuns Two Small runs.now }
+    requires { AreRuns Two Large runs.now }
     ensures { IfOk result (λ out. IsSpelling SpellsRuns runs.now out.items) }
 {
     let mut out = Vec::new(alloc);

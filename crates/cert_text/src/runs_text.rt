@@ -11,7 +11,8 @@ use text_lines::{Alone, FaultKind, Stages, StagesApart, StagesBack, Team, Wanted
 /// The first line of a text of runs.
 pub const RUNS_HEADER: &[u8] = b"postcopy-runs 1";
 
-/// What came of the runs, which are those of the second version and of the small size. The stage tells whether the header came.
+/// What came of the runs, which are those of the second version and of the large size. The stage tells whether the header
+/// came.
 #[derive(Drop)]
 pub struct RunsParts {
     runs: RunLines,
@@ -31,7 +32,7 @@ impl Stages for RunsParts {
     ghost Live = { LiveAt };
 
     fn begin(alloc: Global) -> (bool, Self) {
-        let runs = RunLines::new(alloc, Version::Two, Size::Small);
+        let runs = RunLines::new(alloc, Version::Two, Size::Large);
         (false, RunsParts { runs })
     }
 

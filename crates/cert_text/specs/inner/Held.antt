@@ -11,8 +11,8 @@ use Rattle.migration_types.specs.declared.cert.Entry.{Entry}
 use Rattle.migration_types.specs.declared.version.Version.{Version}
 use Rattle.migration_types.specs.declared.version.Version.TheVariants.{Two}
 use Rattle.migration_types.specs.declared.size.Size.{Size}
-use Rattle.migration_types.specs.declared.size.Size.TheVariants.{Small}
-use Rattle.migration_types.specs.Limits.{limits, most_pages, most_runs}
+use Rattle.migration_types.specs.declared.size.Size.TheVariants.{Large}
+use Rattle.migration_types.specs.Limits.{HasSize, limits, most_pages, most_runs}
 use Rattle.migration_types.specs.Certs.{RunFits, EntryFits, Alternate}
 use Rattle.cert_text.specs.declared.run_lines.RunStage.{RunStage}
 use Rattle.cert_text.specs.declared.run_lines.RunStage.TheVariants.{Count, Runs, Done}
@@ -78,9 +78,9 @@ abbrev pub IsHeaded : Bool → List (List ℕ) → Type 0
 IsHeaded false runs = runs ≡ []
 IsHeaded true runs = Unit {0}
 
--- a text of runs has what the second version may have, of the small size
+-- a text of runs has what the second version may have, of the large size
 abbrev pub HeadedLive : Bool → RunsSoFar → Type 0
-HeadedLive headed runs = (runs.version ≡ Two) × (runs.size ≡ Small) × IsHeaded headed runs.lines
+HeadedLive headed runs = (runs.version ≡ Two) × (runs.size ≡ Large) × IsHeaded headed runs.lines
 
 -- ---- a certificate
 
@@ -101,13 +101,15 @@ held_by Header d = []
 held_by Pages d = header d.version d.size ∷ []
 held_by Entries d = entries_onto d.version d.size d.pages d.entries d.runs
 
--- nothing of the lists came
+-- of a size that the version has, and nothing of the lists came
 pub record IsEmpty (d : CertDraft) : Type 0 where
+  pub size : HasSize d.version d.size
   pub entries : d.entries ≡ []
   pub runs : d.runs ≡ []
 
--- the entries so far, and lines of runs after the last
+-- of a size that the version has: the entries so far, and lines of runs after the last
 pub record EntriesFit (d : CertDraft) : Type 0 where
+  pub size : HasSize d.version d.size
   pub some_pages : 1 ≤ d.pages
   pub few_pages : d.pages ≤ most_pages
   pub own : d.pages ≤ (limits d.size).pages

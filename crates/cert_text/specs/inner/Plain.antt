@@ -14,7 +14,7 @@ use Rattle.migration_types.specs.declared.cert.Entry.TheVariants.{Nothing, Fresh
 use Rattle.migration_types.specs.declared.version.Version.{Version}
 use Rattle.migration_types.specs.declared.version.Version.TheVariants.{One, Two}
 use Rattle.migration_types.specs.declared.size.Size.{Size}
-use Rattle.migration_types.specs.declared.size.Size.TheVariants.{Small}
+use Rattle.migration_types.specs.declared.size.Size.TheVariants.{Small, Large}
 use Rattle.migration_types.specs.Sessions.{IsNumber}
 use Rattle.migration_types.specs.Certs.{Certified, FirstFits, EntryFits, RunFits, AreRuns}
 use Rattle.cert_text.specs.inner.Limits.{few_runs, number_small, count_small}
@@ -46,7 +46,7 @@ plain_runs version size runs fits =
     (plain_keyed runs_key (length runs) (plain_codes runs_key refl) (omega arith), plain_section run_line (RunFits version size) runs (closing ∷ []) (plain_run version size) fits.each (plain_codes closing refl, tt))
 
 pub plain_runs_text : (runs : List Run) (lines : List (List ℕ)) → SpellsRuns runs lines → AllByRecursion IsLine lines
-plain_runs_text runs lines s = subst (AllByRecursion IsLine) (sym s.1) (plain_codes runs_text_header refl, plain_runs Two Small runs s.0)
+plain_runs_text runs lines s = subst (AllByRecursion IsLine) (sym s.1) (plain_codes runs_text_header refl, plain_runs Two Large runs s.0)
 
 -- ---- entries
 
@@ -81,6 +81,8 @@ plain_entries version size page (entry ∷ entries) more lt fits h = (plain_entr
 plain_header : (version : Version) (size : Size) → IsLine (header version size)
 plain_header One Small = plain_codes (header One Small) refl
 plain_header Two Small = plain_codes (header Two Small) refl
+plain_header One Large = tt
+plain_header Two Large = plain_codes (header Two Large) refl
 
 pub plain_cert : (c : Certified) (lines : List (List ℕ)) → SpellsCert c lines → AllByRecursion IsLine lines
 plain_cert c lines s =
