@@ -6,7 +6,7 @@ use Rattle.migration_types.specs.declared.records.GuestRec.TheVariants.{Read, Wr
 use Rattle.migration_types.specs.declared.records.PagerRec.{PagerRec}
 use Rattle.migration_types.specs.declared.cert.Run.{Run}
 use Rattle.migration_types.specs.declared.version.Version.TheVariants.{Two}
-use Rattle.migration_types.specs.declared.size.Size.TheVariants.{Small}
+use Rattle.migration_types.specs.declared.size.Size.TheVariants.{Large}
 use Rattle.migration_types.specs.Certs.{Certified, AreRuns}
 use Rattle.migration_types.specs.Receipts.{Name}
 use Rattle.migration_types.specs.Sessions.{Recorded, line_of}
@@ -103,7 +103,7 @@ abbrev pub IsClean : Report → Type 0
 IsClean (Clean cert) = Unit {0}
 IsClean _ = ⊥
 
--- the runs of a fault's order are within the limits of their text, which are those of the second version
+-- the runs of a fault's order are within the limits of their text, which are those of the second version and of the large size
 abbrev pub ReportFits : Report → Type 0
-ReportFits (Faulty line fault order) = AreRuns Two Small order
+ReportFits (Faulty line fault order) = AreRuns Two Large order
 ReportFits _ = Unit {0}

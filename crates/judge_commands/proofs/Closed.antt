@@ -17,7 +17,7 @@ use Rattle.migration_types.specs.declared.records.PagerRec.TheVariants.{Got, Pul
 use Rattle.migration_types.specs.declared.version.Version.{Version}
 use Rattle.migration_types.specs.declared.version.Version.TheVariants.{One, Two}
 use Rattle.migration_types.specs.declared.size.Size.{Size}
-use Rattle.migration_types.specs.declared.size.Size.TheVariants.{Small}
+use Rattle.migration_types.specs.declared.size.Size.TheVariants.{Small, Large}
 use Rattle.migration_types.specs.Sessions.{Recorded}
 use Rattle.session_text.specs.Records.{guest_line, source_line, link_line, lane_line, pager_line}
 use Rattle.session_text.specs.Grammar.{header, pages_key, cells_key, init_key, guest_key, source_key, link_key, lane_key, pager_key, page_line, with_lane, session_lines}
@@ -93,6 +93,8 @@ page_other p = other_line (page_line p) refl
 header_other : (version : Version) (size : Size) → header version size ≢ codes "end"
 header_other One Small = other_line (header One Small) refl
 header_other Two Small = other_line (header Two Small) refl
+header_other One Large = other_line (header One Large) refl
+header_other Two Large = other_line (header Two Large) refl
 
 closed_lane : (version : Version) (records : List LaneRec) (lines : List (List ℕ)) → IsClosed lines → IsClosed (with_lane version records lines)
 closed_lane One records lines c = c

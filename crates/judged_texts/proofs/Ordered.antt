@@ -4,7 +4,7 @@ use Rattle.migration_types.specs.declared.cert.Run.{Run}
 use Rattle.migration_types.specs.declared.records.LogName.{LogName}
 use Rattle.migration_types.specs.declared.records.LogName.TheVariants.{Guest, Source, Link, Lane, Pager}
 use Rattle.migration_types.specs.declared.version.Version.TheVariants.{Two}
-use Rattle.migration_types.specs.declared.size.Size.TheVariants.{Small}
+use Rattle.migration_types.specs.declared.size.Size.TheVariants.{Large}
 use Rattle.migration_types.specs.Sessions.{Recorded, line_of}
 use Rattle.migration_types.specs.Certs.{Certified, AreRuns, IsCert}
 use Rattle.cert_text.specs.Runs.{runs_text_header, runs_lines}
@@ -23,7 +23,7 @@ some_line s Link n = omega arith
 some_line s Lane n = omega arith
 some_line s Pager n = omega arith
 
-pub faulty_tells : (s : Recorded) (line : ℕ) (fault : PageFault) (order : List Run) → line < 2 ^ 32 → AreRuns Two Small order → IsReport s (Faulty line fault order) → TellsOrder (Faulty line fault order)
+pub faulty_tells : (s : Recorded) (line : ℕ) (fault : PageFault) (order : List Run) → line < 2 ^ 32 → AreRuns Two Large order → IsReport s (Faulty line fault order) → TellsOrder (Faulty line fault order)
 faulty_tells s line fault order few fits is =
     let some = some_line s fault.log fault.place in
     let at = is.1.is_line in
