@@ -1,23 +1,25 @@
 //! Certificates and runs: what is read of their texts.
 
 use crate::formats::{Format, fault_in, none_is_wrong};
-use crate::texts::{FRESH, RELEASED, RUNS, SENT, UNUSED};
+use crate::texts::{FRESH, LARGE, RELEASED, RUNS, SENT, UNUSED};
 use cert_text::{read_cert, read_runs};
-use migration_types::{Entry, First, LogName, Run, Version};
+use migration_types::{Entry, First, LogName, Run, Size, Version};
 use std::alloc::Global;
 
-/// A text of a certificate, its version, its entries and the count of its runs.
+/// A text of a certificate, its version, its size, its entries and the count of its runs.
 struct Spelled {
     text: &'static str,
     version: Version,
+    size: Size,
     entries: &'static [Entry],
     runs: usize,
 }
 
-static CERTS: [Spelled; 4] = [
+static CERTS: [Spelled; 5] = [
     Spelled {
         text: SENT,
         version: Version::One,
+        size: Size::Small,
         entries: &[
             Entry::Source {
                 send: 3,
@@ -35,6 +37,7 @@ static CERTS: [Spelled; 4] = [
     Spelled {
         text: RELEASED,
         version: Version::One,
+        size: Size::Small,
         entries: &[
             Entry::Nothing,
             Entry::Balloon {
@@ -47,6 +50,7 @@ static CERTS: [Spelled; 4] = [
     Spelled {
         text: UNUSED,
         version: Version::One,
+        size: Size::Small,
         entries: &[
             Entry::Source {
                 send: 0,
@@ -71,6 +75,7 @@ static CERTS: [Spelled; 4] = [
     Spelled {
         text: FRESH,
         version: Version::Two,
+        size: Size::Small,
         entries: &[
             Entry::Source {
                 send: 3,
@@ -86,12 +91,30 @@ static CERTS: [Spelled; 4] = [
         ],
         runs: 2,
     },
+    Spelled {
+        text: LARGE,
+        version: Version::Two,
+        size: Size::Large,
+        entries: &[
+            Entry::Source {
+                send: 134_217_727,
+                place: 1_048_576,
+                first: Some(First {
+                    access: 134_217_727,
+                    see: 0,
+                }),
+            },
+            Entry::Fresh { first: 134_217_727 },
+        ],
+        runs: 2,
+    },
 ];
 
 fn is_read(alloc: Global, spelled: &Spelled) -> bool {
     match read_cert(alloc, spelled.text.as_bytes()) {
         Ok(cert) => {
             cert.version() == spelled.version
+                && cert.size() == spelled.size
                 && cert.entries() == spelled.entries
                 && cert.runs().len() == spelled.runs
         }
@@ -126,7 +149,7 @@ static SPELLED_RUNS: [Run; 5] = [
     },
     Run {
         log: LogName::Link,
-        count: 1_048_576,
+        count: 134_217_728,
     },
     Run {
         log: LogName::Lane,
@@ -151,8 +174,9 @@ fn runs_are_read(rt: HostRuntime) {
 }
 
 /// Changes of `SENT` that leave a certificate: what is changed, and what into.
-static AT_LIMITS: [(&str, &str); 4] = [
+static AT_LIMITS: [(&str, &str); 5] = [
     ("certificate 1", "certificate 2"),
+    ("certificate 1", "certificate 3"),
     ("3 5 5 4\n", "3 5 - -\n"),
     ("3 5 5 4\n", "3 5 5 1048575\n"),
     ("guest 2", "guest 1048576"),

@@ -2,7 +2,7 @@
 //! range, or an end that is too early or too late.
 
 use crate::formats::{Format, fault_in, none_is_wrong};
-use crate::texts::{FRESH, KINDS, LATE, PULLED, PUSHED, RUNS, SENT};
+use crate::texts::{FRESH, KINDS, LARGE, LATE, PULLED, PUSHED, RUNS, SENT};
 use FaultKind::{Ended, Form, Range};
 use std::alloc::Global;
 use text_lines::FaultKind;
@@ -129,7 +129,7 @@ static PULLED_CHANGES: [Change; 5] = [
 
 /// Changes of `SENT`.
 static CERT_CHANGES: [Change; 50] = [
-    Change(1, Form, "certificate 1", "certificate 3"),
+    Change(1, Form, "certificate 1", "certificate 4"),
     Change(2, Form, "pages 2", "page 2"),
     Change(2, Form, "pages 2", "pages 02"),
     Change(2, Range, "pages 2", "pages 0"),
@@ -183,7 +183,7 @@ static CERT_CHANGES: [Change; 50] = [
 
 /// Changes of `FRESH`.
 static FRESH_CHANGES: [Change; 16] = [
-    Change(1, Form, "certificate 2", "certificate 3"),
+    Change(1, Form, "certificate 2", "certificate 4"),
     Change(6, Form, "certificate 2", "certificate 1"),
     Change(5, Form, "page 2 none", "page 2 fresh"),
     Change(6, Form, "fresh 1048575", "fresh 1048576"),
@@ -201,20 +201,35 @@ static FRESH_CHANGES: [Change; 16] = [
     Change(9, Form, "lane 1048576", "guest 1"),
 ];
 
+/// Changes of `LARGE`.
+static LARGE_CHANGES: [Change; 11] = [
+    Change(3, Form, "certificate 3", "certificate 2"),
+    Change(1, Form, "certificate 3", "certificate 03"),
+    Change(2, Range, "pages 2", "pages 16777217"),
+    Change(5, Form, "pages 2", "pages 16777216"),
+    Change(3, Form, "source 134217727", "source 134217728"),
+    Change(3, Form, "source 134217727 1048576", "source 1048576 134217728"),
+    Change(4, Form, "fresh 134217727", "fresh 134217728"),
+    Change(5, Range, "runs 2", "runs 671088641"),
+    Change(8, Form, "runs 2", "runs 671088640"),
+    Change(7, Form, "lane 134217728", "lane 134217729"),
+    Change(7, Form, "lane 134217728", "lane 0"),
+];
+
 /// Changes of `RUNS`.
 static RUN_CHANGES: [Change; 16] = [
     Change(1, Form, "runs 1", "runs 2"),
     Change(1, Form, "postcopy-runs 1\n", ""),
     Change(2, Form, "runs 5", "runs 05"),
-    Change(2, Range, "runs 5", "runs 5242881"),
+    Change(2, Range, "runs 5", "runs 671088641"),
     Change(7, Form, "runs 5", "runs 4"),
     Change(8, Form, "runs 5", "runs 6"),
-    Change(8, Form, "runs 5", "runs 5242880"),
+    Change(8, Form, "runs 5", "runs 671088640"),
     Change(3, Form, "guest 3", "guest 03"),
     Change(3, Form, "guest 3", "guest 0"),
-    Change(3, Form, "guest 3", "guest 1048577"),
+    Change(3, Form, "guest 3", "guest 134217729"),
     Change(4, Form, "source 1", "guest 1"),
-    Change(6, Form, "lane 2", "lane 1048577"),
+    Change(6, Form, "lane 2", "lane 134217729"),
     Change(6, Form, "lane 2", "link 2"),
     Change(7, Form, "pager 1", "lane 1"),
     Change(8, Ended, "end\n", "end"),
@@ -280,6 +295,12 @@ fn changed_certificates_are_refused(rt: HostRuntime) {
 #[test]
 fn changed_certificates_of_the_second_version_are_refused(rt: HostRuntime) {
     let wrong = wrong_change(rt.alloc(), Format::Cert, FRESH, FRESH_CHANGES.as_slice());
+    none_is_wrong(&rt, wrong);
+}
+
+#[test]
+fn changed_certificates_of_the_large_size_are_refused(rt: HostRuntime) {
+    let wrong = wrong_change(rt.alloc(), Format::Cert, LARGE, LARGE_CHANGES.as_slice());
     none_is_wrong(&rt, wrong);
 }
 

@@ -2,7 +2,7 @@
 
 use crate::formats::none_is_wrong;
 use crate::refusal_line;
-use crate::texts::{FRESH, RUNS, SENT};
+use crate::texts::{FRESH, LARGE, RUNS, SENT};
 use cert_text::{read_cert, read_runs};
 use migration_types::Run;
 use order_text::{OrderReader, OrderText, read_order};
@@ -52,6 +52,7 @@ fn orders_are_read(rt: HostRuntime) {
     assert!(rt; runs_tell(rt.alloc()));
     assert!(rt; cert_tells(rt.alloc(), SENT));
     assert!(rt; cert_tells(rt.alloc(), FRESH));
+    assert!(rt; cert_tells(rt.alloc(), LARGE));
 }
 
 #[test]
@@ -66,7 +67,7 @@ fn each_reason_is_read(rt: HostRuntime) {
 /// A line, the text below it, and the line at which both are refused.
 struct Refused(&'static str, &'static str, u32);
 
-static REFUSED: [Refused; 14] = [
+static REFUSED: [Refused; 15] = [
     Refused("faulty line 0 early", RUNS, 1),
     Refused("faulty line 013 early", RUNS, 1),
     Refused("faulty line 4294967296 early", RUNS, 1),
@@ -76,7 +77,8 @@ static REFUSED: [Refused; 14] = [
     Refused("faulty line  early", RUNS, 1),
     Refused("knot line 13", RUNS, 1),
     Refused("clean ", SENT, 1),
-    Refused("postcopy-certificate 3", RUNS, 1),
+    Refused("postcopy-certificate 3", RUNS, 2),
+    Refused("postcopy-certificate 4", RUNS, 1),
     Refused("clean", RUNS, 2),
     Refused("faulty line 13 early", SENT, 2),
     Refused("clean", "clean\n", 2),

@@ -34,7 +34,7 @@ const LATE_ENTRY: &str =
 const EVENT: &str =
     "guest V|halt|push|serve|source-tick|link down FATE|link up FATE|link lane FATE|pop|pop-lane|fault|flush|deliver|pager-tick";
 
-pub static REFUSED: [Refused; 59] = [
+pub static REFUSED: [Refused; 62] = [
     (
         Session,
         "",
@@ -186,7 +186,7 @@ pub static REFUSED: [Refused; 59] = [
         Cert,
         "postcopy-certificate\n",
         "the header of a certificate",
-        "postcopy-certificate 1|postcopy-certificate 2",
+        "postcopy-certificate 1|postcopy-certificate 2|postcopy-certificate 3",
         [0, 0, 0, 0, 0, 0, 0],
     ),
     (
@@ -226,6 +226,27 @@ pub static REFUSED: [Refused; 59] = [
     ),
     (
         Cert,
+        "postcopy-certificate 3\npages 16777217\n",
+        "the number of pages",
+        "pages N",
+        [0, 0, 0, 1, 16777216, 0, 0],
+    ),
+    (
+        Cert,
+        "postcopy-certificate 3\npages 1\npage 0 none\nruns 671088641\n",
+        "the number of runs",
+        "runs N",
+        [1, 1, 2, 0, 671088640, 1, 0],
+    ),
+    (
+        Cert,
+        "postcopy-certificate 3\npages 1\npage 0 none\nruns 1\nrun guest 134217729\n",
+        "a run",
+        "run guest N|run source N|run link N|run lane N|run pager N",
+        [0, 1, 4, 1, 134217728, 1, 0],
+    ),
+    (
+        Cert,
         "postcopy-certificate 1\npages 2\npage 0 none\npage 1 none\nruns 3\nrun guest 1\nrun lane 1\n",
         "a run",
         "run guest N|run source N|run link N|run pager N",
@@ -261,17 +282,17 @@ pub static REFUSED: [Refused; 59] = [
     ),
     (
         Runs,
-        "postcopy-runs 1\nruns 5242881\n",
+        "postcopy-runs 1\nruns 671088641\n",
         "the number of runs",
         "runs N",
-        [0, 0, 0, 0, 5242880, 0, 0],
+        [0, 0, 0, 0, 671088640, 0, 0],
     ),
     (
         Runs,
         "postcopy-runs 1\nruns 2\nrun guest 1\nrun guest 1\n",
         "a run",
         "run guest N|run source N|run link N|run lane N|run pager N",
-        [1, 2, 2, 1, 1048576, 0, 0],
+        [1, 2, 2, 1, 134217728, 0, 0],
     ),
     (
         Runs,

@@ -44,12 +44,16 @@ pub const UNUSED: &str =
 pub const FRESH: &str =
     "postcopy-certificate 2\npages 4\npage 0 source 3 5 5 4\npage 1 balloon 7 - -\npage 2 none\npage 3 fresh 1048575\nruns 2\nrun guest 3\nrun lane 1048576\nend\n";
 
+/// A certificate of the large size, with a fresh page and a run of the lane at the limits of their numbers.
+pub const LARGE: &str =
+    "postcopy-certificate 3\npages 2\npage 0 source 134217727 1048576 134217727 0\npage 1 fresh 134217727\nruns 2\nrun guest 3\nrun lane 134217728\nend\n";
+
 /// Runs of each log.
 pub const RUNS: &str =
-    "postcopy-runs 1\nruns 5\nrun guest 3\nrun source 1\nrun link 1048576\nrun lane 2\nrun pager 1\nend\n";
+    "postcopy-runs 1\nruns 5\nrun guest 3\nrun source 1\nrun link 134217728\nrun lane 2\nrun pager 1\nend\n";
 
 /// Texts of their formats.
-static TEXTS: [(Format, &str); 12] = [
+static TEXTS: [(Format, &str); 13] = [
     (Format::Session, FIRST),
     (Format::Session, SECOND),
     (Format::Session, KINDS),
@@ -60,6 +64,7 @@ static TEXTS: [(Format, &str); 12] = [
     (Format::Cert, RELEASED),
     (Format::Cert, UNUSED),
     (Format::Cert, FRESH),
+    (Format::Cert, LARGE),
     (Format::Runs, RUNS),
     (Format::Runs, "postcopy-runs 1\nruns 0\nend\n"),
 ];
