@@ -12,7 +12,9 @@ use Rattle.migration_types.specs.declared.records.LaneRec.TheVariants.{Down as L
 use Rattle.migration_types.specs.declared.records.PagerRec.TheVariants.{All}
 use Rattle.migration_types.specs.declared.pages.InitPage.{InitPage}
 use Rattle.migration_types.specs.declared.version.Version.{Version}
-use Rattle.migration_types.specs.declared.version.Version.TheVariants.{Two}
+use Rattle.migration_types.specs.declared.version.Version.TheVariants.{One, Two}
+use Rattle.migration_types.specs.declared.size.Size.TheVariants.{Small}
+use Rattle.migration_types.specs.Limits.{HasSize}
 use Rattle.migration_types.specs.Extents.{Extent}
 use Rattle.migration_types.specs.Pages.{InitPageFits}
 use Rattle.migration_types.specs.Sessions.{Recorded}
@@ -56,6 +58,7 @@ whole_fits d f =
     let guest = source.before in
     let init = guest.before in
     record {
+      size = init.size;
       machine = init.geometry;
       init = record { each = init.each; rising = rise_increases 0 d.next_page d.init.items init.rising };
       few_guest = few_items (StartFits d) d.init (IsGuestRecOf d.geometry) d.guest guest;
@@ -142,8 +145,8 @@ guest_begins d f =
     (source_begins e (fresh_fits most_count (GuestFits e) log (IsSourceRecOf d.geometry) 0 (filled_fits most_count (StartFits d) d.init (IsGuestRecOf d.geometry) d.guest Halt f tt) (filled_whole d.guest Halt f.within) (omega arith)))
 
 -- initial pages that came go on to all that were announced
-init_filled : (e : Extent) (next : ℕ) (part : Part InitPage) → InitFits e next part → (more : List InitPage) × (top : ℕ) × InitFits e top (with_items part more) × IsWhole (with_items part more)
-init_filled e next part f =
+init_filled : (version : Version) (e : Extent) (next : ℕ) (part : Part InitPage) → InitFits version e next part → (more : List InitPage) × (top : ℕ) × InitFits version e top (with_items part more) × IsWhole (with_items part more)
+init_filled version e next part f =
     let m = part.count - length part.items in
     let more = pages_from e.cells next m in
     let within = f.within in
@@ -153,6 +156,7 @@ init_filled e next part f =
       more,
       next + m,
       record {
+        size = f.size;
         geometry = f.geometry;
         within = omega arith;
         each = all_append (InitPageFits e) part.items more f.each (pages_fit e next m f.geometry.some_cells room);
@@ -164,7 +168,7 @@ init_filled e next part f =
 
 init_begins : (d : SessionDraft) → StartFits d → Begins SpellsRecording (held_onto Init d [])
 init_begins d f =
-    let filled = init_filled d.geometry d.next_page d.init f in
+    let filled = init_filled d.version d.geometry d.next_page d.init f in
     let more = filled.0 in
     let top = filled.1 in
     let list = with_items d.init more in
@@ -176,26 +180,28 @@ init_begins d f =
 abbrev empty_draft : Version → Extent → SessionDraft
 empty_draft version e = record { version = version; geometry = e; next_page = 0; init = fresh 0; guest = fresh 0; source = fresh 0; link = fresh 0; lane = fresh 0; pager = fresh 0 }
 
-count_begins : (d : SessionDraft) → IsMachine d.geometry → Begins SpellsRecording (held_onto InitCount d [])
-count_begins d geo =
+count_begins : (d : SessionDraft) → IsMachine d.geometry → HasSize d.version d.geometry.size → Begins SpellsRecording (held_onto InitCount d [])
+count_begins d geo has =
     let e = empty_draft d.version d.geometry in
-    step InitCount Init d e ((init_key ++ decimal 0) ∷ []) refl (init_begins e (record { geometry = geo; within = omega arith; each = tt; rising = refl; room = omega arith }))
+    step InitCount Init d e ((init_key ++ decimal 0) ∷ []) refl (init_begins e (record { size = has; geometry = geo; within = omega arith; each = tt; rising = refl; room = omega arith }))
 
-cells_begins : (d : SessionDraft) → 1 ≤ d.geometry.pages → IsCount d.geometry.pages → Begins SpellsRecording (held_onto Cells d [])
-cells_begins d low high =
+cells_begins : (d : SessionDraft) → 1 ≤ d.geometry.pages → IsCount d.geometry.pages → HasSize d.version d.geometry.size → Begins SpellsRecording (held_onto Cells d [])
+cells_begins d low high has =
     let e = empty_draft d.version (extent d.geometry.size d.geometry.pages 1) in
-    step Cells InitCount d e ((cells_key ++ decimal 1) ∷ []) refl (count_begins e (record { some_pages = low; few_pages = high; some_cells = omega arith; few_cells = omega arith }))
+    step Cells InitCount d e ((cells_key ++ decimal 1) ∷ []) refl (count_begins e (record { some_pages = low; few_pages = high; some_cells = omega arith; few_cells = omega arith }) has)
 
-pages_begins : (d : SessionDraft) → Begins SpellsRecording (held_onto Pages d [])
-pages_begins d =
+pages_begins : (d : SessionDraft) → HasSize d.version d.geometry.size → Begins SpellsRecording (held_onto Pages d [])
+pages_begins d has =
     let e = empty_draft d.version (extent d.geometry.size 1 1) in
-    step Pages Cells d e ((pages_key ++ decimal 1) ∷ []) refl (cells_begins e (omega arith) (omega arith))
+    step Pages Cells d e ((pages_key ++ decimal 1) ∷ []) refl (cells_begins e (omega arith) (omega arith) has)
 
 pub live_begins : (stage : Stage) (d : SessionDraft) → Live stage d → Begins SpellsRecording (held_onto stage d [])
-live_begins Header d live = step Header Pages d d (header d.version d.geometry.size ∷ []) refl (pages_begins d)
-live_begins Pages d live = pages_begins d
-live_begins Cells d live = cells_begins d live.1 live.2
-live_begins InitCount d live = count_begins d live.1
+live_begins Header d live =
+    let e = empty_draft One (extent Small 1 1) in
+    step Header Pages d e (header One Small ∷ []) refl (pages_begins e tt)
+live_begins Pages d live = pages_begins d live.1
+live_begins Cells d live = cells_begins d live.1 live.2 live.3
+live_begins InitCount d live = count_begins d live.1 live.2
 live_begins Init d live = init_begins d live.0
 live_begins Guest d live = guest_begins d live.0
 live_begins Source d live = source_begins d live.0

@@ -14,6 +14,7 @@ use Rattle.migration_types.specs.declared.pages.InitPage.{InitPage}
 use Rattle.migration_types.specs.declared.version.Version.{Version}
 use Rattle.migration_types.specs.declared.version.Version.TheVariants.{One, Two}
 use Rattle.migration_types.specs.declared.size.Size.{Size}
+use Rattle.migration_types.specs.Limits.{HasSize}
 use Rattle.migration_types.specs.Extents.{Extent}
 use Rattle.migration_types.specs.Pages.{InitPageFits}
 use Rattle.migration_types.specs.Sessions.{Recorded}
@@ -167,11 +168,12 @@ page_at d line f less g =
       spelled = n.spelled;
     }
 
-pub page_push : (e : Extent) (part : Part InitPage) (next : ℕ) (p : InitPage) → InitFits e next part → length part.items < part.count → next ≤ p.page → p.page + (part.count - length part.items) ≤ e.pages → InitPageFits e p → InitFits e (p.page + 1) (with_items part (p ∷ []))
-page_push e part next p f less low high has =
+pub page_push : (version : Version) (e : Extent) (part : Part InitPage) (next : ℕ) (p : InitPage) → InitFits version e next part → length part.items < part.count → next ≤ p.page → p.page + (part.count - length part.items) ≤ e.pages → InitPageFits e p → InitFits version e (p.page + 1) (with_items part (p ∷ []))
+page_push version e part next p f less low high has =
     let room = f.room in
     let len = length-append part.items (p ∷ []) in
     record {
+      size = f.size;
       geometry = f.geometry;
       within = omega (arith, len);
       each = all_append (InitPageFits e) part.items (p ∷ []) f.each (has, tt);
@@ -181,12 +183,12 @@ page_push e part next p f less low high has =
 
 -- ---- why a line is refused
 
-pub header_refused : (d : SessionDraft) (line : List ℕ) → ((version : Version) (size : Size) → line ≢ header version size) → Begins SpellsRecording (held_onto Header d (line ∷ [])) → ⊥
+pub header_refused : (d : SessionDraft) (line : List ℕ) → ((version : Version) (size : Size) → HasSize version size → line ≢ header version size) → Begins SpellsRecording (held_onto Header d (line ∷ [])) → ⊥
 header_refused d line none b =
     let g = goes_from Header d line b in
     let whole = g.whole in
     let l : line ≡ header g.v.version g.v.geometry.size = cc in
-    none g.v.version g.v.geometry.size l
+    none g.v.version g.v.geometry.size g.fits.size l
 
 pub pages_refused : (d : SessionDraft) (line : List ℕ) → ((n : ℕ) → 1 ≤ n → n < 2 ^ 63 → line ≢ pages_key ++ decimal n) → Begins SpellsRecording (held_onto Pages d (line ∷ [])) → ⊥
 pages_refused d line none b =

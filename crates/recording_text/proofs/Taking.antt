@@ -44,7 +44,7 @@ init_taken IsNew Met p line before after page some fits is low room meets = λ l
     record {
       lists = record l { init = with_items l.init (page ∷ []) };
       stands = record {
-        live = (page_push d.geometry d.init d.next_page page stands.live.0 (omega (arith, some)) low (omega arith) fits, stands.live.1);
+        live = (page_push d.version d.geometry d.init d.next_page page stands.live.0 (omega (arith, some)) low (omega arith) fits, stands.live.1);
         came = omega (arith, len);
         announced = omega (arith, some);
       };
@@ -145,7 +145,7 @@ init_announced IsNew Met p line visitor n le is = λ l stands met.
     record {
       lists = record l { init = fresh n };
       stands = record {
-        live = (record { geometry = stands.live.1; within = omega arith; each = tt; rising = refl; room = omega (arith, le) }, stands.live.0.1);
+        live = (record { size = stands.live.2; geometry = stands.live.1; within = omega arith; each = tt; rising = refl; room = omega (arith, le) }, stands.live.0.1);
         came = refl;
         announced = omega arith;
       };

@@ -10,7 +10,7 @@ use Rattle.migration_types.specs.declared.records.LaneRec.{LaneRec}
 use Rattle.migration_types.specs.declared.version.Version.{Version}
 use Rattle.migration_types.specs.declared.version.Version.TheVariants.{One, Two}
 use Rattle.migration_types.specs.declared.size.Size.{Size}
-use Rattle.migration_types.specs.declared.size.Size.TheVariants.{Small}
+use Rattle.migration_types.specs.declared.size.Size.TheVariants.{Small, Large}
 use Rattle.migration_types.specs.Pages.{InitPageFits}
 use Rattle.migration_types.specs.Sessions.{Recorded}
 use Rattle.recordings.specs.Lines.{longest_line}
@@ -42,7 +42,9 @@ section key spell P xs more none le few f h rest = (counts key (length xs) none 
 
 of_header : (version : Version) (size : Size) → IsShort (header version size)
 of_header One Small = fixed (header One Small) refl (omega arith)
+of_header One Large = fixed (header One Large) refl (omega arith)
 of_header Two Small = fixed (header Two Small) refl (omega arith)
+of_header Two Large = fixed (header Two Large) refl (omega arith)
 
 of_lane : (version : Version) (records : List LaneRec) (more : List (List ℕ)) → IsCount (length records) → AllByRecursion (IsLaneRecOf version) records → AllByRecursion IsShort more → AllByRecursion IsShort (with_lane version records more)
 of_lane One records more few each rest = rest

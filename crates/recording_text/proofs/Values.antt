@@ -33,7 +33,7 @@ drafted_fits : (s : Recorded) → IsRecording s → (next : ℕ) → next ≤ s.
 drafted_fits s fits next le rising =
     let d = drafted s next in
     let e = s.geometry in
-    let init : StartFits d = record { geometry = fits.machine; within = omega arith; each = fits.init.each; rising = rising; room = omega arith } in
+    let init : StartFits d = record { size = fits.size; geometry = fits.machine; within = omega arith; each = fits.init.each; rising = rising; room = omega arith } in
     let guest = whole_log most_count (StartFits d) s.init (IsGuestRecOf e) s.guest init (up_to (length s.guest) fits.few_guest) fits.guest in
     let source = whole_log most_count (GuestFits d) s.guest (IsSourceRecOf e) s.source guest (up_to (length s.source) fits.few_source) fits.source in
     let link = whole_log most_count (SourceFits d) s.source IsLinkRecOf s.link source (up_to (length s.link) fits.few_link) fits.link in

@@ -3,12 +3,12 @@
 ghost use Rattle.std.specs.Prelude.{◌≡◌, ◌≢◌, ◌+◌, ◌<◌, ◌≤◌, ◌^◌, ◌++◌, ℕ, IfOk, OnErr};
 ghost use Rattle.std.specs.Fmt.{decimal};
 ghost use Rattle.migration_types.specs.declared.size.Size.{Size as Limited};
-ghost use Rattle.migration_types.specs.declared.size.Size.TheVariants.{Small};
+ghost use Rattle.migration_types.specs.Limits.{HasSize};
 ghost use Rattle.session_text.specs.Grammar.{header, pages_key, init_key, closing};
 ghost use Rattle.recordings.specs.Recordings.{IsCount};
-ghost use Rattle.recording_text.specs.inner.Stands.{Holds, Steps, of_version, with_pages, announcing, behind_one};
+ghost use Rattle.recording_text.specs.inner.Stands.{Holds, Steps, of_header, with_pages, announcing, behind_one};
 
-use migration_types::{MOST_CELLS, Size, Version};
+use migration_types::{MOST_CELLS, Version};
 use recordings::{
     BEYOND, Machine, Visitor, WideGuest, WideInit, WideLane, WideLink, WidePager, WideSource,
 };
@@ -129,18 +129,17 @@ impl Place {
         }
     }
 
-    /// Takes the header, which tells the version.
+    /// Takes the header, which tells the version and the size.
     fn header(&mut self, line: &[u8]) -> Result<Stage, FaultKind>
-        ensures found { IfOk result (λ next. (next ≡ Stage.Pages) × (version : Version) × (self.new ≡ of_version self.old version) × (line.now ≡ header version Small)) }
-        ensures refused { OnErr result ((version : Version) (size : Limited) → line.now ≢ header version size) }
+        ensures found { IfOk result (λ next. (next ≡ Stage.Pages) × (version : Version) × (size : Limited) × (self.new ≡ of_header self.old version size) × HasSize version size × (line.now ≡ header version size)) }
+        ensures refused { OnErr result ((version : Version) (size : Limited) → HasSize version size → line.now ≢ header version size) }
     {
-        match read_header(line) {
-            Some((version, Size::Small)) => {
-                self.machine.version = version;
-                Ok(Stage::Pages)
-            }
-            None => Err(FaultKind::Form),
-        }
+        let Some((version, size)) = read_header(line) else {
+            return Err(FaultKind::Form);
+        };
+        self.machine.version = version;
+        self.machine.size = size;
+        Ok(Stage::Pages)
     }
 
     /// Takes the number of pages.

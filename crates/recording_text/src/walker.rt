@@ -7,7 +7,7 @@ ghost use Rattle.recording_text.specs.inner.Goings.{Came, Goes, Grows, Stops, Re
 
 use crate::RecordingFault;
 use crate::place::{Place, Stage};
-use migration_types::Version;
+use migration_types::{Size, Version};
 use recordings::{Machine, Visitor};
 use std::alloc::Global;
 use text_lines::{FaultKind, next_line};
@@ -37,6 +37,7 @@ impl Walker {
                 alloc,
                 machine: Machine {
                     version: Version::One,
+                    size: Size::Small,
                     pages: 0,
                     cells: 0,
                 },

@@ -77,6 +77,7 @@ is_recording s h =
     let some_pages = h.geometry.some_pages in
     let few_pages = h.geometry.few_pages in
     record {
+      size = h.size;
       machine = record { some_pages = some_pages; few_pages = omega (arith, few_pages); some_cells = h.geometry.some_cells; few_cells = h.geometry.few_cells };
       init = h.init;
       few_guest = omega (arith, h.few_guest);

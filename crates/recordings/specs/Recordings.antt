@@ -8,7 +8,7 @@ use Rattle.migration_types.specs.declared.records.LinkRec.{LinkRec}
 use Rattle.migration_types.specs.declared.records.LaneRec.{LaneRec}
 use Rattle.migration_types.specs.declared.records.PagerRec.{PagerRec}
 use Rattle.migration_types.specs.Extents.{Extent}
-use Rattle.migration_types.specs.Limits.{most_cells}
+use Rattle.migration_types.specs.Limits.{HasSize, most_cells}
 use Rattle.migration_types.specs.Pages.{AreInitPages}
 use Rattle.migration_types.specs.Sessions.{Recorded, GuestRecIn, SourceRecIn, LinkRecIn, LaneRecIn, PagerRecIn}
 use Rattle.session_text.specs.Grammar.{session_lines}
@@ -40,8 +40,9 @@ IsLaneRecOf version = LaneRecIn (2 ^ 63) version
 abbrev pub IsPagerRecOf : Version → Extent → PagerRec → Type 0
 IsPagerRecOf version e = PagerRecIn (2 ^ 63) version e
 
--- a session of a machine of any size
+-- a session of a machine of any size, whose text tells one that its version has
 pub record IsRecording (s : Recorded) : Type 0 where
+  pub size : HasSize s.version s.geometry.size
   pub machine : IsMachine s.geometry
   pub init : AreInitPages s.geometry s.init
   pub few_guest : IsCount (length s.guest)

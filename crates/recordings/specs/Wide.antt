@@ -10,7 +10,6 @@ use Rattle.migration_types.specs.declared.records.LaneRec.{LaneRec}
 use Rattle.migration_types.specs.declared.records.LaneRec.TheVariants as lane
 use Rattle.migration_types.specs.declared.records.PagerRec.{PagerRec}
 use Rattle.migration_types.specs.declared.records.PagerRec.TheVariants as pager
-use Rattle.migration_types.specs.declared.size.Size.TheVariants.{Small}
 use Rattle.migration_types.specs.Extents.{Extent}
 use Rattle.recordings.specs.declared.machine.Machine.{Machine}
 use Rattle.recordings.specs.declared.wide.WideInit.{WideInit}
@@ -25,9 +24,9 @@ use Rattle.recordings.specs.declared.wide.WideLane.TheVariants.{Down as LaneDown
 use Rattle.recordings.specs.declared.wide.WidePager.{WidePager}
 use Rattle.recordings.specs.declared.wide.WidePager.TheVariants.{Got, Pull, Ready, Fault, Join, Want, Place, Zero, Skip, All}
 
--- of a recording's machine the size plays no part: its text is that of the small size
+-- a recording's machine has none of its size's limits, but its text tells the size
 abbrev pub extent_of : Machine → Extent
-extent_of m = record { size = Small; pages = m.pages; cells = m.cells }
+extent_of m = record { size = m.size; pages = m.pages; cells = m.cells }
 
 abbrev pub init_of : WideInit → InitPage
 init_of p = record { page = p.page; cells = p.cells }

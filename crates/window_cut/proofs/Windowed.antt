@@ -12,7 +12,6 @@ use Rattle.migration_types.specs.declared.records.LaneRec.{LaneRec}
 use Rattle.migration_types.specs.declared.records.LaneRec.TheVariants.{Down as LaneDown}
 use Rattle.migration_types.specs.declared.records.PagerRec.{PagerRec}
 use Rattle.migration_types.specs.declared.records.PagerRec.TheVariants.{Got, Pull, Ready, Fault, Join, Want, Place, Zero, Skip, All}
-use Rattle.migration_types.specs.declared.size.Size.TheVariants.{Small}
 use Rattle.migration_types.specs.Sessions.{Recorded}
 use Rattle.text_lines.specs.Text.{ended, IsSpelling}
 use Rattle.session_text.specs.Grammar.{session_lines}
@@ -144,7 +143,7 @@ found_by guide marking w marks known text by e walks =
 
 -- where a pass found the marks again that it went by, what it wrote is the window
 pub window_of : {W : Type 0} (writing : Writing W) (w : Window) (s : Recorded) (out : WindowText) → Meets writing s → writing.guide.window ≡ w → AreSame writing.guide.known writing.found → IsOf w writing.found.machine.pages →
-    ((s : Recorded) → AreSections writing.sections s → writing.found.machine.version ≡ s.version → s.geometry.size ≡ Small → w.count ≡ s.geometry.pages → writing.found.machine.cells ≡ s.geometry.cells → out.text.items ≡ ended (session_lines s)) →
+    ((s : Recorded) → AreSections writing.sections s → writing.found.machine.version ≡ s.version → writing.found.machine.size ≡ s.geometry.size → w.count ≡ s.geometry.pages → writing.found.machine.cells ≡ s.geometry.cells → out.text.items ≡ ended (session_lines s)) →
     ((number : Numbers) (s : Recorded) → writing.found.machine.version ≡ s.version → writing.found.init ≡ map (keeps_init number) s.init → AreRight number writing.guide.known s → out.lines.items ≡ origins number s) →
     IsWindowOf w s out
 window_of writing w s out met by same of text lines =
@@ -152,6 +151,6 @@ window_of writing w s out met by same of text lines =
     let written : Written (numbers_of w) writing.guide.known writing.sections s = subst (λ v. Written (numbers_of v) writing.guide.known writing.sections s) by met.written in
     record {
       within = subst (IsOf w) (ap (λ x. x.pages) f.extent) of;
-      text_is = text (window (numbers_of w) w.count s) (sections (numbers_of w) s writing.guide.known writing.found f same w.count writing.sections written) f.version (sym (ap (λ x. x.size) f.extent)) refl (ap (λ x. x.cells) f.extent);
+      text_is = text (window (numbers_of w) w.count s) (sections (numbers_of w) s writing.guide.known writing.found f same w.count writing.sections written) f.version (ap (λ x. x.size) f.extent) refl (ap (λ x. x.cells) f.extent);
       lines_are = lines (numbers_of w) s f.version f.init (right (numbers_of w) s writing.guide.known writing.found f same);
     }

@@ -12,7 +12,7 @@ ghost use Rattle.audit_model.specs.Windows.{Numbers};
 use crate::keeping::{keeps_lane, keeps_taking};
 use crate::pages::Window;
 use crate::places::Places;
-use migration_types::Version;
+use migration_types::{Size, Version};
 use recordings::{Machine, WideGuest, WideInit, WideLane, WideLink, WidePager, WideSource};
 use std::alloc::{AllocError, Global};
 
@@ -167,6 +167,7 @@ impl Marks {
         Marks {
             machine: Machine {
                 version: Version::One,
+                size: Size::Small,
                 pages: 0,
                 cells: 0,
             },

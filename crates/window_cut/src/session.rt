@@ -4,13 +4,12 @@ ghost use Rattle.std.specs.Prelude.{◌≡◌, ℕ, [], ◌∷◌, ◌++◌, Lis
 ghost use Rattle.std.specs.Fmt.{decimal};
 ghost use Rattle.migration_types.specs.Sessions.{Recorded};
 ghost use Rattle.text_lines.specs.Text.{ended};
-ghost use Rattle.migration_types.specs.declared.size.Size.TheVariants.{Small};
 ghost use Rattle.session_text.specs.Grammar.{session_lines};
 ghost use Rattle.window_cut.specs.inner.Met.{IsSection};
 ghost use Rattle.window_cut.specs.inner.Parts.{AreSections, lane_lines};
 
 use crate::sections::{Section, Sections};
-use migration_types::{Size, Version};
+use migration_types::Version;
 use recordings::Machine;
 use session_text::{
     CELLS_KEY, GUEST_KEY, INIT_KEY, LANE_KEY, LINK_KEY, PAGER_KEY, PAGES_KEY, SOURCE_KEY,
@@ -26,17 +25,17 @@ pub struct WindowText {
     pub lines: Vec<u64>,
 }
 
-/// The text of a session of so many pages on such a machine, of the small size, of which these are the lines.
+/// The text of a session of so many pages on such a machine, of which these are the lines.
 pub(crate) fn session_text(
     alloc: Global,
     pages: u64,
     machine: &Machine,
     sections: &Sections,
 ) -> Result<Vec<u8>, AllocError>
-    ensures { IfOk result (λ out. (s : Recorded) → AreSections sections.now s → machine.now.version ≡ s.version → s.geometry.size ≡ Small → pages ≡ s.geometry.pages → machine.now.cells ≡ s.geometry.cells → out.items ≡ ended (session_lines s)) }
+    ensures { IfOk result (λ out. (s : Recorded) → AreSections sections.now s → machine.now.version ≡ s.version → machine.now.size ≡ s.geometry.size → pages ≡ s.geometry.pages → machine.now.cells ≡ s.geometry.cells → out.items ≡ ended (session_lines s)) }
 {
     let mut out = Vec::new(alloc);
-    push_line(&mut out, session_header(machine.version, Size::Small))?;
+    push_line(&mut out, session_header(machine.version, machine.size))?;
     push_keyed(&mut out, PAGES_KEY, pages)?;
     push_keyed(&mut out, CELLS_KEY, machine.cells)?;
     push_section(&mut out, INIT_KEY, &sections.init)?;

@@ -2,8 +2,10 @@
 use Rattle.std.specs.Prelude.{◌≡◌, ℕ, ◌+◌, ◌-◌, ◌≤◌, ◌^◌, length}
 use Rattle.std.specs.List.{AllByRecursion}
 use Rattle.migration_types.specs.declared.pages.InitPage.{InitPage}
+use Rattle.migration_types.specs.declared.version.Version.{Version}
 use Rattle.migration_types.specs.declared.version.Version.TheVariants.{Two}
 use Rattle.migration_types.specs.Extents.{Extent}
+use Rattle.migration_types.specs.Limits.{HasSize}
 use Rattle.migration_types.specs.Pages.{InitPageFits}
 use Rattle.migration_types.specs.Sessions.{Recorded}
 use Rattle.migration_types.specs.inner.InitPages.{Rise}
@@ -16,8 +18,9 @@ pub use Rattle.session_text.specs.inner.Held.{SessionDraft, Part, IsWhole, held_
 abbrev pub recorded_of : SessionDraft → Recorded
 recorded_of d = record { version = d.version; geometry = d.geometry; init = d.init.items; guest = d.guest.items; source = d.source.items; link = d.link.items; lane = d.lane.items; pager = d.pager.items }
 
--- the pages so far, with room for those to come
-pub record InitFits (e : Extent) (next : ℕ) (part : Part InitPage) : Type 0 where
+-- the machine, of a size that the version has, and its pages so far, with room for those to come
+pub record InitFits (version : Version) (e : Extent) (next : ℕ) (part : Part InitPage) : Type 0 where
+  pub size : HasSize version e.size
   pub geometry : IsMachine e
   pub within : length part.items ≤ part.count
   pub each : AllByRecursion (InitPageFits e) part.items
@@ -29,7 +32,7 @@ abbrev pub most_count : ℕ
 most_count = 2 ^ 63 - 1
 
 abbrev pub StartFits : SessionDraft → Type 0
-StartFits d = InitFits d.geometry d.next_page d.init
+StartFits d = InitFits d.version d.geometry d.next_page d.init
 
 abbrev pub GuestFits : SessionDraft → Type 0
 GuestFits d = LogFits most_count (StartFits d) d.init (IsGuestRecOf d.geometry) d.guest
@@ -49,9 +52,9 @@ PagerFits d = LogFits most_count (LaneFits d) d.lane (IsPagerRecOf d.version d.g
 -- what holds where no line was refused
 abbrev pub Live : Stage → SessionDraft → Type 0
 Live Header d = NoInit d
-Live Pages d = NoInit d
-Live Cells d = NoInit d × (1 ≤ d.geometry.pages) × IsCount d.geometry.pages
-Live InitCount d = NoInit d × IsMachine d.geometry
+Live Pages d = NoInit d × HasSize d.version d.geometry.size
+Live Cells d = NoInit d × (1 ≤ d.geometry.pages) × IsCount d.geometry.pages × HasSize d.version d.geometry.size
+Live InitCount d = NoInit d × IsMachine d.geometry × HasSize d.version d.geometry.size
 Live Init d = StartFits d × NoGuest d
 Live Guest d = GuestFits d × NoSource d
 Live Source d = SourceFits d × NoLink d

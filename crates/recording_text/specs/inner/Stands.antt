@@ -10,6 +10,7 @@ use Rattle.migration_types.specs.declared.records.LinkRec.{LinkRec}
 use Rattle.migration_types.specs.declared.records.LaneRec.{LaneRec}
 use Rattle.migration_types.specs.declared.records.PagerRec.{PagerRec}
 use Rattle.migration_types.specs.declared.version.Version.{Version}
+use Rattle.migration_types.specs.declared.size.Size.{Size}
 use Rattle.migration_types.specs.Sessions.{Recorded}
 use Rattle.recordings.specs.Recordings.{SpellsRecording}
 use Rattle.recordings.specs.Wide.{extent_of}
@@ -88,8 +89,8 @@ Steps IsNew Met stage old line new before after (Err kind) = kind ≢ Memory →
 
 -- ---- how a place changes
 
-abbrev pub of_version : Place → Version → Place
-of_version p version = record p { machine = record p.machine { version = version } }
+abbrev pub of_header : Place → Version → Size → Place
+of_header p version size = record p { machine = record p.machine { version = version; size = size } }
 
 abbrev pub with_pages : Place → ℕ → Place
 with_pages p pages = record p { machine = record p.machine { pages = pages } }

@@ -1,7 +1,6 @@
-use Rattle.std.proofs.Common.{[], ◌∷◌, ◌++◌, map, sym, ap, ◌∙◌}
+use Rattle.std.proofs.Common.{[], ◌∷◌, ◌++◌, map, ap, ◌∙◌}
 use Rattle.std.specs.Fmt.{decimal}
 use Rattle.text_lines.specs.Text.{ended}
-use Rattle.migration_types.specs.declared.size.Size.TheVariants.{Small}
 use Rattle.session_text.specs.Grammar.{header, pages_key, cells_key, page_line}
 use Rattle.session_text.specs.Records.{guest_line, source_line, link_line, lane_line, pager_line}
 use Rattle.window_cut.specs.inner.Parts.{lane_lines}
@@ -21,7 +20,7 @@ returns c = λ s sections version size pages cells. whole s
     c.push_section-5.new.out.items
     c.push_line-2.new.out.items
     (record {
-      head_is = c.in_ok-push_line.ensures ∙ ap (λ xs. xs ++ (c.session_header.result.now ++ 10 ∷ [])) c.new-out.ensures.items ∙ ap (λ xs. xs ++ 10 ∷ []) (c.session_header.ensures ∙ (ap (λ v. header v Small) version ∙ ap (header s.version) (sym size)));
+      head_is = c.in_ok-push_line.ensures ∙ ap (λ xs. xs ++ (c.session_header.result.now ++ 10 ∷ [])) c.new-out.ensures.items ∙ ap (λ xs. xs ++ 10 ∷ []) (c.session_header.ensures ∙ (ap (λ v. header v c.args.machine.now.size) version ∙ ap (header s.version) size));
       pages_is = c.in_ok-push_keyed.ensures ∙ ap (λ n. c.push_line.new.out.items ++ (pages_key ++ (decimal n ++ 10 ∷ []))) pages;
       cells_is = c.in_ok-push_keyed-2.ensures ∙ ap (λ n. c.push_keyed.new.out.items ++ (cells_key ++ (decimal n ++ 10 ∷ []))) cells;
       init_is = c.in_ok-push_section.ensures (map page_line s.init) sections.init;
