@@ -5,6 +5,7 @@ use Rattle.migration_types.specs.declared.records.SourceRec.{SourceRec}
 use Rattle.migration_types.specs.declared.records.PagerRec.{PagerRec}
 use Rattle.migration_types.specs.declared.records.LogName.TheVariants.{Guest, Source, Link, Lane, Pager}
 use Rattle.migration_types.specs.declared.version.Version.TheVariants.{One}
+use Rattle.migration_types.specs.declared.size.Size.TheVariants.{Small}
 use Rattle.migration_types.specs.Sessions.{Recorded}
 use Rattle.text_lines.specs.Text.{ended}
 use Rattle.session_text.specs.Grammar.{page_line}
@@ -32,7 +33,7 @@ abbrev pub no_pager : PagerMarks
 no_pager = record { askings = []; placements = []; takings = []; kept = [] }
 
 abbrev pub no_marks : Marks
-no_marks = record { machine = record { version = One; pages = 0; cells = 0 }; init = []; guest = no_guest; source = no_source; link = []; lane = []; pager = no_pager }
+no_marks = record { machine = record { version = One; size = Small; pages = 0; cells = 0 }; init = []; guest = no_guest; source = no_source; link = []; lane = []; pager = no_pager }
 
 -- no pages, and the marks of no records
 abbrev pub no_guide : Guide
