@@ -162,15 +162,15 @@ impl Stages for CertParts {
     }
 
     fn wanted(&self, stage: Stage) -> Wanted {
+        let limits = self.runs.size().limits();
         let wanted = match stage {
             Stage::Header => Wanted::one("the header of a certificate", HEADER_FORMS),
-            Stage::Pages => Wanted::one("the number of pages", &["pages N"]).within(
-                1,
-                self.runs.size().limits().pages,
-            ),
+            Stage::Pages => {
+                Wanted::one("the number of pages", &["pages N"]).within(1, limits.pages)
+            }
             Stage::Entries => self.wanted_in_entries(),
         };
-        wanted.of_machine(self.pages, 0)
+        wanted.of_machine(self.pages, 0).of_logs(limits.records)
     }
 
     fn text(self, stage: Stage) -> Option<Cert> {

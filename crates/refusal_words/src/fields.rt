@@ -10,8 +10,8 @@ const MOST_CELLS: u32 = 512;
 /// The greatest number of a virtual processor.
 const LAST_PROCESSOR: u64 = 63;
 
-/// The greatest number of a record.
-const LAST_RECORD: u64 = 1_048_575;
+/// The most records of a log, where it is not known how many it may have.
+const MOST_RECORDS: u32 = 1_048_576;
 
 /// How many digits the contents of a cell have.
 const CELL_DIGITS: u32 = 16;
@@ -95,7 +95,7 @@ pub(crate) fn range_of(field: Field, wanted: &Wanted) -> Option<Range> {
         Field::Page => Some(below(wanted.pages, MOST_PAGES)),
         Field::Cell => Some(below(wanted.cells, MOST_CELLS)),
         Field::Value => Some(up_to(u64::MAX)),
-        Field::Record => Some(up_to(LAST_RECORD)),
+        Field::Record => Some(below(wanted.records, MOST_RECORDS)),
         Field::Number => Some(Range {
             least: u64::from(wanted.least),
             most: u64::from(wanted.most),

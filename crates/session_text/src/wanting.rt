@@ -27,6 +27,7 @@ impl Parts {
         };
         self.in_list(stage, wanted)
             .of_machine(self.sizes.pages, self.sizes.cells)
+            .of_logs(self.sizes.size.limits().records)
     }
 
     /// The next item of a stage's list.

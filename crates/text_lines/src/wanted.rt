@@ -19,6 +19,8 @@ pub struct Wanted {
     /// The machine's pages and cells, where they are known.
     pub pages: u32,
     pub cells: u32,
+    /// How many records a log may have, where that is known: a record's number is below this one.
+    pub records: u32,
     /// The least and the greatest number that `N` may be.
     pub least: u32,
     pub most: u32,
@@ -36,6 +38,7 @@ impl Wanted {
             counted_at: 0,
             pages: 0,
             cells: 0,
+            records: 0,
             least: 0,
             most: 0,
         }
@@ -87,6 +90,11 @@ impl Wanted {
             cells,
             ..self
         }
+    }
+
+    /// The same, of a machine whose logs may have so many records.
+    pub fn of_logs(self, records: u32) -> Self {
+        Wanted { records, ..self }
     }
 
     /// The same, where this rule holds too.
