@@ -12,7 +12,7 @@ struct Change(u32, FaultKind, &'static str, &'static str);
 
 /// Changes of `KINDS`.
 static SESSION_CHANGES: [Change; 45] = [
-    Change(1, Form, "session 1", "session 3"),
+    Change(1, Form, "session 1", "session 4"),
     Change(1, Form, "session 1", "session 0"),
     Change(25, Form, "session 1", "session 2"),
     Change(25, Form, "pager 9", "lane 0\npager 9"),
@@ -76,7 +76,7 @@ static SESSION_CHANGES: [Change; 45] = [
 
 /// Changes of `LATE`.
 static LATE_CHANGES: [Change; 18] = [
-    Change(1, Form, "session 2", "session 3"),
+    Change(1, Form, "session 2", "session 4"),
     Change(1, Form, "session 2", "session 02"),
     Change(1, Form, "session 2", "session 2 "),
     Change(18, Form, "session 2", "session 1"),

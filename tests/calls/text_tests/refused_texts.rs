@@ -39,14 +39,14 @@ pub static REFUSED: [Refused; 62] = [
         Session,
         "",
         "the header of a session",
-        "postcopy-session 1|postcopy-session 2",
+        "postcopy-session 1|postcopy-session 2|postcopy-session 3",
         [0, 0, 0, 0, 0, 0, 0],
     ),
     (
         Session,
-        "postcopy-session 3\n",
+        "postcopy-session 4\n",
         "the header of a session",
-        "postcopy-session 1|postcopy-session 2",
+        "postcopy-session 1|postcopy-session 2|postcopy-session 3",
         [0, 0, 0, 0, 0, 0, 0],
     ),
     (
