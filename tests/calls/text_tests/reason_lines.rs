@@ -12,7 +12,7 @@ pub struct Case(pub At, pub u32, pub &'static [u8], pub &'static str);
 pub struct Group(pub At, pub u32, pub &'static str);
 
 /// Lines of plain words.
-pub static WORDS: [Group; 21] = [
+pub static WORDS: [Group; 22] = [
     Group(
         At::Guest,
         15,
@@ -56,6 +56,13 @@ w  0 3 0 5
 3: found a second space in "w  0 3 0 5"; expected V, a virtual processor from 0 to 63, as in "w V P C X"; words are separated by one space
 see 1048576
 5: found "1048576"; expected I, the number of a record from 0 to 1048575, as in "see I"
+"#,
+    ),
+    Group(
+        At::LargeLogs,
+        9,
+        r#"see 134217728
+5: found "134217728"; expected I, the number of a record from 0 to 134217727, as in "see I"
 "#,
     ),
     Group(

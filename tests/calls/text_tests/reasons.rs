@@ -55,6 +55,7 @@ fn listed(what: &'static str, forms: &'static [&'static str], came: u32, count: 
         counted_at: 6,
         pages: 64,
         cells: 2,
+        records: 0,
         least: 0,
         most: 0,
     }
@@ -94,6 +95,7 @@ pub enum At {
     Link,
     Down,
     SmallestPage,
+    LargeLogs,
     BigContents,
     Unknown,
 }
@@ -141,6 +143,10 @@ fn wanted_at(at: At) -> Wanted {
         At::Down => alone("the fates of packets down", &["down FATES"], 0, 0),
         At::SmallestPage => Wanted {
             pages: 1,
+            ..listed("a record of the guest", &GUEST, 0, 9)
+        },
+        At::LargeLogs => Wanted {
+            records: 134_217_728,
             ..listed("a record of the guest", &GUEST, 0, 9)
         },
         At::BigContents => Wanted {

@@ -142,6 +142,46 @@ fn text_of_another_rule(alloc: Global) -> Option<&'static str> {
     None
 }
 
+/// Texts that are refused at their last line, and how many records each of their logs may have.
+static LOGS: [(Text, &str, u32); 4] = [
+    (
+        Session,
+        "postcopy-session 2\npages 2\ncells 1\ninit 0\nguest 1\nsee 1048576\n",
+        1_048_576,
+    ),
+    (
+        Session,
+        "postcopy-session 3\npages 2\ncells 1\ninit 0\nguest 1\nsee 134217728\n",
+        134_217_728,
+    ),
+    (
+        Cert,
+        "postcopy-certificate 2\npages 1\npage 0 fresh 1048576\n",
+        1_048_576,
+    ),
+    (
+        Cert,
+        "postcopy-certificate 3\npages 1\npage 0 fresh 134217728\n",
+        134_217_728,
+    ),
+];
+
+/// A text of which other logs are told.
+fn text_of_other_logs(alloc: Global) -> Option<&'static str> {
+    for (kind, text, records) in &LOGS {
+        let records = *records;
+        if !why(alloc, *kind, *text, 64).is_some_and(|why| why.wanted.records == records) {
+            return Some(*text);
+        }
+    }
+    None
+}
+
+#[test]
+fn refusals_tell_how_many_records_logs_may_have(rt: HostRuntime) {
+    none_is_wrong(&rt, text_of_other_logs(rt.alloc()));
+}
+
 #[test]
 fn refusals_tell_rules(rt: HostRuntime) {
     none_is_wrong(&rt, text_of_another_rule(rt.alloc()));
