@@ -65,13 +65,26 @@ pub fn read_cert(alloc: Global, bytes: &[u8]) -> Result<Cert, TextFault>
     read_whole::<CertLines>(alloc, bytes)
 }
 
+/// Most lines of pages that were not used have fewer bytes, and most of runs have no more.
+const ENTRY_ROOM: usize = 24;
+const RUN_ROOM: usize = 8;
+
+/// An empty text with room for most certificates, so that it does not grow, and move, while it is written.
+fn with_room(alloc: Global, cert: &Cert) -> Result<Vec<u8>, AllocError>
+    ensures { IfOk result (λ out. out.items ≡ []) }
+{
+    let entries = cert.entries().len().saturating_mul(ENTRY_ROOM);
+    let runs = cert.runs().len().saturating_mul(RUN_ROOM);
+    Vec::with_capacity(alloc, entries.saturating_add(runs))
+}
+
 /// The text of a certificate, in its version, which `read_cert` reads back. An error: there is no memory for it.
 pub fn write_cert(alloc: Global, cert: &Cert) -> Result<Vec<u8>, AllocError>
     ensures { IfOk result (λ out. IsSpelling SpellsCert cert.now out.items) }
 {
     cert.keeps_limits();
     let entries = cert.entries();
-    let mut out = Vec::new(alloc);
+    let mut out = with_room(alloc, cert)?;
     push_line(&mut out, cert_header(cert.version(), cert.size()))?;
     push_keyed(&mut out, PAGES_KEY, entries.len())?;
     push_entries(&mut out, entries)?;

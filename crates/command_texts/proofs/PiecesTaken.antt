@@ -1,9 +1,10 @@
 -- Pieces that a taker takes one after another.
-use Rattle.std.proofs.Common.{◌≡◌, ℕ, ◌+◌, List, [], ◌++◌, length, refl, sym, ap, ◌∙◌, subst, length-append, arith}
+use Rattle.std.proofs.Common.{◌≡◌, ℕ, ◌+◌, ◌≤◌, ◌⊎◌, inl, inr, append_assoc, List, [], ◌++◌, length, refl, sym, ap, ◌∙◌, subst, length-append, arith}
 use Rattle.std.proofs.lemmas.List.{append-nil}
-use Rattle.std.specs.Prelude.{Option, Some, None, IfSome, Result, Ok, Err, OnOk}
+use Rattle.std.specs.Prelude.{codes, Option, Some, None, IfSome, Result, Ok, Err, OnOk}
 use Rattle.std.specs.Io.KnownBytes.{Consumes, IsAtEnd}
 use Rattle.std.proofs.KnownBytes.{Consumes-all, Consumes-nil, Consumes-trans}
+use Rattle.command_texts.specs.Limits.{BeginsWith, MayBeLong, IsWithin}
 use Rattle.command_texts.specs.Told.{AreRead}
 use Rattle.command_texts.specs.inner.Takings.{Takes, TakesAll}
 use Rattle.command_texts.proofs.WhatIsRead.{more_taken}
@@ -49,7 +50,24 @@ takes_rest Came most left known rest old now new yet all = record {
   taken = more_taken Came old now new yet.bytes all.bytes yet.taken (λ text came. all.taken text came);
 }
 
--- what was taken is the text that was read
-pub all_taken : {E : Type 0} (r : Result (Unit {0}) E) {T : Type 0} (Came : T → List ℕ → Type 0) (known : Option (List ℕ)) (old new : T) → OnOk r (TakesAll Came 268435456 known old new) → OnOk r ((text : List ℕ) × AreRead known text × (Came old [] → Came new text))
-all_taken (Ok v) Came known old new h = (h.bytes, record { few = h.few; whole = h.whole }, λ came. h.taken [] came)
-all_taken (Err e) Came known old new h = tt
+begins_front : (key front rest : List ℕ) → BeginsWith key front → BeginsWith key (front ++ rest)
+begins_front key front rest b = (b.0 ++ rest, ap (λ (l : List ℕ). l ++ rest) b.1 ∙ append_assoc key b.0 rest)
+
+-- a text may be long where its front says so
+long_front : (front rest : List ℕ) → MayBeLong front → MayBeLong (front ++ rest)
+long_front front rest (inl b) = inl (begins_front (codes "postcopy-session 3\n") front rest b)
+long_front front rest (inr (inl b)) = inr (inl (begins_front (codes "postcopy-certificate 3\n") front rest b))
+long_front front rest (inr (inr b)) = inr (inr (begins_front (codes "postcopy-runs 1\n") front rest b))
+
+-- a first piece that is all that was there is the text that was read
+pub first_taken : {T : Type 0} (Came : T → List ℕ → Type 0) (known rest : Option (List ℕ)) (old new : T) (piece : List ℕ) → Consumes known rest piece → IsAtEnd rest → length piece ≤ 268435456 → ((text : List ℕ) → Came old text → Came new (text ++ piece)) → (text : List ℕ) × AreRead known text × (Came old [] → Came new text)
+first_taken Came known rest old new piece consumed at_end few taken = (piece, record { few = inl few; whole = Consumes-all known rest piece [] piece consumed at_end refl }, λ came. taken [] came)
+
+-- and so is a first piece with all that was left
+pub rest_taken : {E : Type 0} (r : Result (Unit {0}) E) {T : Type 0} (Came : T → List ℕ → Type 0) (left : ℕ) (known mid : Option (List ℕ)) (old now new : T) (piece : List ℕ) → Consumes known mid piece → (left + length piece ≡ 268435456) ⊎ ((left + length piece ≡ 17179869184) × MayBeLong piece) → ((text : List ℕ) → Came old text → Came now (text ++ piece)) → OnOk r (TakesAll Came left mid now new) → OnOk r ((text : List ℕ) × AreRead known text × (Came old [] → Came new text))
+rest_taken (Ok v) Came left known mid old now new piece consumed room taken h = (piece ++ h.bytes, record { few = within room; whole = whole_behind known mid piece h.bytes consumed h.whole }, λ came. h.taken piece (taken [] came))
+  where
+    within : (left + length piece ≡ 268435456) ⊎ ((left + length piece ≡ 17179869184) × MayBeLong piece) → IsWithin (piece ++ h.bytes)
+    within (inl e) = inl (omega (arith, e, h.few, length-append piece h.bytes))
+    within (inr e) = inr (omega (arith, e.0, h.few, length-append piece h.bytes), long_front piece h.bytes e.1)
+rest_taken (Err e) Came left known mid old now new piece consumed room taken h = tt

@@ -1,4 +1,5 @@
 pub mod Cutting
+pub mod Limits
 pub mod Answers
 pub mod Told
 pub mod Written

@@ -1,10 +1,11 @@
 -- What is told of the texts under names.
-use Rattle.std.specs.Prelude.{◌≡◌, ℕ, ◌≤◌, Bool, true, false, List, Option, Result, IfSome, MatchResult, codes, length, if◌then◌else◌, ◌&&◌}
+use Rattle.std.specs.Prelude.{◌≡◌, ℕ, Bool, true, false, List, Option, Result, IfSome, MatchResult, codes, if◌then◌else◌, ◌&&◌}
 use Rattle.std.specs.Str.{bytes_eq}
 use Rattle.std.specs.Io.KnownBytes.{Appends, Keeps}
 use Rattle.command_texts.specs.declared.answer.Fault.{Fault}
 use Rattle.command_texts.specs.declared.answer.Fault.TheVariants.{Output}
 use Rattle.command_texts.specs.Cutting.{IsCutAtEnd}
+use Rattle.command_texts.specs.Limits.{IsWithin}
 use Rattle.command_texts.specs.Written.{AppendsFront, Streams}
 
 -- the name of the input
@@ -15,9 +16,9 @@ is_dash name = bytes_eq name (codes "-")
 abbrev pub bytes_under : List ℕ → (List ℕ → Option (List ℕ)) → Option (List ℕ) → Option (List ℕ)
 bytes_under name files input = if is_dash name then input else files name
 
--- these bytes were read: there are at most so many, and where it is known what was there, they are that
+-- these bytes were read: there are not too many, and where it is known what was there, they are that
 pub record AreRead (known : Option (List ℕ)) (bytes : List ℕ) : Type 0 where
-  pub few : length bytes ≤ 268435456
+  pub few : IsWithin bytes
   pub whole : IfSome known (λ xs. bytes ≡ xs)
 
 -- the text that a name stands for

@@ -4,7 +4,8 @@ ghost use Rattle.std.specs.Prelude.{ℕ, List, ◌++◌, IfOk, OnOk};
 ghost use Rattle.std.specs.Thread.{IsSync};
 ghost use Rattle.command_texts.specs.inner.Takings.{Fills, TakesAll};
 
-use crate::reading::{Filled, Left, ReadFault, fill, zeroes};
+use crate::limits::Left;
+use crate::reading::{Filled, ReadFault, fill, zeroes};
 use crate::taking::Taker;
 use std::alloc::{AllocError, Global};
 use std::io::Read;
@@ -14,8 +15,8 @@ use std::thread::{Threads, available_parallelism, join_mut};
 /// How many bytes are read and taken at a time.
 const PIECE_BYTES: usize = 2_097_152;
 
-/// More pieces than an input may have.
-const MOST_PIECES: u32 = 1_024;
+/// More pieces than an input may have: all but the last are whole.
+const MOST_PIECES: u32 = 16_384;
 
 /// The most threads that take parts of a piece.
 const MOST_PARTS: usize = 8;
@@ -34,14 +35,14 @@ pub(crate) fn read_ahead<H: Threads + Sync, R: Read + Send, T: Taker>(
     let parts = processors(rt);
     let mut piece = zeroes(alloc, PIECE_BYTES)?;
     let mut next = zeroes(alloc, PIECE_BYTES)?;
-    let mut left = most.bytes;
+    let mut left = most;
     let mut filled = fill(reader, piece.as_mut_slice(), most.reads)?;
     for _ in 0..MOST_PIECES {
-        if filled.count > left {
-            return Err(ReadFault::File);
-        }
-        left -= filled.count;
         let came = &piece[..filled.count];
+        let Some(behind) = left.behind(came, filled.reads) else {
+            return Err(ReadFault::File);
+        };
+        left = behind;
         if filled.ended {
             taker.take(rt, parts, came)?;
             return Ok(());

@@ -6,6 +6,7 @@ mod ahead;
 mod answer;
 mod closing;
 mod cutting;
+mod limits;
 mod naming;
 mod performing;
 mod reading;

@@ -6,6 +6,7 @@ ghost use Rattle.command_texts.specs.Told.{AreRead};
 ghost use Rattle.command_texts.specs.inner.Takings.{Fills, Takes, TakesAll};
 
 use crate::ahead::read_ahead;
+use crate::limits::{Left, MOST_READS};
 use crate::taking::Taker;
 use std::alloc::{AllocError, Global};
 use std::io;
@@ -41,20 +42,15 @@ impl From<AllocError> for ReadFault {
     }
 }
 
-/// The most bytes that an input may have.
-const MOST_BYTES: usize = 268_435_456;
-
-/// The most reads that an input may take, with the one that finds its end.
-const MOST_READS: u32 = 1_048_576;
-
 /// How many bytes are taken at a time at first, by one thread.
 const FIRST_BYTES: usize = 131_072;
 
-/// How many pieces are taken so, before several threads take larger ones.
-const FIRST_PIECES: u32 = 8;
+/// How many pieces are taken so behind the first, before several threads take larger ones.
+const FIRST_PIECES: u32 = 7;
 
 /// Gives the text that a reader has left to a taker, piece by piece as it is read: at most 268,435,456 bytes, in at most
-/// 1,048,576 reads. Of a long text the pieces are taken by several threads, and the next one is read meanwhile.
+/// 1,048,576 reads, or by its first line 17,179,869,184 bytes in 67,108,864 reads, and at most 268,435,456 bytes of a line that
+/// has not ended. Of a long text the pieces are taken by several threads, and the next one is read meanwhile.
 pub(crate) fn take_text<H: Threads + Sync, R: Read + Send, T: Taker>(
     rt: &H,
     alloc: Global,
@@ -63,11 +59,15 @@ pub(crate) fn take_text<H: Threads + Sync, R: Read + Send, T: Taker>(
 ) -> Result<(), ReadFault>
     ensures { OnOk result ((text : List ℕ) × AreRead (R.remaining reader.old) text × (T.came taker.old [] → T.came taker.new text)) }
 {
-    let most = Left {
-        bytes: MOST_BYTES,
-        reads: MOST_READS,
-    };
-    read_within(rt, alloc, reader, taker, most)
+    let mut buffer = zeroes(alloc, FIRST_BYTES)?;
+    let filled = fill(reader, buffer.as_mut_slice(), MOST_READS)?;
+    let first = &buffer[..filled.count];
+    taker.take(rt, 1, first)?;
+    if filled.ended {
+        return Ok(());
+    }
+    let left = Left::behind_first(first, filled.reads);
+    read_within(rt, alloc, reader, taker, left)
 }
 
 /// What is found of the text that a reader has left, and why it is refused, if it is.
@@ -81,13 +81,6 @@ pub fn read_text<H: Threads + Sync, R: Read + Send, T: Taker>(
     let mut taker = T::new(alloc);
     take_text(rt, alloc, reader, &mut taker)?;
     Ok(taker.end()?)
-}
-
-/// How many bytes of an input may yet come, in how many reads.
-#[derive(Clone, Copy)]
-pub(crate) struct Left {
-    pub(crate) bytes: usize,
-    pub(crate) reads: u32,
 }
 
 /// What was read to the front of a buffer.
@@ -154,7 +147,7 @@ fn read_within<H: Threads + Sync, R: Read + Send, T: Taker>(
     }
 }
 
-/// Gives the first pieces of what a reader has left to a taker, by one thread. Answers what may come yet, where that was
+/// Gives the next pieces of what a reader has left to a taker, by one thread. Answers what may come yet, where that was
 /// not all.
 fn read_first<H: Threads + Sync, R: Read, T: Taker>(
     rt: &H,
@@ -169,17 +162,15 @@ fn read_first<H: Threads + Sync, R: Read, T: Taker>(
     let mut left = most;
     for _ in 0..FIRST_PIECES {
         let filled = fill(reader, buffer.as_mut_slice(), left.reads)?;
-        if filled.count > left.bytes {
+        let piece = &buffer[..filled.count];
+        let Some(behind) = left.behind(piece, filled.reads) else {
             return Err(ReadFault::File);
-        }
-        taker.take(rt, 1, &buffer[..filled.count])?;
+        };
+        taker.take(rt, 1, piece)?;
         if filled.ended {
             return Ok(None);
         }
-        left = Left {
-            bytes: left.bytes - filled.count,
-            reads: filled.reads,
-        };
+        left = behind;
     }
     Ok(Some(left))
 }

@@ -7,4 +7,4 @@ use Rattle.cert_text.proofs.write_cert.Goals as goal
 pub returns : goal.returns
 returns c =
     let cert = c.args.cert.now in
-    (cert_lines cert, (c.keeps_limits.ensures, refl), cert_written cert c.entries-entries.result.now c.runs.result.now (length c.entries-entries.result.now) c.cert_header.result.now c.new-out.result.items c.push_line.new.out.items c.push_keyed.new.out.items c.push_entries.new.out.items c.push_runs.new.out.items (c.cert_header.ensures ∙ (ap (λ (v : Version). header v c.size.result) c.version.ensures ∙ ap (header cert.version) c.size.ensures)) c.entries-entries.ensures c.runs.ensures refl c.new-out.ensures.items c.in_ok-push_line.ensures c.in_ok-push_keyed.ensures c.in_ok-push_entries.ensures c.in_ok-push_runs.ensures)
+    (cert_lines cert, (c.keeps_limits.ensures, refl), cert_written cert c.entries-entries.result.now c.runs.result.now (length c.entries-entries.result.now) c.cert_header.result.now c.in_ok-out.out.items c.push_line.new.out.items c.push_keyed.new.out.items c.push_entries.new.out.items c.push_runs.new.out.items (c.cert_header.ensures ∙ (ap (λ (v : Version). header v c.size.result) c.version.ensures ∙ ap (header cert.version) c.size.ensures)) c.entries-entries.ensures c.runs.ensures refl c.in_ok-out.ensures c.in_ok-push_line.ensures c.in_ok-push_keyed.ensures c.in_ok-push_entries.ensures c.in_ok-push_runs.ensures)

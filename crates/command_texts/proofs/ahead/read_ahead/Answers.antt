@@ -16,7 +16,7 @@ loop-preserved g c =
     let count = c.loop.filled.count in
     record {
       mid = g.R.Read.remaining c.loop.reader;
-      taken = takes_more g.T.Taker.came _ c.loop.left _ _ i.mid _ _ c.loop.taker _ (take count c.loop.piece.items) i.taken i.filled.consumed (omega (arith, length-take-le count c.loop.piece.items i.filled.within, c.if-filled-left.false)) (rw c.deref.ensures.value at c.in_ok-filled-2.ensures.taken);
+      taken = takes_more g.T.Taker.came _ c.loop.left.bytes _ _ i.mid _ _ c.loop.taker _ (take count c.loop.piece.items) i.taken i.filled.consumed (rw c.deref.ensures.value at (rw c.in-Some.is at c.behind.ensures)) (rw c.deref.ensures.value at c.in_ok-filled-2.ensures.taken);
       filled = rw c.swap.ensures.x_after
           (fills_written _ _ c.take_and_fill.new.next (drop (length c.take_and_fill.new.next) c.loop.next.items) c.loop.next.len _ _ (omega (arith, c.take_and_fill.auto.next, c.as_mut_slice-in-loop.ensures.len)) c.in_ok-filled-2.ensures.filled);
     }
@@ -25,6 +25,6 @@ pub returns-then-filled : goal.returns-then-filled
 returns-then-filled g c =
     let i = c.loop.invariant in
     let count = c.loop.filled.count in
-    takes_whole g.T.Taker.came _ (c.loop.left - count) _ _ _ _
-    (takes_more g.T.Taker.came _ c.loop.left _ _ i.mid _ _ c.loop.taker _ (take count c.loop.piece.items) i.taken i.filled.consumed (omega (arith, length-take-le count c.loop.piece.items i.filled.within, c.if-filled-left.false)) (rw c.deref.ensures.value at c.in_ok-take.ensures))
+    takes_whole g.T.Taker.came _ c.in-Some.behind.bytes _ _ _ _
+    (takes_more g.T.Taker.came _ c.loop.left.bytes _ _ i.mid _ _ c.loop.taker _ (take count c.loop.piece.items) i.taken i.filled.consumed (rw c.deref.ensures.value at (rw c.in-Some.is at c.behind.ensures)) (rw c.deref.ensures.value at c.in_ok-take.ensures))
     (i.filled.at_end c.if-filled.true)

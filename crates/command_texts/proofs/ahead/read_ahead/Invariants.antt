@@ -8,6 +8,6 @@ invariant-loop g l =
     let remaining = g.R.Read.remaining in
     record {
       mid : Option (List ℕ);
-      taken : Takes g.T.Taker.came l.fn.most.bytes l.left (remaining l.fn.reader) mid l.fn.taker l.taker;
+      taken : Takes g.T.Taker.came l.fn.most.bytes l.left.bytes (remaining l.fn.reader) mid l.fn.taker l.taker;
       filled : Fills mid (remaining l.reader) l.piece.items l.filled.count l.filled.ended;
     }
