@@ -1,5 +1,5 @@
 -- A line that a list takes, one that begins a log, and an item that a list lets go.
-use Rattle.std.proofs.Common.{◌≡◌, ◌≢◌, ℕ, ◌+◌, ◌-◌, ◌<◌, ◌≤◌, List, [], ◌∷◌, ◌++◌, length, refl, sym, ap, subst, ◌∙◌, arith}
+use Rattle.std.proofs.Common.{◌≡◌, ◌≢◌, ℕ, ◌-◌, ◌<◌, ◌≤◌, List, [], ◌∷◌, ◌++◌, length, refl, sym, ap, subst, ◌∙◌, arith}
 use Rattle.std.specs.Prelude.{Bool, true, false, Result, Ok, Err, OnOk, OnErr, IfOk, IfErr, ⊤}
 use Rattle.std.specs.List.{AllByRecursion}
 use Rattle.std.specs.Fmt.{decimal}
@@ -20,11 +20,11 @@ use Rattle.session_text.specs.declared.parts.Stage.TheVariants.{Header, Pages, C
 use Rattle.session_text.specs.Records.{guest_line, source_line, link_line, lane_line, pager_line}
 use Rattle.session_text.specs.inner.InitPages.{IsInitContent, next_from, next_push}
 use Rattle.session_text.specs.Grammar.{init_key, guest_key, source_key, link_key, lane_key, pager_key, page_line, closing}
-use Rattle.session_text.specs.inner.Held.{SessionDraft, Part, part_onto, geometry_onto, init_onto, guest_onto, source_onto, link_onto, lane_part_onto, lane_onto, IsWhole, LogFits, most_of, InitFits, GuestFits, SourceFits, LinkFits, LaneFits, PagerFits, Live, held_onto}
+use Rattle.session_text.specs.inner.Held.{SessionDraft, Part, part_onto, geometry_onto, init_onto, guest_onto, source_onto, link_onto, lane_onto, IsWhole, LogFits, most_of, InitFits, GuestFits, SourceFits, LinkFits, LaneFits, Live, held_onto}
 use Rattle.session_text.specs.inner.Steps.{left_at, stage_before, Drops, Stays, Steps, StepsBack}
 use Rattle.session_text.proofs.Sections.{with_items, onto_push, push_fits}
 use Rattle.session_text.proofs.ByVersion.{lane_is}
-use Rattle.session_text.proofs.Laws.{live_at, page_push, page_refused, guest_refused, source_refused, link_refused, lane_refused, pager_refused, guest_count_refused, source_count_refused, link_count_refused, behind_lane_refused, closing_refused, more_refused}
+use Rattle.session_text.proofs.Laws.{live_at, page_push, page_refused, guest_refused, source_refused, link_refused, lane_refused, pager_refused, guest_count_refused, source_count_refused, link_count_refused, behind_lane_refused, closing_refused}
 use Rattle.session_text.proofs.Back.{onto_empty, with_init, pages_back, cells_back, init_count_back, done_back, init_back, init_none_back, guest_back, guest_none_back, source_back, source_none_back, link_back, link_none_back, lane_back, lane_none_back, pager_back, first_none_back, pager_none_back}
 
 -- ---- an item

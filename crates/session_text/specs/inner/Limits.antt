@@ -1,5 +1,5 @@
 -- How large the numbers of each size are.
-use Rattle.std.specs.Prelude.{ℕ, ◌<◌, ◌^◌}
+use Rattle.std.specs.Prelude.{◌<◌, ◌^◌}
 use Rattle.std.proofs.Common.{arith}
 use Rattle.migration_types.specs.declared.size.Size.{Size}
 use Rattle.migration_types.specs.Limits.{limits, limits_at_most}
