@@ -1,7 +1,7 @@
 //! Texts of certificates and of runs: writing one, reading one, or telling the line at which an input stops being one.
 #![tactic(auto)]
 
-ghost use Rattle.std.specs.Prelude.{IfOk};
+ghost use Rattle.std.specs.Prelude.{◌≡◌, [], IfOk};
 ghost use Rattle.text_lines.specs.Answer.{Reads};
 ghost use Rattle.text_lines.specs.Text.{IsSpelling, IsUnambiguous};
 ghost use Rattle.migration_types.specs.declared.version.Version.TheVariants.{Two};
@@ -67,6 +67,7 @@ pub fn read_cert(alloc: Global, bytes: &[u8]) -> Result<Cert, TextFault>
 
 /// Most lines of pages that were not used have fewer bytes, and most of runs have no more.
 const ENTRY_ROOM: usize = 24;
+
 const RUN_ROOM: usize = 8;
 
 /// An empty text with room for most certificates, so that it does not grow, and move, while it is written.

@@ -4,7 +4,7 @@
 ghost use Rattle.std.specs.Prelude.{◌≡◌, ◌+◌, ◌≤◌, ◌⊎◌, ◌↔◌, IfSome, IsTrue, length};
 ghost use Rattle.command_texts.specs.Limits.{BeginsWith, MayBeLong};
 
-use memchr::memrchr;
+use memchr::{memchr, memrchr};
 use text_lines::after_key;
 
 /// The most bytes that an input may have.
@@ -59,16 +59,21 @@ impl Left {
     pub(crate) fn behind(self, piece: &[u8], reads: u32) -> Option<Self>
         ensures { IfSome result (λ left. left.bytes + length piece.now ≡ self.bytes) }
     {
-        let line = line_after(self.line, piece);
-        if piece.len() > self.bytes || line > LONGEST_LINE {
+        if piece.len() > self.bytes || line_so_far(self.line, piece) > LONGEST_LINE {
             return None;
         }
         Some(Left {
             bytes: self.bytes - piece.len(),
             reads,
-            line,
+            line: line_after(self.line, piece),
         })
     }
+}
+
+/// How many bytes there are of the line that a piece goes on with, where there were so many before it.
+fn line_so_far(before: usize, piece: &[u8]) -> usize {
+    let here = memchr(b'\n', piece).unwrap_or(piece.len());
+    before.saturating_add(here)
 }
 
 /// How many bytes of the last line there are behind a piece, where there were so many before it.

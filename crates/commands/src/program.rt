@@ -164,7 +164,7 @@ fn check_bare<R: Threads + Sync, S: TextSource, I: Read + Send, O: Write, E: Wri
 ///
 /// The first of the words is the program's own name; with no other it checks the two texts of the input. The status is
 /// 0 where all is well or help was asked for, 1 for another answer, 2 where the words are no command, 3 where a text was
-/// not read whole, has more than 268,435,456 bytes or takes too many reads, where a migration's link failed, or the output
+/// not read whole, has too many bytes or takes too many reads (`FORMATS` says how many), where a migration's link failed, or the output
 /// was not written, and 4 where memory ran out. At 2 to 4 the errors tell why. At 1 they tell why a text is refused, or what of
 /// a certificate does not fit its session. The texts are read in the order of the words, and both before an answer is sought;
 /// of several sessions each is audited before the next is read, and of the input among them nothing is said. The output gains the

@@ -103,7 +103,7 @@ rest_of Cells d fits =
     (s.0, cells_lines s.0, (s.1, s.2, ap (λ (x : Extent). x.pages) s.3, refl))
 rest_of InitCount d fits = let s = first_scenario d.version (machine_of d) [] fits refl (no_init (machine_of d)) in (s.0, init_lines s.0, (s.1, s.2, s.3, refl))
 rest_of Init d fits =
-    let filled = init_filled (machine_of d) (next_from 0 d.init.items) d.init fits in
+    let filled = init_filled d.version (machine_of d) (next_from 0 d.init.items) d.init fits in
     let more = filled.0 in
     let s = first_scenario d.version (machine_of d) (d.init.items ++ more) fits.geometry refl (record { each = filled.2.each; rising = rise_increases 0 filled.1 (d.init.items ++ more) filled.2.rising }) in
     (s.0, map page_line more ++ pivots_lines s.0, record { fits = s.1; version = s.2; geometry = s.3; count = ap (λ (t : List InitPage). length t) s.4 ∙ filled.3; back = more; whole = s.4; lines = refl })

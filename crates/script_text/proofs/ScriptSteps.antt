@@ -97,7 +97,7 @@ pub init_count_taken : (d : ScriptDraft) (part : Part InitPage) (line : List ℕ
 init_count_taken d part line live none few is =
     let pages = live.fits.few_pages in
     step InitCount Init d (with_init part d) line live
-    (record { geometry = live.fits; within = rw none (omega arith); each = rw none tt; rising = rw none refl; room = rw none (omega arith) })
+    (record { size = tt; geometry = live.fits; within = rw none (omega arith); each = rw none tt; rising = rw none refl; room = rw none (omega arith) })
     (rw (none, is) refl)
     (λ v more r.
     let most = few_init v r.0 in
@@ -136,7 +136,7 @@ next_page d line v more r less = go r.back r.whole r.lines
 pub page_taken : (d : ScriptDraft) (p : InitPage) (part : Part InitPage) (line : List ℕ) → ScriptLive Init d → length d.init.items < d.init.count → part ≡ record { count = d.init.count; items = d.init.items ++ p ∷ [] } → next_from 0 d.init.items ≤ p.page → p.page ≤ d.pages - (d.init.count - length d.init.items) → IsInitContent d.cells p.cells → line ≡ page_line p → Taken Init Init d (with_init part d) line
 page_taken d p part line live less is low high content spelled =
     let new : Part InitPage = record { count = d.init.count; items = d.init.items ++ p ∷ [] } in
-    let fits = page_push (machine_of d) d.init (next_from 0 d.init.items) (next_from 0 (d.init.items ++ p ∷ [])) p (next_push 0 d.init.items p) live.fits less low high content in
+    let fits = page_push d.version (machine_of d) d.init (next_from 0 d.init.items) (next_from 0 (d.init.items ++ p ∷ [])) p (next_push 0 d.init.items p) live.fits less low high content in
     let own = all_at (InitPageFits (machine_of d)) d.init.items p [] fits.each in
     rw is (step Init Init d (with_init new d) line live fits
     (ap (λ (t : List (List ℕ)). script_header d.version ∷ (pages_key ++ decimal d.pages) ∷ (cells_key ++ decimal d.cells) ∷ (init_key ++ decimal d.init.count) ∷ t) (sym (append-nil (map page_line (d.init.items ++ p ∷ []))) ∙ section_push page_line d.init.items p [] ∙ ap (λ (l : List ℕ). map page_line d.init.items ++ l ∷ []) (sym spelled)))

@@ -166,7 +166,7 @@ ScriptRest Done d v more = IsScenario v × AgreesLane d v × (v.vcpus ≡ d.vcpu
 -- ---- what holds of what came
 
 abbrev pub InitPart : ScriptDraft → Type 0
-InitPart d = InitFits (machine_of d) (next_from 0 d.init.items) d.init
+InitPart d = InitFits d.version (machine_of d) (next_from 0 d.init.items) d.init
 
 pub record FitsPivots (d : ScriptDraft) : Type 0 where
   pub geometry : IsExtent (machine_of d)
