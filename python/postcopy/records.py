@@ -15,20 +15,30 @@ import re
 from typing import Dict, Iterator, NamedTuple, Optional, Tuple, Union
 
 __all__ = [
-    "Field", "Kind", "LOGS", "LOST", "MOST_CELLS", "MOST_IN_ALL", "MOST_PAGES", "MOST_RECORDS", "RECEIVED", "RECORDS",
-    "Record", "named", "page_in", "page_of", "read_record", "spelled",
+    "Field", "Kind", "LARGE", "LOGS", "LOST", "Limits", "MOST_CELLS", "RECEIVED", "RECORDS", "Record", "SMALL",
+    "named", "page_in", "page_of", "read_record", "spelled",
 ]
 
 Record = Tuple[Union[str, int], ...]
 
-#: The logs of a session, in the order of its text. The lane is in the second version alone.
+#: The logs of a session, in the order of its text. The first version has no lane.
 LOGS = ("guest", "source", "link", "lane", "pager")
 
-#: So many records a log of a session has at most, so many pages its machine, so many cells a page, and so many all pages together.
-MOST_RECORDS = 1048576
-MOST_PAGES = 65536
+
+class Limits(NamedTuple):
+    """How many pages the machine of a session has at most, how many cells all of them together, and how many records each log."""
+
+    pages: int
+    in_all: int
+    records: int
+
+
+#: The limits of the first and the second version, and those of the third.
+SMALL = Limits(65536, 1048576, 1048576)
+LARGE = Limits(16777216, 16777216, 134217728)
+
+#: So many cells a page has at most.
 MOST_CELLS = 512
-MOST_IN_ALL = 1048576
 
 #: What a recorder answers in the place of a number where a record was not written.
 LOST = 2**32 - 1

@@ -9,20 +9,7 @@ from collections import Counter
 from dataclasses import dataclass, field
 from typing import Callable, Dict, Iterator, List, Tuple
 
-from .records import (
-    LOGS,
-    LOST,
-    MOST_CELLS,
-    MOST_IN_ALL,
-    MOST_PAGES,
-    MOST_RECORDS,
-    RECEIVED,
-    RECORDS,
-    Record,
-    named,
-    page_of,
-    spelled,
-)
+from .records import LARGE, LOGS, LOST, MOST_CELLS, RECEIVED, RECORDS, SMALL, Limits, Record, named, page_of, spelled
 
 __all__ = ["Session"]
 
@@ -35,27 +22,41 @@ def _no_logs() -> Dict[str, List[Record]]:
 
 @dataclass
 class Session:
-    """A machine, what its pages hold at first (those that are not zeros alone), and the logs."""
+    """A machine, what its pages hold at first (those that are not zeros alone), and the logs.
+
+    Where it is large it is of the third version also where it keeps the limits of the others, as a window of a large one does.
+    """
 
     pages: int
     cells: int
     initial: Dict[int, str] = field(default_factory=dict)
     logs: Dict[str, List[Record]] = field(default_factory=_no_logs)
     has_lane: bool = False
+    is_large: bool = False
+
+    def fits(self, limits: Limits) -> bool:
+        """Whether the machine and the logs keep these limits."""
+        is_fit = self.pages <= limits.pages and self.cells <= MOST_CELLS and self.pages * self.cells <= limits.in_all
+        return is_fit and all(len(records) <= limits.records for records in self.logs.values())
 
     def version(self) -> int:
-        """The version of its text: the second where there is a lane, or a release after the resume."""
+        """The version of its text: the third where it is large, or past the limits of the others; else the second where there is a
+        lane, or a release after the resume; and else the first."""
+        if self.is_large or not self.fits(SMALL):
+            return 3
         words = [record[0] for record in self.logs["guest"]]
         is_late = "resume" in words and "z" in words[words.index("resume"):]
         is_carried = self.has_lane or bool(self.logs["lane"]) or any(record[0] == "pull" for record in self.logs["pager"])
         return 2 if is_carried or is_late else 1
 
     def text(self) -> str:
-        """The text of the session. Raises ValueError where the machine is larger than that of a session may be."""
-        if self.pages > MOST_PAGES or self.cells > MOST_CELLS or self.pages * self.cells > MOST_IN_ALL:
+        """The text of the session. Raises ValueError where the machine or a log is larger than that of a session may be."""
+        if not self.fits(LARGE):
+            longest = max(map(len, self.logs.values()))
             raise ValueError(
-                f"{self.pages} pages of {self.cells} cells are too many: a session has at most {MOST_PAGES} pages, {MOST_CELLS} cells a page "
-                f"and {MOST_IN_ALL} cells in all; a window shows some of the pages"
+                f"{self.pages} pages of {self.cells} cells, with up to {longest} records a log, are too many: a session has at most "
+                f"{LARGE.pages} pages, {MOST_CELLS} cells a page, {LARGE.in_all} cells in all and {LARGE.records} records a log; "
+                "a window shows some of the pages"
             )
         return "".join(self.lines())
 
@@ -72,7 +73,7 @@ class Session:
         for page in sorted(self.initial):
             yield f"page {page} {self.initial[page]}\n"
         for log in LOGS:
-            if log != "lane" or version == 2:
+            if log != "lane" or version > 1:
                 yield f"{log} {len(self.logs[log])}\n"
                 for record in self.logs[log]:
                     yield f"{spelled(record)}\n"
@@ -101,7 +102,7 @@ class Session:
             if record[0] == "ask-sent":
                 self.logs["source"][number] = ("ask", ups[int(record[1])].pop() if record[1] in ups else LOST)
 
-    def cut(self, most: int = MOST_RECORDS) -> List[str]:
+    def cut(self, most: int = LARGE.records) -> List[str]:
         """Cuts each log in front of its first record that names one which is not there, until there is none; and tells what
         was left out. So too a `halted` that is alone, and what is past so many records: those of a session, or more where a window
         is still to come."""
@@ -127,7 +128,7 @@ class Session:
     def window(self, first: int, last: int) -> "Session":
         """The session seen through some of its pages, which are numbered from 0: what tells of another page is left out, and
         what names such a record. A look tells of the newest placement that is kept, and goes where an earlier one told as much.
-        The version stays. No record of this session names one that is not there."""
+        The version stays: the windows of a large session are large. No record of this session names one that is not there."""
         return next(self._seen(first, last - first + 1, last + 1))
 
     def windows(self, size: int) -> Iterator["Session"]:
@@ -140,7 +141,7 @@ class Session:
         def window_of(page: int) -> int:
             return (page - first) // size if first <= page < end else _NONE
 
-        homes, is_second = self._homes(window_of), self.version() == 2
+        homes, version = self._homes(window_of), self.version()
         kept = {log: _by_home(homes[log]) for log in LOGS}
         looks = self._looks(homes["pager"])
         initial: Dict[int, Dict[int, str]] = {}
@@ -152,7 +153,7 @@ class Session:
             numbers["guest"] = sorted(numbers["guest"] + list(seen))
             logs = self._renumbered(numbers, seen, start)
             pages = {page - start: contents for page, contents in initial.get(window, {}).items()}
-            yield Session(min(size, end - start), self.cells, pages, logs, is_second)
+            yield Session(min(size, end - start), self.cells, pages, logs, version > 1, version > 2)
 
     def _renumbered(self, kept: Dict[str, List[int]], looks: Dict[int, int], first: int) -> Dict[str, List[Record]]:
         """These records and looks, told by their numbers, with their pages numbered from this one on; a look tells of this placement."""
