@@ -61,7 +61,7 @@ def with_changes(rng, text):
 
 def any_name(rng, length):
     """The number of a record of a log of this length, or, now and then, one that no record has."""
-    return rng.choice((*[rng.randrange(length + 1)] * 8, length + rng.randrange(4), rng.choice((2**20, 2**32, GREATEST))))
+    return rng.choice((*[rng.randrange(length + 1)] * 8, length + rng.randrange(4), rng.choice((2**20, 2**27, 2**32, GREATEST))))
 
 
 def renamed(rng, log, record, length):
@@ -82,10 +82,10 @@ NAMES = {
 
 def random_text(rng):
     """A recording of random records. Most of them name one of the kind that they should, before or after their own."""
-    version, pages, cells = rng.choice((1, 2)), rng.randrange(1, 7), rng.choice((1, 1, 2))
+    version, pages, cells = rng.choice((1, 2, 2, 3)), rng.randrange(1, 7), rng.choice((1, 1, 2))
     kinds = {}
     for log in logs_of(version):
-        those = [kind for kind in text_judge.RECORDS[log] if version == 2 or kind not in text_judge.LATER]
+        those = [kind for kind in text_judge.RECORDS[log] if version > 1 or kind not in text_judge.LATER]
         kinds[log] = [rng.choice(those) for _ in range(rng.choice((0, 3, 8, 16, 30)))]
 
     def field(kind, which):
@@ -156,8 +156,11 @@ def refused_texts(rng):
     for count in (GREATEST, 2**63):
         for log in ("init", *LOGS):
             yield f"{log} of {count}", machine(GREATEST, 1, [], version=2).replace(f"\n{log} 0\n", f"\n{log} {count}\n")
+    for version in range(5):
+        yield f"version {version}", machine(GREATEST, 512, [f"page 5 {1:08192x}"], version)
+        yield f"version {version} with no lane", machine(3, 1, [], version).replace("\nlane 0\n", "\n")
 
 
 def machine(pages, cells, initial, version=1):
-    logs = "".join(f"{log} 0\n" for log in LOGS if log != "lane" or version == 2)
+    logs = "".join(f"{log} 0\n" for log in LOGS if log != "lane" or version > 1)
     return f"postcopy-session {version}\npages {pages}\ncells {cells}\ninit {len(initial)}\n" + "".join(f"{line}\n" for line in initial) + f"{logs}end\n"

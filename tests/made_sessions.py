@@ -14,7 +14,7 @@ from window_model import window
 TOP = os.path.dirname(os.path.dirname(os.path.abspath(__file__)))
 sys.path.insert(0, f"{TOP}/python")
 from postcopy.recorded import Unfit, session_of  # noqa: E402
-from postcopy.records import RECORDS  # noqa: E402
+from postcopy.records import LARGE, RECORDS, SMALL  # noqa: E402
 
 TRACES = "examples/recording"
 
@@ -117,7 +117,7 @@ class MadeSessions:
             folder = self.folder()
             files_of(SessionText(text), folder, 3, chance)
             made, said = self.made_of(folder)
-            self.tests.same("a session of files", made, text)
+            self.tests.same("a session of files", made, self.of_least_size(text))
             self.tests.same("what is said of it", [it for it in said if "there is no record" not in it], [])
             for name in os.listdir(folder):
                 if name.startswith("lane") and "\nlane 0\n" in text:
@@ -125,8 +125,18 @@ class MadeSessions:
             self.tests.same("with no file of the lane", self.made_of(folder)[0], self.of_least_version(text))
 
     @staticmethod
-    def of_least_version(text):
-        """The session, of the first version where nothing in it is of the second."""
+    def of_least_size(text):
+        """The session, of the second version in the place of the third where its machine keeps the second's limits."""
+        pages, cells = (int(line.split(" ")[1]) for line in SessionText(text).head[1:3])
+        is_small = pages <= SMALL.pages and pages * cells <= SMALL.in_all
+        return text.replace("postcopy-session 3\n", "postcopy-session 2\n") if is_small else text
+
+    @classmethod
+    def of_least_version(cls, text):
+        """The session, of the first version where nothing in it is of a later one."""
+        text = cls.of_least_size(text)
+        if text.startswith("postcopy-session 3\n"):
+            return text
         is_late = re.search("^resume .*^z .*^source ", text, re.M | re.S)
         if is_late or "\nlane 0\n" not in text or "\npull " in text:
             return text
@@ -218,14 +228,21 @@ class MadeSessions:
         return folder
 
     def of_larger_machines(self):
-        """A machine with more pages than a session's, and a log with more records."""
-        folder = self.larger_machine(66000, 1048576)
+        """A machine with more pages than one of the second version, and a log with more records; and more pages than any session's."""
+        folder = self.larger_machine(66000, SMALL.records)
+        made = self.script(folder)
+        self.tests.same("the first line of a larger one", (made.stdout[:19], made.stderr, made.returncode), ("postcopy-session 3\n", "", 0))
+        self.tests.same("its verdict", self.tests.audit(made.stdout), f"faulty line {12 + SMALL.records} read")
+        folder = self.larger_machine(66000, 1)
+        made = self.script(folder)
+        self.tests.same("such a machine in one session", (made.stdout[:32], made.returncode), ("postcopy-session 3\npages 66000\nc", 0))
+        self.tests.same("its verdict", self.tests.audit(made.stdout), "faulty line 13 read")
         made = self.script(folder, "--windows", "60000", "-o", f"{folder}/windows")
-        many = f"{folder}/windows/0-59999: guest: 3 records left out: a session's log has 1048576 records at most"
-        self.tests.same("what is said of windows", (made.stderr, made.returncode), (f"session: {many}\n", 0))
+        self.tests.same("what is said of windows", (made.stdout, made.stderr, made.returncode), ("", "", 0))
+        versions = {text_of(f"{folder}/windows/{name}")[:19] for name in ("0-59999", "60000-65999")}
+        self.tests.same("the version of the windows", versions, {"postcopy-session 3\n"})
         verdicts = [self.tests.audit(text_of(f"{folder}/windows/{name}")) for name in ("0-59999", "60000-65999")]
         self.tests.same("the verdicts through windows", verdicts, ["clean", "faulty line 10 read"])
-        folder = self.larger_machine(66000, 1)
         made = self.script(folder, "--window", "65998-65999")
         self.tests.same("the window of the last pages", self.tests.audit(made.stdout), "faulty line 10 read")
         ran = self.script(folder, "--recording", "-o", f"{folder}/recording")
@@ -233,8 +250,15 @@ class MadeSessions:
         recording = text_of(f"{folder}/recording")
         self.tests.same("a window of that recording", window(recording, 65998, 2)[0], made.stdout)
         self.tests.same("how large it is", recording.split("\n")[1], "pages 66000")
+        folder = self.larger_machine(LARGE.pages, 1)
         made = self.script(folder)
-        self.tests.same("such a machine in one session", (made.stdout, made.returncode, "66000 pages of 1 cells are too many" in made.stderr), ("", 2, True))
+        self.tests.same("a machine of the most pages", (made.stdout[:34], made.returncode), ("postcopy-session 3\npages 16777216\n", 0))
+        folder = self.larger_machine(LARGE.pages + 1, 1)
+        made = self.script(folder)
+        self.tests.same("a machine of a page more", (made.stdout, made.returncode), ("", 2))
+        self.tests.same("what is said of it", made.stderr.startswith("session: 16777217 pages of 1 cells, "), True)
+        made = self.script(folder, "--window", "16777215-16777216")
+        self.tests.same("the verdict through a window of it", self.tests.audit(made.stdout), "faulty line 10 read")
 
     def of_holes(self):
         """A record that is missing in the middle, a second one of a number, and files that are none."""

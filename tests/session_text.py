@@ -7,8 +7,8 @@ RECEIPTS = {"resume": "pager", "see": "pager", "halted": "guest", "fault": "gues
 
 
 def logs_of(version):
-    """The logs that a session of this version has; the lane is in the second alone."""
-    return [log for log in LOGS if log != "lane" or version == 2]
+    """The logs that a session of this version has; the first has no lane."""
+    return [log for log in LOGS if log != "lane" or version > 1]
 
 
 class SessionText:
@@ -77,9 +77,9 @@ class SessionText:
                 late.add(name)
         return sorted(order, key=lambda name: name in late)
 
-    def to_second(self):
-        """Makes it one of the second version, with the same records."""
-        self.head[0] = "postcopy-session 2"
+    def tell_in(self, version):
+        """Makes it one of this version, with the same records."""
+        self.head[0] = f"postcopy-session {version}"
 
     def carry(self, carried):
         """Has the lane deliver these packets, in this order, and the link no more. Each is a `down` of the link, by its place;

@@ -10,9 +10,7 @@ are well formed.
 import sys
 
 from session_text import LOGS, logs_of
-
-MOST_RECORDS = 1_048_576
-
+from text_judge import SMALL
 
 class Script:
     def __init__(self, text):
@@ -77,7 +75,7 @@ class Migration:
     # What the logs say.
 
     def record(self, log, *words):
-        if len(self.logs[log]) == MOST_RECORDS:
+        if len(self.logs[log]) == SMALL.records:
             raise LogFull
         self.order.append(log)
         self.logs[log].append(tuple(str(word) for word in words))

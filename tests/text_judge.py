@@ -5,7 +5,6 @@ from typing import Callable, NamedTuple
 
 from session_text import logs_of
 
-MOST_RECORDS = 2**20
 MOST_LINES = 2**24
 
 
@@ -18,8 +17,16 @@ class Limits(NamedTuple):
     number: int
 
 
-SESSION = Limits(65536, lambda pages: min(512, 2**20 // pages), MOST_RECORDS, MOST_RECORDS - 1)
-RECORDING = Limits(2**63 - 1, lambda pages: 512, 2**63 - 1, 2**63 - 1)
+def sized(pages, in_all, records):
+    """The limits of a size of machines and logs, by the most pages, cells in all and records a log."""
+    return Limits(pages, lambda of: min(512, in_all // of), records, records - 1)
+
+
+SMALL, LARGE = sized(2**16, 2**20, 2**20), sized(2**24, 2**24, 2**27)
+# The limits of sessions and of certificates by their version. A recording has its own, of whatever version it is.
+OF_VERSION = {1: SMALL, 2: SMALL, 3: LARGE}
+WIDE = Limits(2**63 - 1, lambda pages: 512, 2**63 - 1, 2**63 - 1)
+RECORDING = dict.fromkeys(OF_VERSION, WIDE)
 
 NUMBER = re.compile("0|[1-9][0-9]*")
 
@@ -31,7 +38,7 @@ RECORDS = {
     "lane": {"down": "n"},
     "pager": {"got": "n", "pull": "n", "ready": "", "fault": "n", "join": "n", "want": "p", "place": "pnh", "zero": "p", "skip": "n", "all": ""},
 }
-# The kinds of records that the second version alone has.
+# The kinds of records that the first version has not.
 LATER = {"pull"}
 FATES = ("deliver", "lose", "repeat", "back")
 REASONS = {"read", "early", "given", "stale", "twice", "altered", "unfit", "over"}
@@ -71,7 +78,7 @@ def field(kind, word, pages, cells, limits):
         number(word, 0, {"v": 63, "p": pages - 1, "c": cells - 1, "x": 2**64 - 1, "n": limits.number}[kind])
 
 
-def fielded(line, kinds, pages, cells, limits=SESSION):
+def fielded(line, kinds, pages, cells, limits=SMALL):
     """A line whose first word is one of these kinds, with the fields of that kind."""
     kind, *words = line.split(" ")
     demand(kind in kinds and len(words) == len(kinds[kind]))
@@ -79,7 +86,7 @@ def fielded(line, kinds, pages, cells, limits=SESSION):
         field(which, word, pages, cells, limits)
 
 
-def machine(line, limits=SESSION):
+def machine(line, limits=SMALL):
     """The lines of a machine with its initial pages. What comes back is its pages and cells."""
     pages = keyed(line(), "pages", 1, limits.pages)
     cells = keyed(line(), "cells", 1, limits.cells(pages))
@@ -93,11 +100,12 @@ def machine(line, limits=SESSION):
     return pages, cells
 
 
-def session(line, limits=SESSION):
-    version = keyed(line(), "postcopy-session", 1, 2)
+def session(line, of_version=OF_VERSION):
+    version = keyed(line(), "postcopy-session", 1, max(of_version))
+    limits = of_version[version]
     pages, cells = machine(line, limits)
     for log in logs_of(version):
-        kinds = {kind: fields for kind, fields in RECORDS[log].items() if version == 2 or kind not in LATER}
+        kinds = {kind: fields for kind, fields in RECORDS[log].items() if version > 1 or kind not in LATER}
         for _ in range(keyed(line(), log, 0, limits.records)):
             fielded(line(), kinds, pages, cells, limits)
 
@@ -108,28 +116,30 @@ def recording(line):
 
 def runs(line, version):
     """Runs of the logs that sessions of this version have, as many as these logs may have records."""
-    logs, before = logs_of(version), None
-    for _ in range(keyed(line(), "runs", 0, len(logs) * MOST_RECORDS)):
+    logs, most, before = logs_of(version), OF_VERSION[version].records, None
+    for _ in range(keyed(line(), "runs", 0, len(logs) * most)):
         words = line().split(" ")
         demand(len(words) == 3 and words[0] == "run" and words[1] in logs and words[1] != before)
-        number(words[2], 1, MOST_RECORDS)
+        number(words[2], 1, most)
         before = words[1]
 
 
 def runs_alone(line):
+    """Runs with no certificate. They may be of sessions of each version."""
     demand(line() == "postcopy-runs 1")
-    runs(line, 2)
+    runs(line, max(OF_VERSION))
 
 
 def certificate(line):
-    version = keyed(line(), "postcopy-certificate", 1, 2)
-    for page in range(keyed(line(), "pages", 1, 65536)):
+    version = keyed(line(), "postcopy-certificate", 1, max(OF_VERSION))
+    limits = OF_VERSION[version]
+    for page in range(keyed(line(), "pages", 1, limits.pages)):
         words = line().split(" ")
         demand(words[:2] == ["page", str(page)] and len(words) > 2 and len(words) - 3 == {"none": 0, "fresh": 1, "source": 4, "balloon": 3}.get(words[2]))
-        demand(words[2] != "fresh" or version == 2)
+        demand(words[2] != "fresh" or version > 1)
         numbers = words[3:-2] if words[-2:] == ["-", "-"] else words[3:]
         for word in numbers:
-            number(word, 0, MOST_RECORDS - 1)
+            number(word, 0, limits.number)
     runs(line, version)
 
 
@@ -175,7 +185,7 @@ def script(line):
 
 def events(line):
     demand(line() == "postcopy-events 1")
-    for _ in range(keyed(line(), "events", 0, MOST_RECORDS)):
+    for _ in range(keyed(line(), "events", 0, SMALL.records)):
         event = line()
         if event not in EVENTS:
             keyed(event, "guest", 0, 63)
