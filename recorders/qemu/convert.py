@@ -2,7 +2,7 @@
 from contents import Contents
 from kinds import plan_from_text
 from pipe import Pipe
-from postcopy.records import LARGE
+from postcopy.records import SMALL
 from records import Hole, Session
 from relay import Window
 from source_side import SourceSide
@@ -33,7 +33,7 @@ class Recording:
         self.source_side(session, self.wire, self.contents, is_from_halt).read(pipe.tokens(self.read("source.raw")))
         self.target_side(session, self.wire, self.contents, plan.base).read(pipe.tokens(self.read("target.raw")))
         self.links(session)
-        if len(session.logs["guest"]) > LARGE.records and not is_from_halt:
+        if len(session.logs["guest"]) > SMALL.records and not is_from_halt:
             return self.session(is_from_halt=True)
         return session
 
