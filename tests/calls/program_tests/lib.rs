@@ -167,15 +167,15 @@ fn wrong_case<
 
 // What is told of inputs that are empty, or begin with an empty line, and of a certificate that stands for another text.
 
-const EMPTY_SESSION: &[u8] = b"-:1:1: the text is empty; expected \"postcopy-session 1\" or \"postcopy-session 2\", the header of a session\n";
+const EMPTY_SESSION: &[u8] = b"-:1:1: the text is empty; expected the header of a session\n";
 
-const EMPTY_CERT: &[u8] = b"-:1:1: the text is empty; expected \"postcopy-certificate 1\" or \"postcopy-certificate 2\", the header of a certificate\n";
+const EMPTY_CERT: &[u8] = b"-:1:1: the text is empty; expected the header of a certificate\n";
 
 const EMPTY_ORDER: &[u8] = b"-:1:1: the text is empty; expected the first line of a text of runs, of a certificate or of a report\n";
 
 const EMPTY_EVENTS: &[u8] = b"-:1:1: the text is empty; expected \"postcopy-events 1\", the header of events\n";
 
-const EMPTY_LINE: &[u8] = b"-:1:1: found an empty line; expected \"postcopy-session 1\" or \"postcopy-session 2\", the header of a session\n";
+const EMPTY_LINE: &[u8] = b"-:1:1: found an empty line; expected the header of a session\n";
 
 const CERT_FOR_SESSION: &[u8] = b"cert:1:1: this is a certificate; expected a session: are the two files swapped?\n";
 
@@ -752,10 +752,12 @@ fn an_input_that_fails(rt: HostRuntime) {
     none_is_wrong(&rt, wrong_input(&rt));
 }
 
-// Gives so many bytes, of which the first is LF, each time as many as are asked for or one, and then an error or the end.
-// It leaves the others as they are.
+// Gives its first lines, and behind them so many bytes, each time as many as are asked for or one, and then an error or the
+// end. The first of these is LF each time, where lines are to end; it leaves the others as they are.
 #[derive(Drop)]
 struct Plenty {
+    head: &'static [u8],
+    ends_lines: bool,
     left: usize,
     one_by_one: bool,
     fails: bool,
@@ -763,13 +765,22 @@ struct Plenty {
 
 impl Read for Plenty {
     fn read(&mut self, buf: &mut [u8]) -> io::Result<usize> {
+        if !self.head.is_empty() {
+            let count = self.head.len().min(buf.len());
+            let (now, later) = self.head.split_at(count);
+            buf[..count].copy_from_slice(now);
+            self.head = later;
+            return Ok(count);
+        }
         if self.fails && self.left == 0 {
             return Err(io::Error::from(ErrorKind::BrokenPipe));
         }
         let most = if self.one_by_one { 1 } else { buf.len() };
         let count = most.min(self.left).min(buf.len());
         if let Some(first) = buf.first_mut() {
-            *first = b'\n';
+            if self.ends_lines {
+                *first = b'\n';
+            }
         }
         self.left -= count;
         Ok(count)
@@ -778,7 +789,7 @@ impl Read for Plenty {
 
 static AUDIT: [&str; 3] = ["postcopy", "audit", "-"];
 
-// Inputs: how many bytes, whether one by one, and whether they are read.
+// Inputs without first lines: how many bytes, whether one by one, and whether they are read.
 static LIMITS: [(usize, bool, bool); 4] = [
     (268_435_456, false, true),
     (268_435_457, false, false),
@@ -786,11 +797,25 @@ static LIMITS: [(usize, bool, bool); 4] = [
     (1_048_576, true, false),
 ];
 
+// Inputs with first lines: these, how many bytes come behind them, whether lines end there, and whether they are read.
+static LONG: [(&[u8], usize, bool, bool); 4] = [
+    (b"postcopy-session 3\n", 268_435_457, true, true),
+    (b"postcopy-session 2\n", 268_435_457, true, false),
+    (b"postcopy-session 3\n\n", 268_435_456, false, true),
+    (b"postcopy-session 3\n\n", 268_435_457, false, false),
+];
+
+const SECOND_LINE: &[u8] = b"session-text line 2\n";
+
+const NO_PAGES: &[u8] = b"-:2:1: found an empty line; expected \"pages N\", the number of pages\n";
+
 // Whether an input of so many bytes is read, or refused.
 fn is_limit_kept<
     R: Threads + Wait + Sync + AllocGlobal + Net<Listener = TcpListener, Stream = TcpStream>,
 >(rt: &R, left: usize, one_by_one: bool, fits: bool) -> bool {
     let mut input = Plenty {
+        head: b"",
+        ends_lines: true,
         left,
         one_by_one,
         fails: false,
@@ -823,6 +848,39 @@ fn limits_of_an_input(rt: HostRuntime) {
     }
 }
 
+// The place of a long input that is not read, or refused, as it is to be.
+fn wrong_long<
+    R: Threads + Wait + Sync + AllocGlobal + Net<Listener = TcpListener, Stream = TcpStream>,
+>(rt: &R) -> Option<usize> {
+    for (place, (head, left, ends_lines, fits)) in LONG.iter().enumerate() {
+        let mut input = Plenty {
+            head: *head,
+            ends_lines: *ends_lines,
+            left: *left,
+            one_by_one: false,
+            fails: false,
+        };
+        let found = ran_over(rt, AUDIT.as_slice(), &mut input);
+        let is_kept = if *fits {
+            is_outcome(&found, 1, SECOND_LINE, NO_PAGES)
+        } else {
+            is_outcome(&found, 3, b"", b"file -\n")
+        };
+        if !is_kept {
+            return Some(place);
+        }
+    }
+    None
+}
+
+// By its first line a text may be longer; no line of it is longer than 268,435,456 bytes.
+#[test]
+fn limits_of_a_long_input(rt: HostRuntime) {
+    if let Some(place) = wrong_long(&rt) {
+        panic!(rt; "at {place}");
+    }
+}
+
 // After how many bytes an input fails: in the first pieces, and in each of some that are read ahead.
 static FAILING: [usize; 6] = [
     1_000_000, 1_048_576, 2_000_000, 3_145_728, 4_000_000, 9_000_000,
@@ -834,6 +892,8 @@ fn untold_failure<
 >(rt: &R) -> Option<usize> {
     for left in &FAILING {
         let mut input = Plenty {
+            head: b"",
+            ends_lines: true,
             left: *left,
             one_by_one: false,
             fails: true,
