@@ -3,3 +3,4 @@ pub mod Stored
 pub mod InitPages
 pub mod Places
 pub mod Room
+pub mod Widest

@@ -3,8 +3,9 @@
 ghost use Rattle.std.specs.Prelude.{◌≡◌, ◌<◌, ◌^◌};
 ghost use Rattle.migration_types.specs.Sessions.{lane_lines};
 
-/// Which of the two versions of the texts something is of, told by its first line. In the second version a guest may
-/// release pages at the target, and a certificate may say of a page that such a release came before it.
+/// Which kinds of records and entries something has, told by the first line of its text. In the second version a guest may
+/// release pages at the target, a lane may stand beside the link, and a certificate may say of a page that such a release
+/// came before it. Texts of the third version have these too: they differ in their [`Size`](crate::Size).
 #[derive(Clone, Copy, Debug, PartialEq, Eq)]
 pub enum Version {
     One,

@@ -87,7 +87,7 @@ impl<R: Threads + Sync> JudgesEntries for InThreads<'_, R> {
 }
 
 /// At least so many pages are judged at once.
-const PAGES_AT_ONCE: usize = 262_144;
+const PAGES_AT_ONCE: usize = 65_536;
 
 /// How many records there are, with the pages that do not begin as zeros.
 #[tactic(auto, using(migration_types::specs::inner::InitPages::few_init))]

@@ -238,8 +238,8 @@ fn complete<Q: Question>(
     Ok(answer)
 }
 
-/// What is answered of all pages by threads side by side, a range of pages for each processor; where it is little work, by
-/// the calling thread. An error: there is no memory for it.
+/// What is answered of all pages by threads side by side, a range of pages for each processor; where there is one processor
+/// or little work, by the calling thread. An error: there is no memory for it.
 pub fn answer_apart<R: Threads + Sync, X: Send + Drop, Q: Question<Answer = X> + Sync>(
     rt: &R,
     question: &Q,
@@ -249,13 +249,13 @@ pub fn answer_apart<R: Threads + Sync, X: Send + Drop, Q: Question<Answer = X> +
     requires { Q.IsFor question.now session.now }
     ensures { IfOk result (Q.IsAnswer question.now session.now 0 session.now.geometry.pages) }
 {
-    if is_small(session) {
+    let parts = current_num_threads(rt);
+    if parts < 2 || is_small(session) {
         return answer_alone(question, alloc, session);
     }
     session.keeps_limits();
     let looks = first_looks(alloc, session)?;
     let pages = session.geometry().pages() as usize;
-    let parts = current_num_threads(rt);
     let size = pages.div_ceil(parts);
     let judge = |number: usize| -> Result<Part<X>, AllocError>
         requires { IsSession session.now × Q.IsFor question.now session.now × IsTable session.now.geometry.pages looks (first_look session.now (length session.now.guest)) }
