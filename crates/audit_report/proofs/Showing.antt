@@ -27,7 +27,7 @@ use Rattle.audit_model.specs.Laws.{IsFaultless, FaultsBreak, DelayedBreaks, Dela
 use Rattle.audit_model.proofs.Fits.{session_fits}
 use Rattle.audit_model.proofs.History.{earlier_true}
 use Rattle.audit_model.proofs.Clean.{false_if_not_true, clash}
-use Rattle.cert_maker.proofs.Fitting.{in_text}
+use Rattle.migration_types.specs.inner.Widest.{are_widest}
 use Rattle.cert_maker.specs.Orders.{AreFoundRuns}
 use Rattle.audit_report.specs.declared.report.Report.{Report}
 use Rattle.audit_report.specs.declared.report.Report.TheVariants.{Clean, Shape, Knot, Faulty}
@@ -213,7 +213,7 @@ module _ (s : Recorded) where
   fits_text (Clean cert) is = tt
   fits_text (Shape fault) is = tt
   fits_text (Knot left found) is = tt
-  fits_text (Faulty line fault order) is = in_text s.version s.geometry.size order is.1.shows.are_runs
+  fits_text (Faulty line fault order) is = are_widest s.version s.geometry.size order is.1.shows.are_runs
 
   pub fits_of : (r : Result Report AllocError) → IfOk r (IsReport s) → IfOk r ReportFits
   fits_of (Ok report) is = fits_text report is

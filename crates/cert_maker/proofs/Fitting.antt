@@ -1,5 +1,5 @@
 -- Runs that take no more records than a session has are within the limits of the session's version and size.
-use Rattle.std.proofs.Common.{◌≡◌, ℕ, ◌+◌, ◌*◌, ◌<◌, ◌≤◌, ◌⊎◌, inl, inr, Bool, true, false, cond, List, [], ◌∷◌, length, refl, ap, ◌∙◌, subst, arith}
+use Rattle.std.proofs.Common.{◌≡◌, ℕ, ◌+◌, ◌<◌, ◌≤◌, ◌⊎◌, inl, inr, Bool, true, false, cond, List, [], ◌∷◌, length, refl, ap, ◌∙◌, subst, arith}
 use Rattle.std.specs.List.{AllByRecursion}
 use Rattle.std.proofs.lemmas.Bool.{cases_lt}
 use Rattle.migration_types.specs.declared.records.LogName.{LogName}
@@ -10,8 +10,7 @@ use Rattle.migration_types.specs.declared.cert.Run.{Run}
 use Rattle.migration_types.specs.declared.version.Version.{Version}
 use Rattle.migration_types.specs.declared.version.Version.TheVariants.{One, Two}
 use Rattle.migration_types.specs.declared.size.Size.{Size}
-use Rattle.migration_types.specs.declared.size.Size.TheVariants.{Large}
-use Rattle.migration_types.specs.Limits.{limits, limits_at_most, longest_log, most_runs}
+use Rattle.migration_types.specs.Limits.{limits, longest_log, most_runs}
 use Rattle.migration_types.specs.Certs.{LogFits, RunFits, Alternate, AreRuns}
 use Rattle.migration_types.specs.Sessions.{Recorded, IsSession, HasLane, LaneRecFits}
 use Rattle.audit_model.specs.Names.{log_length, same_log}
@@ -115,29 +114,3 @@ some_of_fitting version size (run ∷ runs) each = (each.0.some, some_of_fitting
 
 pub take_records : (version : Version) (size : Size) (runs : List Run) → AreRuns version size runs → TakeRecords runs
 take_records version size runs fits = some_of_fitting version size runs fits.each
-
-log_in_second : (log : LogName) → LogFits Two log
-log_in_second Guest = tt
-log_in_second Source = tt
-log_in_second Link = tt
-log_in_second Lane = tt
-log_in_second Pager = tt
-
-each_in_text : (version : Version) (size : Size) (runs : List Run) → AllByRecursion (RunFits version size) runs → AllByRecursion (RunFits Two Large) runs
-each_in_text version size [] each = tt
-each_in_text version size (run ∷ runs) each =
-    let few = each.0.few in
-    let most = (limits_at_most size).few_records in
-    (record { log = log_in_second run.log; some = each.0.some; few = omega (arith, few, most) }, each_in_text version size runs each.1)
-
-most_in_text : (version : Version) (size : Size) → most_runs version size ≤ most_runs Two Large
-most_in_text One size = let most = (limits_at_most size).few_records in omega (arith, most)
-most_in_text Two size = let most = (limits_at_most size).few_records in omega (arith, most)
-
--- runs that fit a version and a size fit a text of runs
-pub in_text : (version : Version) (size : Size) (runs : List Run) → AreRuns version size runs → AreRuns Two Large runs
-in_text version size runs fits = record {
-  few = omega (arith, fits.few, most_in_text version size);
-  each = each_in_text version size runs fits.each;
-  alternate = fits.alternate;
-}

@@ -19,7 +19,7 @@ use Rattle.cert_text.specs.declared.run_lines.RunStage.{RunStage}
 use Rattle.cert_text.specs.declared.run_lines.RunStage.TheVariants.{Count, Runs, Done}
 use Rattle.cert_text.specs.Runs.{runs_key, closing, run_line, runs_lines, SpellsRunLines}
 use Rattle.cert_text.specs.inner.Held.{MayFollow, Follows, runs_onto, runs_held, RunsFit, RunsLive}
-use Rattle.cert_text.specs.inner.Limits.{few_runs}
+use Rattle.migration_types.specs.inner.Widest.{few_runs}
 use Rattle.cert_text.proofs.RunLaws.{runs_agree, runs_end, runs_same, NextRun, next_run, all_push, all_append, alternate_push, alternate_all, another}
 
 runs_onto_append : (d : Part Run) (a b : List (List ℕ)) → runs_onto d a ++ b ≡ runs_onto d (a ++ b)

@@ -21,7 +21,8 @@ use Rattle.migration_types.specs.Certs.{LogFits, RunFits, Alternate, AreRuns}
 use Rattle.cert_text.specs.Runs.{runs_key, closing, log_word, run_text, run_line, runs_lines}
 use Rattle.cert_text.specs.inner.Held.{MayFollow}
 use Rattle.migration_types.specs.inner.Room.{limits_some}
-use Rattle.cert_text.specs.inner.Limits.{few_runs, count_small}
+use Rattle.migration_types.specs.inner.Widest.{few_runs}
+use Rattle.cert_text.specs.inner.Limits.{count_small}
 
 -- ---- one spelling for each run
 

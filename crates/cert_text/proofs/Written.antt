@@ -26,18 +26,21 @@ entry_written out xs i d lt =
     ap (λ (t : List ℕ). out ++ t) (ap (λ (ys : List Entry). ended (entry_lines 0 ys)) (take_more xs i d lt) ∙ entry_last (take i xs) (get_or xs i d) i (omega (arith, length-take i xs)))
     ∙ sym (append_assoc out (ended (entry_lines 0 (take i xs))) (entry_line i (get_or xs i d) ++ 10 ∷ []))
 
--- a certificate's text, written in parts
-pub cert_written : (c : Certified) (entries : List Entry) (runs : List Run) (n : ℕ) (title none front pages listed out : List ℕ) → title ≡ header c.version c.size → entries ≡ c.entries → runs ≡ c.runs → n ≡ length entries → none ≡ [] → front ≡ none ++ (title ++ 10 ∷ []) → pages ≡ front ++ (pages_key ++ (decimal n ++ 10 ∷ [])) → listed ≡ pages ++ ended (entry_lines 0 entries) → out ≡ listed ++ ended (runs_lines runs) → out ≡ ended (cert_lines c)
-cert_written c entries runs n title none front pages listed out h p q e o1 o2 o3 o4 o5 =
+-- a certificate's text, added in parts
+pub cert_written : (c : Certified) (entries : List Entry) (runs : List Run) (n : ℕ) (before title front pages listed out : List ℕ) → title ≡ header c.version c.size → entries ≡ c.entries → runs ≡ c.runs → n ≡ length entries → front ≡ before ++ (title ++ 10 ∷ []) → pages ≡ front ++ (pages_key ++ (decimal n ++ 10 ∷ [])) → listed ≡ pages ++ ended (entry_lines 0 entries) → out ≡ listed ++ ended (runs_lines runs) → out ≡ before ++ ended (cert_lines c)
+cert_written c entries runs n before title front pages listed out h p q e o1 o2 o3 o4 =
+    let first : List ℕ = header c.version c.size in
     let line : List ℕ = pages_key ++ decimal (length c.entries) in
-    let counted : pages ≡ front ++ ((pages_key ++ decimal n) ++ 10 ∷ []) = o3 ∙ ap (λ (t : List ℕ). front ++ t) (sym (append_assoc pages_key (decimal n) (10 ∷ []))) in
-    let whole : out ≡ ((header c.version c.size ++ 10 ∷ []) ++ (line ++ 10 ∷ [])) ++ ended (entry_lines 0 c.entries) ++ ended (runs_lines c.runs) = rw (o5, o4, counted, o2, o1, e, h, p, q) refl in
-    let lists : ended (entry_lines 0 c.entries ++ runs_lines c.runs) ≡ ended (entry_lines 0 c.entries) ++ ended (runs_lines c.runs) = sym (append-nil (ended (entry_lines 0 c.entries ++ runs_lines c.runs))) ∙ (ended-append (entry_lines 0 c.entries) (runs_lines c.runs) [] ∙ ap (λ (t : List ℕ). ended (entry_lines 0 c.entries) ++ t) (append-nil (ended (runs_lines c.runs)))) in
-    whole ∙ (append_assoc ((header c.version c.size ++ 10 ∷ []) ++ (line ++ 10 ∷ [])) (ended (entry_lines 0 c.entries)) (ended (runs_lines c.runs))
-    ∙ (ap (λ (t : List ℕ). ((header c.version c.size ++ 10 ∷ []) ++ (line ++ 10 ∷ [])) ++ t) (sym lists)
-    ∙ (append_assoc (header c.version c.size ++ 10 ∷ []) (line ++ 10 ∷ []) (ended (entry_lines 0 c.entries ++ runs_lines c.runs))
-    ∙ (ap (λ (t : List ℕ). (header c.version c.size ++ 10 ∷ []) ++ t) (append_assoc line (10 ∷ []) (ended (entry_lines 0 c.entries ++ runs_lines c.runs)))
-    ∙ append_assoc (header c.version c.size) (10 ∷ []) (line ++ (10 ∷ ended (entry_lines 0 c.entries ++ runs_lines c.runs)))))))
+    let lines : List ℕ = ended (entry_lines 0 c.entries ++ runs_lines c.runs) in
+    let counted : pages ≡ front ++ ((pages_key ++ decimal n) ++ 10 ∷ []) = o2 ∙ ap (λ (t : List ℕ). front ++ t) (sym (append_assoc pages_key (decimal n) (10 ∷ []))) in
+    let whole : out ≡ (((before ++ (first ++ 10 ∷ [])) ++ (line ++ 10 ∷ [])) ++ ended (entry_lines 0 c.entries)) ++ ended (runs_lines c.runs) = rw (o4, o3, counted, o1, e, h, p, q) refl in
+    let lists : lines ≡ ended (entry_lines 0 c.entries) ++ ended (runs_lines c.runs) = sym (append-nil lines) ∙ (ended-append (entry_lines 0 c.entries) (runs_lines c.runs) [] ∙ ap (λ (t : List ℕ). ended (entry_lines 0 c.entries) ++ t) (append-nil (ended (runs_lines c.runs)))) in
+    whole
+    ∙ (append_assoc ((before ++ (first ++ 10 ∷ [])) ++ (line ++ 10 ∷ [])) (ended (entry_lines 0 c.entries)) (ended (runs_lines c.runs))
+    ∙ (ap (λ (t : List ℕ). ((before ++ (first ++ 10 ∷ [])) ++ (line ++ 10 ∷ [])) ++ t) (sym lists)
+    ∙ (append_assoc (before ++ (first ++ 10 ∷ [])) (line ++ 10 ∷ []) lines
+    ∙ (append_assoc before (first ++ 10 ∷ []) ((line ++ 10 ∷ []) ++ lines)
+    ∙ ap (λ (t : List ℕ). before ++ t) (append_assoc first (10 ∷ []) ((line ++ 10 ∷ []) ++ lines) ∙ ap (λ (t : List ℕ). first ++ 10 ∷ t) (append_assoc line (10 ∷ []) lines))))))
 
 -- the closing line behind all the runs
 runs_written : (out first last : List ℕ) (xs : List Run) → (out ++ ended (first ∷ (map run_line xs ++ []))) ++ (last ++ 10 ∷ []) ≡ out ++ ended (first ∷ (map run_line xs ++ last ∷ []))

@@ -1,14 +1,14 @@
 //! Texts of certificates and of runs: writing one, reading one, or telling the line at which an input stops being one.
 #![tactic(auto)]
 
-ghost use Rattle.std.specs.Prelude.{◌≡◌, [], IfOk};
+ghost use Rattle.std.specs.Prelude.{◌≡◌, ◌∷◌, ◌++◌, IfOk, OnOk};
 ghost use Rattle.text_lines.specs.Answer.{Reads};
-ghost use Rattle.text_lines.specs.Text.{IsSpelling, IsUnambiguous};
+ghost use Rattle.text_lines.specs.Text.{ended, IsSpelling, IsUnambiguous};
 ghost use Rattle.migration_types.specs.declared.version.Version.TheVariants.{Two};
 ghost use Rattle.migration_types.specs.declared.size.Size.TheVariants.{Large};
 ghost use Rattle.migration_types.specs.Certs.{AreRuns};
-ghost use Rattle.cert_text.specs.Grammar.{SpellsCert};
-ghost use Rattle.cert_text.specs.Runs.{SpellsRuns};
+ghost use Rattle.cert_text.specs.Grammar.{cert_lines, SpellsCert};
+ghost use Rattle.cert_text.specs.Runs.{runs_text_header, runs_lines, SpellsRuns};
 
 use migration_types::{Cert, Run, Seq};
 use std::alloc::{AllocError, Global};
@@ -70,13 +70,24 @@ const ENTRY_ROOM: usize = 24;
 
 const RUN_ROOM: usize = 8;
 
-/// An empty text with room for most certificates, so that it does not grow, and move, while it is written.
-fn with_room(alloc: Global, cert: &Cert) -> Result<Vec<u8>, AllocError>
-    ensures { IfOk result (λ out. out.items ≡ []) }
-{
+/// How much room most certificates' texts need, so that a text does not grow, and move, while one is added.
+fn room_of(cert: &Cert) -> usize {
     let entries = cert.entries().len().saturating_mul(ENTRY_ROOM);
     let runs = cert.runs().len().saturating_mul(RUN_ROOM);
-    Vec::with_capacity(alloc, entries.saturating_add(runs))
+    entries.saturating_add(runs)
+}
+
+/// Adds the text of a certificate, in its version. An error: there is no memory for it; some of it may have been added.
+pub fn push_cert(out: &mut Vec<u8>, cert: &Cert) -> Result<(), AllocError>
+    ensures { OnOk result (out.new.items ≡ out.old.items ++ ended (cert_lines cert.now)) }
+{
+    cert.keeps_limits();
+    let entries = cert.entries();
+    out.reserve(room_of(cert))?;
+    push_line(out, cert_header(cert.version(), cert.size()))?;
+    push_keyed(out, PAGES_KEY, entries.len())?;
+    push_entries(out, entries)?;
+    push_runs(out, cert.runs())
 }
 
 /// The text of a certificate, in its version, which `read_cert` reads back. An error: there is no memory for it.
@@ -84,12 +95,8 @@ pub fn write_cert(alloc: Global, cert: &Cert) -> Result<Vec<u8>, AllocError>
     ensures { IfOk result (λ out. IsSpelling SpellsCert cert.now out.items) }
 {
     cert.keeps_limits();
-    let entries = cert.entries();
-    let mut out = with_room(alloc, cert)?;
-    push_line(&mut out, cert_header(cert.version(), cert.size()))?;
-    push_keyed(&mut out, PAGES_KEY, entries.len())?;
-    push_entries(&mut out, entries)?;
-    push_runs(&mut out, cert.runs())?;
+    let mut out = Vec::new(alloc);
+    push_cert(&mut out, cert)?;
     Ok(out)
 }
 
@@ -110,6 +117,15 @@ pub fn read_runs(alloc: Global, bytes: &[u8]) -> Result<Seq<Run>, TextFault>
     read_whole::<RunsText>(alloc, bytes)
 }
 
+/// Adds the text of runs. An error: there is no memory for it; some of it may have been added.
+pub fn push_runs_text(out: &mut Vec<u8>, runs: &[Run]) -> Result<(), AllocError>
+    requires { AreRuns Two Large runs.now }
+    ensures { OnOk result (out.new.items ≡ out.old.items ++ ended (runs_text_header ∷ runs_lines runs.now)) }
+{
+    push_line(out, RUNS_HEADER)?;
+    push_runs(out, runs)
+}
+
 /// The text of runs within the limits of the second version and of the large size, which `read_runs` reads back. An error:
 /// there is no memory for it.
 pub fn write_runs(alloc: Global, runs: &[Run]) -> Result<Vec<u8>, AllocError>
@@ -117,7 +133,6 @@ pub fn write_runs(alloc: Global, runs: &[Run]) -> Result<Vec<u8>, AllocError>
     ensures { IfOk result (λ out. IsSpelling SpellsRuns runs.now out.items) }
 {
     let mut out = Vec::new(alloc);
-    push_line(&mut out, RUNS_HEADER)?;
-    push_runs(&mut out, runs)?;
+    push_runs_text(&mut out, runs)?;
     Ok(out)
 }

@@ -1,5 +1,5 @@
 -- The order that the text of a report tells.
-use Rattle.std.proofs.Common.{◌≡◌, ◌+◌, ◌≤◌, ◌<◌, ◌^◌, ℕ, List, ◌∷◌, refl, arith}
+use Rattle.std.proofs.Common.{◌≤◌, ◌<◌, ◌^◌, ℕ, List, ◌∷◌, refl, arith}
 use Rattle.migration_types.specs.declared.cert.Run.{Run}
 use Rattle.migration_types.specs.declared.records.LogName.{LogName}
 use Rattle.migration_types.specs.declared.records.LogName.TheVariants.{Guest, Source, Link, Lane, Pager}

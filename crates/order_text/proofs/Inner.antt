@@ -8,7 +8,7 @@ use Rattle.text_lines.specs.Text.{Begins}
 use Rattle.migration_types.specs.declared.cert.Run.{Run}
 use Rattle.cert_text.specs.Runs.{SpellsRuns, runs_lines, run_line, closing}
 use Rattle.cert_text.specs.Grammar.{entry_lines, SpellsCertRuns}
-use Rattle.cert_text.specs.inner.Limits.{few_runs}
+use Rattle.migration_types.specs.inner.Widest.{few_runs}
 use Rattle.cert_text.proofs.EntryLaws.{entries_length}
 use Rattle.order_text.specs.declared.forms.Form.{Form}
 use Rattle.order_text.specs.declared.forms.Form.TheVariants.{Runs, Faulty, Cert, Clean}

@@ -1,19 +1,13 @@
 -- A text that tells an order is a text of runs or a certificate, perhaps with a line above it.
 use Rattle.std.proofs.Common.{◌≡◌, ℕ, ◌<◌, List, [], ◌∷◌, ◌++◌, length, refl, sym, subst, append_assoc, arith}
-use Rattle.std.specs.List.{AllByRecursion}
 use Rattle.std.proofs.lemmas.List.{append-nil}
 use Rattle.text_lines.specs.Text.{Begins}
 use Rattle.migration_types.specs.declared.cert.Run.{Run}
-use Rattle.migration_types.specs.declared.records.LogName.{LogName}
-use Rattle.migration_types.specs.declared.records.LogName.TheVariants.{Guest, Source, Link, Lane, Pager}
-use Rattle.migration_types.specs.declared.size.Size.{Size}
 use Rattle.migration_types.specs.declared.size.Size.TheVariants.{Large}
-use Rattle.migration_types.specs.declared.version.Version.{Version}
 use Rattle.migration_types.specs.declared.version.Version.TheVariants.{Two}
-use Rattle.migration_types.specs.Limits.{limits_at_most}
-use Rattle.migration_types.specs.Certs.{LogFits, RunFits, AreRuns}
+use Rattle.migration_types.specs.Certs.{AreRuns}
 use Rattle.cert_text.specs.Runs.{SpellsRuns}
-use Rattle.cert_text.specs.inner.Limits.{few_runs}
+use Rattle.migration_types.specs.inner.Widest.{are_widest}
 use Rattle.cert_text.specs.Grammar.{SpellsCertRuns}
 use Rattle.order_text.specs.declared.forms.Form.{Form}
 use Rattle.order_text.specs.declared.forms.Form.TheVariants.{Runs, Faulty, Cert, Clean}
@@ -98,25 +92,8 @@ spells_back form order lines fits some b s =
 
 -- ---- an order is within the limits of the second version and of the large size
 
-log_in : (log : LogName) → LogFits Two log
-log_in Guest = tt
-log_in Source = tt
-log_in Link = tt
-log_in Lane = tt
-log_in Pager = tt
-
-run_in : (version : Version) (size : Size) (run : Run) → RunFits version size run → RunFits Two Large run
-run_in version size run h = let most = (limits_at_most size).few_records in record { log = log_in run.log; some = h.some; few = omega (arith, most, h.few) }
-
-runs_in : (version : Version) (size : Size) (runs : List Run) → AllByRecursion (RunFits version size) runs → AllByRecursion (RunFits Two Large) runs
-runs_in version size [] h = tt
-runs_in version size (run ∷ runs) h = (run_in version size run h.0, runs_in version size runs h.1)
-
-in_large : (version : Version) (size : Size) (runs : List Run) → AreRuns version size runs → AreRuns Two Large runs
-in_large version size runs h = record { few = few_runs version size (length runs) h.few; each = runs_in version size runs h.each; alternate = h.alternate }
-
 of_cert : (order : List Run) (lines : List (List ℕ)) → SpellsCertRuns order lines → AreRuns Two Large order
-of_cert order lines s = subst (AreRuns Two Large) (sym s.2) (in_large s.0.version s.0.size s.0.runs s.1.0.runs)
+of_cert order lines s = subst (AreRuns Two Large) (sym s.2) (are_widest s.0.version s.0.size s.0.runs s.1.0.runs)
 
 of_form : (form : Form) (order : List Run) (lines : List (List ℕ)) → SpellsAs form order lines → AreRuns Two Large order
 of_form Runs order lines s = s.0

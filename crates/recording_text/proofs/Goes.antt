@@ -1,8 +1,7 @@
 -- What came so far goes on to a recording's text, and it is one where it is whole.
-use Rattle.std.proofs.Common.{◌≡◌, ◌≢◌, ℕ, zero, suc, ◌+◌, ◌-◌, ◌<◌, ◌≤◌, ◌^◌, List, [], ◌∷◌, ◌++◌, length, map, replicate, refl, sym, ap, subst, ◌∙◌, length-append, arith}
-use Rattle.std.specs.List.{AllByRecursion}
+use Rattle.std.proofs.Common.{◌≡◌, ◌≢◌, ℕ, ◌+◌, ◌-◌, ◌<◌, ◌≤◌, ◌^◌, List, [], ◌∷◌, ◌++◌, length, map, refl, sym, ap, subst, ◌∙◌, length-append, arith}
 use Rattle.std.specs.Fmt.{decimal}
-use Rattle.std.proofs.lemmas.List.{append-nil, length-map, length-replicate}
+use Rattle.std.proofs.lemmas.List.{append-nil}
 use Rattle.text_lines.specs.Text.{Begins}
 use Rattle.text_lines.proofs.Cut.{Begins-front}
 use Rattle.migration_types.specs.declared.records.GuestRec.TheVariants.{Halt}
@@ -18,14 +17,14 @@ use Rattle.migration_types.specs.Limits.{HasSize}
 use Rattle.migration_types.specs.Extents.{Extent}
 use Rattle.migration_types.specs.Pages.{InitPageFits}
 use Rattle.migration_types.specs.Sessions.{Recorded}
-use Rattle.migration_types.specs.inner.InitPages.{Rise, rise_long, rise_increases}
+use Rattle.migration_types.specs.inner.InitPages.{rise_long, rise_increases}
 use Rattle.recordings.specs.Recordings.{IsCount, IsMachine, IsRecording, SpellsRecording, IsGuestRecOf, IsSourceRecOf, IsLinkRecOf, IsLaneRecOf, IsPagerRecOf}
 use Rattle.session_text.specs.declared.parts.Stage.{Stage}
 use Rattle.session_text.specs.declared.parts.Stage.TheVariants.{Header, Pages, Cells, InitCount, Init, Guest, Source, Link, Lane, Pager, Done}
 use Rattle.session_text.specs.Records.{guest_line, source_line, link_line, lane_line, pager_line}
 use Rattle.session_text.specs.Grammar.{header, pages_key, cells_key, init_key, guest_key, source_key, link_key, lane_key, pager_key, page_line, closing, session_lines}
 use Rattle.session_text.specs.inner.Held.{geometry_onto, init_onto, guest_onto, source_onto, link_onto, lane_onto}
-use Rattle.session_text.proofs.Lists.{all_append, all_replicate}
+use Rattle.session_text.proofs.Lists.{all_append}
 use Rattle.session_text.proofs.Sections.{with_items, onto_more, onto_whole, fresh, fresh_fits, missing, filled_whole, filled_fits}
 use Rattle.session_text.proofs.ByVersion.{one_version, lane_is, lane_whole, lane_some}
 use Rattle.session_text.proofs.Goes.{pages_from, pages_fit, pages_count, pages_rise, rise_append, no_rest}

@@ -1,5 +1,5 @@
 -- A text's lines tell the recording.
-use Rattle.std.proofs.Common.{◌≡◌, ℕ, ◌<◌, ◌≤◌, ◌^◌, List, [], ◌∷◌, ◌++◌, length, map, refl, sym, ap, subst, ◌∙◌, arith}
+use Rattle.std.proofs.Common.{◌≡◌, ℕ, ◌≤◌, List, [], ◌∷◌, ◌++◌, length, refl, sym, ap, subst, ◌∙◌, arith}
 use Rattle.std.specs.List.{AllByRecursion}
 use Rattle.text_lines.specs.Text.{IsUnambiguous}
 use Rattle.text_lines.proofs.Cut.{unambiguous}
@@ -20,9 +20,9 @@ use Rattle.recordings.proofs.Tells.{init_tell, guest_tell, source_tell, link_tel
 use Rattle.session_text.specs.declared.parts.Stage.TheVariants.{Done}
 use Rattle.session_text.specs.Records.{guest_line, source_line, link_line, lane_line, pager_line}
 use Rattle.session_text.specs.Grammar.{page_line, closing, session_lines}
-use Rattle.session_text.proofs.Values.{whole_part, drafted, whole_log, same_list, recorded_same}
+use Rattle.session_text.proofs.Values.{drafted, whole_log, same_list, recorded_same}
 use Rattle.session_text.proofs.Laws.{held_append, guest_part, source_part, link_part, lane_part, pager_part, guest_lines, source_lines, link_lines, lane_lines, pager_lines}
-use Rattle.recording_text.specs.inner.Held.{SessionDraft, most_count, StartFits, GuestFits, SourceFits, LinkFits, LaneFits, PagerFits}
+use Rattle.recording_text.specs.inner.Held.{most_count, StartFits, GuestFits, SourceFits, LinkFits, LaneFits, PagerFits}
 use Rattle.recording_text.proofs.Laws.{up_to, init_agrees, guest_agrees, source_agrees, link_agrees, lane_agrees, pager_agrees}
 use Rattle.recording_text.proofs.Goes.{done_spells}
 use Rattle.recording_text.proofs.Texts.{plain_recording}

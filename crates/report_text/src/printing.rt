@@ -8,7 +8,7 @@ ghost use Rattle.report_text.specs.ReportText.{shape_line, first_line, lines_beh
 
 use audit_report::Report;
 use cert_check::ShapeFault;
-use cert_text::{write_cert, write_runs};
+use cert_text::{push_cert, push_runs_text};
 use order_text::{CLEAN, FAULTY};
 use std::alloc::{AllocError, Global};
 use text_lines::{push_keyed, push_keyed_word, push_line};
@@ -74,16 +74,16 @@ pub fn print_first_line(alloc: Global, report: &Report) -> Result<Vec<u8>, Alloc
     Ok(out)
 }
 
-/// The text behind the first line: the certificate's where the report is clean, that of the order's runs where a page
+/// Adds the text behind the first line: the certificate's where the report is clean, that of the order's runs where a page
 /// has a fault, and else none.
-fn text_behind(alloc: Global, report: &Report) -> Result<Vec<u8>, AllocError>
+fn push_behind(out: &mut Vec<u8>, report: &Report) -> Result<(), AllocError>
     requires { ReportFits report.now }
-    ensures { IfOk result (λ out. out.items ≡ ended (lines_behind report.now)) }
+    ensures { OnOk result (out.new.items ≡ out.old.items ++ ended (lines_behind report.now)) }
 {
     match report {
-        Report::Clean(cert) => write_cert(alloc, cert),
-        Report::Faulty { order, .. } => write_runs(alloc, order.as_slice()),
-        Report::Shape(_) | Report::Knot { .. } => Ok(Vec::new(alloc)),
+        Report::Clean(cert) => push_cert(out, cert),
+        Report::Faulty { order, .. } => push_runs_text(out, order.as_slice()),
+        Report::Shape(_) | Report::Knot { .. } => Ok(()),
     }
 }
 
@@ -94,7 +94,6 @@ pub fn print_report(alloc: Global, report: &Report) -> Result<Vec<u8>, AllocErro
     ensures { IfOk result (λ out. out.items ≡ report_text report.now) }
 {
     let mut out = print_first_line(alloc, report)?;
-    let behind = text_behind(alloc, report)?;
-    out.extend_from_slice(&behind)?;
+    push_behind(&mut out, report)?;
     Ok(out)
 }

@@ -167,15 +167,15 @@ fn wrong_case<
 
 // What is told of inputs that are empty, or begin with an empty line, and of a certificate that stands for another text.
 
-const EMPTY_SESSION: &[u8] = b"-:1:1: the text is empty; expected the header of a session\n";
+const EMPTY_SESSION: &[u8] = b"-:1:1: the text is empty; expected \"postcopy-session 1\", \"postcopy-session 2\" or \"postcopy-session 3\", the header of a session\n";
 
-const EMPTY_CERT: &[u8] = b"-:1:1: the text is empty; expected the header of a certificate\n";
+const EMPTY_CERT: &[u8] = b"-:1:1: the text is empty; expected \"postcopy-certificate 1\", \"postcopy-certificate 2\" or \"postcopy-certificate 3\", the header of a certificate\n";
 
 const EMPTY_ORDER: &[u8] = b"-:1:1: the text is empty; expected the first line of a text of runs, of a certificate or of a report\n";
 
 const EMPTY_EVENTS: &[u8] = b"-:1:1: the text is empty; expected \"postcopy-events 1\", the header of events\n";
 
-const EMPTY_LINE: &[u8] = b"-:1:1: found an empty line; expected the header of a session\n";
+const EMPTY_LINE: &[u8] = b"-:1:1: found an empty line; expected \"postcopy-session 1\", \"postcopy-session 2\" or \"postcopy-session 3\", the header of a session\n";
 
 const CERT_FOR_SESSION: &[u8] = b"cert:1:1: this is a certificate; expected a session: are the two files swapped?\n";
 

@@ -191,10 +191,10 @@ link up dropped
     Group(
         At::SessionHead,
         1,
-        r#"postcopy-session 3
-18: found "postcopy-session 3"; expected "postcopy-session 1" or "postcopy-session 2"
+        r#"postcopy-session 4
+18: found "postcopy-session 4"; expected "postcopy-session 1", "postcopy-session 2" or "postcopy-session 3"
 hello
-1: found "hello"; expected "postcopy-session 1" or "postcopy-session 2", the header of a session
+1: found "hello"; expected "postcopy-session 1", "postcopy-session 2" or "postcopy-session 3", the header of a session
 postcopy-certificate 1
 1: this is a certificate; expected a session: are the two files swapped?
 clean
@@ -228,8 +228,8 @@ BZh91AY
     Group(
         At::OrderHead,
         1,
-        r#"postcopy-certificate 3
-22: found "postcopy-certificate 3"; expected "postcopy-certificate 1" or "postcopy-certificate 2"
+        r#"postcopy-certificate 4
+22: found "postcopy-certificate 4"; expected "postcopy-certificate 1", "postcopy-certificate 2" or "postcopy-certificate 3"
 postcopy-runs 2
 15: found "postcopy-runs 2"; expected "postcopy-runs 1"
 postcopy-session 2
@@ -367,7 +367,7 @@ pub static LAST: [Case; 16] = [
         At::SessionHead,
         1,
         b"",
-        r#"1: the text is empty; expected "postcopy-session 1" or "postcopy-session 2", the header of a session"#,
+        r#"1: the text is empty; expected "postcopy-session 1", "postcopy-session 2" or "postcopy-session 3", the header of a session"#,
     ),
     Case(
         At::End,
@@ -451,7 +451,7 @@ pub static LAST: [Case; 16] = [
         At::SessionHead,
         1,
         b"postcopy-ses",
-        r#"13: the text ends in the middle of a line, after "postcopy-ses"; expected "postcopy-session 1" or "postcopy-session 2""#,
+        r#"13: the text ends in the middle of a line, after "postcopy-ses"; expected "postcopy-session 1", "postcopy-session 2" or "postcopy-session 3""#,
     ),
 ];
 

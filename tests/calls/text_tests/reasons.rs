@@ -104,13 +104,21 @@ fn wanted_at(at: At) -> Wanted {
     match at {
         At::SessionHead => alone(
             "the header of a session",
-            &["postcopy-session 1", "postcopy-session 2"],
+            &[
+                "postcopy-session 1",
+                "postcopy-session 2",
+                "postcopy-session 3",
+            ],
             0,
             0,
         ),
         At::CertHead => alone(
             "the header of a certificate",
-            &["postcopy-certificate 1", "postcopy-certificate 2"],
+            &[
+                "postcopy-certificate 1",
+                "postcopy-certificate 2",
+                "postcopy-certificate 3",
+            ],
             0,
             0,
         ),

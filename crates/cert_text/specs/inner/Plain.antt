@@ -17,7 +17,8 @@ use Rattle.migration_types.specs.declared.size.Size.{Size}
 use Rattle.migration_types.specs.declared.size.Size.TheVariants.{Small, Large}
 use Rattle.migration_types.specs.Sessions.{IsNumber}
 use Rattle.migration_types.specs.Certs.{Certified, FirstFits, EntryFits, RunFits, AreRuns}
-use Rattle.cert_text.specs.inner.Limits.{few_runs, number_small, count_small}
+use Rattle.migration_types.specs.inner.Widest.{few_runs}
+use Rattle.cert_text.specs.inner.Limits.{number_small, count_small}
 use Rattle.cert_text.specs.Runs.{runs_text_header, runs_key, closing, log_word, run_text, run_line, runs_lines, SpellsRuns}
 use Rattle.cert_text.specs.Grammar.{header, pages_key, page_key, first_text, placed_text, source_text, entry_text, entry_line, entry_lines, SpellsCert, SpellsCertRuns}
 

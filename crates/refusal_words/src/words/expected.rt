@@ -11,7 +11,7 @@ use std::alloc::AllocError;
 use text_lines::{Refusal, Wanted};
 
 /// Of how many forms each is written out where none begins as the line does.
-const FEW: usize = 2;
+const FEW: usize = 3;
 
 /// Adds what stands between the words of a list, before the one at a place.
 fn push_between(out: &mut String, at: usize, count: usize) -> Result<(), AllocError> {
