@@ -33,10 +33,11 @@ static ENTRIES: [&str; 5] = [
     "page Q balloon I - -",
 ];
 
-static ORDERS: [&str; 6] = [
+static ORDERS: [&str; 7] = [
     "postcopy-runs 1",
     "postcopy-certificate 1",
     "postcopy-certificate 2",
+    "postcopy-certificate 3",
     "clean",
     "faulty line N read",
     "faulty line N over",
