@@ -57,7 +57,9 @@ begins_front key front rest b = (b.0 ++ rest, ap (λ (l : List ℕ). l ++ rest) 
 long_front : (front rest : List ℕ) → MayBeLong front → MayBeLong (front ++ rest)
 long_front front rest (inl b) = inl (begins_front (codes "postcopy-session 3\n") front rest b)
 long_front front rest (inr (inl b)) = inr (inl (begins_front (codes "postcopy-certificate 3\n") front rest b))
-long_front front rest (inr (inr b)) = inr (inr (begins_front (codes "postcopy-runs 1\n") front rest b))
+long_front front rest (inr (inr (inl b))) = inr (inr (inl (begins_front (codes "postcopy-runs 1\n") front rest b)))
+long_front front rest (inr (inr (inr (inl b)))) = inr (inr (inr (inl (begins_front (codes "clean\npostcopy-certificate 3\n") front rest b))))
+long_front front rest (inr (inr (inr (inr b)))) = inr (inr (inr (inr (begins_front (codes "faulty line ") front rest b))))
 
 -- a first piece that is all that was there is the text that was read
 pub first_taken : {T : Type 0} (Came : T → List ℕ → Type 0) (known rest : Option (List ℕ)) (old new : T) (piece : List ℕ) → Consumes known rest piece → IsAtEnd rest → length piece ≤ 268435456 → ((text : List ℕ) → Came old text → Came new (text ++ piece)) → (text : List ℕ) × AreRead known text × (Came old [] → Came new text)

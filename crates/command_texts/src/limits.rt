@@ -1,5 +1,5 @@
-//! How much of an input may come: a text whose first line is that of a large session, of its certificate, or of runs may be
-//! longer than others.
+//! How much of an input may come: a session of a large machine, its certificate, runs, and a report with one of these two
+//! may be longer than others, which their first bytes tell.
 
 ghost use Rattle.std.specs.Prelude.{◌≡◌, ◌+◌, ◌≤◌, ◌⊎◌, ◌↔◌, IfSome, IsTrue, length};
 ghost use Rattle.command_texts.specs.Limits.{BeginsWith, MayBeLong};
@@ -94,7 +94,7 @@ fn begins_with(text: &[u8], front: &[u8]) -> bool
     }
 }
 
-/// Whether an input that begins so may be long, by its first line.
+/// Whether an input that begins so may be long.
 fn may_be_long(front: &[u8]) -> bool
     ensures { IsTrue result ↔ MayBeLong front.now }
 {
@@ -104,5 +104,11 @@ fn may_be_long(front: &[u8]) -> bool
     if begins_with(front, b"postcopy-certificate 3\n") {
         return true;
     }
-    begins_with(front, b"postcopy-runs 1\n")
+    if begins_with(front, b"postcopy-runs 1\n") {
+        return true;
+    }
+    if begins_with(front, b"clean\npostcopy-certificate 3\n") {
+        return true;
+    }
+    begins_with(front, b"faulty line ")
 }

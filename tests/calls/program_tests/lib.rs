@@ -797,17 +797,49 @@ static LIMITS: [(usize, bool, bool); 4] = [
     (1_048_576, true, false),
 ];
 
-// Inputs with first lines: these, how many bytes come behind them, whether lines end there, and whether they are read.
-static LONG: [(&[u8], usize, bool, bool); 4] = [
-    (b"postcopy-session 3\n", 268_435_457, true, true),
-    (b"postcopy-session 2\n", 268_435_457, true, false),
-    (b"postcopy-session 3\n\n", 268_435_456, false, true),
-    (b"postcopy-session 3\n\n", 268_435_457, false, false),
+// Inputs with first lines: these, how many bytes come behind them, whether lines end there, and what is said of them: the
+// status, the line and the words.
+static LONG: [(&[u8], usize, bool, Said); 11] = [
+    (b"postcopy-session 3\n", 268_435_457, true, NO_PAGES),
+    (b"postcopy-session 2\n", 268_435_457, true, NOT_READ),
+    (b"postcopy-session 3\n\n", 268_435_456, false, NO_PAGES),
+    (b"postcopy-session 3\n\n", 268_435_457, false, NOT_READ),
+    (b"postcopy-certificate 3\n", 268_435_457, true, A_CERTIFICATE),
+    (b"postcopy-certificate 2\n", 268_435_457, true, NOT_READ),
+    (b"postcopy-runs 1\n", 268_435_457, true, RUNS),
+    (b"clean\npostcopy-certificate 3\n", 268_435_457, true, A_REPORT),
+    (b"clean\npostcopy-certificate 2\n", 268_435_457, true, NOT_READ),
+    (b"faulty line 9 read\n", 268_435_457, true, A_REPORT),
+    (b"shape line 9 named\n", 268_435_457, true, NOT_READ),
 ];
 
-const SECOND_LINE: &[u8] = b"session-text line 2\n";
+type Said = (u8, &'static [u8], &'static [u8]);
 
-const NO_PAGES: &[u8] = b"-:2:1: found an empty line; expected \"pages N\", the number of pages\n";
+const NOT_READ: Said = (3, b"", b"file -\n");
+
+const NO_PAGES: Said = (
+    1,
+    b"session-text line 2\n",
+    b"-:2:1: found an empty line; expected \"pages N\", the number of pages\n",
+);
+
+const A_CERTIFICATE: Said = (
+    1,
+    EMPTY_SESSION_LINE,
+    b"-:1:1: this is a certificate; expected a session: are the two files swapped?\n",
+);
+
+const RUNS: Said = (
+    1,
+    EMPTY_SESSION_LINE,
+    b"-:1:1: this is a text of runs; expected a session: are the two files swapped?\n",
+);
+
+const A_REPORT: Said = (
+    1,
+    EMPTY_SESSION_LINE,
+    b"-:1:1: this is a report of audit; expected a session\n",
+);
 
 // Whether an input of so many bytes is read, or refused.
 fn is_limit_kept<
@@ -852,7 +884,7 @@ fn limits_of_an_input(rt: HostRuntime) {
 fn wrong_long<
     R: Threads + Wait + Sync + AllocGlobal + Net<Listener = TcpListener, Stream = TcpStream>,
 >(rt: &R) -> Option<usize> {
-    for (place, (head, left, ends_lines, fits)) in LONG.iter().enumerate() {
+    for (place, (head, left, ends_lines, said)) in LONG.iter().enumerate() {
         let mut input = Plenty {
             head: *head,
             ends_lines: *ends_lines,
@@ -861,19 +893,15 @@ fn wrong_long<
             fails: false,
         };
         let found = ran_over(rt, AUDIT.as_slice(), &mut input);
-        let is_kept = if *fits {
-            is_outcome(&found, 1, SECOND_LINE, NO_PAGES)
-        } else {
-            is_outcome(&found, 3, b"", b"file -\n")
-        };
-        if !is_kept {
+        let (status, line, words) = *said;
+        if !is_outcome(&found, status, line, words) {
             return Some(place);
         }
     }
     None
 }
 
-// By its first line a text may be longer; no line of it is longer than 268,435,456 bytes.
+// By its first bytes a text may be longer; no line of it is longer than 268,435,456 bytes.
 #[test]
 fn limits_of_a_long_input(rt: HostRuntime) {
     if let Some(place) = wrong_long(&rt) {
