@@ -49,7 +49,7 @@ const FIRST_BYTES: usize = 131_072;
 const FIRST_PIECES: u32 = 7;
 
 /// Gives the text that a reader has left to a taker, piece by piece as it is read: at most 268,435,456 bytes, in at most
-/// 1,048,576 reads, or by its first line 17,179,869,184 bytes in 67,108,864 reads, and at most 268,435,456 bytes of a line that
+/// 1,048,576 reads, or by its first bytes 17,179,869,184 bytes in 67,108,864 reads, and at most 268,435,456 bytes of a line that
 /// has not ended. Of a long text the pieces are taken by several threads, and the next one is read meanwhile.
 pub(crate) fn take_text<H: Threads + Sync, R: Read + Send, T: Taker>(
     rt: &H,
@@ -67,7 +67,7 @@ pub(crate) fn take_text<H: Threads + Sync, R: Read + Send, T: Taker>(
         return Ok(());
     }
     let left = Left::behind_first(first, filled.reads);
-    read_within(rt, alloc, reader, taker, left)
+    read_within(rt, alloc, reader, taker, left, buffer.as_mut_slice())
 }
 
 /// What is found of the text that a reader has left, and why it is refused, if it is.
@@ -131,37 +131,38 @@ pub(crate) fn fill<R: Read>(
     Err(ReadFault::File)
 }
 
-/// Gives what a reader has left to a taker, within these limits. It stops with a fault once a limit is passed.
+/// Gives what a reader has left to a taker, within these limits, at first by this buffer. It stops with a fault once a limit
+/// is passed.
 fn read_within<H: Threads + Sync, R: Read + Send, T: Taker>(
     rt: &H,
     alloc: Global,
     reader: &mut R,
     taker: &mut T,
     most: Left,
+    buffer: &mut [u8],
 ) -> Result<(), ReadFault>
     ensures { OnOk result (TakesAll T.came most.bytes (R.remaining reader.old) taker.old taker.new) }
 {
-    match read_first(rt, alloc, reader, taker, most)? {
+    match read_first(rt, reader, taker, most, buffer)? {
         Some(left) => read_ahead(rt, alloc, reader, taker, left),
         None => Ok(()),
     }
 }
 
-/// Gives the next pieces of what a reader has left to a taker, by one thread. Answers what may come yet, where that was
-/// not all.
+/// Gives the next pieces of what a reader has left to a taker, by one thread and by this buffer. Answers what may come yet,
+/// where that was not all.
 fn read_first<H: Threads + Sync, R: Read, T: Taker>(
     rt: &H,
-    alloc: Global,
     reader: &mut R,
     taker: &mut T,
     most: Left,
+    buffer: &mut [u8],
 ) -> Result<Option<Left>, ReadFault>
     ensures { IfOk result (λ found. MatchOption found (TakesAll T.came most.bytes (R.remaining reader.old) taker.old taker.new) (λ left. Takes T.came most.bytes left.bytes (R.remaining reader.old) (R.remaining reader.new) taker.old taker.new)) }
 {
-    let mut buffer = zeroes(alloc, FIRST_BYTES)?;
     let mut left = most;
     for _ in 0..FIRST_PIECES {
-        let filled = fill(reader, buffer.as_mut_slice(), left.reads)?;
+        let filled = fill(reader, buffer, left.reads)?;
         let piece = &buffer[..filled.count];
         let Some(behind) = left.behind(piece, filled.reads) else {
             return Err(ReadFault::File);
