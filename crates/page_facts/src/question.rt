@@ -238,6 +238,14 @@ fn complete<Q: Question>(
     Ok(answer)
 }
 
+/// How many threads judge a session: one where it is little work, and else one for each processor.
+fn threads_for<R: Threads>(rt: &R, session: &Session) -> usize {
+    if is_small(session) {
+        return 1;
+    }
+    current_num_threads(rt)
+}
+
 /// What is answered of all pages by threads side by side, a range of pages for each processor; where there is one processor
 /// or little work, by the calling thread. An error: there is no memory for it.
 pub fn answer_apart<R: Threads + Sync, X: Send + Drop, Q: Question<Answer = X> + Sync>(
@@ -249,8 +257,8 @@ pub fn answer_apart<R: Threads + Sync, X: Send + Drop, Q: Question<Answer = X> +
     requires { Q.IsFor question.now session.now }
     ensures { IfOk result (Q.IsAnswer question.now session.now 0 session.now.geometry.pages) }
 {
-    let parts = current_num_threads(rt);
-    if parts < 2 || is_small(session) {
+    let parts = threads_for(rt, session);
+    if parts < 2 {
         return answer_alone(question, alloc, session);
     }
     session.keeps_limits();
