@@ -753,7 +753,7 @@ fn an_input_that_fails(rt: HostRuntime) {
 }
 
 // Gives its first lines, and behind them so many bytes, each time as many as are asked for or one, and then an error or the
-// end. The first of these is LF each time, where lines are to end; it leaves the others as they are.
+// end. Where lines are to end, the first of these is LF each time, and it leaves the others as they are; else all are zeros.
 #[derive(Drop)]
 struct Plenty {
     head: &'static [u8],
@@ -777,10 +777,10 @@ impl Read for Plenty {
         }
         let most = if self.one_by_one { 1 } else { buf.len() };
         let count = most.min(self.left).min(buf.len());
-        if let Some(first) = buf.first_mut() {
-            if self.ends_lines {
-                *first = b'\n';
-            }
+        if !self.ends_lines {
+            buf[..count].fill(b'0');
+        } else if let Some(first) = buf.first_mut() {
+            *first = b'\n';
         }
         self.left -= count;
         Ok(count)
