@@ -430,7 +430,7 @@ def missing(session: Text) -> Answer:
 
 def missing_pages(session: Text) -> Answer:
     """The same as `missing`, but asked only that the guest was halted, that it was resumed, and that each page that the target was
-    owed was placed or released there: by the line that `audit --complete=pages` writes. Raises OutOfMemory where memory is refused."""
+    owed was placed or released there: by the line that `audit --complete-pages` writes. Raises OutOfMemory where memory is refused."""
     return _with_text(_library().postcopy_missing_pages, session)
 
 
