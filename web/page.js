@@ -1,39 +1,6 @@
 // The page: it hands the files that are chosen or dropped to a worker, which holds the module, and shows what that answers.
 "use strict";
 
-// What each verdict says first, and whether it is good, bad or neither.
-const VERDICTS = {
-  CLEAN: ["good", "Safe.", "In every order in which the parties may have acted, the guest found each page in place and as it left it."],
-  FAULTY: ["bad", "Not safe."],
-  KNOT: ["bad", "These records cannot all have happened.", "Some of them wait for one another, so they have no order."],
-  SHAPE: ["bad", "This session has not the right shape."],
-  SESSION_TEXT: ["odd", "This is not a session."],
-};
-
-// What the verdict on a certificate says, where @ is the line that it names.
-const CERTIFICATES = {
-  YES: "The certificate is right: it shows that the session is safe.",
-  CERT_TEXT: "The other file is not a certificate: it is refused at @.",
-  PAGES: "The certificate is of a machine of another size than the session's.",
-  RUNS: "The certificate is not right: its run at @ cannot be taken.",
-  PAGE: "The certificate is not right: its entry at @ is wrong.",
-};
-
-const REASONS = {
-  1: "a record stands in the wrong phase",
-  2: "a record names what is not there, or of the wrong kind",
-  3: "a log does not begin as it has to",
-  4: "a page is sent a second time",
-  11: "the guest reads another value than on one machine that never moved",
-  12: "the guest uses a page that it was not seen to have by then",
-  13: "a page is sent that the guest had released",
-  14: "a page is sent with other contents than it has at the halt",
-  15: "a page is placed a second time",
-  16: "a page is placed with other contents than it has at the halt",
-  17: "zeros are placed for a page that was not released",
-  18: "a page is placed over the guest's release at the target",
-};
-
 const MOST_LINES = 400;
 const AT = /\bline (\d+)\b(?: \(\w+ \d+\))?/g;
 const at = (name) => document.getElementById(name);
@@ -93,31 +60,9 @@ function busy(what, done, total) {
   else at("progress").removeAttribute("value");
 }
 
-const mib = (length) => (length < 1 << 20 ? `${Math.ceil(length / 1024)} KiB` : `${(length / (1 << 20)).toFixed(1)} MiB`);
-
-function show(kind, head, ...sentences) {
-  at("verdict").className = kind;
-  at("verdict").replaceChildren(made("strong", {}, head), ...sentences.filter(Boolean).map((it) => made("p", {}, it)));
-}
-
-function showFailure(failure, session) {
-  if (failure.isMemory) {
-    show("odd", "The memory did not suffice.", `The page may not take as much memory as this session of ${mib(session.size)} needs: ${failure.words}.`,
-      "Nothing is said of the session. Close other pages and try again, or have the program judge it: postcopy audit FILE.");
-  } else {
-    show("odd", "The session could not be judged.", `${failure.words}. Nothing is said of the session.`);
-  }
-}
-
-// Why a text is refused, as a sentence.
-const whyRefused = ({ column, why }) => (why ? `At column ${column}: ${why}.` : "");
-
-function verdictWords({ kind, line, reason, ...refusal }) {
-  const [colour, head, sentence] = VERDICTS[kind];
-  const why = REASONS[reason];
-  if (kind === "SESSION_TEXT") return [colour, head, `No text of a session goes on as this file does at line ${line}, or it ends there too early.`,
-    whyRefused(refusal)];
-  return [colour, head, sentence, why ? `${why[0].toUpperCase()}${why.slice(1)}: line ${line}.` : line ? `The first of them: line ${line}.` : ""];
+function show({ colour, head, sentences }) {
+  at("verdict").className = colour;
+  at("verdict").replaceChildren(made("strong", {}, head), ...sentences.map((it) => made("p", {}, it)));
 }
 
 // The record that is marked, in the words, the picture and the text.
@@ -319,17 +264,17 @@ async function judged(files) {
   const { session, certificate, runs } = await sorted(files);
   if (!current()) return;
   if (!session) {
-    show("odd", "There is no session.", `A ${certificate ? "certificate" : "file of runs"} goes with a session: choose both together.`);
+    show(verdict("odd", "There is no session.", `A ${certificate ? "certificate" : "file of runs"} goes with a session: choose both together.`));
     document.body.dataset.done = mine;
     return;
   }
   const saying = (what) => sayingOf(session, what, current);
   at("given").open = false;
   busy(`Reading ${session.name}`);
-  show("", `Judging ${session.name} ..`);
+  show(verdict("", `Judging ${session.name} ..`));
   const question = async (call, what) => {
     const answer = await ask(call, session, { say: saying(what) });
-    if (answer.failure && current()) showFailure(answer.failure, session);
+    if (answer.failure && current()) show(verdictOnFailure(answer.failure, { file: session }));
     return current() && !answer.failure ? answer : undefined;
   };
   const answer = await question("audit", "Judging");
@@ -341,14 +286,14 @@ async function judged(files) {
 
 // Shows the verdict, the words, the picture and the texts, one after another.
 async function tell(answer, { session, certificate, runs }, question, current) {
-  const words = verdictWords(answer);
-  show(...words);
+  const found = verdictOn(answer);
+  show(found);
   const time = `${session.name}, ${mib(session.size)}: judged in ${answer.ms.toFixed(0)} ms, with ${mib(answer.memory)} of memory`;
   at("numbers").textContent = time;
   const of = certificate && (await certificateWords(session, certificate));
   if (!current()) return;
   const more = runs && "The runs are not read here: the program replays them, with postcopy replay.";
-  if (of || more) show(...words, of, more);
+  if (of || more) show({ ...found, sentences: [...found.sentences, of, more].filter(Boolean) });
   const told = await question("explain", "Finding out what happened");
   if (!told) return;
   showWords(new TextDecoder().decode(told.bytes));
@@ -399,7 +344,7 @@ function listen() {
     stop();
     busy();
     if (about) stayAtTopic();
-    else show("odd", "Stopped.", "Nothing is said of the session.");
+    else show(verdict("odd", "Stopped.", "Nothing is said of the session."));
   };
   at("next-fault").onclick = () => goToFault(1);
   at("previous-fault").onclick = () => goToFault(-1);
@@ -435,6 +380,6 @@ if (canJudge()) {
   listen();
   judgeExample();
 } else {
-  show("odd", "This browser cannot judge.", "It has no WebAssembly with 64-bit addresses. Chromium has it from 133 on, and Firefox from 134 on.");
+  show(verdict("odd", "This browser cannot judge.", "It has no WebAssembly with 64-bit addresses. Chromium has it from 133 on, and Firefox from 134 on."));
   at("files").disabled = true;
 }
