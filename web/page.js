@@ -60,9 +60,11 @@ function busy(what, done, total) {
   else at("progress").removeAttribute("value");
 }
 
-function show({ colour, head, sentences }) {
+// Shows a verdict, and the name of the file that it is on.
+function show({ colour, head, sentences }, name, more = []) {
   at("verdict").className = colour;
-  at("verdict").replaceChildren(made("strong", {}, head), ...sentences.map((it) => made("p", {}, it)));
+  const of = name ? [made("p", { className: "soft", textContent: name })] : [];
+  at("verdict").replaceChildren(made("h2", {}, head), ...of, ...[...sentences, ...more].map((it) => made("p", {}, it)));
 }
 
 // The record that is marked, in the words, the picture and the text.
@@ -164,8 +166,9 @@ let texts = [], first = 1, showing = 0;
 
 // Where a text's lines stand.
 async function indexed(it) {
-  it.index ??= await ask("lines", it.file);
-  return it.index;
+  const found = it.index ?? (await ask("lines", it.file));
+  if (found.failure) throw new Error(found.failure.words);
+  return (it.index = found);
 }
 
 // So many lines of a text from one on.
@@ -179,10 +182,17 @@ async function linesFrom(it, from, count) {
 
 async function showLines(from) {
   const mine = ++showing, it = text;
-  const { lines } = await indexed(it);
-  from = Math.max(1, Math.min(from, lines - MOST_LINES + 1));
-  const found = await linesFrom(it, from, MOST_LINES);
-  if (mine !== showing) return;
+  try {
+    const { lines } = await indexed(it);
+    from = Math.max(1, Math.min(from, lines - MOST_LINES + 1));
+    const found = await linesFrom(it, from, MOST_LINES);
+    if (mine === showing) fillLines(it, lines, from, found);
+  } catch (error) {
+    if (mine === showing) at("extent").textContent = unreadWords(it.file.name, error);
+  }
+}
+
+function fillLines(it, lines, from, found) {
   first = from;
   const isSession = it === texts[0];
   at("lines").start = from;
@@ -220,19 +230,20 @@ function addText(name, file, index) {
 
 const pictureFile = ({ bytes }) => new File([bytes], "picture.svg", { type: "image/svg+xml" });
 
-// A session, with its certificate, is judged.
+// The sessions are judged, and one of them is shown.
 
 let judging = 0;
 
 // What says how much of a session is read, and then what is done with it.
-const sayingOf = (session, what, current) => (done, total) =>
-  current() && busy(total ? `Reading ${session.name}: ${mib(done)} of ${mib(total)}` : what, done, total);
+const sayingOf = ({ name }, what, current) => (done, total) => current() && busy(total ? `Reading ${name}: ${mib(done)} of ${mib(total)}` : what, done, total);
 
+// Nothing is shown of the session before, and nothing is asked of it.
 function cleared() {
   stop();
+  showing++;
   marked = first = 0;
   texts = [];
-  about = undefined;
+  about = shown = undefined;
   picture?.replaceChildren();
   delete document.body.dataset.done;
   for (const it of ["story", "about", "drawn", "texts", "bar"]) at(it).hidden = true;
@@ -240,65 +251,83 @@ function cleared() {
   at("numbers").textContent = "";
 }
 
-// Which of the files is what, by how they begin.
-async function sorted(files) {
-  const found = {};
-  for (const file of files) {
-    const head = await file.slice(0, 24).text();
-    const kind = ["certificate", "runs"].find((it) => head.startsWith(`postcopy-${it} `)) ?? "session";
-    found[kind] ??= file;
-  }
-  return found;
-}
-
-async function certificateWords(session, certificate) {
-  const answer = await ask("check", session, { certificate });
-  if (answer.failure) return `The certificate could not be judged: ${answer.failure.words}.`;
-  const words = CERTIFICATES[answer.kind]?.replace("@", () => `line ${answer.line} of ${certificate.name}`);
-  return answer.why ? `${words} ${whyRefused(answer)}` : words;
-}
-
+// Judges what was handed over, in place of what was there.
 async function judged(files) {
+  const mine = ++judging;
+  cleared();
+  handed = [];
+  listSessions();
+  show(worded("", "Reading .."));
+  const found = await Promise.all(files.map(handedOver));
+  if (mine !== judging) return;
+  handed = found;
+  listSessions();
+  if (sessions().length) return work();
+  busy();
+  show(noSession());
+  document.body.dataset.done = judging;
+}
+
+// Tells of the session that is wanted, and judges those that are not judged yet; where none is wanted, it tells of the worst then.
+async function work(wanted) {
   const mine = ++judging, current = () => mine === judging;
   cleared();
-  const { session, certificate, runs } = await sorted(files);
-  if (!current()) return;
-  if (!session) {
-    show(verdict("odd", "There is no session.", `A ${certificate ? "certificate" : "file of runs"} goes with a session: choose both together.`));
-    document.body.dataset.done = mine;
-    return;
-  }
-  const saying = (what) => sayingOf(session, what, current);
   at("given").open = false;
-  busy(`Reading ${session.name}`);
-  show(verdict("", `Judging ${session.name} ..`));
-  const question = async (call, what) => {
-    const answer = await ask(call, session, { say: saying(what) });
-    if (answer.failure && current()) show(verdictOnFailure(answer.failure, { file: session }));
-    return current() && !answer.failure ? answer : undefined;
-  };
-  const answer = await question("audit", "Judging");
-  if (answer) await tell(answer, { session, certificate, runs }, question, current);
-  if (!current()) return;
-  busy();
-  document.body.dataset.done = mine;
+  if (wanted) await tell(wanted, current);
+  await judgeOthers(current);
+  if (!wanted && current()) await tell(firstToShow(), current);
+  finish(current);
 }
 
-// Shows the verdict, the words, the picture and the texts, one after another.
-async function tell(answer, { session, certificate, runs }, question, current) {
-  const found = verdictOn(answer);
-  show(found);
-  const time = `${session.name}, ${mib(session.size)}: judged in ${answer.ms.toFixed(0)} ms, with ${mib(answer.memory)} of memory`;
-  at("numbers").textContent = time;
-  const of = certificate && (await certificateWords(session, certificate));
+function finish(current) {
   if (!current()) return;
-  const more = runs && "The runs are not read here: the program replays them, with postcopy replay.";
-  if (of || more) show({ ...found, sentences: [...found.sentences, of, more].filter(Boolean) });
+  busy();
+  document.body.dataset.done = judging;
+}
+
+async function judgeOthers(current) {
+  for (const it of sessions()) {
+    if (current() && !it.verdict) await judge(it, current);
+  }
+}
+
+const firstLineOf = (bytes) => new TextDecoder().decode(bytes.subarray(0, LONGEST_FIRST_LINE)).split("\n")[0];
+
+// Asks for the verdict on a session.
+async function judge(it, current) {
+  busy(`Reading ${it.name}`);
+  if (!shown) show(worded("", `Judging ${it.name} ..`));
+  const answer = await ask("audit", it.file, { say: sayingOf(it, `Judging ${it.name}`, current) });
+  if (!current()) return;
+  const { failure, bytes } = answer;
+  it.verdict = failure ? verdictOnFailure(failure, it) : verdictOn(answer);
+  it.answer = failure ? undefined : { ...answer, bytes: undefined, report: new File([bytes], "report"), firstLine: firstLineOf(bytes) };
+  sayInList(it);
+}
+
+// Shows the verdict on a session, the words, the picture and the texts, one after another.
+async function tell(it, current) {
+  if (!it.answer) await judge(it, current);
+  if (!current()) return;
+  shown = it;
+  showInList();
+  show(it.verdict, it.name, unread());
+  const { answer } = it;
+  if (!answer) return;
+  at("numbers").textContent = `${it.name}, ${mib(it.file.size)}: judged in ${answer.ms.toFixed(0)} ms, with ${mib(answer.memory)} of memory`;
+  it.beside = [...unread(), ...(await besideWords(it))];
+  if (!current()) return;
+  show(it.verdict, it.name, it.beside);
+  const question = async (call, what) => {
+    const found = await ask(call, it.file, { say: sayingOf(it, what, current) });
+    if (found.failure && current()) show(it.verdict, it.name, [...it.beside, `No more could be told: ${found.failure.words}.`]);
+    return current() && !found.failure ? found : undefined;
+  };
   const told = await question("explain", "Finding out what happened");
   if (!told) return;
   showWords(new TextDecoder().decode(told.bytes));
-  addText("Session", session);
-  addText("Report", new File([answer.bytes], "report"));
+  addText("Session", it.file);
+  addText("Report", answer.report);
   await showText(texts[0], answer.line || 1);
   if (!current()) return;
   at("texts").hidden = false;
@@ -312,7 +341,7 @@ async function tell(answer, { session, certificate, runs }, question, current) {
   const all = current() && answer.kind === "FAULTY" && (await question("audit_all", "Looking for all faults"));
   if (!current()) return;
   await showText(texts[0], answer.line || 1);
-  if (drawn) showTopics(session, answer.line, all ? faultsIn(all.bytes) : []);
+  if (drawn) showTopics(it, answer.line, all ? faultsIn(all.bytes) : []);
 }
 
 // The examples, and what the reader does.
@@ -320,11 +349,35 @@ async function tell(answer, { session, certificate, runs }, question, current) {
 const examples = JSON.parse(at("data").textContent);
 
 function judgeExample() {
-  const it = examples.find(({ name }) => name === decodeURIComponent(location.hash.slice(1)));
+  const it = examples.find(({ name }) => location.hash === `#${name}`);
   if (!it) return;
-  const named = (name) => it[name] !== undefined && new File([it[name]], name);
-  judged([named("session"), named("certificate")].filter(Boolean));
+  at("files").value = "";
+  const certificate = it.certificate === undefined ? [] : [{ file: new File([it.certificate], "certificate") }];
+  judged([{ file: new File([it.session], "session"), name: `session of the example ${it.name}` }, ...certificate]);
   at("verdict").scrollIntoView({ block: "nearest" });
+}
+
+// Judges files of the reader: the address names no example any more.
+function judgeFiles(files) {
+  history.replaceState(null, "", location.href.split("#")[0]);
+  judged(files);
+}
+
+// The files that are dropped, and which of them are folders.
+const droppedFiles = ({ items }) => [...items].filter(({ kind }) => kind === "file").map((it) => {
+  const file = it.getAsFile(), entry = it.webkitGetAsEntry?.();
+  return { file, name: file?.name ?? entry?.name, isFolder: entry?.isDirectory };
+});
+
+// What is judged or told is stopped, and nothing more is asked.
+function endWork() {
+  judging++;
+  stop();
+  busy();
+  if (about) stayAtTopic();
+  else if (shown) show(shown.verdict, shown.name, [...(shown.beside ?? unread()), "It was stopped: no more is told."]);
+  else show(worded("odd", "Stopped.", "Nothing is said of what is not judged yet."));
+  document.body.dataset.done = judging;
 }
 
 function listen() {
@@ -336,16 +389,13 @@ function listen() {
   addEventListener("drop", (event) => {
     event.preventDefault();
     at("choose").classList.remove("over");
-    if (event.dataTransfer.files.length) judged([...event.dataTransfer.files]);
+    const files = droppedFiles(event.dataTransfer);
+    if (!files.length) return;
+    at("files").value = "";
+    judgeFiles(files);
   });
-  at("files").onchange = () => at("files").files.length && judged([...at("files").files]);
-  at("stop").onclick = () => {
-    judging++;
-    stop();
-    busy();
-    if (about) stayAtTopic();
-    else show(verdict("odd", "Stopped.", "Nothing is said of the session."));
-  };
+  at("files").onchange = () => at("files").files.length && judgeFiles([...at("files").files].map((file) => ({ file })));
+  at("stop").onclick = endWork;
   at("next-fault").onclick = () => goToFault(1);
   at("previous-fault").onclick = () => goToFault(-1);
   at("page").onchange = () => at("page").validity.valid && tellOf(at("page").value === "" ? undefined : +at("page").value);
@@ -380,6 +430,6 @@ if (canJudge()) {
   listen();
   judgeExample();
 } else {
-  show(verdict("odd", "This browser cannot judge.", "It has no WebAssembly with 64-bit addresses. Chromium has it from 133 on, and Firefox from 134 on."));
+  show(worded("odd", "This browser cannot judge.", "It has no WebAssembly with 64-bit addresses. Chromium has it from 133 on, and Firefox from 134 on."));
   at("files").disabled = true;
 }

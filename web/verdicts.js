@@ -37,7 +37,7 @@ const REASONS = {
 const mib = (length) => (length < 1 << 20 ? `${Math.ceil(length / 1024)} KiB` : `${(length / (1 << 20)).toFixed(1)} MiB`);
 
 // A verdict in words: its colour, which says whether it is good, bad or neither, what it says first, and more sentences.
-const verdict = (colour, head, ...sentences) => ({ colour, head, sentences: sentences.filter(Boolean) });
+const worded = (colour, head, ...sentences) => ({ colour, head, sentences: sentences.filter(Boolean) });
 
 // Why a text is refused, as a sentence.
 const whyRefused = ({ column, why }) => (why ? `At column ${column}: ${why}.` : "");
@@ -46,13 +46,13 @@ function verdictOn({ kind, line, reason, ...refusal }) {
   const [colour, head, sentence] = VERDICTS[kind];
   const why = REASONS[reason];
   if (kind === "SESSION_TEXT") {
-    return verdict(colour, head, `No text of a session goes on as this file does at line ${line}, or it ends there too early.`, whyRefused(refusal));
+    return worded(colour, head, `No text of a session goes on as this file does at line ${line}, or it ends there too early.`, whyRefused(refusal));
   }
-  return verdict(colour, head, sentence, why ? `${why[0].toUpperCase()}${why.slice(1)}: line ${line}.` : line ? `The first of them: line ${line}.` : "");
+  return worded(colour, head, sentence, why ? `${why[0].toUpperCase()}${why.slice(1)}: line ${line}.` : line ? `The first of them: line ${line}.` : "");
 }
 
 function verdictOnFailure({ isMemory, words }, { file }) {
-  if (!isMemory) return verdict("odd", "The session could not be judged.", `${words}. Nothing is said of the session.`);
-  return verdict("odd", "The memory did not suffice.", `The page may not take as much memory as this session of ${mib(file.size)} needs: ${words}.`,
+  if (!isMemory) return worded("odd", "The session could not be judged.", `Why: ${words}. Nothing is said of the session.`);
+  return worded("odd", "The memory did not suffice.", `The page may not take as much memory as this session of ${mib(file.size)} needs: ${words}.`,
     "Nothing is said of the session. Close other pages and try again, or have the program judge it: postcopy audit FILE.");
 }

@@ -3,11 +3,20 @@
 const PER_MARK = 256;
 let compiled;
 
+// The pieces of a file.
+async function* piecesOf(file) {
+  try {
+    yield* file.stream();
+  } catch (error) {
+    throw new Error(`the file could not be read (${error.message})`);
+  }
+}
+
 // Reads a file into the module's memory, piece by piece.
 async function readInto(it, file, say) {
   const room = it.room(file.size);
   let done = 0;
-  for await (const piece of file.stream()) {
+  for await (const piece of piecesOf(file)) {
     it.view(room).set(piece, done);
     done += piece.length;
     say(done, file.size);
@@ -19,7 +28,7 @@ async function readInto(it, file, say) {
 async function linesOf(file, say) {
   const marks = [0];
   let lines = 0, done = 0, ended = true;
-  for await (const piece of file.stream()) {
+  for await (const piece of piecesOf(file)) {
     for (let at = piece.indexOf(10); at >= 0; at = piece.indexOf(10, at + 1)) {
       if (++lines % PER_MARK === 0) marks.push(done + at + 1);
     }
