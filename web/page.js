@@ -44,6 +44,16 @@ function ask(call, session, { certificate, topic, say } = {}) {
   });
 }
 
+// The library's call that says what a clean session lacks first to tell that its guest moved: a `halt`, a `resume`, a page.
+const MISSING_PAGES = "missing";
+
+// What a clean session lacks of that, as a line, or `failure` in its place. (The call tells later of what may be left out.)
+async function missingPages(session, how) {
+  const { failure, kind, bytes } = await ask(MISSING_PAGES, session, how);
+  const line = kind === "INCOMPLETE" ? firstLineOf(bytes) : "";
+  return failure ? { failure } : { lack: /^incomplete (all|done|line \d+)$/.test(line) ? "" : line };
+}
+
 function stop() {
   worker?.terminate();
   worker = undefined;
@@ -297,11 +307,12 @@ const firstLineOf = (bytes) => new TextDecoder().decode(bytes.subarray(0, LONGES
 async function judge(it, current) {
   busy(`Reading ${it.name}`);
   if (!shown) show(worded("", `Judging ${it.name} ..`));
-  const answer = await ask("audit", it.file, { say: sayingOf(it, `Judging ${it.name}`, current) });
+  const how = { say: sayingOf(it, `Judging ${it.name}`, current) };
+  const answer = await ask("audit", it.file, how);
+  const { lack, failure = answer.failure } = answer.kind === "CLEAN" ? await missingPages(it.file, how) : {};
   if (!current()) return;
-  const { failure, bytes } = answer;
-  it.verdict = failure ? verdictOnFailure(failure, it) : verdictOn(answer);
-  it.answer = failure ? undefined : { ...answer, bytes: undefined, report: new File([bytes], "report"), firstLine: firstLineOf(bytes) };
+  it.verdict = failure ? verdictOnFailure(failure, it) : verdictOn({ ...answer, lack });
+  it.answer = failure ? undefined : { ...answer, lack, bytes: undefined, report: new File([answer.bytes], "report"), firstLine: firstLineOf(answer.bytes) };
   sayInList(it);
 }
 

@@ -3,16 +3,29 @@
 
 // What each verdict says first, and whether it is good, bad or neither.
 const VERDICTS = {
-  CLEAN: ["good", "Safe.", "In every order in which the parties may have acted, the guest found each page in place and as it left it."],
+  CLEAN: ["good", "Safe."],
   FAULTY: ["bad", "Not safe."],
   KNOT: ["bad", "These records cannot all have happened.", "Some of them wait for one another, so they have no order."],
   SHAPE: ["bad", "This session has not the right shape."],
   SESSION_TEXT: ["odd", "This is not a session."],
 };
 
-// What the verdict on a certificate says, where @ is the line that it names.
+// What a safe session shows: where it tells that the guest used pages at the target, and where it does not.
+const FOUND = "In every order in which the parties may have acted, the guest found each page in place and as it left it.";
+const UNUSED = "Each page came as the guest left it. But the session tells of no use of any page after the resume, so nothing shows what the guest found.";
+
+// What a clean session lacks that does not tell that its guest moved, by the library's line, where $1 is a page.
+const LACKS = [
+  [/^incomplete halt$/, "No record says that the guest was halted, so nothing says that it moved."],
+  [/^incomplete resume$/, "No record says that the guest went on at the target."],
+  [/^incomplete page (\d+)$/, "No record says that page $1 came: it was owed to the target, and was neither placed nor released there."],
+  [/^(.*)$/, "The library says: $1."],
+];
+
+// What the verdict on a certificate says, where @ is the line that it names. (RIGHT is of a session that lacks something.)
 const CERTIFICATES = {
   YES: "The certificate is right: it shows that the session is safe.",
+  RIGHT: "The certificate is right: it shows that nothing goes wrong in what was recorded.",
   CERT_TEXT: "The other file is not a certificate: it is refused at @.",
   PAGES: "The certificate is of a machine of another size than the session's.",
   RUNS: "The certificate is not right: its run at @ cannot be taken.",
@@ -42,9 +55,15 @@ const worded = (colour, head, ...sentences) => ({ colour, head, sentences: sente
 // Why a text is refused, as a sentence.
 const whyRefused = ({ column, why }) => (why ? `At column ${column}: ${why}.` : "");
 
-function verdictOn({ kind, line, reason, ...refusal }) {
+function verdictOnLack(lack) {
+  const [shape, words] = LACKS.find(([it]) => it.test(lack));
+  return worded("odd", "Not a whole migration.", "Nothing went wrong in what was recorded, but it does not tell of a whole migration.", lack.replace(shape, words));
+}
+
+function verdictOn({ kind, line, reason, lack, isUsed, ...refusal }) {
   const [colour, head, sentence] = VERDICTS[kind];
   const why = REASONS[reason];
+  if (kind === "CLEAN") return lack ? verdictOnLack(lack) : worded(colour, head, isUsed ? FOUND : UNUSED);
   if (kind === "SESSION_TEXT") {
     return worded(colour, head, `No text of a session goes on as this file does at line ${line}, or it ends there too early.`, whyRefused(refusal));
   }

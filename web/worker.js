@@ -39,6 +39,16 @@ async function linesOf(file, say) {
   return { lines: lines + !ended, marks, perMark: PER_MARK };
 }
 
+// Whether a certificate tells of a use of any page at the target. Of its lines on pages, those that tell of one alone end with a
+// number: that of the first use, or of the look before it.
+function tellsOfUse(bytes) {
+  const [P, SPACE, ZERO, NINE] = [112, 32, 48, 57];
+  for (let at = bytes.indexOf(10) + 1, end; (end = bytes.indexOf(10, at)) >= 0; at = end + 1) {
+    if (bytes[at] === P && bytes[at + 4] === SPACE && bytes[end - 1] >= ZERO && bytes[end - 1] <= NINE) return true;
+  }
+  return false;
+}
+
 async function answered({ call, session, certificate, topic, bytes }, say) {
   if (call === "lines") return linesOf(session, say);
   compiled ??= WebAssembly.compile(bytes);
@@ -50,7 +60,8 @@ async function answered({ call, session, certificate, topic, bytes }, say) {
   const answer = second ? it.check(first, second) : it.text(call, first, topic);
   const ms = performance.now() - began;
   const refused = { SESSION_TEXT: first, CERT_TEXT: second }[answer.kind];
-  return { ...answer, ...(refused && it.why(answer.kind, refused)), ms, memory: it.memory() };
+  const isUsed = call === "audit" && answer.kind === "CLEAN" && tellsOfUse(answer.bytes);
+  return { ...answer, ...(refused && it.why(answer.kind, refused)), isUsed, ms, memory: it.memory() };
 }
 
 onmessage = async ({ data }) => {
