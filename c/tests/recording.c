@@ -13,7 +13,6 @@
 #include <fcntl.h>
 #include <inttypes.h>
 #include <pthread.h>
-#include <signal.h>
 #include <stdio.h>
 #include <stdlib.h>
 #include <string.h>
@@ -189,7 +188,6 @@ static void map_answers(const char *folder)
 
 static void fill(const char *folder)
 {
-    signal(SIGXFSZ, SIG_IGN);
     postcopy_log *log = postcopy_log_open(folder, "guest", 0);
     want(log != NULL, "a log");
     uint32_t kept = 0;
@@ -231,11 +229,16 @@ static void refuse(const char *folder)
     want(postcopy_record_halt(log) == POSTCOPY_LOST, "the log has ended");
     postcopy_log_close(log);
 
-    for (uint32_t n = 0; n < 2; n++) {
-        log = postcopy_log_open(folder, "link", n);
-        want(postcopy_record_down(log, 4 + n) == n, "a log that is gone on with");
-        postcopy_log_close(log);
-    }
+    log = postcopy_log_open(folder, "link", 0);
+    want(postcopy_record_down(log, 4) == 0 && postcopy_log_hand_over(log) == 1, "a log that is handed over");
+    log = postcopy_log_open(folder, "link", 1);
+    want(postcopy_record_down(log, 5) == 1, "a log that is gone on with");
+    postcopy_log_close(log);
+    want(postcopy_log_hand_over(NULL) == POSTCOPY_LOST, "no log to be handed over");
+    log = postcopy_log_open(folder, "lane", 3);
+    want(postcopy_record_up(log, 1) == POSTCOPY_LOST && postcopy_log_hand_over(log) == POSTCOPY_LOST, "a log with a lost record");
+    errno = 0;
+    want(!postcopy_log_open(folder, "guest", POSTCOPY_LOST) && errno == EINVAL, "what was not handed over");
 
     uint64_t contents[513] = {0};
     log = postcopy_log_open(folder, "source", POSTCOPY_LOST - 2);
