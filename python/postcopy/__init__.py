@@ -321,8 +321,9 @@ def _library() -> ctypes.CDLL:
     library = ctypes.CDLL(name)
     text = [ctypes.c_void_p, ctypes.c_size_t]
     for name in ("check", "replay", "certify", "audit", "audit_all", "missing", "missing_pages", "explain", "draw"):
-        call = getattr(library, f"postcopy_{name}")
-        call.argtypes, call.restype = text + text, _Answer
+        call = getattr(library, f"postcopy_{name}", None)  # (an older library lacks some: who calls those is told so)
+        if call is not None:
+            call.argtypes, call.restype = text + text, _Answer
     for name in ("explain_page", "explain_line", "draw_page"):
         call = getattr(library, f"postcopy_{name}")
         call.argtypes, call.restype = [*text, ctypes.c_uint32, *text], _Answer
