@@ -4,19 +4,21 @@
 
        postcopy-records 1
        recording NAME
-       log PARTY FIRST
+       log PARTY FIRST OPENING
        NUMBER RECORD       a line for each
        end COUNT           in the log's first file, where it was closed
 
-   COUNT is the number behind the log's last record. The last line is `next COUNT` where the log was handed over, and
-   `lost ERRNO` where a record was not written. A file grows by chunks, which are taken from the disk before they are mapped.
-   Behind the last line there are bytes 0, until the thread or the log ends. The end of a line is written last, so a line that
-   a process did not live to finish has none. The folder's file recording-name has NAME. */
+   OPENING is the N of that file, and COUNT the number behind the last record. In the place of `end COUNT` stands `next COUNT`
+   where the log was handed over, and `lost ERRNO` where a record was not written. The folder's file recording-name has NAME.
+
+   A file grows by chunks, which are taken from the disk before they are mapped. Behind the last line there are bytes 0, until
+   the thread or the log ends. The end of a line is written last, so one that a process did not live to finish has none. */
 #define _GNU_SOURCE
 #include "postcopy_record.h"
 
 #include <errno.h>
 #include <fcntl.h>
+#include <inttypes.h>
 #include <pthread.h>
 #include <stdatomic.h>
 #include <stdio.h>
@@ -177,7 +179,8 @@ static void end_part(struct part *part)
     if (file < 0)
         return;
     (void)!ftruncate(file, used(part)); /* where it fails the bytes 0 stay, and are no line */
-    munmap(part->base, CHUNK);
+    if (part->base)
+        munmap(part->base, CHUNK);
     close(file);
 }
 
@@ -225,6 +228,7 @@ static int has_room(struct part *part, size_t length)
 static struct part *begin_part(postcopy_log *log)
 {
     char path[strlen(log->stem) + 16];
+    unsigned number;
     struct part *part = calloc(1, sizeof *part);
     if (!part)
         return NULL;
@@ -232,21 +236,21 @@ static struct part *begin_part(postcopy_log *log)
     part->forks = log->forks;
     part->is_first = !log->first;
     do {
-        sprintf(path, "%s.%u", log->stem, atomic_fetch_add(&log->files, 1));
+        number = atomic_fetch_add(&log->files, 1);
+        sprintf(path, "%s.%u", log->stem, number);
         part->file = open(path, O_RDWR | O_CREAT | O_EXCL | O_CLOEXEC, 0666);
     } while (part->file < 0 && errno == EEXIST);
     if (part->file < 0 || !has_room(part, WORDS_MAX) || (errno = pthread_setspecific(log->mine, part))) {
         int error = errno;
-        if (part->base)
-            munmap(part->base, CHUNK);
-        if (part->file >= 0) {
-            close(part->file);
+        if (part->file >= 0)
             unlink(path);
-        }
+        end_part(part);
         free(part);
         errno = error;
         return NULL;
     }
+    if (part->is_first)
+        sprintf(log->head, "postcopy-records 1\nrecording %s\nlog %s %" PRIu64 " %u\n", log->name, names[log->party], log->next, number);
     part->at = stpcpy(part->at, log->head);
     part->next = atomic_load(&log->parts);
     while (!atomic_compare_exchange_weak(&log->parts, &part->next, part)) {
@@ -328,19 +332,16 @@ static uint32_t append(postcopy_log *log, unsigned parties, struct record record
 {
     if (!log || atomic_load(&log->error) || log->forks != atomic_load(&forks))
         return POSTCOPY_LOST;
-    int is_right = !record.is_of_page || (record.contents && record.cells && record.cells <= CELLS_MAX);
-    if (!(parties >> log->party & 1) || !is_right)
+    if (!(parties >> log->party & 1) || (record.is_of_page && !(record.contents && record.cells && record.cells <= CELLS_MAX)))
         return lose(log, EINVAL);
     int error = errno;
     struct part *part = pthread_getspecific(log->mine);
     if (!part)
         part = begin_part(log);
-    if (!part || !has_room(part, WORDS_MAX + 16 * record.cells)) {
-        uint32_t lost = lose(log, errno);
-        errno = error;
-        return lost;
-    }
+    int why = part && has_room(part, WORDS_MAX + 16 * record.cells) ? 0 : errno;
     errno = error;
+    if (why)
+        return lose(log, why);
     uint64_t number = atomic_fetch_add(&log->next, 1);
     if (number >= POSTCOPY_LOST)
         return lose(log, EOVERFLOW);
@@ -369,7 +370,6 @@ postcopy_log *postcopy_log_open(const char *folder, const char *party, uint32_t 
     log->forks = atomic_load(&forks);
     atomic_store(&log->next, first);
     strcpy(log->name, name);
-    sprintf(log->head, "postcopy-records 1\nrecording %s\nlog %s %lu\n", name, party, (unsigned long)first);
     snprintf(log->stem, length, "%s/%s.%ld", folder, party, (long)getpid());
     int error = pthread_key_create(&log->mine, leave_part);
     if (!error && !(log->first = begin_part(log))) {

@@ -45,7 +45,7 @@ def known_sessions(audit):
 
 def text_of_file(log, records, first=0, last=None, name="made"):
     """The text of a recorder's file: its head, the records, which have their numbers, and perhaps how the log was closed."""
-    lines = ["postcopy-records 1", f"recording {name}", f"log {log} {first}", *records, *([last] if last else [])]
+    lines = ["postcopy-records 1", f"recording {name}", f"log {log} {first} 0", *records, *([last] if last else [])]
     return "".join(f"{line}\n" for line in lines)
 
 

@@ -4,12 +4,12 @@ A log's records stand in the files PARTY.PROCESS.N of a folder or of several, on
 
     postcopy-records 1
     recording NAME
-    log PARTY FIRST
+    log PARTY FIRST OPENING
     NUMBER RECORD       a line for each
     end COUNT           in one of the files, where the log was closed
 
-So a process tells of its part of the log: the records from FIRST on and in front of COUNT. The last line is `next COUNT` where it
-handed the log over to another process, and `lost ERRNO` where a record was not written. A file ends at a byte 0 or with a line
+So a process tells of its part of the log: the records from FIRST on and in front of COUNT. OPENING is the N of the part's first file.
+The last line is `next COUNT` where the log was handed over to another process, and `lost ERRNO` where a record was not written. A file ends at a byte 0 or with a line
 that has no end, where its process died. A log is whole where each of its parts was closed, and they have each number from 0 on
 once. Nothing here needs the library.
 """
@@ -25,8 +25,8 @@ from .sessions import Session
 __all__ = ["Unfit", "recording_of", "session_of"]
 
 _FILE = re.compile(rf"(machine|{'|'.join(LOGS)})\.([0-9]+)\.[0-9]+", re.ASCII)
-_HEAD = ("postcopy-records 1", "recording ([A-Za-z0-9_.-]{1,64})", "log %s (0|[1-9][0-9]{0,9})")
-_TOLD = ("'postcopy-records 1': no recorder of this release wrote it", "'recording NAME'", "'log %s FIRST'")
+_HEAD = ("postcopy-records 1", "recording ([A-Za-z0-9_.-]{1,64})", "log %s (0|[1-9][0-9]{0,9}) (0|[1-9][0-9]{0,9})")
+_TOLD = ("'postcopy-records 1': no recorder of this release wrote it", "'recording NAME'", "'log %s FIRST OPENING'")
 _LINE = re.compile("(0|[1-9][0-9]{0,9}) (.+)", re.ASCII)
 _LAST = re.compile("(end|next|lost) (0|[1-9][0-9]{0,9})", re.ASCII)
 _MACHINE = re.compile("pages ([1-9][0-9]{0,9}) ([1-9][0-9]{0,2})|page (0|[1-9][0-9]{0,9}) ((?:[0-9a-f]{16})+)", re.ASCII)
@@ -89,7 +89,7 @@ class _Log:
     def __init__(self, name: str) -> None:
         self.name = name
         self.paths: List[str] = []
-        self.parts: Dict[Tuple[str, str, int], _Part] = {}
+        self.parts: Dict[Tuple[str, str, str], _Part] = {}  # by folder, process and opening
         self.texts: Dict[int, str] = {}  # of the records, by their numbers
         self.said: List[str] = []
 
@@ -103,7 +103,9 @@ class _Log:
             return
         recording.take(head[1][1], path)
         first = int(head[2][1])
-        part = self.parts.setdefault((os.path.dirname(path), process, first), _Part(path, first))
+        part = self.parts.setdefault((os.path.dirname(path), process, head[2][2]), _Part(path, first))
+        if part.first != first:
+            raise Unfit(f"{path}:3: found '{lines[2]}', where {part.path} begins with record {part.first}")
         numbers = []
         for place, line in enumerate(lines[3:], 4):
             match = _LINE.fullmatch(line)

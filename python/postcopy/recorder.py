@@ -93,14 +93,14 @@ class Log:
             self._begin(os.path.join(folder, f"{party}.{self._process}"))
 
     def _begin(self, stem: str) -> None:
-        number = 0
+        number = -1
         while self._file < 0:
+            number += 1
             path = f"{stem}.{number}"
             with contextlib.suppress(FileExistsError):
                 self._file = os.open(path, os.O_WRONLY | os.O_APPEND | os.O_CREAT | os.O_EXCL | os.O_CLOEXEC, 0o666)
-            number += 1
         try:
-            self._put(f"postcopy-records 1\nrecording {self.recording}\nlog {self._party} {self._next}\n")
+            self._put(f"postcopy-records 1\nrecording {self.recording}\nlog {self._party} {self._next} {number}\n")
         except OSError:
             os.close(self._file)
             os.remove(path)

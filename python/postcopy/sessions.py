@@ -146,6 +146,8 @@ class Session:
         if number == LOST:
             return f"{place(log, end)}, '{spelled(record):.60}', names no record of the {other}'s log: the number was lost"
         why = "left out too" if number < len(self.logs[other]) else "not there"
+        if other in RECEIVED.values() and not self.logs[other]:
+            why += f": where nobody writes the {other}'s log it is '{record[0]}_sent' that takes the sender's number"
         return f"{place(log, end)}, '{spelled(record):.60}', names record {number} of the {other}'s log, which is {why}"
 
     def window(self, first: int, last: int) -> "Session":
