@@ -4,6 +4,7 @@ import hashlib
 import os
 import shutil
 import subprocess
+import sys
 import time
 
 from shipped_copies import (COMMANDS, BEGINS, LIBRARIES, NAMES, NOBODY, PROGRAM, SHIPPED, SOURCE, YES, Ran, append, check, count, crates_below, home, is_put,
@@ -249,6 +250,9 @@ def tests_of_plants(room):
         same("an installation where others are in out/", run(f"{copy}/tools/install", prefix, path=path).status, 0)
         for name, file in zip(NAMES, ("bin/postcopy", "lib/libpostcopy.so", "lib/libpostcopy.a")):
             same(f"what is installed of {name}", sum_of(f"{prefix}/{file}"), told[name])
+    script = "import postcopy, sys; print(postcopy.check(*sys.argv[1:]))"
+    example = [f"{room.tree}/examples/handover/{it}" for it in ("session", "certificate")]
+    same("Python, where others are in out/", run(sys.executable, "-B", "-c", script, *example, path=room.plain, PYTHONPATH=f"{copy}/python"), YES)
     same("the library is put in place", run(f"{copy}/tools/library", path=room.plain), Ran(0, b"", b""))
     same("its bytes", [sum_of(f"{copy}/crates/postcopy_c/out/{it}") for it in LIBRARIES], [told[it] for it in LIBRARIES])
 

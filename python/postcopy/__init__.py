@@ -299,17 +299,18 @@ def _line(text: Text, number: int) -> str:
 
 
 def _beside() -> Optional[str]:
-    """The library of the wheel, or that of a checkout: the one that was built there, or else the one that is shipped with it,
-    where it is of the sources there."""
+    """The library of the wheel, or that of a checkout: the one of the sources there, as tools/library tells, or where there is none,
+    the one that was built there last."""
     here = Path(__file__).resolve().parent
     top = here.parent.parent
-    for it in (here / "libpostcopy.so", top / "crates/postcopy_c/out/libpostcopy.so"):
-        if it.is_file():
-            return str(it)
-    if not (top / "shipped").is_dir():
-        return None
-    ran = subprocess.run(["sh", str(top / "tools/library"), "--where"], stdin=subprocess.DEVNULL, stdout=subprocess.PIPE)
-    return None if ran.returncode else os.path.join(os.fsdecode(ran.stdout)[:-1], "libpostcopy.so")
+    of_wheel, built = here / "libpostcopy.so", top / "crates/postcopy_c/out/libpostcopy.so"
+    if of_wheel.is_file():
+        return str(of_wheel)
+    if (top / "shipped").is_dir():
+        ran = subprocess.run(["sh", str(top / "tools/library"), "--where"], stdin=subprocess.DEVNULL, stdout=subprocess.PIPE)
+        if ran.returncode == 0:
+            return os.path.join(os.fsdecode(ran.stdout)[:-1], "libpostcopy.so")
+    return str(built) if built.is_file() else None
 
 
 @functools.lru_cache(maxsize=None)

@@ -12,12 +12,13 @@ TOP = os.path.dirname(os.path.dirname(os.path.dirname(os.path.abspath(__file__))
 
 def program():
     """The program: the checkout's launcher, or what POSTCOPY names."""
-    return os.environ.get("POSTCOPY", f"{TOP}/postcopy")
+    name = os.environ.get("POSTCOPY", f"{TOP}/postcopy")
+    return os.path.abspath(name) if "/" in name else name
 
 
-def ask(*words):
-    """What the program writes, and its status."""
-    done = subprocess.run([program(), *words], stdout=subprocess.PIPE)
+def ask(folder, *words):
+    """What the program writes, and its status. It finds in the folder what the words name, whatever the folder's own name is."""
+    done = subprocess.run([program(), *words], cwd=folder, stdout=subprocess.PIPE)
     return done.stdout.decode(), done.returncode
 
 
@@ -64,23 +65,22 @@ def judge(folder, is_whole=True, is_from_halt=False):
 
 
 def verdict_line(folder):
-    path = f"{folder}/session"
-    report, _ = ask("audit", path)
+    report, _ = ask(folder, "audit", "session")
     write(f"{folder}/report", report)
     first = report.split("\n", 1)[0]
     if first != "clean":
         return first or "not judged: the program said nothing"
-    certificate, _ = ask("certify", path)
+    certificate, _ = ask(folder, "certify", "session")
     write(f"{folder}/certificate", certificate)
-    return f"clean, {ask('check', path, f'{folder}/certificate')[0].strip()}"
+    return f"clean, {ask(folder, 'check', 'session', 'certificate')[0].strip()}"
 
 
 def explain_and_draw(folder):
     """The words, and where the picture is; None where the program does not have them."""
-    words, status = ask("explain", f"{folder}/session")
+    words, status = ask(folder, "explain", "session")
     if status not in (0, 1) or not words.count("\n") > 1:
         return None
     write(f"{folder}/explained", words)
-    picture, _ = ask("draw", f"{folder}/session")
+    picture, _ = ask(folder, "draw", "session")
     write(f"{folder}/picture.svg", picture)
     return words

@@ -181,7 +181,7 @@ def of_examples(tests):
         with open(f"{TOP}/examples/{example}/session", encoding="ascii") as file:
             tests.wants(f"the session of examples/{example}", session_of(files_of(name)).text() == file.read(), True)
     with open(f"{TOP}/examples/qemu-lost-write/picture.svg", encoding="ascii") as file:
-        picture = judge.ask("draw", f"{TOP}/examples/qemu-lost-write/session")[0]
+        picture = judge.ask(f"{TOP}/examples/qemu-lost-write", "draw", "session")[0]
         tests.wants("the picture of examples/qemu-lost-write", picture == file.read(), True)
 
 

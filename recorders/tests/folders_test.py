@@ -2,6 +2,7 @@
 import io
 import lzma
 import os
+import shutil
 import socket
 import stat
 import subprocess
@@ -11,6 +12,7 @@ import tempfile
 import time
 
 import folders
+import judge
 import pack
 from kinds import plan_of
 from machine import Machine
@@ -130,6 +132,15 @@ def of_the_sockets(tests, room):
     made.end()
 
 
+def of_a_strange_name(tests, room):
+    """A recording is judged in a folder whose name is no text."""
+    folder = f"{room}/a, b %d\n" + os.fsdecode(b"\xff")
+    os.mkdir(folder)
+    shutil.copy(f"{os.path.dirname(os.path.dirname(HERE))}/examples/handover/session", folder)
+    tests.wants("the verdict in a folder with a strange name", judge.verdict_line(folder), "clean, yes")
+    tests.wants("what was found is left there", sorted(os.listdir(folder)), ["certificate", "report", "session"])
+
+
 def of_packed(tests, room):
     """A packed recording that names a file of elsewhere."""
     packed = io.BytesIO()
@@ -148,4 +159,5 @@ def run(tests):
         of_a_folder_of_its_own(tests, room)
         of_a_room(tests, room)
         of_the_sockets(tests, room)
+        of_a_strange_name(tests, room)
         of_packed(tests, room)
