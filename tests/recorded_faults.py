@@ -194,7 +194,7 @@ class Faults:
         self.wants("a number that was lost", self.recording(pager=[f"got {LOST}", *MOVED["pager"][1:]]), 1,
                    f"pager: 4 records left out: FOLDER/pager.1.0:4: record 0 of the pager's log, 'got {LOST}', names no record of the link's log: the number was lost")
         self.wants("no resume", self.recording(guest=[*MOVED["guest"][:2], "r 0 0 0 5"]), 1,
-                   "guest: FOLDER/guest.1.0:6: record 2 of the guest's log comes behind the halt, and there is no resume: postcopy_record_resume, or "
+                   "guest: FOLDER/guest.1.0:6: record 2 of the guest's log comes after the halt, and there is no resume: postcopy_record_resume, or "
                    "Log.resume, where the guest runs at the target")
         for log in ("guest", "source", "pager"):
             self.wants(f"no record of the {log}", self.recording(**{log: []}), 1, f"{log}: there is no record")
@@ -243,7 +243,7 @@ class Faults:
         no_record = "which is no record: expected its number, its word and its fields"
         line("guest", "w 0 \x1b[0m", f"FOLDER/guest.1.0:4: found 'w 0 \\x1b[0m', {no_record}")
         line("guest", "", f"FOLDER/guest.1.0:4: found '', {no_record}")
-        line("guest", ["end 5", "5 r 0 0 0 5"], "FOLDER/guest.1.0:10: found '5 r 0 0 0 5' behind the log's end, 'end 5'", at=9)
+        line("guest", ["end 5", "5 r 0 0 0 5"], "FOLDER/guest.1.0:10: found '5 r 0 0 0 5' after the log's end, 'end 5'", at=9)
         line("guest", "end 4", "FOLDER/guest.1.0:9: found 'end 4', where the guest's log has a record 4", at=9)
         line("guest", "0 halt", "FOLDER/guest.1.0:1: found '0 halt'; expected 'postcopy-records 1': no recorder of this release wrote it", at=1)
         line("guest", "recording a b", "FOLDER/guest.1.0:2: found 'recording a b'; expected 'recording NAME'", at=2)
@@ -252,7 +252,7 @@ class Faults:
         line("pager", "0 got-sent 1", "FOLDER/pager.1.0:4: record 0 of the pager's log, 'got-sent 1': the link has a log of its own, whose number 'got' names")
         folder = self.recording(guest=text_of_file("guest", numbered(MOVED["guest"])[:4], last="end 4"))
         self.put(f"{folder}/guest.1.1", text_of_file("guest", numbered(MOVED["guest"])[4:]))
-        self.wants("a record behind the end", folder, 2, "FOLDER/guest.1.1:4: record 4 of the guest's log is behind the end that FOLDER/guest.1.0:8 tells")
+        self.wants("a record behind the end", folder, 2, "FOLDER/guest.1.1:4: record 4 of the guest's log is after the end that FOLDER/guest.1.0:8 tells")
         for text in ("", "postcopy-records 1\nrecord", "postcopy-records 1\n\0\0\0"):
             self.wants("a file that ends in its head", self.recording(guest=text), 1, "guest: FOLDER/guest.1.0 ends in its head: its process died as it began the file")
 
