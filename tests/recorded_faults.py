@@ -280,6 +280,8 @@ class Faults:
             folder = self.folder()
             ran = subprocess.run([self.program, mode, folder], stdout=subprocess.PIPE, timeout=120)
             self.tests.same(f"c/tests/recording.c {mode}", (ran.returncode, ran.stdout), (0, b""))
+            ends = sum("\nnext " in self.has(f"{folder}/{name}") for name in os.listdir(folder))
+            self.tests.same(f"the ends of {mode} logs", ends, {"forked": 1, "leaving": 200}[mode])
         log, is_over = Log(self.folder(), "guest"), threading.Event()
 
         def append():
@@ -375,8 +377,11 @@ class Faults:
         names = set(os.listdir(place))
         for words in (("-o", f"{place}/kept"), ("-o", f"{place}/none"), ("--windows", "2", "-o", f"{place}/by")):
             ran = self.session_alone(folder, *words, preexec_fn=limited(100))
-            self.tests.same("a full disk", (ran.returncode, "File too large" in ran.stderr, self.has(f"{place}/kept")), (2, True, "as it was\n"))
+            said = f"session: [Errno 27] File too large: '{words[-1]}"
+            self.tests.same("a full disk", (ran.returncode, ran.stderr[:len(said)], self.has(f"{place}/kept")), (2, said, "as it was\n"))
         self.tests.same("a full disk leaves nothing", (set(os.listdir(place)) - names, os.listdir(f"{place}/by")), ({"by"}, []))
+        ran = self.session(folder, "-o", f"{place}/no/file")
+        self.tests.same("no folder", (ran.returncode, ran.stderr), (2, f"session: [Errno 2] No such file or directory: '{place}/no/file'\n"))
         cut = self.recording(pager=None)
         ran = self.session(cut, "-o", f"{place}/kept")
         self.tests.same("a part", (ran.returncode, self.has(f"{place}/kept")), (1, "as it was\n"))
