@@ -30,6 +30,8 @@ MOVED = {
     "pager": ["got 0", "ready", "got 1", "place 0 2 0000000000000005"],
 }
 
+ENDLESS = "its process died, or did not close the log (postcopy_log_close, or Log.close)"
+
 PAGES = 64  # of the machine whose recording does not fit on a small disk
 
 
@@ -120,7 +122,7 @@ class Faults:
         self.tests.same("an option that there is no more", self.session(folder, "--whole").returncode, 2)
         for log in MOVED:
             lines = text_of_file(log, numbered(MOVED[log]))
-            self.wants(f"the {log}'s log has no end", self.recording(**{log: lines}), 1, f"{log}: FOLDER/{log}.1.0 has no end: its process died, or did not close the log")
+            self.wants(f"the {log}'s log has no end", self.recording(**{log: lines}), 1, f"{log}: FOLDER/{log}.1.0 has no end: {ENDLESS}")
             lines += "lost 28\n"
             self.wants(f"a record of the {log} is lost", self.recording(**{log: lines}), 1, f"{log}: FOLDER/{log}.1.0:{len(MOVED[log]) + 4}: a record was not written: No space left on device")
 
@@ -157,7 +159,7 @@ class Faults:
             lines = numbered(records)
             for what, files, kept, said in (
                 ("a thread's file", (lines[:-1], lines[-1:]), 0, f"{log}: record {len(lines) - 1} is missing"),
-                ("the file with the end", (lines[-1:], lines[:-1]), 1, f"{log}: FOLDER/{log}.1.1 has no end: its process died, or did not close the log"),
+                ("the file with the end", (lines[-1:], lines[:-1]), 1, f"{log}: FOLDER/{log}.1.1 has no end: {ENDLESS}"),
             ):
                 folder = self.recording(**{log: text_of_file(log, files[0], last=f"end {len(lines)}")})
                 self.put(f"{folder}/{log}.1.1", text_of_file(log, files[1]))
@@ -272,6 +274,9 @@ class Faults:
             self.wants(what, self.recording(machine=records), 2, said)
         folder = self.folder()
         os.makedirs(folder)
+        odd = self.folder() + "\n\x1b[0m\udcff"
+        os.makedirs(odd)
+        self.told("a folder of an odd name", self.session(odd), 2, odd[:-6] + "\\n\\x1b[0m\\udcff: there is no file of a recorder, PARTY.PROCESS.N")
         self.wants("an empty folder", folder, 2, "FOLDER: there is no file of a recorder, PARTY.PROCESS.N")
 
     def of_children(self):
@@ -335,7 +340,7 @@ class Faults:
         self.tests.same("a log that nobody could hand over", (lost.ready(), lost.hand_over(), lost.error is None), (LOST, LOST, False))
         said = session_of([folder])[1]
         self.tests.same("an exception leaves no end", [it for it in said if it.startswith(("machine", "guest: /"))],
-                        [f"machine: {folder}/{self.only(folder, 'machine')} has no end: its process died, or did not close the log"])
+                        [f"machine: {folder}/{self.only(folder, 'machine')} has no end: {ENDLESS}"])
         folder = self.folder()
         words = ("import sys; from postcopy.recorder import LOST, Log; log = Log(sys.argv[1], 'machine'); log.machine(64, 512)\n"
                  "lost = sum(log.initial(page, [7] * 512) == LOST for page in range(64)); log.close()\n"

@@ -165,7 +165,7 @@ class _Log:
             if part.first != at and part.count > part.first:
                 yield f"{self.name}: {part.path} begins with record {part.first}, where the log has {at} in front of it: {_GONE_ON}"
             if not part.word:
-                yield f"{self.name}: {part.path} has no end: its process died, or did not close the log"
+                yield f"{self.name}: {part.path} has no end: its process died, or did not close the log (postcopy_log_close, or Log.close)"
             elif part.word == "lost":
                 yield f"{self.name}: {part.where}: a record was not written: {os.strerror(part.error)}"
             elif part.word == "next" and all(it.first != part.count for it in parts):
