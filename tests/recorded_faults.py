@@ -174,6 +174,9 @@ class Faults:
         self.wants("who went on with the guest's log", folder, 1, "guest: FOLDER/guest.1.0:6: handed over with 2 records, and there is no file of who went on")
         self.put(f"{folder}/guest.2.0", text_of_file("guest", numbered(MOVED["guest"])[2:], first=2, last="end 5"))
         self.tests.same("the guest's log is gone on with", self.session(folder).returncode, 0)
+        self.put(f"{folder}/guest.2.0", text_of_file("guest", numbered(MOVED["guest"])[2:], first=2, last="next 5"))
+        self.put(f"{folder}/guest.3.0", text_of_file("guest", [], first=5, last="next 5"))
+        self.wants("who went on with no record", folder, 1, "guest: FOLDER/guest.3.0:4: handed over with 5 records, and there is no file of who went on")
 
     def of_slips(self):
         """Slips of a program that records. (The first four are those of an audit that was `clean`.)"""

@@ -168,7 +168,7 @@ class _Log:
                 yield f"{self.name}: {part.path} has no end: its process died, or did not close the log (postcopy_log_close, or Log.close)"
             elif part.word == "lost":
                 yield f"{self.name}: {part.where}: a record was not written: {os.strerror(part.error)}"
-            elif part.word == "next" and all(it.first != part.count for it in parts):
+            elif part.word == "next" and all(it is part or it.first != part.count for it in parts):
                 yield f"{self.name}: {part.where}: handed over with {part.count} records, and there is no file of who went on"
             at = max(at, part.count)
 
