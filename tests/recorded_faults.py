@@ -140,7 +140,8 @@ class Faults:
         os.makedirs(folder)
         script = 'mount -t tmpfs -o size=1100k none "$1" && mkdir "$1/log" && "$2" moved "$1/log" "$3" && cp -r "$1/log" "$1.kept"'
         unshare = ["unshare", "--mount", *([] if os.getuid() == 0 else ["--map-root-user"]), "sh", "-c", script, "", folder, self.program, str(PAGES)]
-        subprocess.run(unshare, stderr=subprocess.DEVNULL)
+        with contextlib.suppress(FileNotFoundError):
+            subprocess.run(unshare, stderr=subprocess.DEVNULL)
         if os.path.isdir(f"{folder}.kept"):
             folder = f"{folder}.kept"
             self.wants("a full disk", folder, 1, f"machine: FOLDER/{self.only(folder, 'machine')}:36: a record was not written: No space left on device")
