@@ -27,7 +27,7 @@ extern "C" {
 
 typedef struct postcopy_log postcopy_log;
 
-/* No number: the record was not written. It may be sent in the place of a number: what names it is cut away. */
+/* No number: the record was not written. It may be sent in the place of a number: what names it is told as such. */
 #define POSTCOPY_LOST UINT32_MAX
 
 /* Opens the log of a party, "guest", "source", "link", "lane" or "pager", or "machine" for the first two calls below. Its

@@ -30,6 +30,8 @@ MOVED = {
     "pager": ["got 0", "ready", "got 1", "place 0 2 0000000000000005"],
 }
 
+ENDLESS = "its process died, or did not close the log (postcopy_log_close, or Log.close)"
+
 PAGES = 64  # of the machine whose recording does not fit on a small disk
 
 
@@ -120,7 +122,7 @@ class Faults:
         self.tests.same("an option that there is no more", self.session(folder, "--whole").returncode, 2)
         for log in MOVED:
             lines = text_of_file(log, numbered(MOVED[log]))
-            self.wants(f"the {log}'s log has no end", self.recording(**{log: lines}), 1, f"{log}: FOLDER/{log}.1.0 has no end: its process died, or did not close the log")
+            self.wants(f"the {log}'s log has no end", self.recording(**{log: lines}), 1, f"{log}: FOLDER/{log}.1.0 has no end: {ENDLESS}")
             lines += "lost 28\n"
             self.wants(f"a record of the {log} is lost", self.recording(**{log: lines}), 1, f"{log}: FOLDER/{log}.1.0:{len(MOVED[log]) + 4}: a record was not written: No space left on device")
 
@@ -138,7 +140,8 @@ class Faults:
         os.makedirs(folder)
         script = 'mount -t tmpfs -o size=1100k none "$1" && mkdir "$1/log" && "$2" moved "$1/log" "$3" && cp -r "$1/log" "$1.kept"'
         unshare = ["unshare", "--mount", *([] if os.getuid() == 0 else ["--map-root-user"]), "sh", "-c", script, "", folder, self.program, str(PAGES)]
-        subprocess.run(unshare, stderr=subprocess.DEVNULL)
+        with contextlib.suppress(FileNotFoundError):
+            subprocess.run(unshare, stderr=subprocess.DEVNULL)
         if os.path.isdir(f"{folder}.kept"):
             folder = f"{folder}.kept"
             self.wants("a full disk", folder, 1, f"machine: FOLDER/{self.only(folder, 'machine')}:36: a record was not written: No space left on device")
@@ -157,7 +160,7 @@ class Faults:
             lines = numbered(records)
             for what, files, kept, said in (
                 ("a thread's file", (lines[:-1], lines[-1:]), 0, f"{log}: record {len(lines) - 1} is missing"),
-                ("the file with the end", (lines[-1:], lines[:-1]), 1, f"{log}: FOLDER/{log}.1.1 has no end: its process died, or did not close the log"),
+                ("the file with the end", (lines[-1:], lines[:-1]), 1, f"{log}: FOLDER/{log}.1.1 has no end: {ENDLESS}"),
             ):
                 folder = self.recording(**{log: text_of_file(log, files[0], last=f"end {len(lines)}")})
                 self.put(f"{folder}/{log}.1.1", text_of_file(log, files[1]))
@@ -172,6 +175,9 @@ class Faults:
         self.wants("who went on with the guest's log", folder, 1, "guest: FOLDER/guest.1.0:6: handed over with 2 records, and there is no file of who went on")
         self.put(f"{folder}/guest.2.0", text_of_file("guest", numbered(MOVED["guest"])[2:], first=2, last="end 5"))
         self.tests.same("the guest's log is gone on with", self.session(folder).returncode, 0)
+        self.put(f"{folder}/guest.2.0", text_of_file("guest", numbered(MOVED["guest"])[2:], first=2, last="next 5"))
+        self.put(f"{folder}/guest.3.0", text_of_file("guest", [], first=5, last="next 5"))
+        self.wants("who went on with no record", folder, 1, "guest: FOLDER/guest.3.0:4: handed over with 5 records, and there is no file of who went on")
 
     def of_slips(self):
         """Slips of a program that records. (The first four are those of an audit that was `clean`.)"""
@@ -194,7 +200,7 @@ class Faults:
         self.wants("a number that was lost", self.recording(pager=[f"got {LOST}", *MOVED["pager"][1:]]), 1,
                    f"pager: 4 records left out: FOLDER/pager.1.0:4: record 0 of the pager's log, 'got {LOST}', names no record of the link's log: the number was lost")
         self.wants("no resume", self.recording(guest=[*MOVED["guest"][:2], "r 0 0 0 5"]), 1,
-                   "guest: FOLDER/guest.1.0:6: record 2 of the guest's log comes behind the halt, and there is no resume: postcopy_record_resume, or "
+                   "guest: FOLDER/guest.1.0:6: record 2 of the guest's log comes after the halt, and there is no resume: postcopy_record_resume, or "
                    "Log.resume, where the guest runs at the target")
         for log in ("guest", "source", "pager"):
             self.wants(f"no record of the {log}", self.recording(**{log: []}), 1, f"{log}: there is no record")
@@ -243,7 +249,7 @@ class Faults:
         no_record = "which is no record: expected its number, its word and its fields"
         line("guest", "w 0 \x1b[0m", f"FOLDER/guest.1.0:4: found 'w 0 \\x1b[0m', {no_record}")
         line("guest", "", f"FOLDER/guest.1.0:4: found '', {no_record}")
-        line("guest", ["end 5", "5 r 0 0 0 5"], "FOLDER/guest.1.0:10: found '5 r 0 0 0 5' behind the log's end, 'end 5'", at=9)
+        line("guest", ["end 5", "5 r 0 0 0 5"], "FOLDER/guest.1.0:10: found '5 r 0 0 0 5' after the log's end, 'end 5'", at=9)
         line("guest", "end 4", "FOLDER/guest.1.0:9: found 'end 4', where the guest's log has a record 4", at=9)
         line("guest", "0 halt", "FOLDER/guest.1.0:1: found '0 halt'; expected 'postcopy-records 1': no recorder of this release wrote it", at=1)
         line("guest", "recording a b", "FOLDER/guest.1.0:2: found 'recording a b'; expected 'recording NAME'", at=2)
@@ -252,7 +258,7 @@ class Faults:
         line("pager", "0 got-sent 1", "FOLDER/pager.1.0:4: record 0 of the pager's log, 'got-sent 1': the link has a log of its own, whose number 'got' names")
         folder = self.recording(guest=text_of_file("guest", numbered(MOVED["guest"])[:4], last="end 4"))
         self.put(f"{folder}/guest.1.1", text_of_file("guest", numbered(MOVED["guest"])[4:]))
-        self.wants("a record behind the end", folder, 2, "FOLDER/guest.1.1:4: record 4 of the guest's log is behind the end that FOLDER/guest.1.0:8 tells")
+        self.wants("a record behind the end", folder, 2, "FOLDER/guest.1.1:4: record 4 of the guest's log is after the end that FOLDER/guest.1.0:8 tells")
         for text in ("", "postcopy-records 1\nrecord", "postcopy-records 1\n\0\0\0"):
             self.wants("a file that ends in its head", self.recording(guest=text), 1, "guest: FOLDER/guest.1.0 ends in its head: its process died as it began the file")
 
@@ -272,6 +278,9 @@ class Faults:
             self.wants(what, self.recording(machine=records), 2, said)
         folder = self.folder()
         os.makedirs(folder)
+        odd = self.folder() + "\n\x1b[0m\udcff"
+        os.makedirs(odd)
+        self.told("a folder of an odd name", self.session(odd), 2, odd[:-6] + "\\n\\x1b[0m\\udcff: there is no file of a recorder, PARTY.PROCESS.N")
         self.wants("an empty folder", folder, 2, "FOLDER: there is no file of a recorder, PARTY.PROCESS.N")
 
     def of_children(self):
@@ -280,6 +289,8 @@ class Faults:
             folder = self.folder()
             ran = subprocess.run([self.program, mode, folder], stdout=subprocess.PIPE, timeout=120)
             self.tests.same(f"c/tests/recording.c {mode}", (ran.returncode, ran.stdout), (0, b""))
+            ends = sum("\nnext " in self.has(f"{folder}/{name}") for name in os.listdir(folder))
+            self.tests.same(f"the ends of {mode} logs", ends, {"forked": 1, "leaving": 200}[mode])
         log, is_over = Log(self.folder(), "guest"), threading.Event()
 
         def append():
@@ -333,7 +344,7 @@ class Faults:
         self.tests.same("a log that nobody could hand over", (lost.ready(), lost.hand_over(), lost.error is None), (LOST, LOST, False))
         said = session_of([folder])[1]
         self.tests.same("an exception leaves no end", [it for it in said if it.startswith(("machine", "guest: /"))],
-                        [f"machine: {folder}/{self.only(folder, 'machine')} has no end: its process died, or did not close the log"])
+                        [f"machine: {folder}/{self.only(folder, 'machine')} has no end: {ENDLESS}"])
         folder = self.folder()
         words = ("import sys; from postcopy.recorder import LOST, Log; log = Log(sys.argv[1], 'machine'); log.machine(64, 512)\n"
                  "lost = sum(log.initial(page, [7] * 512) == LOST for page in range(64)); log.close()\n"
@@ -375,8 +386,11 @@ class Faults:
         names = set(os.listdir(place))
         for words in (("-o", f"{place}/kept"), ("-o", f"{place}/none"), ("--windows", "2", "-o", f"{place}/by")):
             ran = self.session_alone(folder, *words, preexec_fn=limited(100))
-            self.tests.same("a full disk", (ran.returncode, "File too large" in ran.stderr, self.has(f"{place}/kept")), (2, True, "as it was\n"))
+            said = f"session: [Errno 27] File too large: '{words[-1]}"
+            self.tests.same("a full disk", (ran.returncode, ran.stderr[:len(said)], self.has(f"{place}/kept")), (2, said, "as it was\n"))
         self.tests.same("a full disk leaves nothing", (set(os.listdir(place)) - names, os.listdir(f"{place}/by")), ({"by"}, []))
+        ran = self.session(folder, "-o", f"{place}/no/file")
+        self.tests.same("no folder", (ran.returncode, ran.stderr), (2, f"session: [Errno 2] No such file or directory: '{place}/no/file'\n"))
         cut = self.recording(pager=None)
         ran = self.session(cut, "-o", f"{place}/kept")
         self.tests.same("a part", (ran.returncode, self.has(f"{place}/kept")), (1, "as it was\n"))

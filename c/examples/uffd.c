@@ -4,7 +4,8 @@
        uffd FOLDER [--wake-first | --old-page | --place-twice] [--seed N] [--operations N]
        recorders/session FOLDER -o session && postcopy audit session
 
-   Each option is a mistake, which concerns page 5, and which no look at what the guest read would find:
+   The folder is a new one, since it holds the recording of one run. Each option is a mistake, which concerns page 5, and which
+   no look at what the guest read would find:
        --wake-first    wakes the guest before it has placed the page
        --old-page      sends the page as it was before the guest's last write to it
        --place-twice   places the page once more, over a write

@@ -312,11 +312,20 @@ static void *append_and_leave(void *log)
     return NULL;
 }
 
-static void leave(const char *folder)
+static void *open_and_leave(void *folder)
+{
+    guest = postcopy_log_open(folder, "guest", records);
+    return NULL;
+}
+
+static void leave(char *folder)
 {
     for (int turn = 0; turn < 200; turn++) {
-        postcopy_log *log = postcopy_log_open(folder, "guest", 4 * turn);
         pthread_t threads[4];
+        records = 4 * turn;
+        want(pthread_create(&threads[0], NULL, open_and_leave, folder) == 0, "a thread");
+        pthread_join(threads[0], NULL);
+        postcopy_log *log = guest;
         atomic_store(&has_left, 0);
         for (int n = 0; n < 4; n++)
             want(pthread_create(&threads[n], NULL, append_and_leave, log) == 0, "a thread");
@@ -395,7 +404,7 @@ static void measure(const char *folder, long count)
 
 int main(int count, char **words)
 {
-    const char *what = count > 1 ? words[1] : "", *folder = count > 2 ? words[2] : "";
+    char *what = count > 1 ? words[1] : "", *folder = count > 2 ? words[2] : "";
     long number = count > 3 ? atol(words[3]) : 0;
     records = count > 4 ? atol(words[4]) : 0;
     if (!strcmp(what, "calls"))

@@ -118,7 +118,7 @@ class _Log:
             elif not _LAST.fullmatch(line):
                 raise Unfit(f"{path}:{place}: found {_quoted(line)}, which is no record: expected its number, its word and its fields")
             elif place < len(lines):
-                raise Unfit(f"{path}:{place + 1}: found {_quoted(lines[place])} behind the log's end, '{line}'")
+                raise Unfit(f"{path}:{place + 1}: found {_quoted(lines[place])} after the log's end, '{line}'")
         self._take(part, path, numbers, len(lines), lines[-1])
 
     def _head(self, path: str, lines: List[str]) -> List["re.Match[str]"]:
@@ -136,7 +136,7 @@ class _Log:
             raise Unfit(f"{self.place(min(numbers))} is in a file of the records from {part.first} on")
         most = max(numbers, default=part.first - 1) + 1
         if part.word in ("end", "next") and most > part.count:
-            raise Unfit(f"{self.place(most - 1)} is behind the end that {part.where} tells")
+            raise Unfit(f"{self.place(most - 1)} is after the end that {part.where} tells")
         part.count = max(part.count, most)
         last = _LAST.fullmatch(line)
         if last is not None:
@@ -165,10 +165,10 @@ class _Log:
             if part.first != at and part.count > part.first:
                 yield f"{self.name}: {part.path} begins with record {part.first}, where the log has {at} in front of it: {_GONE_ON}"
             if not part.word:
-                yield f"{self.name}: {part.path} has no end: its process died, or did not close the log"
+                yield f"{self.name}: {part.path} has no end: its process died, or did not close the log (postcopy_log_close, or Log.close)"
             elif part.word == "lost":
                 yield f"{self.name}: {part.where}: a record was not written: {os.strerror(part.error)}"
-            elif part.word == "next" and all(it.first != part.count for it in parts):
+            elif part.word == "next" and all(it is part or it.first != part.count for it in parts):
                 yield f"{self.name}: {part.where}: handed over with {part.count} records, and there is no file of who went on"
             at = max(at, part.count)
 
@@ -259,7 +259,7 @@ def _unresumed(session: Session, log: Optional[_Log]) -> Iterator[str]:
     """What is said of a guest that goes on behind its halt with no resume."""
     words = [record[0] for record in session.logs["guest"]]
     if log is not None and "halt" in words and "resume" not in words and words[-1] != "halt":
-        yield (f"guest: {log.place(words.index('halt') + 1)} comes behind the halt, and there is no resume: "
+        yield (f"guest: {log.place(words.index('halt') + 1)} comes after the halt, and there is no resume: "
                "postcopy_record_resume, or Log.resume, where the guest runs at the target")
 
 
