@@ -347,8 +347,8 @@ async function tell(it, current) {
     showPicture(new TextDecoder().decode(drawn.bytes));
     addText("Picture", pictureFile(drawn));
   }
-  const certified = current() && answer.kind === "CLEAN" && (await question("certify", "Writing the certificate"));
-  if (certified) addText("Certificate", new File([certified.bytes], "certificate"));
+  // (the report on a clean session has the certificate after its first line)
+  if (current() && answer.kind === "CLEAN") addText("Certificate", new File([answer.report.slice(answer.firstLine.length + 1)], "certificate"));
   const all = current() && answer.kind === "FAULTY" && (await question("audit_all", "Looking for all faults"));
   if (!current()) return;
   await showText(texts[0], answer.line || 1);
