@@ -137,8 +137,7 @@ def tests_of_address(browser, url):
 def run_all(browser, room, program, url):
     browser.run(WATCH)
     tests_of_reading(browser, room)
-    if hasattr(browser, "drop_folder"):
-        tests_of_folder(browser, room)
+    tests_of_folder(browser, room)
     tests_of_sessions(browser, room, program)
     tests_of_companions(browser, room, program)
     tests_of_memory(browser, room)
