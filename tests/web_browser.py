@@ -170,7 +170,7 @@ class Firefox(Browser):
         os.mkdir(profile)
         with open(f"{profile}/user.js", "w") as file:
             file.write('user_pref("marionette.port", 0);\n')
-        words = [binary, "--headless", "--marionette", "--no-remote", "--profile", profile]
+        words = [binary, "--headless", "--marionette", "--remote-allow-system-access", "--no-remote", "--profile", profile]
         self.browser = subprocess.Popen(words, stdout=subprocess.DEVNULL, stderr=subprocess.DEVNULL)
         self.calls = 0
         try:
@@ -241,6 +241,19 @@ class Firefox(Browser):
 
     def shot(self):
         return self.call("WebDriver:TakeScreenshot", full=False)["value"]
+
+    def drop_folder(self, folder):
+        """Drops a folder, by a script of the browser's own, which may make a file of a folder."""
+        script = """const place = Components.classes["@mozilla.org/file/local;1"].createInstance(Components.interfaces.nsIFile);
+            place.initWithPath(arguments[0]);
+            const given = new DataTransfer(), page = window.wrappedJSObject, data = new page.DataTransfer(), how = new page.Object();
+            given.mozSetDataAt("application/x-moz-file", place, 0);
+            data.items.add(given.files[0]);
+            Object.assign(how, { bubbles: true, cancelable: true, dataTransfer: data });
+            delete page.document.body.dataset.done;
+            page.document.body.dispatchEvent(new page.DragEvent("drop", how))"""
+        self.call("WebDriver:ExecuteScript", script=script, args=[folder], sandbox="system")
+        self.settle()
 
 
 def rows_of(png):

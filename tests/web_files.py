@@ -1,5 +1,6 @@
 """Tests of the files that are handed to the page: which of them is judged, and what is told of the others."""
 import os
+import re
 
 from web_checks import count, example, is_shown, read, rows_drawn, rows_shown, same, says, squeezed, words_of, write
 
@@ -104,6 +105,17 @@ def tests_of_companions(browser, room, program):
     says(browser, "no session, with a certificate", "odd", "This is not a session.", "The certificate is not judged")
 
 
+def tests_of_memory(browser, room):
+    """What docs/WEB.md says of the memory that judging takes, for each byte of a session, and for each page that one names."""
+    text = read(example("handover")[0]).decode()
+    long = text.replace("guest 9", "guest 1000009").replace("see 7\n", "see 7\n" * 1_000_001)
+    wide = f"postcopy-session 3\npages {1 << 20}\ncells 1\ninit 0\n" + "".join(f"{it} 0\n" for it in ("guest", "source", "link", "lane", "pager")) + "end\n"
+    for what, given, most in (("a long session", long, 5.2 * len(long)), ("a session of many pages", wide, 76 * (1 << 20))):
+        browser.choose(write(f"{room}/{what}", given))
+        taken = float(re.search(r"with ([\d.]+) MiB of memory", browser.text("#numbers"))[1]) * (1 << 20)
+        count(most / 2 < taken < most, f"the memory for {what}: {taken}, of {most}")
+
+
 def tests_of_address(browser, url):
     """The address names an example while that is shown, and the verdict names what it is on."""
     browser.open("about:blank")
@@ -125,9 +137,9 @@ def tests_of_address(browser, url):
 def run_all(browser, room, program, url):
     browser.run(WATCH)
     tests_of_reading(browser, room)
-    if hasattr(browser, "drop_folder"):
-        tests_of_folder(browser, room)
+    tests_of_folder(browser, room)
     tests_of_sessions(browser, room, program)
     tests_of_companions(browser, room, program)
+    tests_of_memory(browser, room)
     same("whether a promise was left rejected", browser.run("return document.body.dataset.rejected ?? 'no'"), "no")
     tests_of_address(browser, url)

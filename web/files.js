@@ -20,7 +20,8 @@ let handed = [], shown;
 const unreadWords = (name, error) => `${name} could not be read: ${error.message}`;
 
 // A file by its name and its kind, or words on one that cannot be read.
-async function handedOver({ file, name = file.name, isFolder }) {
+async function handedOver({ file, name = file?.name ?? "What was dropped", isFolder }) {
+  if (!file && !isFolder) return { name, unread: unreadWords(name, { message: "the browser gives the page no file" }) };
   if (isFolder) return { name, unread: `${name} is a folder, and is not read: choose the files in it.` };
   try {
     // (a browser may take a file that is gone for an empty one, and notice only where the whole is read)

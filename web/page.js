@@ -107,6 +107,14 @@ async function mark(line) {
   else await showLines(first);
 }
 
+// Unmarks the record. Where what had the focus is gone, its line in the text has it, or the text.
+async function unmark() {
+  const line = marked;
+  await mark(0);
+  if (document.activeElement !== document.body) return;
+  (at("lines").children[line - first]?.querySelector(".link") ?? at("lines")).focus({ preventScroll: true });
+}
+
 // The words.
 
 function withMarks(sentence) {
@@ -162,7 +170,7 @@ function showPicture(svg) {
     const line = +(title.match(/^line (\d+)/)?.[1] ?? 0);
     row.dataset.line = line;
     row.setAttribute("role", "button");
-    row.setAttribute("aria-label", title);
+    row.setAttribute("aria-label", row.classList.contains("faulty") ? `${title}, faulty` : title);
     row.setAttribute("tabindex", row === current ? 0 : -1);
     row.onclick = () => mark(line).then(goToText);
     row.onkeydown = (event) => goAmongRows(event, rows, place);
@@ -347,8 +355,8 @@ async function tell(it, current) {
     showPicture(new TextDecoder().decode(drawn.bytes));
     addText("Picture", pictureFile(drawn));
   }
-  const certified = current() && answer.kind === "CLEAN" && (await question("certify", "Writing the certificate"));
-  if (certified) addText("Certificate", new File([certified.bytes], "certificate"));
+  // (the report on a clean session has the certificate after its first line)
+  if (current() && answer.kind === "CLEAN") addText("Certificate", new File([answer.report.slice(answer.firstLine.length + 1)], "certificate"));
   const all = current() && answer.kind === "FAULTY" && (await question("audit_all", "Looking for all faults"));
   if (!current()) return;
   await showText(texts[0], answer.line || 1);
@@ -388,6 +396,7 @@ function endWork() {
   if (about) stayAtTopic();
   else if (shown) show(shown.verdict, shown.name, [...(shown.beside ?? unread()), "It was stopped: no more is told."]);
   else show(worded("odd", "Stopped.", "Nothing is said of what is not judged yet."));
+  at("verdict").focus({ preventScroll: true });
   document.body.dataset.done = judging;
 }
 
@@ -413,12 +422,12 @@ function listen() {
   at("to-words").onclick = () => go(wordsOf(marked)[0]);
   at("to-picture").onclick = () => go(rowOf(marked));
   at("to-text").onclick = () => showText(texts[0], marked).then(goToText);
-  at("unmark").onclick = () => mark(0);
+  at("unmark").onclick = unmark;
   at("earlier").onclick = () => showLines(first - MOST_LINES);
   at("later").onclick = () => showLines(first + MOST_LINES);
   at("line").onchange = () => showText(text, Math.max(1, Math.min(+at("line").value || 1, +at("line").max)));
   addEventListener("keydown", (event) => {
-    if (event.key === "Escape" && marked) mark(0);
+    if (event.key === "Escape" && marked) unmark();
     const step = { n: 1, p: -1 }[event.key];
     const isForPage = !event.ctrlKey && !event.altKey && !event.metaKey && event.target.tagName !== "INPUT";
     if (step && isForPage && about?.faults.length > 1) goToFault(step);

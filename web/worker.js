@@ -73,7 +73,8 @@ onmessage = async ({ data }) => {
     postMessage({ number: data.number, done, total });
   };
   try {
-    postMessage({ number: data.number, answer: await answered(data, say) });
+    const answer = await answered(data, say);
+    postMessage({ number: data.number, answer }, answer.bytes ? [answer.bytes.buffer] : []);
   } catch (error) {
     const isMemory = error instanceof OutOfMemory || error instanceof RangeError;
     postMessage({ number: data.number, failure: { isMemory, words: String(error.message ?? error) } });
