@@ -49,8 +49,8 @@ def text_of(call, written):
 
 
 def topics_of(session):
-    """What is asked of a session: all faults, what is missing, of the pages too, two pages and one that no machine has, the first line of the guest's log, a line that
-    tells no record, and the picture of a page."""
+    """What is asked of a session: all faults, what is missing, of the whole and of its pages, two pages and one that no machine
+    has, the first line of the guest's log, a line that tells no record, and the picture of a page."""
     with open(session, "rb") as file:
         text = file.read()
     guest = re.search(rb"^guest \d+$", text, re.M)
