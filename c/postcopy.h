@@ -15,8 +15,8 @@ extern "C" {
 #define POSTCOPY_VERSION 10000
 
 /* Which answer it is. No answer has the number 0. Those of check are of postcopy_check alone, those of replay of
-   postcopy_replay alone, those of why and of missing of postcopy_why and postcopy_missing alone, and those of a report of all
-   that write a text on a session. */
+   postcopy_replay alone, those of why of postcopy_why alone, those of missing of postcopy_missing and postcopy_missing_pages
+   alone, and those of a report of all that write a text on a session. */
 enum postcopy_kind {
     POSTCOPY_YES = 1,          /* check: the certificate is right, and every merging of the session is safe */
     POSTCOPY_CLEAN = 2,        /* a report: every merging of the session is safe */
@@ -34,7 +34,7 @@ enum postcopy_kind {
     POSTCOPY_NO_MERGING = 14,  /* replay: the runs spell no merging of the session */
     POSTCOPY_BROKEN = 15,      /* replay: in this order the record at `line` is the first that does not find what it demands */
     POSTCOPY_READ = 16,        /* why: the text is read, and no line of it is refused */
-    POSTCOPY_INCOMPLETE = 17   /* missing: every merging of the session is safe, but it does not tell of a whole migration */
+    POSTCOPY_INCOMPLETE = 17   /* missing: every merging of the session is safe, but it does not tell of all that it should */
 };
 
 /* Why, of POSTCOPY_SHAPE the first four, and of POSTCOPY_FAULTY the others. 0 is no reason. */
@@ -99,6 +99,10 @@ postcopy_answer postcopy_audit_all(const uint8_t *session, size_t session_len, u
 /* Writes what a clean session lacks first to tell of a whole migration, in one line, and nothing where it lacks nothing; of
    another session the first line of its report. The room is as before. */
 postcopy_answer postcopy_missing(const uint8_t *session, size_t session_len, uint8_t *room, size_t room_len);
+
+/* Writes what a clean session lacks first of this: that the guest was halted and resumed, and that each owed page was placed, or
+   released at the target. What the pager told of the end, and the source learned of it, is not asked for. The rest as before. */
+postcopy_answer postcopy_missing_pages(const uint8_t *session, size_t session_len, uint8_t *room, size_t room_len);
 
 /* Writes what happened in a session, in words after the first line of its report, in the same way. */
 postcopy_answer postcopy_explain(const uint8_t *session, size_t session_len, uint8_t *room, size_t room_len);

@@ -109,7 +109,8 @@ static const struct {
     const char *command;
     postcopy_answer (*call)(const uint8_t *session, size_t session_len, uint8_t *room, size_t room_len);
 } writers[] = {{"certify", postcopy_certify}, {"audit", postcopy_audit}, {"audit_all", postcopy_audit_all},
-               {"missing", postcopy_missing}, {"explain", postcopy_explain}, {"draw", postcopy_draw}};
+               {"missing", postcopy_missing}, {"missing_pages", postcopy_missing_pages}, {"explain", postcopy_explain},
+               {"draw", postcopy_draw}};
 
 /* The calls that write a text about a page, or a line, of a session. */
 static const struct {

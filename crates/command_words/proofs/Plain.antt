@@ -1,9 +1,11 @@
 -- What the command line takes of plain names.
-use Rattle.std.proofs.Common.{◌≡◌, ◌∙◌, ◌==◌, ◌≤◌, ℕ, Bool, true, false, List, [], ◌∷◌, ◌++◌, map, length, inl, inr, Some, None, refl, sym, ap, subst, arith, codes, cond, option_and_then}
-use Rattle.std.specs.List.{AllByRecursion}
+use Rattle.std.proofs.Common.{◌≡◌, ◌∙◌, ◌==◌, ◌≤◌, ℕ, Bool, true, false, List, [], ◌∷◌, ◌++◌, map, length, inl, inr, Some, None, refl, sym, ap, ap₂, subst, arith, codes, cond, option_and_then, is_some, ◌&&◌}
+use Rattle.std.specs.List.{AllByRecursion, list_all}
 use Rattle.std.specs.Str.{bytes_eq}
-use Rattle.std.proofs.lemmas.Bool.{ne_eqb}
 use Rattle.std.proofs.lemmas.Slice.Eq.{bytes_eq-Decides}
+use Rattle.clap.specs.Simple.{App, Shape, built, entered, is_simple, names_of, new_shape}
+use Rattle.clap.specs.Takes.{default_passes, entered_passes, is_valid, level_passes, settle_passes, turn_passes, walk_passes}
+use Rattle.clap.specs.Walk.{Held, Walk, finished, nothing_held, stop_after, walk, walk_from, walked}
 use Rattle.clap.specs.Words.{Row, Text, subcommand_of, takes}
 use Rattle.clap.specs.declared.builder.value_parser.Reading.TheVariants.{AsWritten}
 use Rattle.clap.specs.declared.parser.matches.ValueSource.{ValueSource}
@@ -18,18 +20,8 @@ use Rattle.command_words.specs.declared.asked.TwoTexts.{TwoTexts}
 use Rattle.command_words.specs.declared.asked.TwoTexts.TheVariants.{Check, Replay, Steps}
 use Rattle.command_words.specs.declared.asked.Topic.TheVariants.{Report}
 use Rattle.command_words.specs.Table.{plain as asked_plainly, plain_audit, plain_explanation, no_pages}
+use Rattle.command_words.proofs.Names.{Form, Dash, Empty, Other, IsName, at, form_of, is_name, turn_name, walked_name}
 use Rattle.command_words.specs.Words.{IsPlain, IsPlainName, asked, asked_by, asked_in, postcopy_words, with_names}
-
--- a name of one of three forms
-data Form : Text → Type 0 where
-  Dash : Form (45 ∷ [])
-  Empty : Form []
-  Other : (b : ℕ) (rest : Text) → (b == 45) ≡ false → Form (b ∷ rest)
-
-form_of : (name : Text) → IsPlainName name → Form name
-form_of name (inl e) = rw e Dash
-form_of [] (inr h) = Empty
-form_of (b ∷ rest) (inr h) = Other b rest (ne_eqb b 45 (λ e. h rest (ap (λ (x : ℕ). x ∷ rest) e)))
 
 -- the words are taken, and ask for this
 pub record IsTaken (words : List Text) (job : Asked Text) : Type 0 where
@@ -48,38 +40,91 @@ taken_audit program _ Dash = record { taken = refl; given = refl }
 taken_audit program _ Empty = record { taken = refl; given = refl }
 taken_audit program _ (Other b rest e) = record { taken = simp e; given = simp e }
 
-taken_explain : (program name : Text) → Form name → IsTaken (program ∷ codes "explain" ∷ name ∷ []) (One (Explain plain_explanation) name)
-unfolding clap_on_literals
-taken_explain program _ Dash = record { taken = refl; given = refl }
-taken_explain program _ Empty = record { taken = refl; given = refl }
-taken_explain program _ (Other b rest e) = record { taken = simp e; given = simp e }
-
 -- what a word or an option is given, by the words or by default
 abbrev given_as : ValueSource → Text × Text → Row
 given_as source given = record { id = given.0; values = given.1 ∷ []; count = None; source = Some source; reading = AsWritten }
+
+-- the options that `check` and `explain` have a value for where none is given
+abbrev by_default : List (Text × Text)
+by_default = (codes "complete", codes "false") ∷ (codes "complete-pages", codes "false") ∷ (codes "format", codes "text") ∷ []
 
 -- what `check` is given with two plain names
 abbrev check_rows : Text → Text → List Row
 check_rows first second =
     map (given_as CommandLine) ((codes "SESSION", first) ∷ (codes "CERT", second) ∷ [])
-    ++ map (given_as DefaultValue) ((codes "complete", codes "false") ∷ (codes "format", codes "text") ∷ [])
+    ++ map (given_as DefaultValue) by_default
 
--- the words are taken by `check`, and it is given this
-record IsCheck (words : List Text) (first second : Text) : Type 0 where
+-- the words are taken by a command, and it is given this
+record IsGiven (words : List Text) (command : Text) (rows : List Row) : Type 0 where
   takes_them : takes postcopy_words words ≡ true
-  found : subcommand_of postcopy_words words ≡ Some (codes "check", check_rows first second)
+  found : subcommand_of postcopy_words words ≡ Some (command, rows)
 
-is_check : (program first second : Text) → Form first → Form second → IsCheck (program ∷ codes "check" ∷ first ∷ second ∷ []) first second
+-- where `check` stands after its first name, and after both
+abbrev one_held : Text → Held
+one_held first = record { rows = []; pending = Some (codes "SESSION", first ∷ []); skip = 0 }
+
+abbrev two_held : Text → Text → Held
+two_held first second = record { rows = given_as CommandLine (codes "SESSION", first) ∷ []; pending = Some (codes "CERT", second ∷ []); skip = 0 }
+
+-- the program as it is built, and its first command, which is `check`
+abbrev built_words : App
+built_words = built postcopy_words
+
+abbrev first_of : List Shape → Shape
+first_of [] = new_shape []
+first_of (s ∷ rest) = s
+
+abbrev check_shape : Shape
+check_shape = first_of built_words.subs
+
+check_stops : (first second : Text) → stop_after built_words.top.rules (names_of built_words) (codes "check" ∷ first ∷ second ∷ []) ≡ Some (codes "check", first ∷ second ∷ [])
 unfolding clap_on_literals
-is_check program _ _ Dash Dash = record { takes_them = refl; found = refl }
-is_check program _ _ Dash Empty = record { takes_them = refl; found = refl }
-is_check program _ _ Dash (Other b rest e) = record { takes_them = simp e; found = simp e }
-is_check program _ _ Empty Dash = record { takes_them = refl; found = refl }
-is_check program _ _ Empty Empty = record { takes_them = refl; found = refl }
-is_check program _ _ Empty (Other b rest e) = record { takes_them = simp e; found = simp e }
-is_check program _ _ (Other a front d) Dash = record { takes_them = simp d; found = simp d }
-is_check program _ _ (Other a front d) Empty = record { takes_them = simp d; found = simp d }
-is_check program _ _ (Other a front d) (Other b rest e) = record { takes_them = simp (d, e); found = simp (d, e) }
+check_stops first second = refl
+
+module _ (program first second : Text) (f : IsName first) (g : IsName second) where
+  check_walk : walk check_shape.rules [] nothing_held (first ∷ second ∷ []) ≡ at (two_held first second) 3
+  check_walk = ap (λ w. walked check_shape.rules [] w second) (walked_name check_shape.rules nothing_held 1 first f) ∙ walked_name check_shape.rules (one_held first) 2 second g
+
+  check_found : subcommand_of postcopy_words (program ∷ codes "check" ∷ first ∷ second ∷ []) ≡ Some (codes "check", check_rows first second)
+  check_found =
+      ap (entered built_words) (check_stops first second)
+      ∙ ap (λ (w : Walk). Some (check_shape.name, finished check_shape.rules w.held)) check_walk
+
+  check_turns : walk_passes check_shape [] (walk_from nothing_held) (first ∷ second ∷ []) ≡ true
+  unfolding walk_passes
+  check_turns = ap₂ (λ b d. b && d) (turn_name check_shape nothing_held 1 first f)
+      (ap (λ w. turn_passes check_shape [] w second && true) (walked_name check_shape.rules nothing_held 1 first f)
+      ∙ ap (λ b. b && true) (turn_name check_shape (one_held first) 2 second g))
+
+  check_ends : (w : Walk) → w ≡ at (two_held first second) 3 → (settle_passes check_shape.rules check_shape.args_override_self w.held && (list_all default_passes check_shape.rules && is_valid check_shape (finished check_shape.rules w.held) false)) ≡ true
+  check_ends w e = ap (λ (v : Walk). settle_passes check_shape.rules check_shape.args_override_self v.held && (list_all default_passes check_shape.rules && is_valid check_shape (finished check_shape.rules v.held) false)) e
+
+  check_level : level_passes check_shape [] nothing_held (first ∷ second ∷ []) false ≡ true
+  check_level = ap₂ (λ b d. b && d) check_turns (check_ends (walk check_shape.rules [] nothing_held (first ∷ second ∷ [])) check_walk)
+
+  check_below : entered_passes built_words (stop_after built_words.top.rules (names_of built_words) (codes "check" ∷ first ∷ second ∷ [])) ≡ true
+  check_below = ap (entered_passes built_words) (check_stops first second) ∙ check_level
+
+check_above : (first second : Text) → level_passes built_words.top (names_of built_words) nothing_held (codes "check" ∷ first ∷ second ∷ []) true ≡ true
+unfolding clap_on_literals
+check_above first second = refl
+
+-- whether the command is entered that a walk stopped at
+check_entered : (first second : Text) → is_some (entered built_words (stop_after built_words.top.rules (names_of built_words) (codes "check" ∷ first ∷ second ∷ []))) ≡ true
+check_entered first second = ap (λ stop. is_some (entered built_words stop)) (check_stops first second)
+
+is_simple_line : is_simple postcopy_words ≡ true
+is_simple_line = refl
+
+is_check : (program first second : Text) → Form first → Form second → IsGiven (program ∷ codes "check" ∷ first ∷ second ∷ []) (codes "check") (check_rows first second)
+is_check program first second f g =
+    let names = codes "check" ∷ first ∷ second ∷ [] in
+    record {
+      takes_them = ap₂ (λ b d. b && d) is_simple_line
+          (ap₂ (λ b d. b && d) (check_below program first second (is_name first f) (is_name second g))
+          (ap (λ b. level_passes built_words.top (names_of built_words) nothing_held names b) (check_entered first second) ∙ check_above first second));
+      found = check_found program first second (is_name first f) (is_name second g);
+    }
 
 check_asks : (first second : Text) → asked_in (codes "check", check_rows first second) ≡ Some (Two (Check asked_plainly) first second)
 unfolding clap_on_literals
@@ -89,6 +134,25 @@ taken_check : (program first second : Text) → Form first → Form second → I
 taken_check program first second f g =
     let is = is_check program first second f g in
     record { taken = is.takes_them; given = ap (option_and_then asked_in) is.found ∙ check_asks first second }
+
+-- what `explain` is given with a plain name
+abbrev explain_rows : Text → List Row
+explain_rows name = given_as CommandLine (codes "SESSION", name) ∷ map (given_as DefaultValue) by_default
+
+is_explain : (program name : Text) → Form name → IsGiven (program ∷ codes "explain" ∷ name ∷ []) (codes "explain") (explain_rows name)
+unfolding clap_on_literals
+is_explain program _ Dash = record { takes_them = refl; found = refl }
+is_explain program _ Empty = record { takes_them = refl; found = refl }
+is_explain program _ (Other b rest e) = record { takes_them = simp e; found = simp e }
+
+explain_asks : (name : Text) → asked_in (codes "explain", explain_rows name) ≡ Some (One (Explain plain_explanation) name)
+unfolding clap_on_literals
+explain_asks name = refl
+
+taken_explain : (program name : Text) → Form name → IsTaken (program ∷ codes "explain" ∷ name ∷ []) (One (Explain plain_explanation) name)
+taken_explain program name f =
+    let is = is_explain program name f in
+    record { taken = is.takes_them; given = ap (option_and_then asked_in) is.found ∙ explain_asks name }
 
 taken_replay : (program first second : Text) → Form first → Form second → IsTaken (program ∷ codes "replay" ∷ first ∷ second ∷ []) (Two Replay first second)
 unfolding clap_on_literals

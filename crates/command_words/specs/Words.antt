@@ -21,7 +21,7 @@ use Rattle.command_words.specs.declared.asked.Faults.TheVariants.{All}
 use Rattle.command_words.specs.declared.asked.Topic.{Topic}
 use Rattle.command_words.specs.declared.asked.Topic.TheVariants.{Page, Line}
 use Rattle.command_words.specs.declared.asked.Demand.{Demand}
-use Rattle.command_words.specs.declared.asked.Demand.TheVariants.{Completeness}
+use Rattle.command_words.specs.declared.asked.Demand.TheVariants as demand
 use Rattle.command_words.specs.declared.asked.Form.{Form}
 use Rattle.command_words.specs.declared.asked.Form.TheVariants as form
 use Rattle.command_words.specs.declared.asked.OneText.{OneText}
@@ -83,9 +83,17 @@ with_output app = with_rule app (record (new_rule (codes "output")) { short = So
 abbrev pub with_lines : App → App
 with_lines app = with_rule app (record (new_rule (codes "lines")) { long = Some (codes "lines"); value_names = 1 })
 
--- a command with the option that asks for a complete session
+-- a command with the option that asks for a session of a whole migration
+abbrev pub with_complete : App → App
+with_complete app = with_rule app (flag_rule (codes "complete"))
+
+-- a command with the option that asks for one which tells how each owed page came
+abbrev pub with_complete_pages : App → App
+with_complete_pages app = with_rule app (flag_rule (codes "complete-pages"))
+
+-- a command with both
 abbrev pub with_demand : App → App
-with_demand app = with_rule app (flag_rule (codes "complete"))
+with_demand app = with_complete_pages (with_complete app)
 
 -- a command with the option that names the form of its answer; where it is not there, this one is meant
 abbrev pub with_format : ValueParser → Form → App → App
@@ -176,9 +184,12 @@ abbrev pub is_set : Option Text → Bool
 is_set None = false
 is_set (Some text) = bytes_eq text (codes "true")
 
--- what is asked of a session: that it is complete where the option is among what was given, or else this
+-- what is asked of a session: the whole of a migration, or how its pages came, where that option is among what was given, or
+-- else this
 abbrev pub demand_in : List Row → Demand → Demand
-demand_in rows otherwise = if is_set (first_of (codes "complete") rows) then Completeness else otherwise
+demand_in rows otherwise =
+    if is_set (first_of (codes "complete") rows) then demand.Whole
+    else if is_set (first_of (codes "complete-pages") rows) then demand.Pages else otherwise
 
 -- the form that is named among what was given, or else this one
 abbrev pub format_in : List Row → Form → Form

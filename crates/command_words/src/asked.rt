@@ -8,8 +8,10 @@ ghost use Rattle.command_words.specs.Table.{carrier_name, form_name};
 pub enum Demand {
     /// That it is safe.
     Safety,
-    /// That it is complete too.
-    Completeness,
+    /// That it tells too of the halt, of the resume, and of how each owed page came.
+    Pages,
+    /// That it tells too of a whole migration.
+    Whole,
 }
 
 /// How an answer is written.

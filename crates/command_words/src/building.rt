@@ -2,14 +2,14 @@
 
 ghost use Rattle.std.specs.Prelude.{◌≡◌, IfOk, false};
 ghost use Rattle.command_words.specs.Table.{further_name, row_of};
-ghost use Rattle.command_words.specs.Words.{choice_rule, command_words, flag_rule, line_words, needed, number_rule, program_words, with_all, with_demand, with_format, with_further, with_line, with_lines, with_one, with_output, with_page, with_quiet, with_two, count_rule, text_word};
+ghost use Rattle.command_words.specs.Words.{choice_rule, command_words, flag_rule, line_words, needed, number_rule, program_words, with_all, with_complete, with_complete_pages, with_demand, with_format, with_further, with_line, with_lines, with_one, with_output, with_page, with_quiet, with_two, count_rule, text_word};
 ghost use Rattle.clap.specs.Words.{app_of, rule_of, with_rule};
 ghost use Rattle.clap.specs.declared.builder.command.Command.TheViews.{out-Command as fields_of};
 
 use crate::asked::{Asked, Form, OneText, TwoTexts};
 use crate::table::{
-    ALL, COMPLETE, COUNT, FIRST, FORMAT, LINE, LINES, LINK, OUTPUT, PAGE, QUIET, Row, Word,
-    commands,
+    ALL, COMPLETE, COMPLETE_PAGES, COUNT, FIRST, FORMAT, LINE, LINES, LINK, OUTPUT, PAGE, QUIET,
+    Row, Word, commands,
 };
 use clap::builder::ValueParser;
 use clap::{Arg, ArgAction, Command};
@@ -38,6 +38,9 @@ Status:
 
 const COMPLETE_HELP: &str =
     "All is well only where the session is of a whole migration, from the halt to the end";
+
+const COMPLETE_PAGES_HELP: &str =
+    "All is well only where the guest was halted and resumed, and each owed page came or was released there; --complete asks for more";
 
 const QUIET_HELP: &str = "Writes the first line of the answer alone";
 
@@ -171,13 +174,32 @@ fn with_flag<'a>(
     command.arg(arg)
 }
 
-// The command with the option that asks for a complete session.
+// The command with the option that asks for a session of a whole migration.
+fn with_complete<'a>(alloc: Global, command: Command<'a>) -> Result<Command<'a>, AllocError>
+    requires { (fields_of command).has_globals ≡ false }
+    ensures app { IfOk result (λ c. app_of c ≡ with_complete (app_of command.entry)) }
+    ensures local { IfOk result (λ c. (fields_of c).has_globals ≡ false) }
+{
+    with_flag(alloc, command, COMPLETE, COMPLETE_HELP)
+}
+
+// The command with the option that asks for one which tells how each owed page came.
+fn with_complete_pages<'a>(alloc: Global, command: Command<'a>) -> Result<Command<'a>, AllocError>
+    requires { (fields_of command).has_globals ≡ false }
+    ensures app { IfOk result (λ c. app_of c ≡ with_complete_pages (app_of command.entry)) }
+    ensures local { IfOk result (λ c. (fields_of c).has_globals ≡ false) }
+{
+    with_flag(alloc, command, COMPLETE_PAGES, COMPLETE_PAGES_HELP)
+}
+
+// The command with both.
 fn with_demand<'a>(alloc: Global, command: Command<'a>) -> Result<Command<'a>, AllocError>
     requires { (fields_of command).has_globals ≡ false }
     ensures app { IfOk result (λ c. app_of c ≡ with_demand (app_of command.entry)) }
     ensures local { IfOk result (λ c. (fields_of c).has_globals ≡ false) }
 {
-    with_flag(alloc, command, COMPLETE, COMPLETE_HELP)
+    let command = with_complete(alloc, command)?;
+    with_complete_pages(alloc, command)
 }
 
 // The command with an option that has a number.

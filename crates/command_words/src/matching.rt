@@ -12,8 +12,9 @@ use crate::asked::{
 };
 use crate::building::{Choices, command_line};
 use crate::table::{
-    ALL, COMPLETE, COUNT, FIRST, FORMAT, LINE, LINES, LINK, OUTPUT, PAGE, PLAIN_AUDIT, QUIET, Row,
-    SESSION, Word, carrier_named, carrier_names, commands, form_named, form_names,
+    ALL, COMPLETE, COMPLETE_PAGES, COUNT, FIRST, FORMAT, LINE, LINES, LINK, OUTPUT, PAGE,
+    PLAIN_AUDIT, QUIET, Row, SESSION, Word, carrier_named, carrier_names, commands, form_named,
+    form_names,
 };
 use clap::ArgMatches;
 use clap::builder::ValueParser;
@@ -64,12 +65,14 @@ fn is_given(option: &str, matches: &ArgMatches<'_>) -> bool
     }
 }
 
-// What is asked of a session: that it is complete where the option was given, or else this.
+// What is asked of a session: that it is complete where an option was given, or else this. Of both the whole counts.
 fn demand_given(otherwise: Demand, matches: &ArgMatches<'_>) -> Demand
     ensures { result ≡ demand_in (rows_of (found_of matches.now)) otherwise }
 {
     if is_given(COMPLETE, matches) {
-        Demand::Completeness
+        Demand::Whole
+    } else if is_given(COMPLETE_PAGES, matches) {
+        Demand::Pages
     } else {
         otherwise
     }

@@ -71,8 +71,11 @@ pub const COUNT: Word = Word {
 /// The option that names what carries a migration.
 pub const LINK: &str = "link";
 
-/// The option that asks for a complete session.
+/// The option that asks for a session of a whole migration.
 pub const COMPLETE: &str = "complete";
+
+/// The option that asks for one that tells of the halt, of the resume, and of how each owed page came.
+pub const COMPLETE_PAGES: &str = "complete-pages";
 
 /// The option that asks for the first line alone.
 pub const QUIET: &str = "quiet";

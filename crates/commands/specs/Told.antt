@@ -6,7 +6,8 @@ use Rattle.command_words.specs.declared.asked.Pages.{Pages}
 use Rattle.window_cut.specs.declared.pages.Window.{Window as CutWindow}
 use Rattle.window_commands.specs.Windows.{EndsWindow}
 use Rattle.command_words.specs.declared.asked.Demand.{Demand}
-use Rattle.command_words.specs.declared.asked.Demand.TheVariants.{Safety, Completeness}
+use Rattle.command_words.specs.declared.asked.Demand.TheVariants.{Safety}
+use Rattle.command_words.specs.declared.asked.Demand.TheVariants as demand
 use Rattle.command_words.specs.declared.asked.Form.{Form}
 use Rattle.command_words.specs.declared.asked.Form.TheVariants.{Text, Line, Json}
 use Rattle.command_words.specs.declared.asked.Asking.{Asking}
@@ -31,6 +32,8 @@ use Rattle.judged_texts.specs.declared.wanted.Wanted.TheVariants as wanted
 use Rattle.command_words.specs.Table.{plain}
 use Rattle.migration_types.specs.Sessions.{Recorded}
 use Rattle.completeness.specs.declared.missing.Missing.{Missing}
+use Rattle.completeness.specs.declared.missing.Extent.{Extent}
+use Rattle.completeness.specs.declared.missing.Extent.TheVariants as extent
 use Rattle.session_text.specs.Grammar.{SpellsSession}
 use Rattle.cert_text.specs.Grammar.{SpellsCert}
 use Rattle.order_text.specs.Order.{SpellsOrder}
@@ -80,16 +83,24 @@ TellsLack Json = TellsInObject
 -- the one answer where a safe session is asked for, and the other where a complete one is
 abbrev pub answered : Demand → (List ℕ → ℕ → Type 0) → (List ℕ → ℕ → Type 0) → List ℕ → ℕ → Type 0
 answered Safety IsPlain IsWhole = IsPlain
-answered Completeness IsPlain IsWhole = IsWhole
+answered demand.Pages IsPlain IsWhole = IsWhole
+answered demand.Whole IsPlain IsWhole = IsWhole
 
 -- the one where a safe session is asked for, and the other where a complete one is
 abbrev pub chosen : Demand → Type 0 → Type 0 → Type 0
 chosen Safety Plain Whole = Plain
-chosen Completeness Plain Whole = Whole
+chosen demand.Pages Plain Whole = Whole
+chosen demand.Whole Plain Whole = Whole
+
+-- to what extent a session has to be complete, where that is asked
+abbrev pub extent_of : Demand → Extent
+extent_of Safety = extent.Pages
+extent_of demand.Pages = extent.Pages
+extent_of demand.Whole = extent.Whole
 
 -- the answer to what is asked of a session, by how it is told what it lacks, and what is answered without asking more
 abbrev pub IsDemanded : Demand → (Recorded → Missing → List ℕ → Type 0) → (List ℕ → ℕ → Type 0) → List ℕ → List ℕ → ℕ → Type 0
-IsDemanded demand Tells IsPlain session = answered demand IsPlain (IsCompleteAnswer Tells IsPlain session)
+IsDemanded asked Tells IsPlain session = answered asked IsPlain (IsCompleteAnswer (extent_of asked) Tells IsPlain session)
 
 -- the answer of `audit`, as this is asked
 abbrev pub IsAsked : Asking → Faults → List ℕ → List ℕ → ℕ → Type 0

@@ -9,11 +9,12 @@ ghost use Rattle.command_texts.specs.Reasons.{IsRefusedAt, TellsBeside, TellsWhy
 ghost use Rattle.command_texts.specs.Told.{AreNamed, Ends, IsNamed};
 ghost use Rattle.command_texts.specs.Written.{BothGain};
 ghost use Rattle.judge_commands.specs.Answers.{AddsMisfitOf};
-ghost use Rattle.commands.specs.Told.{answered, chosen, IsAsked, IsChecked, IsExplained, how_much_in, told_topic};
+ghost use Rattle.commands.specs.Told.{answered, chosen, IsAsked, IsChecked, IsExplained, extent_of, how_much_in, told_topic};
 
 use crate::topics::told_topic;
 use command_texts::{Fault, OnOne, OnTwo, TextSource, perform_one, perform_two};
 use command_words::{Asking, Audits, Demand, Explains, Faults, Form, Topic};
+use completeness::Extent;
 use judge_commands::{
     AllFaults, AuditCommand, CheckCommand, Complete, InLine, InObject, InWords, StoryObject,
 };
@@ -21,6 +22,17 @@ use judged_texts::Wanted;
 use std::alloc::Global;
 use std::io::{Read, Write};
 use std::thread::Threads;
+
+/// To what extent a session has to be complete, where that is asked.
+pub(crate) fn extent_of(demand: Demand) -> Extent
+    ensures { result ≡ extent_of demand }
+{
+    match demand {
+        Demand::Safety => Extent::Pages,
+        Demand::Pages => Extent::Pages,
+        Demand::Whole => Extent::Whole,
+    }
+}
 
 // Does one of two commands on the text under a name: the second where a complete session is asked for.
 fn demanded_one<
@@ -52,7 +64,8 @@ fn demanded_one<
 {
     match demand {
         Demand::Safety => perform_one(rt, alloc, plain, name, texts, input, output, errors),
-        Demand::Completeness => perform_one(rt, alloc, whole, name, texts, input, output, errors),
+        Demand::Pages => perform_one(rt, alloc, whole, name, texts, input, output, errors),
+        Demand::Whole => perform_one(rt, alloc, whole, name, texts, input, output, errors),
     }
 }
 
@@ -89,7 +102,10 @@ pub(crate) fn demanded_two<
         Demand::Safety => perform_two(
             rt, alloc, plain, first, second, texts, input, output, errors,
         ),
-        Demand::Completeness => perform_two(
+        Demand::Pages => perform_two(
+            rt, alloc, whole, first, second, texts, input, output, errors,
+        ),
+        Demand::Whole => perform_two(
             rt, alloc, whole, first, second, texts, input, output, errors,
         ),
     }
@@ -111,6 +127,7 @@ pub(crate) fn asked_audit<'a, R: Threads + Sync, S: TextSource, I: Read + Send, 
     ensures gains { BothGain (O.contents output.old, E.contents errors.old) (O.contents output.new, E.contents errors.new) }
 {
     let demand = audits.asking.demand;
+    let extent = extent_of(demand);
     match audits.asking.form {
         Form::Text => match audits.faults {
             Faults::First => {
@@ -119,6 +136,7 @@ pub(crate) fn asked_audit<'a, R: Threads + Sync, S: TextSource, I: Read + Send, 
                         rt,
                         form: Wanted::Report,
                     },
+                    extent,
                     form: InLine,
                 };
                 demanded_one(
@@ -140,6 +158,7 @@ pub(crate) fn asked_audit<'a, R: Threads + Sync, S: TextSource, I: Read + Send, 
                         rt,
                         form: AllFaults::Lines,
                     },
+                    extent,
                     form: InLine,
                 };
                 demanded_one(
@@ -162,6 +181,7 @@ pub(crate) fn asked_audit<'a, R: Threads + Sync, S: TextSource, I: Read + Send, 
                     rt,
                     form: Wanted::FirstLine,
                 },
+                extent,
                 form: InLine,
             };
             demanded_one(
@@ -181,6 +201,7 @@ pub(crate) fn asked_audit<'a, R: Threads + Sync, S: TextSource, I: Read + Send, 
             Faults::First => {
                 let asked = Complete {
                     command: AuditCommand { rt, form: InObject },
+                    extent,
                     form: InObject,
                 };
                 demanded_one(
@@ -202,6 +223,7 @@ pub(crate) fn asked_audit<'a, R: Threads + Sync, S: TextSource, I: Read + Send, 
                         rt,
                         form: AllFaults::Object,
                     },
+                    extent,
                     form: InObject,
                 };
                 demanded_one(
@@ -237,11 +259,13 @@ fn words_of<'a, R: Threads + Sync, S: TextSource, I: Read + Send, O: Write, E: W
     ensures told { Ends (IsTextFault (λ n. n ≡ name.entry.now)) (IsNamed name.entry.now (S.bytes_of texts.now) (I.remaining input.old)) (IsExplained demand Form.Text (told_topic topic)) (TellsWhyOf (IsRefusedAt SpellsSession) Full name.entry.now) (O.contents output.old, E.contents errors.old) (O.contents output.new, E.contents errors.new) result }
     ensures gains { BothGain (O.contents output.old, E.contents errors.old) (O.contents output.new, E.contents errors.new) }
 {
+    let extent = extent_of(demand);
     let asked = Complete {
         command: AuditCommand {
             rt,
             form: told_topic(topic),
         },
+        extent,
         form: InWords,
     };
     demanded_one(
@@ -310,6 +334,7 @@ pub(crate) fn asked_explain<
                     rt,
                     form: StoryObject,
                 },
+                extent: extent_of(demand),
                 form: InObject,
             };
             demanded_one(
@@ -345,12 +370,15 @@ pub(crate) fn asked_check<'a, R: Threads + Sync, S: TextSource, I: Read + Send, 
     ensures gains { BothGain (O.contents output.old, E.contents errors.old) (O.contents output.new, E.contents errors.new) }
 {
     let demand = asking.demand;
+    let extent = extent_of(demand);
     let line = Complete {
         command: CheckCommand { rt, form: InLine },
+        extent,
         form: InLine,
     };
     let object = Complete {
         command: CheckCommand { rt, form: InObject },
+        extent,
         form: InObject,
     };
     match asking.form {

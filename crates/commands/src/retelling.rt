@@ -9,7 +9,7 @@ ghost use Rattle.command_texts.specs.Told.{AreNamed, Ends};
 ghost use Rattle.command_texts.specs.Written.{BothGain};
 ghost use Rattle.commands.specs.Told.{AddsNothing, IsRetold, told_topic};
 
-use crate::judging::demanded_two;
+use crate::judging::{demanded_two, extent_of};
 use crate::topics::told_topic;
 use command_texts::{Fault, TextSource};
 use command_words::{Demand, Explains, Form, Topic};
@@ -44,6 +44,7 @@ fn words_retold<'a, R: Threads + Sync, S: TextSource, I: Read + Send, O: Write, 
     let whole = Relined {
         command: Complete {
             command: AuditCommand { rt, form },
+            extent: extent_of(demand),
             form: InWords,
         },
         lines: LinesIn::Words,
@@ -84,6 +85,7 @@ fn object_retold<'a, R: Threads + Sync, S: TextSource, I: Read + Send, O: Write,
                 rt,
                 form: StoryObject,
             },
+            extent: extent_of(demand),
             form: InObject,
         },
         lines: LinesIn::Object,

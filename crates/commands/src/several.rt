@@ -9,6 +9,7 @@ ghost use Rattle.command_texts.specs.Written.{BothGain};
 ghost use Rattle.command_words.specs.Table.{several_names};
 ghost use Rattle.commands.specs.Told.{answered, chosen, IsAsked, TellsSeveralAsked, lines_asked, lines_style};
 
+use crate::judging::extent_of;
 use command_texts::{Fault, Listing, OnOne, TextSource, perform_several};
 use command_words::{Audits, Demand, Faults, Form, Several};
 use judge_commands::{AllFaults, AuditCommand, Complete, InLine, InObject};
@@ -54,7 +55,10 @@ fn demanded_several<
         Demand::Safety => perform_several(
             rt, alloc, plain, listing, names, texts, input, output, errors,
         ),
-        Demand::Completeness => perform_several(
+        Demand::Pages => perform_several(
+            rt, alloc, whole, listing, names, texts, input, output, errors,
+        ),
+        Demand::Whole => perform_several(
             rt, alloc, whole, listing, names, texts, input, output, errors,
         ),
     }
@@ -76,11 +80,13 @@ fn line_each<'a, R: Threads + Sync, S: TextSource, I: Read + Send, O: Write, E: 
     ensures fault { IfErr result (IsTextFault (IsOneOf (names_of names.now))) }
     ensures gains { BothGain (O.contents output.old, E.contents errors.old) (O.contents output.new, E.contents errors.new) }
 {
+    let extent = extent_of(demand);
     let asked = Complete {
         command: AuditCommand {
             rt,
             form: Wanted::FirstLine,
         },
+        extent,
         form: InLine,
     };
     let listing = Listing::Named(ARE_CLEAN);
@@ -123,6 +129,7 @@ pub(crate) fn asked_several<
 {
     let Audits { asking, faults } = several.audits;
     let demand = asking.demand;
+    let extent = extent_of(demand);
     let names = several.names.as_slice();
     match asking.form {
         Form::Text => line_each(rt, alloc, demand, names, texts, input, output, errors),
@@ -131,6 +138,7 @@ pub(crate) fn asked_several<
             Faults::First => {
                 let asked = Complete {
                     command: AuditCommand { rt, form: InObject },
+                    extent,
                     form: InObject,
                 };
                 demanded_several(
@@ -153,6 +161,7 @@ pub(crate) fn asked_several<
                         rt,
                         form: AllFaults::Object,
                     },
+                    extent,
                     form: InObject,
                 };
                 demanded_several(

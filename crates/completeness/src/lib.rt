@@ -2,8 +2,9 @@
 //!
 //! Logs that say nothing are faultless, and so are those of a recorder that left records out. A complete session tells of
 //! a whole migration: the guest was halted and resumed, every owed page was placed or released at the target, the pager
-//! said so and the source learned of it, and all that the pager took was placed or dropped. [`first_missing`] tells the
-//! first of these that is missing.
+//! said so and the source learned of it, and all that the pager took was placed or dropped. Where a session has to tell of
+//! the pages alone ([`Extent`]), what the pager said and the source learned is not asked for. [`first_missing`] tells the first
+//! of these that is missing.
 #![tactic(auto)]
 
 mod missing;
@@ -11,5 +12,5 @@ mod pages;
 mod searching;
 mod taken;
 
-pub use missing::Missing;
+pub use missing::{Extent, Missing};
 pub use searching::first_missing;

@@ -2,6 +2,15 @@
 
 use migration_types::PageNo;
 
+/// How much of a migration a session has to tell of.
+#[derive(Clone, Copy, Debug, PartialEq, Eq)]
+pub enum Extent {
+    /// That the guest was halted and resumed, and that every owed page was placed, or released at the target.
+    Pages,
+    /// All of it: this, that the pager said so and the source learned of it, and that all that was taken was placed or dropped.
+    Whole,
+}
+
 /// What is missing from a session of a whole migration.
 #[derive(Clone, Copy, Debug, PartialEq, Eq)]
 pub enum Missing {

@@ -3,9 +3,10 @@
 ghost use Rattle.std.specs.Prelude.{◌≡◌, IfOk, MatchOption};
 ghost use Rattle.std.specs.List.{list_any};
 ghost use Rattle.audit_model.specs.Shape.{is_halt, is_resume};
-ghost use Rattle.completeness.specs.Complete.{is_all, is_done, IsComplete, IsFirstMissing};
+ghost use Rattle.migration_types.specs.Sessions.{IsSession};
+ghost use Rattle.completeness.specs.Complete.{is_all, is_done, HasPages, IsComplete, IsWhole, Lacks};
 
-use crate::missing::Missing;
+use crate::missing::{Extent, Missing};
 use crate::pages::first_page;
 use crate::taken::first_taken;
 use audit_model::{is_halt, is_resume};
@@ -54,11 +55,33 @@ fn has_done(source: &[SourceRec]) -> bool
     source.iter().any(is_done)
 }
 
-/// The first thing that is missing from a session, in the order of [`Missing`] and then by the number of the page or the
-/// record. None: the session is complete. Takes a few passes over the logs, and memory for three marks of each page and
-/// one of each record of the pager, which is the only error.
-pub fn first_missing(alloc: Global, session: &Session) -> Result<Option<Missing>, AllocError>
-    ensures { IfOk result (λ found. MatchOption found (IsComplete session.now) (IsFirstMissing session.now)) }
+/// The first thing that is missing from a session that has its pages, where it has to tell of a whole migration.
+fn missing_behind(alloc: Global, session: &Session) -> Result<Option<Missing>, AllocError>
+    requires is_session { IsSession session.now }
+    requires pages { HasPages session.now }
+    ensures { IfOk result (λ found. MatchOption found (IsWhole session.now) (Lacks Extent.Whole session.now)) }
+{
+    if !has_all(session.pager()) {
+        return Ok(Some(Missing::All));
+    }
+    if !has_done(session.source()) {
+        return Ok(Some(Missing::Done));
+    }
+    match first_taken(alloc, session)? {
+        Some(n) => Ok(Some(Missing::Taken(n))),
+        None => Ok(None),
+    }
+}
+
+/// The first thing that is missing from a session that has to be complete to this extent, in the order of [`Missing`] and
+/// then by the number of the page or the record. None: the session is complete to it. Takes a few passes over the logs, and
+/// memory for three marks of each page and, for the whole, one of each record of the pager, which is the only error.
+pub fn first_missing(
+    alloc: Global,
+    session: &Session,
+    extent: Extent,
+) -> Result<Option<Missing>, AllocError>
+    ensures { IfOk result (λ found. MatchOption found (IsComplete extent session.now) (Lacks extent session.now)) }
 {
     session.keeps_limits();
     if !has_halt(session.guest()) {
@@ -70,14 +93,8 @@ pub fn first_missing(alloc: Global, session: &Session) -> Result<Option<Missing>
     if let Some(page) = first_page(alloc, session)? {
         return Ok(Some(Missing::Page(page)));
     }
-    if !has_all(session.pager()) {
-        return Ok(Some(Missing::All));
-    }
-    if !has_done(session.source()) {
-        return Ok(Some(Missing::Done));
-    }
-    match first_taken(alloc, session)? {
-        Some(n) => Ok(Some(Missing::Taken(n))),
-        None => Ok(None),
+    match extent {
+        Extent::Pages => Ok(None),
+        Extent::Whole => missing_behind(alloc, session),
     }
 }

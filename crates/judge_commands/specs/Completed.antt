@@ -3,7 +3,8 @@ use Rattle.std.specs.Prelude.{◌≡◌, ℕ, List, ◌++◌, ◌⊎◌}
 use Rattle.text_lines.specs.Text.{IsSpelling}
 use Rattle.migration_types.specs.Sessions.{Recorded}
 use Rattle.session_text.specs.Grammar.{SpellsSession}
-use Rattle.completeness.specs.Complete.{IsComplete, IsFirstMissing}
+use Rattle.completeness.specs.Complete.{IsComplete, Lacks}
+use Rattle.completeness.specs.declared.missing.Extent.{Extent}
 use Rattle.completeness.specs.declared.missing.Missing.{Missing}
 use Rattle.report_text.specs.MissingText.{missing_text}
 use Rattle.report_json.specs.JsonText.{missing_object}
@@ -26,23 +27,25 @@ pub record Adds (IsText : List ℕ → Type 0) (old new : List ℕ) : Type 0 whe
   pub is_text : IsText text
   pub added : new ≡ old ++ text
 
--- What is answered without asking stays, where its status is not 0 or the session is complete.
-pub record StaysAnswered (IsPlain : List ℕ → ℕ → Type 0) (session text : List ℕ) (status : ℕ) : Type 0 where
+-- What is answered without asking stays, where its status is not 0 or the session is complete to the extent that is asked for.
+pub record StaysAnswered (extent : Extent) (IsPlain : List ℕ → ℕ → Type 0) (session text : List ℕ) (status : ℕ) : Type 0 where
   pub is_plain : IsPlain text status
-  pub complete : status ≡ 0 → OfSpelled session IsComplete
+  pub complete : status ≡ 0 → OfSpelled session (IsComplete extent)
 
--- Where the status without asking is 0 and something is missing, the answer tells the first thing that is missing, with the
--- status 1.
-pub record IsLacking (Tells : Recorded → Missing → List ℕ → Type 0) (IsPlain : List ℕ → ℕ → Type 0) (session text : List ℕ) (status : ℕ) : Type 0 where
+-- Where the status without asking is 0 and something that is asked for is missing, the answer tells the first thing that is
+-- missing, with the status 1.
+pub record IsLacking (extent : Extent) (Tells : Recorded → Missing → List ℕ → Type 0) (IsPlain : List ℕ → ℕ → Type 0) (session text : List ℕ) (status : ℕ) : Type 0 where
   pub before : List ℕ
   pub was_well : IsPlain before 0
   pub recorded : Recorded
   pub is_spelled : IsSpelling SpellsSession recorded session
   pub lacking : Missing
-  pub is_first : IsFirstMissing recorded lacking
+  pub lacks : Lacks extent recorded lacking
   pub says : Tells recorded lacking text
   pub refused : status ≡ 1
 
--- the answer of a command that asks for a complete session, by how it tells what is missing, and what it answers without asking
-abbrev pub IsCompleteAnswer : (Recorded → Missing → List ℕ → Type 0) → (List ℕ → ℕ → Type 0) → List ℕ → List ℕ → ℕ → Type 0
-IsCompleteAnswer Tells IsPlain session text status = StaysAnswered IsPlain session text status ⊎ IsLacking Tells IsPlain session text status
+-- the answer of a command that asks for a session which is complete to this extent, by how it tells what is missing, and what it
+-- answers without asking
+abbrev pub IsCompleteAnswer : Extent → (Recorded → Missing → List ℕ → Type 0) → (List ℕ → ℕ → Type 0) → List ℕ → List ℕ → ℕ → Type 0
+IsCompleteAnswer extent Tells IsPlain session text status =
+    StaysAnswered extent IsPlain session text status ⊎ IsLacking extent Tells IsPlain session text status

@@ -7,7 +7,7 @@ ghost use Rattle.judge_commands.specs.inner.Held.{IsHeld, IsLack};
 
 use crate::forms::TellsLack;
 use command_texts::{Answer, Fault, Given, OnOne, OnTwo, REFUSED, Taker, Telling, given};
-use completeness::{Missing, first_missing};
+use completeness::{Extent, Missing, first_missing};
 use migration_types::Session;
 use session_text::{SessionReader, session_texts_are_unambiguous};
 use std::alloc::{AllocError, Global};
@@ -27,15 +27,16 @@ fn told<L: TellsLack>(
     Ok(text)
 }
 
-/// What tells that a session lacks something, if it does.
+/// What tells that a session lacks something that this extent asks for, if it does.
 fn lack_of<L: TellsLack>(
     form: &L,
+    extent: Extent,
     alloc: Global,
     session: &Session,
 ) -> Result<Option<Vec<u8>>, AllocError>
-    ensures { IfOk result (λ lack. MatchOption lack (IsComplete session.now) (λ text. IsLack L.tells session.now text.items)) }
+    ensures { IfOk result (λ lack. MatchOption lack (IsComplete extent session.now) (λ text. IsLack extent L.tells session.now text.items)) }
 {
-    let Some(missing) = first_missing(alloc, session)? else {
+    let Some(missing) = first_missing(alloc, session, extent)? else {
         return Ok(None);
     };
     let text = told(form, alloc, session, missing)?;
@@ -45,16 +46,17 @@ fn lack_of<L: TellsLack>(
 /// An answer, held to a session.
 fn held_to<L: TellsLack>(
     form: &L,
+    extent: Extent,
     alloc: Global,
     session: &Session,
     answer: Answer,
 ) -> Result<Answer, AllocError>
-    ensures { IfOk result (λ held. IsHeld L.tells (Ok session.now) answer held) }
+    ensures { IfOk result (λ held. IsHeld extent L.tells (Ok session.now) answer held) }
 {
     if answer.status != 0 {
         return Ok(answer);
     }
-    match lack_of(form, alloc, session) {
+    match lack_of(form, extent, alloc, session) {
         Ok(Some(text)) => Ok(Answer {
             text,
             status: REFUSED,
@@ -67,14 +69,15 @@ fn held_to<L: TellsLack>(
 /// An answer, held to what was read of a session's text.
 fn held<L: TellsLack>(
     form: &L,
+    extent: Extent,
     alloc: Global,
     session: &Result<Session, u32>,
     answer: Answer,
 ) -> Result<Answer, AllocError>
-    ensures { IfOk result (λ held. IsHeld L.tells session.now answer held) }
+    ensures { IfOk result (λ held. IsHeld extent L.tells session.now answer held) }
 {
     match session {
-        Ok(session) => held_to(form, alloc, session, answer),
+        Ok(session) => held_to(form, extent, alloc, session, answer),
         Err(_) => Ok(answer),
     }
 }
@@ -84,6 +87,8 @@ fn held<L: TellsLack>(
 #[derive(Clone, Copy)]
 pub struct Complete<C, L> {
     pub command: C,
+    /// How much of a migration the session has to tell of.
+    pub extent: Extent,
     /// How it is told what a session lacks.
     pub form: L,
 }
@@ -93,7 +98,7 @@ impl<C: OnOne<Text = SessionReader>, L: TellsLack> OnOne for Complete<C, L> {
 
     ghost ready = { C.ready };
 
-    ghost is_answer = { λ complete session. IsCompleteAnswer L.tells (C.is_answer complete.command session) session };
+    ghost is_answer = { λ complete session. IsCompleteAnswer complete.extent L.tells (C.is_answer complete.command session) session };
 
     ghost how_much = { λ complete. C.how_much complete.command };
 
@@ -104,7 +109,7 @@ impl<C: OnOne<Text = SessionReader>, L: TellsLack> OnOne for Complete<C, L> {
     fn answer(&self, alloc: Global, session: &Result<Session, u32>) -> Given {
         session_texts_are_unambiguous();
         let answer = self.command.answer(alloc, session)?;
-        given(held(&self.form, alloc, session, answer))
+        given(held(&self.form, self.extent, alloc, session, answer))
     }
 }
 
@@ -117,7 +122,7 @@ impl<C: OnTwo<First = SessionReader>, L: TellsLack> OnTwo for Complete<C, L> {
 
     ghost ready = { C.ready };
 
-    ghost is_answer = { λ complete texts. IsCompleteAnswer L.tells (C.is_answer complete.command texts) texts.0 };
+    ghost is_answer = { λ complete texts. IsCompleteAnswer complete.extent L.tells (C.is_answer complete.command texts) texts.0 };
 
     ghost is_said = { λ complete. C.is_said complete.command };
 
@@ -131,7 +136,7 @@ impl<C: OnTwo<First = SessionReader>, L: TellsLack> OnTwo for Complete<C, L> {
     ) -> Result<(Answer, C::Said), Fault<'static>> {
         session_texts_are_unambiguous();
         let (answer, said) = self.command.answer(alloc, session, second)?;
-        let whole = given(held(&self.form, alloc, session, answer))?;
+        let whole = given(held(&self.form, self.extent, alloc, session, answer))?;
         Ok((whole, said))
     }
 

@@ -12,7 +12,8 @@ use Rattle.report_text.specs.ReportText.{first_line}
 use Rattle.report_text.specs.FaultyPagesText.{all_faults_text}
 use Rattle.audit_report.specs.declared.report.Report.TheVariants as report
 use Rattle.completeness.specs.declared.missing.Missing.{Missing}
-use Rattle.completeness.specs.Complete.{IsComplete, IsFirstMissing}
+use Rattle.completeness.specs.declared.missing.Extent.{Extent}
+use Rattle.completeness.specs.Complete.{IsComplete, Lacks}
 use Rattle.report_text.specs.MissingText.{missing_text}
 use Rattle.judged_texts.specs.declared.auditing.Audited.{Audited}
 use Rattle.judged_texts.specs.declared.auditing.Audited.TheVariants.{Refused, Reported}
@@ -31,22 +32,22 @@ abbrev pub IsShownRefusal : ShownAs → ℕ → List ℕ → Type 0
 IsShownRefusal (Words topic) line text = text ≡ refused_text line
 IsShownRefusal (Picture topic) line text = text ≡ refusal_text line
 IsShownRefusal AllFaults line text = text ≡ refusal_text line
-IsShownRefusal Lack line text = text ≡ refusal_text line
+IsShownRefusal (Lack extent) line text = text ≡ refusal_text line
 
 -- the text of the report that tells the pages of the session that have a fault
 abbrev pub IsAllFaultsText : Recorded → Report → List ℕ → Type 0
 IsAllFaultsText s report text = (pages : List FaultyPage) × AreFaultyPages s pages × (text ≡ all_faults_text report pages)
 
--- the line that says what the session lacks first, or nothing where it is complete
-abbrev pub IsLackText : Recorded → List ℕ → Type 0
-IsLackText s text = (IsComplete s × (text ≡ [])) ⊎ ((m : Missing) × IsFirstMissing s m × (text ≡ missing_text s m))
+-- the line that says what the session lacks first, of what this extent asks for, or nothing where it is complete
+abbrev pub IsLackText : Extent → Recorded → List ℕ → Type 0
+IsLackText extent s text = (IsComplete extent s × (text ≡ [])) ⊎ ((m : Missing) × Lacks extent s m × (text ≡ missing_text s m))
 
 -- this of a clean session, and of another the first line of its report
-abbrev pub IsLackByReport : Recorded → Report → List ℕ → Type 0
-IsLackByReport s (report.Clean cert) text = IsLackText s text
-IsLackByReport s (report.Shape fault) text = text ≡ ended (first_line (report.Shape fault) ∷ [])
-IsLackByReport s (report.Knot left found) text = text ≡ ended (first_line (report.Knot left found) ∷ [])
-IsLackByReport s (report.Faulty line fault order) text = text ≡ ended (first_line (report.Faulty line fault order) ∷ [])
+abbrev pub IsLackByReport : Extent → Recorded → Report → List ℕ → Type 0
+IsLackByReport extent s (report.Clean cert) text = IsLackText extent s text
+IsLackByReport extent s (report.Shape fault) text = text ≡ ended (first_line (report.Shape fault) ∷ [])
+IsLackByReport extent s (report.Knot left found) text = text ≡ ended (first_line (report.Knot left found) ∷ [])
+IsLackByReport extent s (report.Faulty line fault order) text = text ≡ ended (first_line (report.Faulty line fault order) ∷ [])
 
 -- what the text is that shows a session by its report: what is told on the topic in words, a picture, all faults, or what it
 -- lacks
@@ -54,7 +55,7 @@ abbrev pub IsShownReport : ShownAs → Recorded → Report → List ℕ → Type
 IsShownReport (Words topic) s report text = IsToldText s report topic text
 IsShownReport (Picture topic) s report text = IsPictureText s report topic text
 IsShownReport AllFaults s report text = IsAllFaultsText s report text
-IsShownReport Lack s report text = IsLackByReport s report text
+IsShownReport (Lack extent) s report text = IsLackByReport extent s report text
 
 -- the report on a session is shown
 pub record IsShowingOf (shown_as : ShownAs) (s : Recorded) (showing : Showing) : Type 0 where
@@ -90,10 +91,10 @@ pub record IsHeld (shown answer : PostcopyAnswer) : Type 0 where
   pub complete : shown.kind ≡ 2 → shown.text_len ≡ 0 → answer ≡ shown
   pub other : shown.kind ≢ 2 → answer ≡ shown
 
--- what a session lacks is told, with a kind of its own
-abbrev pub IsMissingAnswer : List ℕ → List ℕ → List ℕ → PostcopyAnswer → Type 0
-IsMissingAnswer session before after answer =
-    (shown : PostcopyAnswer) × IsShownAnswer Lack session before after shown × IsHeld shown answer
+-- what a session lacks, of what this extent asks for, is told, with a kind of its own
+abbrev pub IsMissingAnswer : Extent → List ℕ → List ℕ → List ℕ → PostcopyAnswer → Type 0
+IsMissingAnswer extent session before after answer =
+    (shown : PostcopyAnswer) × IsShownAnswer (Lack extent) session before after shown × IsHeld shown answer
 
 -- the kinds that say that a session is safe: it is clean, or clean and not complete
 abbrev pub SaysSafe : ℕ → Type 0

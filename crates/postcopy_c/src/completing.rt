@@ -9,6 +9,7 @@ ghost use Rattle.postcopy_c.specs.Showings.{IsHeld, IsMissingAnswer, SaysSafe};
 use crate::answer::PostcopyAnswer;
 use crate::kinds::{CLEAN, FAULTY, INCOMPLETE, NO_MEMORY, SESSION_TEXT};
 use crate::showing::{ShownAs, tell_shown};
+use completeness::Extent;
 use std::alloc::Global;
 
 /// An answer, of another kind where a clean session lacks something.
@@ -28,14 +29,19 @@ fn held_to_complete(answer: &PostcopyAnswer) -> PostcopyAnswer
     }
 }
 
-/// Tells what the session that a text spells lacks.
-pub(crate) fn tell_missing(alloc: Global, session: &[u8], room: &mut [u8]) -> PostcopyAnswer
-    ensures told { IsMissingAnswer session.now room.old room.new result }
+/// Tells what the session that a text spells lacks, of what this extent asks for.
+pub(crate) fn tell_missing(
+    alloc: Global,
+    session: &[u8],
+    extent: Extent,
+    room: &mut [u8],
+) -> PostcopyAnswer
+    ensures told { IsMissingAnswer extent session.now room.old room.new result }
     ensures one_session { result.kind ≢ SESSION_TEXT → result.kind ≢ NO_MEMORY → SpellsOneSession session.now }
     ensures safe { SaysSafe result.kind → OfSpelled session.now IsSafe }
     ensures exactly { result.kind ≢ NO_MEMORY → OfSpelled session.now (IsSafeExactlyIf (SaysSafe result.kind)) }
     ensures faulty { result.kind ≡ FAULTY → OfSpelled session.now IsUnsafe }
 {
-    let shown = tell_shown(alloc, session, ShownAs::Lack, room);
+    let shown = tell_shown(alloc, session, ShownAs::Lack(extent), room);
     held_to_complete(&shown)
 }

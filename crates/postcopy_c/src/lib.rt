@@ -25,6 +25,7 @@ use crate::kinds::{CLEAN, FAULTY, NO_MEMORY, SESSION_TEXT, YES};
 use crate::refusals::{PostcopyRefusal, tell_why};
 use crate::showing::{ShownAs, tell_shown};
 use crate::telling::tell_audit;
+use completeness::Extent;
 use judged_texts::{Wanted, check_texts_alone, replay_texts};
 use session_story::Topic;
 use std::alloc::Global;
@@ -103,13 +104,31 @@ pub extern "C" fn postcopy_audit_all(
 /// first line of its report. Handed over in the same way.
 #[unsafe(no_mangle)]
 pub extern "C" fn postcopy_missing(alloc: Global, session: &[u8], room: &mut [u8]) -> PostcopyAnswer
-    ensures told { IsMissingAnswer session.now room.old room.new result }
+    ensures told { IsMissingAnswer Extent.Whole session.now room.old room.new result }
     ensures one_session { result.kind ≢ SESSION_TEXT → result.kind ≢ NO_MEMORY → SpellsOneSession session.now }
     ensures safe { SaysSafe result.kind → OfSpelled session.now IsSafe }
     ensures exactly { result.kind ≢ NO_MEMORY → OfSpelled session.now (IsSafeExactlyIf (SaysSafe result.kind)) }
     ensures faulty { result.kind ≡ FAULTY → OfSpelled session.now IsUnsafe }
 {
-    tell_missing(alloc, session, room)
+    tell_missing(alloc, session, Extent::Whole, room)
+}
+
+/// The line that says what a clean session lacks first of this: that the guest was halted and resumed, and that each owed page
+/// was placed, or released at the target. No byte where it lacks none of it; of another session the first line of its report.
+/// Handed over in the same way.
+#[unsafe(no_mangle)]
+pub extern "C" fn postcopy_missing_pages(
+    alloc: Global,
+    session: &[u8],
+    room: &mut [u8],
+) -> PostcopyAnswer
+    ensures told { IsMissingAnswer Extent.Pages session.now room.old room.new result }
+    ensures one_session { result.kind ≢ SESSION_TEXT → result.kind ≢ NO_MEMORY → SpellsOneSession session.now }
+    ensures safe { SaysSafe result.kind → OfSpelled session.now IsSafe }
+    ensures exactly { result.kind ≢ NO_MEMORY → OfSpelled session.now (IsSafeExactlyIf (SaysSafe result.kind)) }
+    ensures faulty { result.kind ≡ FAULTY → OfSpelled session.now IsUnsafe }
+{
+    tell_missing(alloc, session, Extent::Pages, room)
 }
 
 /// What happened in a session, in words after the first line of its report, as a text that is handed over as that of

@@ -13,7 +13,7 @@ use crate::answer::{PostcopyAnswer, audited_answer, out_of_memory};
 use crate::kinds::{CLEAN, FAULTY, NO_MEMORY, SESSION_TEXT};
 use crate::telling::put;
 use audit_report::{Report, audit_by};
-use completeness::first_missing;
+use completeness::{Extent, first_missing};
 use faulty_pages::faulty_pages;
 use judged_texts::Audited;
 use migration_types::Session;
@@ -33,8 +33,9 @@ pub enum ShownAs {
     Picture(Topic),
     /// The first line of the report, and each page that has a fault.
     AllFaults,
-    /// What a clean session lacks first, or nothing where it is complete; and the first line of another report.
-    Lack,
+    /// What a clean session lacks first, of what this extent asks for, or nothing where it is complete; and the first line of
+    /// another report.
+    Lack(Extent),
 }
 
 /// An audit, and the text that shows it.
@@ -54,12 +55,12 @@ fn all_faults_of(alloc: Global, session: &Session, report: &Report) -> Result<Ve
     print_all_faults(alloc, report, &pages)
 }
 
-/// The line that says what a session lacks first, or nothing where it is complete.
-fn lack_of(alloc: Global, session: &Session) -> Result<Vec<u8>, AllocError>
-    ensures { IfOk result (λ text. IsLackText session.now text.items) }
+/// The line that says what a session lacks first, of what this extent asks for, or nothing where it is complete.
+fn lack_of(alloc: Global, session: &Session, extent: Extent) -> Result<Vec<u8>, AllocError>
+    ensures { IfOk result (λ text. IsLackText extent session.now text.items) }
 {
     let mut text = Vec::new(alloc);
-    let Some(missing) = first_missing(alloc, session)? else {
+    let Some(missing) = first_missing(alloc, session, extent)? else {
         return Ok(text);
     };
     push_missing(&mut text, session, missing)?;
@@ -67,11 +68,16 @@ fn lack_of(alloc: Global, session: &Session) -> Result<Vec<u8>, AllocError>
 }
 
 /// What a session lacks, where its report is clean, and else the first line of the report.
-fn lack_by_report(alloc: Global, session: &Session, report: &Report) -> Result<Vec<u8>, AllocError>
-    ensures { IfOk result (λ text. IsLackByReport session.now report.now text.items) }
+fn lack_by_report(
+    alloc: Global,
+    session: &Session,
+    extent: Extent,
+    report: &Report,
+) -> Result<Vec<u8>, AllocError>
+    ensures { IfOk result (λ text. IsLackByReport extent session.now report.now text.items) }
 {
     match report {
-        Report::Clean(_) => lack_of(alloc, session),
+        Report::Clean(_) => lack_of(alloc, session, extent),
         Report::Shape(_) | Report::Knot { .. } | Report::Faulty { .. } => {
             print_first_line(alloc, report)
         }
@@ -92,7 +98,7 @@ fn text_of(
         ShownAs::Words(topic) => print_topic(alloc, session, report, topic),
         ShownAs::Picture(topic) => print_picture_on(alloc, session, report, topic),
         ShownAs::AllFaults => all_faults_of(alloc, session, report),
-        ShownAs::Lack => lack_by_report(alloc, session, report),
+        ShownAs::Lack(extent) => lack_by_report(alloc, session, extent, report),
     }
 }
 
@@ -102,7 +108,7 @@ fn refusal_of(alloc: Global, line: u32, shown_as: ShownAs) -> Result<Vec<u8>, Al
 {
     match shown_as {
         ShownAs::Words(_) => print_refused(alloc, line),
-        ShownAs::Picture(_) | ShownAs::AllFaults | ShownAs::Lack => {
+        ShownAs::Picture(_) | ShownAs::AllFaults | ShownAs::Lack(_) => {
             print_refused_session(alloc, line)
         }
     }

@@ -11,4 +11,4 @@ pub returns-in-Line-clause-told : goal.returns-in-Line-clause-told
 returns-in-Line-clause-told g c = rw c.in-Line.is c.words_of-in-Line.ensures.told
 
 pub returns-in-Json-clause-told : goal.returns-in-Json-clause-told
-returns-in-Json-clause-told g c = rw c.in-Json.is (same_beside (TellsWhyOf (IsRefusedAt SpellsSession) Short c.args.name.now) c.args.explains.asking.demand _ _ _ _ _ _ c.demanded_one.ensures.told)
+returns-in-Json-clause-told g c = rw c.in-Json.is (same_beside (TellsWhyOf (IsRefusedAt SpellsSession) Short c.args.name.now) c.args.explains.asking.demand _ _ _ _ _ _ (rw c.extent_of.ensures at c.demanded_one.ensures.told))

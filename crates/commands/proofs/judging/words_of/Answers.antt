@@ -5,4 +5,4 @@ use Rattle.commands.proofs.Beside.{same_beside}
 use Rattle.commands.proofs.judging.words_of.Goals as goal
 
 pub returns-clause-told : goal.returns-clause-told
-returns-clause-told g c = same_beside (TellsWhyOf (IsRefusedAt SpellsSession) Full c.args.name.now) c.args.demand _ _ _ _ _ _ (rw c.told_topic.ensures at c.demanded_one.ensures.told)
+returns-clause-told g c = same_beside (TellsWhyOf (IsRefusedAt SpellsSession) Full c.args.name.now) c.args.demand _ _ _ _ _ _ (rw (c.told_topic.ensures, c.extent_of-extent.ensures) at c.demanded_one.ensures.told)

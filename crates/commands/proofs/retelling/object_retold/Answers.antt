@@ -7,4 +7,4 @@ use Rattle.commands.proofs.Beside.{same_retold}
 use Rattle.commands.proofs.retelling.object_retold.Goals as goal
 
 pub returns-clause-told : goal.returns-clause-told
-returns-clause-told g c = same_retold (TellsBeside (IsRefusedAt SpellsSession) (IsRefusedAt SpellsTable) AddsNothing c.args.first.now c.args.second.now) c.args.demand Object _ _ _ _ _ _ _ c.demanded_two.ensures.told
+returns-clause-told g c = same_retold (TellsBeside (IsRefusedAt SpellsSession) (IsRefusedAt SpellsTable) AddsNothing c.args.first.now c.args.second.now) c.args.demand Object _ _ _ _ _ _ _ (rw c.extent_of.ensures at c.demanded_two.ensures.told)

@@ -7,4 +7,4 @@ use Rattle.commands.proofs.Beside.{same_retold}
 use Rattle.commands.proofs.retelling.words_retold.Goals as goal
 
 pub returns-clause-told : goal.returns-clause-told
-returns-clause-told g c = same_retold (TellsBeside (IsRefusedAt SpellsSession) (IsRefusedAt SpellsTable) AddsNothing c.args.first.now c.args.second.now) c.args.demand Words _ _ _ _ _ _ _ (rw c.told_topic-form.ensures at c.demanded_two.ensures.told)
+returns-clause-told g c = same_retold (TellsBeside (IsRefusedAt SpellsSession) (IsRefusedAt SpellsTable) AddsNothing c.args.first.now c.args.second.now) c.args.demand Words _ _ _ _ _ _ _ (rw (c.told_topic-form.ensures, c.extent_of.ensures) at c.demanded_two.ensures.told)

@@ -11,7 +11,7 @@ pub returns-in-Line-clause-told : goal.returns-in-Line-clause-told
 returns-in-Line-clause-told g c = rw (c.in-Line.is, sym c.as_slice-names.ensures.value) c.line_each-in-Line.ensures.told
 
 pub returns-in-First-clause-told : goal.returns-in-First-clause-told
-returns-in-First-clause-told g c = rw (c.in-Json.is, c.in-First.is, sym c.as_slice-names.ensures.value) (several_told (IsRefusedAt SpellsSession) c.args.several.now.audits.asking.demand _ _ _ _ _ _ _ c.demanded_several.ensures.told)
+returns-in-First-clause-told g c = rw (c.in-Json.is, c.in-First.is, sym c.as_slice-names.ensures.value) (several_told (IsRefusedAt SpellsSession) c.args.several.now.audits.asking.demand _ _ _ _ _ _ _ (rw c.extent_of-extent.ensures at c.demanded_several.ensures.told))
 
 pub returns-in-All-clause-told : goal.returns-in-All-clause-told
-returns-in-All-clause-told g c = rw (c.in-Json.is, c.in-All.is, sym c.as_slice-names.ensures.value) (several_told (IsRefusedAt SpellsSession) c.args.several.now.audits.asking.demand _ _ _ _ _ _ _ c.demanded_several-in-All.ensures.told)
+returns-in-All-clause-told g c = rw (c.in-Json.is, c.in-All.is, sym c.as_slice-names.ensures.value) (several_told (IsRefusedAt SpellsSession) c.args.several.now.audits.asking.demand _ _ _ _ _ _ _ (rw c.extent_of-extent.ensures at c.demanded_several-in-All.ensures.told))

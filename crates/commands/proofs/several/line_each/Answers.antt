@@ -4,4 +4,4 @@ use Rattle.commands.proofs.Beside.{several_told}
 use Rattle.commands.proofs.several.line_each.Goals as goal
 
 pub returns-clause-told : goal.returns-clause-told
-returns-clause-told g c = several_told (IsRefusedAt SpellsSession) c.args.demand _ _ _ _ _ _ _ c.demanded_several.ensures.told
+returns-clause-told g c = several_told (IsRefusedAt SpellsSession) c.args.demand _ _ _ _ _ _ _ (rw c.extent_of-extent.ensures at c.demanded_several.ensures.told)
