@@ -11,4 +11,5 @@ mod several;
 mod topics;
 
 pub use laws::{migrations_are_judged_yes, recorded_sessions_are_clean};
-pub use program::{lines_named, output_named, run};
+pub use command_words::Targets;
+pub use program::{run, targets_named};
