@@ -10,6 +10,6 @@ mod retelling;
 mod several;
 mod topics;
 
-pub use laws::{migrations_are_judged_yes, recorded_sessions_are_clean};
 pub use command_words::Targets;
+pub use laws::{migrations_are_judged_yes, recorded_sessions_are_clean};
 pub use program::{run, targets_named};

@@ -217,10 +217,7 @@ const NO_TARGETS: Targets<'static> = Targets {
 /// The files that the words name for what is written: for the answer, as in `-o FILE`, where they are words of a command that has
 /// one, and for the lines of a window, as in `--lines FILE`. Of words that are no command no file is named, or what they say.
 /// The answer of [`run`] has the lines after the session. An error: there is no memory for reading the words.
-pub fn targets_named<'a>(
-    alloc: Global,
-    words: &'a [&'a str],
-) -> Result<Targets<'a>, AllocError>
+pub fn targets_named<'a>(alloc: Global, words: &'a [&'a str]) -> Result<Targets<'a>, AllocError>
     ensures { IfOk result (λ targets. (target_names targets ≡ targets_named (word_texts words.entry.now)) ⊎ ((takes postcopy_words (word_texts words.entry.now) ≢ true) × (target_names targets ≡ (None, None)))) }
 {
     match read_targets(alloc, words) {

@@ -19,15 +19,18 @@ mod saving;
 use crate::saving::{Draft, is_one_file};
 use command_texts::{ACCEPTED, Closable, Fault, TextSource, USAGE, tell};
 use commands::{Targets, run, targets_named};
+use refusal_words::push_quote;
 use std::alloc::{AllocError, Global};
+use std::env::FillError;
 use std::io::{ErrorKind, Input, Write};
 use std::net::{Net, TcpListener, TcpStream};
+use std::os::unix::fs::FileTypeExt;
 use std::process::ExitCode;
 use std::random::RandomSource;
 use std::rt::{Env, Files};
 use std::sync::Wait;
 use std::thread::Threads;
-use std::{env, fs, io};
+use std::{env, fs, io, str};
 
 /// The closing line of a text, with the line feeds around it.
 const END: &[u8] = b"\nend\n";
@@ -47,6 +50,13 @@ where
     fn text(&self, name: &str) -> io::Result<R::File> {
         fs::open(self.rt, name)
     }
+
+    fn stays(&self, name: &str) -> bool {
+        match fs::metadata(self.rt, name) {
+            Ok(found) => !found.file_type().is_fifo(),
+            Err(_) => true,
+        }
+    }
 }
 
 fn words<R: Env + AllocGlobal>(rt: &R) -> io::Result<Vec<String>> {
@@ -57,14 +67,54 @@ fn slices<'a>(alloc: Global, words: &'a [String]) -> Result<Vec<&'a str>, AllocE
     words.iter().map(|word| word.as_str()).collect(alloc)
 }
 
+// The bytes of a word, of which the first is the program's own name, or none where there are no more.
+fn word_bytes<R: Env>(rt: &R, alloc: Global, number: usize) -> Result<Option<Vec<u8>>, AllocError> {
+    let mut room = 256_usize;
+    for _ in 0..usize::BITS {
+        let mut bytes = vec![in alloc; 0u8; room]?;
+        match rt.arg(number, bytes.as_mut_slice()) {
+            Ok(count) => {
+                bytes.truncate(count);
+                return Ok(Some(bytes));
+            }
+            Err(FillError::TooLong) => room = room.saturating_mul(2),
+            Err(FillError::NotPresent) => return Ok(None),
+        }
+    }
+    Err(AllocError)
+}
+
+// Adds which word is the first that is not UTF-8.
+fn push_wrong_word<R: Env>(rt: &R, alloc: Global, out: &mut String) -> Result<(), AllocError> {
+    for number in 0..usize::MAX {
+        let Some(bytes) = word_bytes(rt, alloc, number)? else {
+            break;
+        };
+        if str::from_utf8(bytes.as_slice()).is_err() {
+            write!(out, "error: word {number} is not UTF-8: ")?;
+            push_quote(out, bytes.as_slice())?;
+            break;
+        }
+    }
+    out.push('\n')
+}
+
+// Tells which word is not UTF-8.
+fn tell_wrong_word<R: Env, E: Write>(rt: &R, alloc: Global, errors: &mut E) {
+    let mut told = String::new(alloc);
+    if push_wrong_word(rt, alloc, &mut told).is_ok() {
+        let _ = errors.write_all(told.as_bytes());
+    }
+}
+
 // Tells why the words were not had.
-fn refuse_words<E: Write>(error: &io::Error, errors: &mut E) -> u8
+fn refuse_words<R: Env, E: Write>(rt: &R, alloc: Global, error: &io::Error, errors: &mut E) -> u8
     ensures { (2 ≤ result) × (result ≤ 4) }
 {
     if error.kind() == ErrorKind::OutOfMemory {
         return tell(Fault::Memory, errors);
     }
-    let _ = errors.write_all(b"error: a word is not UTF-8\n");
+    tell_wrong_word(rt, alloc, errors);
     USAGE
 }
 
@@ -213,17 +263,11 @@ fn main(rt: HostRuntime) -> ExitCode {
     let mut errors = rt.stderr();
     let words = match words(&rt) {
         Ok(words) => words,
-        Err(error) => return ExitCode::from(refuse_words(&error, &mut errors)),
+        Err(error) => return ExitCode::from(refuse_words(&rt, alloc, &error, &mut errors)),
     };
     let Ok(words) = slices(alloc, words.as_slice()) else {
         return ExitCode::from(tell(Fault::Memory, &mut errors));
     };
     let mut output = Closable::new(rt.stdout());
-    ExitCode::from(answer_to(
-        &rt,
-        alloc,
-        words.as_slice(),
-        &mut output,
-        &mut errors,
-    ))
+    ExitCode::from(answer_to(&rt, alloc, words.as_slice(), &mut output, &mut errors))
 }
