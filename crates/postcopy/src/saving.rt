@@ -38,7 +38,7 @@ fn is_of_process<F: Files>(files: &F, link: &Metadata) -> bool {
 }
 
 // Where a name leads, behind all links.
-fn place<F: Files>(files: &F, alloc: Global, name: &str) -> io::Result<Place> {
+fn place_of<F: Files>(files: &F, alloc: Global, name: &str) -> io::Result<Place> {
     let mut at = PathBuf::from_str(alloc, name)?;
     for _ in 0..MOST_LINKS {
         let found = match fs::symlink_metadata(files, at.as_str()) {
@@ -84,7 +84,7 @@ pub fn is_one_file<F: Files>(files: &F, alloc: Global, one: &str, other: &str) -
     if one == other {
         return Ok(true);
     }
-    match (place(files, alloc, one)?, place(files, alloc, other)?) {
+    match (place_of(files, alloc, one)?, place_of(files, alloc, other)?) {
         (Place::Named(one, _), Place::Named(other, _)) => is_one_name(files, &one, &other),
         _ => Ok(false),
     }
@@ -195,7 +195,7 @@ impl Draft {
         name: &str,
         text: &[u8],
     ) -> io::Result<Draft> {
-        let (name, old) = match place(files, alloc, name)? {
+        let (name, old) = match place_of(files, alloc, name)? {
             Place::Named(name, old) => (name, old),
             Place::Fixed => {
                 write_fixed(files, name, text)?;
