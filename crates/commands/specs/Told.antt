@@ -1,5 +1,5 @@
 -- What the program tells of the texts that the words name.
-use Rattle.std.specs.Prelude.{◌≡◌, ◌<◌, ◌⊎◌, ℕ, List, Option, Some, None, Result, Ok, Err, MatchResult, codes, is_some, option_and_then}
+use Rattle.std.specs.Prelude.{◌≡◌, ◌<◌, ◌⊎◌, ℕ, List, Option, Some, None, Result, Ok, Err, MatchResult, codes, is_some}
 use Rattle.command_words.specs.declared.asked.Asked.{Asked}
 use Rattle.command_words.specs.declared.asked.Asked.TheVariants.{One, Two, Migrate, Draw, Window}
 use Rattle.command_words.specs.declared.asked.Pages.{Pages}
@@ -42,7 +42,7 @@ use Rattle.script_text.specs.Scripts.{SpellsScript}
 use Rattle.command_texts.specs.declared.answer.Fault.{Fault}
 use Rattle.command_texts.specs.declared.why.Telling.{Telling}
 use Rattle.command_texts.specs.declared.why.Telling.TheVariants.{Short, Full}
-use Rattle.command_texts.specs.Answers.{IsLinkFault, IsTextFault, fault_line, fault_status}
+use Rattle.command_texts.specs.Answers.{IsHostFault, IsTextFault, fault_line, fault_status}
 use Rattle.command_texts.specs.Reasons.{IsRefusedAt, TellsBeside, TellsWhyOf}
 use Rattle.command_texts.specs.Several.{IsOneOf, Style, TellsSeveral}
 use Rattle.command_texts.specs.Told.{AreNamed, AreOfInput, Ends, IsNamed}
@@ -188,17 +188,6 @@ IsFaultOfTwo first second = IsTextFault (λ n. (n ≡ first) ⊎ (n ≡ second))
 abbrev pub window_of : Pages → CutWindow
 window_of pages = record { first = pages.first; count = pages.count }
 
--- the file for the lines of a window, where one is asked for
-abbrev pub lines_file_of : Asked (List ℕ) → Option (List ℕ)
-lines_file_of (Window pages name lines) = lines
-lines_file_of (One task name) = None
-lines_file_of (Two task first second) = None
-lines_file_of (Migrate carrier name) = None
-lines_file_of (Draw topic name further) = None
-
-abbrev pub lines_file : Option (Asked (List ℕ)) → Option (List ℕ)
-lines_file asked = option_and_then lines_file_of asked
-
 -- what a command asks for was told of the texts under its names, or it came to a fault
 abbrev pub EndsAsked : Asked (List ℕ) → (List ℕ → Option (List ℕ)) → Option (List ℕ) → Streams → Streams → Result ℕ Fault → Type 0
 EndsAsked (One task name) files input =
@@ -206,7 +195,7 @@ EndsAsked (One task name) files input =
 EndsAsked (Two task first second) files input =
     Ends (IsFaultOfTwo first second) (AreNamed first second files input) (IsTwoAnswer task) (IsBesideTwo task first second)
 EndsAsked (Migrate carrier name) files input =
-    Ends (IsLinkFault (λ n. n ≡ name)) (IsNamed name files input) IsMigrateAnswer (TellsWhyOf (IsRefusedAt SpellsScript) Short name)
+    Ends (IsHostFault (λ n. n ≡ name)) (IsNamed name files input) IsMigrateAnswer (TellsWhyOf (IsRefusedAt SpellsScript) Short name)
 EndsAsked (Draw topic name None) files input =
     Ends (IsFaultOf name) (IsNamed name files input) (IsDrawAnswer (told_topic topic)) (TellsWhyOf (IsRefusedAt SpellsSession) Short name)
 EndsAsked (Draw topic first (Some second)) files input =

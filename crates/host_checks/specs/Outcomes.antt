@@ -24,7 +24,7 @@ use Rattle.audit_report.specs.Reports.{IsReport, IsClean}
 use Rattle.host_checks.specs.declared.transcript.Answered.{Answered}
 use Rattle.host_checks.specs.declared.outcome.Migrated.{Migrated}
 use Rattle.host_checks.specs.declared.outcome.RunFault.{RunFault}
-use Rattle.host_checks.specs.declared.outcome.RunFault.TheVariants.{LogFull, Memory, AuditRefused, TranscriptDiffers, Link}
+use Rattle.host_checks.specs.declared.outcome.RunFault.TheVariants.{LogFull, Memory, Threads, AuditRefused, TranscriptDiffers, Link}
 
 abbrev pub answered : Op → ℕ → Answered
 answered op answer = record { op = op; answer = answer }
@@ -102,6 +102,7 @@ pub record HasMigrated (script : Scenario) (m : Migrated) : Type 0 where
 abbrev pub IsRunFault : Scenario → RunFault → Type 0
 IsRunFault script LogFull = Unit {0}
 IsRunFault script Memory = Unit {0}
+IsRunFault script Threads = Unit {0}
 IsRunFault script (AuditRefused report) = (logs : Logs) × IsReport (recorded script.version script.geometry script.init logs) report × ¬ IsClean report
 IsRunFault script TranscriptDiffers = Unit {0}
 IsRunFault script Link = Unit {0}
