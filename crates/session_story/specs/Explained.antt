@@ -23,7 +23,7 @@ use Rattle.page_facts.specs.PageFaults.{page_at}
 use Rattle.page_facts.specs.Tables.{first_before}
 use Rattle.audit_report.specs.declared.report.Report.{Report}
 use Rattle.audit_report.specs.declared.report.Report.TheVariants as report
-use Rattle.session_story.specs.Pages.{IsHandover, IsPageStory, first_send}
+use Rattle.session_story.specs.Pages.{IsHandover, IsPageStory, sent_before}
 use Rattle.session_story.specs.Values.{IsInstead, IsOther}
 use Rattle.session_story.specs.Looks.{IsFurthestLook}
 use Rattle.session_story.specs.Counted.{IsCounts}
@@ -165,7 +165,7 @@ pub record IsShapeStory (s : Recorded) (fault : ShapeFault) (t : ShapeStory) : T
   pub is_fault : t.fault ≡ fault
   pub is_first : IsFirstFault s fault.reason (fault.log, fault.place)
   pub handover : IsHandover s t.handover
-  pub sent : t.sent ≡ first_send s (fault.log, fault.place)
+  pub sent : t.sent ≡ sent_before s (fault.log, fault.place)
 
 -- what is told of a session with this report
 abbrev pub IsExplanation : Recorded → Report → Explanation → Type 0

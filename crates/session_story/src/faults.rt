@@ -7,7 +7,7 @@ ghost use Rattle.audit_model.specs.FirstFault.{IsFirstPageFault};
 ghost use Rattle.page_facts.specs.PageFaults.{page_at};
 ghost use Rattle.audit_report.specs.Reports.{IsReport};
 ghost use Rattle.cert_check.specs.Verdicts.{IsShapeFault};
-ghost use Rattle.session_story.specs.Pages.{IsPageStory, first_send};
+ghost use Rattle.session_story.specs.Pages.{IsPageStory, below, sent_before};
 ghost use Rattle.session_story.specs.Explained.{IsDetail, IsFaultStory, IsLookBeforeTouch, IsReportedStory, IsShapeStory, IsToldCause, is_read, is_unplaced, is_used_by};
 
 use crate::contents::{Wrong, wrong_at};
@@ -197,17 +197,27 @@ pub struct ShapeStory {
     /// The record, and why it has not.
     pub fault: ShapeFault,
     pub handover: Handover,
-    /// Where the record is a `send`, the first one of its page.
+    /// Where the record is a `send`, the first one of its page, if that stands before it.
     pub sent: Option<u32>,
 }
 
-/// Where the record is a `send`, the first one of its page.
-fn first_send(session: &Session, log: LogName, place: u32) -> Option<u32>
-    ensures { result ≡ first_send session.now (log, place) }
+/// The number, where it is below a place.
+fn below(place: u32, number: Option<u32>) -> Option<u32>
+    ensures { result ≡ below place number }
+{
+    match number {
+        Some(number) if number < place => Some(number),
+        _ => None,
+    }
+}
+
+/// Where the record is a `send`, the first one of its page, if that stands before it.
+fn sent_before(session: &Session, log: LogName, place: u32) -> Option<u32>
+    ensures { result ≡ sent_before session.now (log, place) }
 {
     match log {
         LogName::Source => match session.source().get(place as usize) {
-            Some(SourceRec::Send { page, .. }) => send_of(session, *page),
+            Some(SourceRec::Send { page, .. }) => below(place, send_of(session, *page)),
             _ => None,
         },
         _ => None,
@@ -223,6 +233,6 @@ pub(crate) fn shape_at(session: &Session, fault: &ShapeFault) -> ShapeStory
     ShapeStory {
         fault,
         handover: handover_of(session),
-        sent: first_send(session, fault.log, fault.place),
+        sent: sent_before(session, fault.log, fault.place),
     }
 }
