@@ -5,7 +5,7 @@ It goes by the session's text and by what `explain` says of it.
 import re
 
 from check_model import Session
-from session_text import LOGS
+from session_text import LOGS, SessionText
 
 WORDS = {"r": "read", "w": "write", "z": "release"}
 TOLD = re.compile(rf"line \d+ \(({'|'.join(LOGS)}) (\d+)\)")
@@ -106,18 +106,21 @@ def faulty_label(session, head, log, place):
     return label_of(session, log, place)
 
 
-def is_in_every_order(head, session, place):
-    """Whether a fault of a page is there in every order."""
-    if head[3] == "early":
-        return not session.placements(page_of(session.guest[place]))
-    return head[3] != "over"
+def is_in_every_order(told):
+    """Whether every order shows a fault of a page: where the page is placed too late, its placement depends on the use."""
+    reason, session, (log, place) = told.head[3], told.session, told.fault
+    if reason not in ("early", "over"):
+        return True
+    page = page_of(session.logs[log][place])
+    late = told.text.dependents("guest", place if reason == "early" else session.first_use(page))
+    return all(("pager", n) in late for n in session.placements(page))
 
 
 class Told:
     """A session with its report and what `explain` says of it."""
 
     def __init__(self, text, report, told):
-        self.session, self.report, self.told = Session(text), report, told
+        self.session, self.text, self.report, self.told = Session(text), SessionText(text), report, told
         self.head = report.split("\n", 1)[0].split()
         self.circle = circle_of(report, told)
         self.fault = self.concerned = None

@@ -69,13 +69,18 @@ class SessionText:
             order.append((current, taken[current]))
             taken[current] += 1
 
-    def delayed_order(self, log, place):
-        """The found order, where a record comes last with all that depends on it: what is later in a log, and the receipts."""
-        late, order = {(log, place)}, self.found_order()
-        for name in order:
+    def dependents(self, log, place):
+        """A record with all that depends on it: what is later in a log, and the receipts."""
+        late = {(log, place)}
+        for name in self.found_order():
             if (name[0], name[1] - 1) in late or self.named(*name) in late:
                 late.add(name)
-        return sorted(order, key=lambda name: name in late)
+        return late
+
+    def delayed_order(self, log, place):
+        """The found order, where a record comes last with all that depends on it."""
+        late = self.dependents(log, place)
+        return sorted(self.found_order(), key=lambda name: name in late)
 
     def tell_in(self, version):
         """Makes it one of this version, with the same records."""

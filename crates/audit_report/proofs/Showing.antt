@@ -128,7 +128,7 @@ found_shows s reason name runs faults unplaced found f none = record {
 }
 
 -- and the delayed order one that is shown with a placement
-delayed_run : (s : Recorded) (reason : PageReason) (name : Name) (place : ℕ) (d : Cursors) (runs order : List Run) → DelayedBreaks s → DelayedOver s → AreFoundRuns s runs → IsPageFault s reason name → IsShownWith s reason name place → IsCutFor s place d → AreRuns s.version s.geometry.size order → spelled order ≡ rearranged d (spelled runs) → ShowsFault s reason name order
+delayed_run : (s : Recorded) (reason : PageReason) (name : Name) (place : ℕ) (d : Cursors) (runs order : List Run) → DelayedBreaks s → DelayedOver s → AreFoundRuns s runs → IsPageFault s reason name → IsShownWith s reason name place → IsCutFor s (Pager, place) d → AreRuns s.version s.geometry.size order → spelled order ≡ rearranged d (spelled runs) → ShowsFault s reason name order
 delayed_run s reason name place d runs order breaks over found f shown cut are is =
     let late : IsDelayedOrder s (spelled runs) (Pager, place) (spelled order) = record { cut = d; is_above = cut.is_above; is_delayed = cut.is_delayed; is = is } in
     let fails = delayed_shows s (spelled runs) found.is_found.is_merging breaks over reason name place f shown (spelled order) late in
@@ -157,7 +157,7 @@ delayed_run s reason name place d runs order breaks over found f shown cut are i
     same_place other (inr at) (inl also) = absurd (let e : Early ≡ Over = sym also.is_early ∙ at.is_over in cc)
     same_place other (inr at) (inr also) = ap (λ (n : Name). n.1) (sym at.is_itself ∙ also.is_itself)
 
-pub delayed_shown : (s : Recorded) (reason : PageReason) (name : Name) (place : ℕ) (d : Cursors) (runs : List Run) (r : Result (List Run) AllocError) → DelayedBreaks s → DelayedOver s → AreFoundRuns s runs → IsPageFault s reason name → IsShownWith s reason name place → IsCutFor s place d → IfOk r (λ order. AreRuns s.version s.geometry.size order) → IfOk r (λ order. spelled order ≡ rearranged d (spelled runs)) → IfOk r (λ order. ShowsFault s reason name order)
+pub delayed_shown : (s : Recorded) (reason : PageReason) (name : Name) (place : ℕ) (d : Cursors) (runs : List Run) (r : Result (List Run) AllocError) → DelayedBreaks s → DelayedOver s → AreFoundRuns s runs → IsPageFault s reason name → IsShownWith s reason name place → IsCutFor s (Pager, place) d → IfOk r (λ order. AreRuns s.version s.geometry.size order) → IfOk r (λ order. spelled order ≡ rearranged d (spelled runs)) → IfOk r (λ order. ShowsFault s reason name order)
 delayed_shown s reason name place d runs (Ok order) breaks over found f shown cut are is = delayed_run s reason name place d runs order breaks over found f shown cut are is
 delayed_shown s reason name place d runs (Err e) breaks over found f shown cut are is = tt
 

@@ -1,2 +1,3 @@
+pub mod Dependence
 pub mod Reports
 pub mod inner

@@ -4,11 +4,13 @@
 
 mod auditing;
 mod cuts;
+mod dependence;
 mod orders;
 mod parts;
 mod placements;
 mod report;
 
 pub use auditing::{Audited, FaultAndEntries, audit, audit_by};
+pub use dependence::depends_on;
 pub use placements::first_placement;
 pub use report::Report;

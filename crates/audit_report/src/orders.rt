@@ -11,7 +11,7 @@ use crate::cuts::cut_for;
 use crate::parts::rearranged;
 use crate::placements::placement_for;
 use audit_model::faults_are_unsafe;
-use migration_types::{Run, Seq, Session};
+use migration_types::{LogName, Run, Seq, Session};
 use page_facts::PageFault;
 use std::alloc::{AllocError, Global};
 
@@ -32,7 +32,7 @@ pub(crate) fn order_for(
     faults_are_unsafe();
     match placement_for(session, fault) {
         Some(place) => {
-            let cut = cut_for(session, found.as_slice(), place);
+            let cut = cut_for(session, found.as_slice(), LogName::Pager, place);
             rearranged(alloc, session, found.as_slice(), &cut)
         }
         None => Ok(found),

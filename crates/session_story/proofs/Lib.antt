@@ -3,6 +3,7 @@ pub mod Looking
 pub mod Paged
 pub mod Causing
 pub mod Firsts
+pub mod EveryOrder
 pub mod Reaching
 pub mod Circling
 pub mod Placing

@@ -1,13 +1,11 @@
--- What stands in a faulty record beside what is right, which uses of its page are told, and where it goes wrong.
-use Rattle.std.specs.Prelude.{ℕ, Bool, true, false, not, is_some, ◌==◌, ◌&&◌, ◌||◌, List, Option, Some, None, slice_get}
+-- What stands in a faulty record beside what is right, which uses of its page are told, and whether each order shows it.
+use Rattle.std.specs.Prelude.{ℕ, Bool, false, ◌==◌, ◌&&◌, ◌||◌, List, Option, Some, None, slice_get}
 use Rattle.migration_types.specs.declared.records.LogName.TheVariants.{Guest, Source, Pager}
 use Rattle.migration_types.specs.declared.records.GuestRec.{GuestRec}
 use Rattle.migration_types.specs.declared.records.GuestRec.TheVariants.{Read}
 use Rattle.migration_types.specs.Receipts.{Name}
 use Rattle.migration_types.specs.Rows.{source_contents, pager_contents}
 use Rattle.migration_types.specs.Sessions.{Recorded}
-use Rattle.audit_model.specs.declared.reasons.PageReason.{PageReason}
-use Rattle.audit_model.specs.declared.reasons.PageReason.TheVariants.{Early, Over}
 use Rattle.audit_model.specs.Names.{if_there, same_log}
 use Rattle.session_story.specs.declared.amends.Amended.{Amended}
 use Rattle.session_story.specs.declared.values.Held.{Held}
@@ -92,14 +90,7 @@ tells_on (Some t) n = is_number t.story.changed n || is_number t.story.found.tou
 abbrev pub tells_of : Told → ℕ → Bool
 tells_of told n = tells_for (fault_in told) n || tells_on (page_in told) n
 
--- whether a fault with this reason is there in every order, by its page's first placement
-abbrev pub is_always : PageReason → Option ℕ → Bool
-is_always Early placement = not (is_some placement)
-is_always Over placement = false
-is_always reason placement = true
-
--- whether the session goes wrong in every order of its records
+-- whether every order of the records shows the fault that is told
 abbrev pub is_always_wrong : Explanation → Bool
-is_always_wrong (told.Faulty story more) = is_always story.fault.reason story.page.found.placement
-is_always_wrong (told.Clean counts) = false
-is_always_wrong other = true
+is_always_wrong (told.Faulty story more) = story.in_every_order
+is_always_wrong other = false

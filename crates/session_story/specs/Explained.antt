@@ -1,15 +1,19 @@
 -- What is told of a session, by the report on it.
-use Rattle.std.specs.Prelude.{◌≡◌, ℕ, ◌+◌, ◌<◌, Bool, true, false, not, ◌&&◌, nat_le, is_some, List, length, MatchOption, Option, Some, None, slice_get, slice_index}
+use Rattle.std.specs.Prelude.{◌≡◌, ℕ, ◌+◌, ◌<◌, Bool, true, false, not, ◌&&◌, nat_le, is_some, Decides, List, length, MatchOption, Option, Some, None, slice_get, slice_index}
 use Rattle.migration_types.specs.declared.records.LogName.{LogName}
+use Rattle.migration_types.specs.declared.records.LogName.TheVariants.{Guest}
 use Rattle.migration_types.specs.declared.records.GuestRec.TheVariants.{Read}
 use Rattle.migration_types.specs.declared.records.SourceRec.TheVariants.{Send}
 use Rattle.migration_types.specs.declared.records.PagerRec.TheVariants.{Place}
+use Rattle.migration_types.specs.Receipts.{Name}
 use Rattle.migration_types.specs.Sessions.{Recorded, line_of}
 use Rattle.audit_model.specs.declared.reasons.PageReason.{PageReason}
 use Rattle.audit_model.specs.declared.reasons.PageReason.TheVariants.{Read as WrongRead, Early, Given, Stale, Twice, Altered, Unfit, Over}
 use Rattle.audit_model.specs.Flat.{flat, at_halt}
 use Rattle.audit_model.specs.FirstFault.{IsFirstFault, IsFirstPageFault}
-use Rattle.audit_model.specs.Shape.{is_send_of, is_placement_of}
+use Rattle.audit_model.specs.Laws.{BreaksAt, UnplacedBefore}
+use Rattle.audit_model.specs.Mergings.{IsMerging}
+use Rattle.audit_model.specs.Shape.{IsRightShape, is_send_of, is_placement_of}
 use Rattle.faulty_pages.specs.declared.FaultyPage.{FaultyPage}
 use Rattle.faulty_pages.specs.FaultyPages.{AreFaultyPages}
 use Rattle.page_facts.specs.declared.findings.Findings.{Findings}
@@ -19,7 +23,7 @@ use Rattle.page_facts.specs.PageFaults.{page_at}
 use Rattle.page_facts.specs.Tables.{first_before}
 use Rattle.audit_report.specs.declared.report.Report.{Report}
 use Rattle.audit_report.specs.declared.report.Report.TheVariants as report
-use Rattle.session_story.specs.Pages.{IsHandover, IsPageStory, first_send}
+use Rattle.session_story.specs.Pages.{IsHandover, IsPageStory, sent_before}
 use Rattle.session_story.specs.Values.{IsInstead, IsOther}
 use Rattle.session_story.specs.Looks.{IsFurthestLook}
 use Rattle.session_story.specs.Counted.{IsCounts}
@@ -122,6 +126,19 @@ pub record IsCause (s : Recorded) (reason : PageReason) (n page : ℕ) (c : Caus
 abbrev pub IsToldCause : Recorded → PageReason → ℕ → ℕ → Option Cause → Type 0
 IsToldCause s reason n page cause = MatchOption cause ((c : Cause) → IsCause s reason n page c → ⊥) (IsCause s reason n page)
 
+-- Whether each order shows a fault: an early use where in none a placement of its page stands before it, a placement over
+-- a release where in none a placement of the page stands before this release, and any other fault.
+abbrev pub IsInEveryOrder : Recorded → PageReason → ℕ → ℕ → Type 0
+IsInEveryOrder s Early n page = (order : List Name) → IsMerging s order → UnplacedBefore s order page (Guest, n)
+IsInEveryOrder s Over n page = (release : ℕ) → first_touch s page ≡ Some release → (order : List Name) → IsMerging s order → UnplacedBefore s order page (Guest, release)
+IsInEveryOrder s reason n page = Unit {0}
+
+-- Of a session of the right shape it is told that each order shows the fault exactly where each does, and in each the
+-- demand at the faulty record fails then.
+pub record IsToldOfOrders (s : Recorded) (f : FaultStory) : Type 0 where
+  pub exactly : IsRightShape s → Decides f.in_every_order (IsInEveryOrder s f.fault.reason f.fault.place f.page.page)
+  pub breaks : IsRightShape s → f.in_every_order ≡ true → (order : List Name) → IsMerging s order → BreaksAt s order (f.fault.log, f.fault.place)
+
 -- the story of a fault of a page: what became of the page, and what is told of the fault
 pub record IsFaultStory (s : Recorded) (f : FaultStory) : Type 0 where
   pub is_of : page_at s (f.fault.log, f.fault.place) ≡ Some f.page.page
@@ -129,6 +146,7 @@ pub record IsFaultStory (s : Recorded) (f : FaultStory) : Type 0 where
   pub handover : IsHandover s f.handover
   pub detail : IsDetail s f.fault.reason f.fault.log f.fault.place f.page.page f.detail
   pub cause : IsToldCause s f.fault.reason f.fault.place f.page.page f.cause
+  pub orders : IsToldOfOrders s f
 
 -- the story of the report's fault, which is the session's first of a page and stands at this line
 pub record IsReportedStory (s : Recorded) (line : ℕ) (fault : PageFault) (f : FaultStory) : Type 0 where
@@ -147,7 +165,7 @@ pub record IsShapeStory (s : Recorded) (fault : ShapeFault) (t : ShapeStory) : T
   pub is_fault : t.fault ≡ fault
   pub is_first : IsFirstFault s fault.reason (fault.log, fault.place)
   pub handover : IsHandover s t.handover
-  pub sent : t.sent ≡ first_send s (fault.log, fault.place)
+  pub sent : t.sent ≡ sent_before s (fault.log, fault.place)
 
 -- what is told of a session with this report
 abbrev pub IsExplanation : Recorded → Report → Explanation → Type 0

@@ -14,7 +14,7 @@ use Rattle.audit_model.specs.declared.reasons.PageReason.{PageReason}
 use Rattle.audit_model.specs.declared.reasons.PageReason.TheVariants.{Early, Given, Twice, Unfit, Over}
 use Rattle.audit_model.specs.Names.{if_there}
 use Rattle.audit_model.specs.Shape.{delivery}
-use Rattle.session_story.specs.Amended.{is_always, value_at}
+use Rattle.session_story.specs.Amended.{value_at}
 use Rattle.session_story.specs.declared.looks.Look.{Look}
 use Rattle.session_story.specs.declared.values.Held.{Held}
 use Rattle.session_story.specs.declared.faults.Cause.{Cause}
@@ -251,4 +251,4 @@ order_by reason true = always_words reason
 order_by reason false = shown_words reason
 
 unfoldable pub order_words : FaultStory → List ℕ
-order_words f = order_by f.fault.reason (is_always f.fault.reason f.page.found.placement)
+order_words f = order_by f.fault.reason f.in_every_order

@@ -1,5 +1,5 @@
 -- The story of a page: the records that say how it came from the source to the target.
-use Rattle.std.specs.Prelude.{◌≡◌, ℕ, Bool, false, ◌==◌, List, length, Option, Some, None, slice_get}
+use Rattle.std.specs.Prelude.{◌≡◌, ℕ, Bool, false, ◌==◌, nat_lt, List, length, Option, Some, None, slice_get, if◌then◌else◌}
 use Rattle.migration_types.specs.declared.records.GuestRec.{GuestRec}
 use Rattle.migration_types.specs.declared.records.GuestRec.TheVariants.{Write, Release}
 use Rattle.migration_types.specs.declared.records.LogName.TheVariants.{Source}
@@ -54,11 +54,16 @@ pub record IsPageStory (s : Recorded) (page : ℕ) (t : PageStory) : Type 0 wher
   pub got : t.got ≡ first_before (λ m r. delivers s (is_send_of page) m) s.pager (length s.pager)
   pub found : IsFindings s page t.found
 
--- where the record is a `send`, the first one of its page
-abbrev pub first_send_by : List SourceRec → Option SourceRec → Option ℕ
-first_send_by source (Some (Send page content)) = first_before (λ m. is_send_of page) source (length source)
-first_send_by source _ = None
+-- the number, where it is below n
+abbrev pub below : ℕ → Option ℕ → Option ℕ
+below n None = None
+below n (Some m) = if nat_lt m n then Some m else None
 
-abbrev pub first_send : Recorded → Name → Option ℕ
-first_send s (Source, n) = first_send_by s.source (slice_get s.source n)
-first_send s _ = None
+-- where source record n is a `send`, the first one of its page, if that stands before it
+abbrev pub sent_before_by : List SourceRec → ℕ → Option SourceRec → Option ℕ
+sent_before_by source n (Some (Send page content)) = below n (first_before (λ m. is_send_of page) source (length source))
+sent_before_by source n _ = None
+
+abbrev pub sent_before : Recorded → Name → Option ℕ
+sent_before s (Source, n) = sent_before_by s.source n (slice_get s.source n)
+sent_before s _ = None

@@ -7,7 +7,6 @@ use Rattle.audit_model.specs.Names.{same_log}
 use Rattle.page_facts.specs.declared.page_fault.PageFault.{PageFault}
 use Rattle.audit_report.specs.declared.report.Report.{Report}
 use Rattle.audit_report.specs.declared.report.Report.TheVariants as report
-use Rattle.session_story.specs.Amended.{is_always}
 use Rattle.session_story.specs.declared.explaining.Explanation.{Explanation}
 use Rattle.session_story.specs.declared.explaining.Explanation.TheVariants as explained
 use Rattle.session_story.specs.declared.faults.FaultStory.{FaultStory}
@@ -65,10 +64,10 @@ unfoldable pub verdict_words : ℕ → Bool → List ℕ
 verdict_words page is_faulty = page_has page ++ (if is_faulty then codes "a fault.\n" else codes "no fault.\n")
 
 -- whether it is known which orders show a fault of a page: the report has one that shows its own, and where there are orders
--- at all, each shows a fault that is always there
+-- at all, each shows a fault that every one shows
 abbrev pub is_shown : Report → FaultStory → Bool
 is_shown (report.Faulty line fault order) f =
-    is_always f.fault.reason f.page.found.placement || (same_log fault.log f.fault.log && (fault.place == f.fault.place))
+    f.in_every_order || (same_log fault.log f.fault.log && (fault.place == f.fault.place))
 is_shown _ f = false
 
 unfoldable pub order_if : Bool → FaultStory → List ℕ

@@ -1,9 +1,9 @@
-//! What stands in a faulty record beside what is right, which uses of its page are told, and whether it goes wrong in
-//! every order.
+//! What stands in a faulty record beside what is right, which uses of its page are told, and whether every order shows
+//! it.
 
 ghost use Rattle.std.specs.Prelude.{◌≡◌, slice_get};
 ghost use Rattle.audit_model.specs.Names.{if_there};
-ghost use Rattle.session_story.specs.Amended.{amended_by, amended_for, amended_with, cause_in, cell_in, held_in, is_always, is_always_wrong, is_number, read_value, tells_for, tells_in, tells_of, tells_on, value_at};
+ghost use Rattle.session_story.specs.Amended.{amended_by, amended_for, amended_with, cause_in, cell_in, held_in, is_always_wrong, is_number, read_value, tells_for, tells_in, tells_of, tells_on, value_at};
 
 use crate::concerns::Name;
 use crate::explaining::Explanation;
@@ -11,7 +11,6 @@ use crate::faults::{Cause, Detail, FaultStory};
 use crate::reasons::given_in;
 use crate::topics::{PageTold, Told};
 use crate::values::Held;
-use audit_model::PageReason;
 use migration_types::{GuestRec, LogName, PageNo, Record, Session};
 
 /// A wrong value of a cell, and the right one.
@@ -169,30 +168,12 @@ pub fn tells_of(told: &Told, place: u32) -> bool
     tells_for(&told.fault(), place) || tells_on(&told.page(), place)
 }
 
-/// Whether a fault is there in every order of the records: but for an early use of a page that is placed, and for a
-/// placement over a release, it is.
-pub(crate) fn is_always(story: &FaultStory) -> bool
-    ensures { result ≡ is_always story.now.fault.reason story.now.page.found.placement }
-{
-    match story.fault.reason {
-        PageReason::Early => story.page.found.placement.is_none(),
-        PageReason::Over => false,
-        PageReason::Read
-        | PageReason::Given
-        | PageReason::Stale
-        | PageReason::Twice
-        | PageReason::Altered
-        | PageReason::Unfit => true,
-    }
-}
-
-/// Whether a session of which this is told goes wrong in every order of its records. Takes no memory.
+/// Whether every order of the records shows the fault that is told. Takes no memory.
 pub fn is_always_wrong(told: &Explanation) -> bool
     ensures { result ≡ is_always_wrong told.now }
 {
     match told {
-        Explanation::Faulty { story, .. } => is_always(story),
-        Explanation::Shape(_) | Explanation::Knot(_) => true,
-        Explanation::Clean(_) => false,
+        Explanation::Faulty { story, .. } => story.in_every_order,
+        Explanation::Shape(_) | Explanation::Knot(_) | Explanation::Clean(_) => false,
     }
 }

@@ -62,7 +62,7 @@ pub fn explain(alloc: Global, session: &Session, report: &Report) -> Result<Expl
             Ok(Explanation::Knot(circle_of(alloc, session, left, found)?))
         }
         Report::Faulty { fault, .. } => {
-            let story = fault_at(alloc, session, fault)?;
+            let story = fault_at(alloc, session, report, fault)?;
             let more = more_faulty(alloc, session, fault)?;
             Ok(Explanation::Faulty { story, more })
         }

@@ -5,16 +5,19 @@ ghost use Rattle.migration_types.specs.Sessions.{log_length, line_of};
 ghost use Rattle.audit_model.specs.Faults.{IsPageFault};
 ghost use Rattle.audit_model.specs.FirstFault.{IsFirstPageFault};
 ghost use Rattle.page_facts.specs.PageFaults.{page_at};
+ghost use Rattle.audit_report.specs.Reports.{IsReport};
 ghost use Rattle.cert_check.specs.Verdicts.{IsShapeFault};
-ghost use Rattle.session_story.specs.Pages.{IsPageStory, first_send};
+ghost use Rattle.session_story.specs.Pages.{IsPageStory, below, sent_before};
 ghost use Rattle.session_story.specs.Explained.{IsDetail, IsFaultStory, IsLookBeforeTouch, IsReportedStory, IsShapeStory, IsToldCause, is_read, is_unplaced, is_used_by};
 
 use crate::contents::{Wrong, wrong_at};
 use crate::looks::{Look, greatest_look};
+use crate::orders::in_every_order;
 use crate::pages::{Handover, PageStory, handover_of, send_of, story_of};
 use crate::reasons::{detail_of, is_read};
 use crate::values::Held;
 use audit_model::PageReason;
+use audit_report::Report;
 use cert_check::ShapeFault;
 use migration_types::{LogName, PageNo, Session, SourceRec};
 use page_facts::PageFault;
@@ -56,6 +59,8 @@ pub struct FaultStory {
     pub detail: Detail,
     /// Of a wrong read at the target: what went wrong with its page before, if anything did.
     pub cause: Option<Cause>,
+    /// Whether every order of the records shows it. Of a session that has not the right shape it says nothing.
+    pub in_every_order: bool,
 }
 
 /// The page that a record is of; none of the link's and the lane's records, which are of the page of what they deliver.
@@ -137,13 +142,15 @@ fn cause_of(
     }
 }
 
-/// The story of a fault of a page, of which this became.
+/// The story of a fault of a page, of which this became, with the report on the session.
 pub(crate) fn story_of_fault(
     alloc: Global,
     session: &Session,
+    report: &Report,
     fault: &PageFault,
     page: &PageStory,
 ) -> Result<FaultStory, AllocError>
+    requires report { IsReport session.now report.now }
     requires fault { IsPageFault session.now fault.now.reason (fault.now.log, fault.now.place) }
     requires of { page_at session.now (fault.now.log, fault.now.place) ≡ Some page.now.page }
     requires story { IsPageStory session.now page.now.page page.now }
@@ -160,17 +167,20 @@ pub(crate) fn story_of_fault(
         handover: handover_of(session),
         detail,
         cause,
+        in_every_order: in_every_order(session, report, fault, page),
     })
 }
 
-/// The first fault of a session, with the story of its page. Takes a few passes over each log, and as much memory as
-/// judging does and one machine more, which is the only error.
+/// The first fault of a session, which its report names, with the story of its page. Takes a few passes over each log,
+/// and as much memory as judging does and one machine more, which is the only error.
 pub(crate) fn fault_at(
     alloc: Global,
     session: &Session,
+    report: &Report,
     fault: &PageFault,
 ) -> Result<FaultStory, AllocError>
-    requires { IsFirstPageFault session.now fault.now.reason (fault.now.log, fault.now.place) }
+    requires report { IsReport session.now report.now }
+    requires first { IsFirstPageFault session.now fault.now.reason (fault.now.log, fault.now.place) }
     ensures { IfOk result (λ story. (line : ℕ) → line ≡ line_of session.now (fault.now.log, fault.now.place) → IsReportedStory session.now line fault.now story) }
 {
     session.keeps_limits();
@@ -178,7 +188,7 @@ pub(crate) fn fault_at(
         unreachable!()
     };
     let story = story_of(alloc, session, page)?;
-    story_of_fault(alloc, session, fault, &story)
+    story_of_fault(alloc, session, report, fault, &story)
 }
 
 /// The first record that has not the right shape.
@@ -187,17 +197,27 @@ pub struct ShapeStory {
     /// The record, and why it has not.
     pub fault: ShapeFault,
     pub handover: Handover,
-    /// Where the record is a `send`, the first one of its page.
+    /// Where the record is a `send`, the first one of its page, if that stands before it.
     pub sent: Option<u32>,
 }
 
-/// Where the record is a `send`, the first one of its page.
-fn first_send(session: &Session, log: LogName, place: u32) -> Option<u32>
-    ensures { result ≡ first_send session.now (log, place) }
+/// The number, where it is below a place.
+fn below(place: u32, number: Option<u32>) -> Option<u32>
+    ensures { result ≡ below place number }
+{
+    match number {
+        Some(number) if number < place => Some(number),
+        _ => None,
+    }
+}
+
+/// Where the record is a `send`, the first one of its page, if that stands before it.
+fn sent_before(session: &Session, log: LogName, place: u32) -> Option<u32>
+    ensures { result ≡ sent_before session.now (log, place) }
 {
     match log {
         LogName::Source => match session.source().get(place as usize) {
-            Some(SourceRec::Send { page, .. }) => send_of(session, *page),
+            Some(SourceRec::Send { page, .. }) => below(place, send_of(session, *page)),
             _ => None,
         },
         _ => None,
@@ -213,6 +233,6 @@ pub(crate) fn shape_at(session: &Session, fault: &ShapeFault) -> ShapeStory
     ShapeStory {
         fault,
         handover: handover_of(session),
-        sent: first_send(session, fault.log, fault.place),
+        sent: sent_before(session, fault.log, fault.place),
     }
 }

@@ -10,6 +10,7 @@ mod explaining;
 mod faults;
 mod lines;
 mod looks;
+mod orders;
 mod pages;
 mod questions;
 mod reasons;

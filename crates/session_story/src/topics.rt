@@ -103,24 +103,32 @@ fn fault_reported(explanation: &Explanation) -> Option<FaultStory>
 fn first_fault_of(
     alloc: Global,
     session: &Session,
+    report: &Report,
     page: &PageStory,
 ) -> Result<Option<FaultStory>, AllocError>
-    requires { IsPageStory session.now page.now.page page.now }
+    requires report { IsReport session.now report.now }
+    requires story { IsPageStory session.now page.now.page page.now }
     ensures { IfOk result (λ fault. MatchOption fault (IsClean session.now page.now.page) (IsFirstFaultStory session.now page.now.page)) }
 {
     match fault_of(session, &page.found, page.page) {
-        Some(fault) => Ok(Some(story_of_fault(alloc, session, &fault, page)?)),
+        Some(fault) => Ok(Some(story_of_fault(alloc, session, report, &fault, page)?)),
         None => Ok(None),
     }
 }
 
 /// What became of a page.
-fn page_told(alloc: Global, session: &Session, page: PageNo) -> Result<PageTold, AllocError>
-    requires { page < session.now.geometry.pages }
+fn page_told(
+    alloc: Global,
+    session: &Session,
+    report: &Report,
+    page: PageNo,
+) -> Result<PageTold, AllocError>
+    requires report { IsReport session.now report.now }
+    requires page { page < session.now.geometry.pages }
     ensures { IfOk result (IsPageTold session.now page) }
 {
     let story = story_of(alloc, session, page)?;
-    let fault = first_fault_of(alloc, session, &story)?;
+    let fault = first_fault_of(alloc, session, report, &story)?;
     Ok(PageTold {
         story,
         handover: handover_of(session),
@@ -133,15 +141,17 @@ fn page_told(alloc: Global, session: &Session, page: PageNo) -> Result<PageTold,
 pub fn told_of_page(
     alloc: Global,
     session: &Session,
+    report: &Report,
     number: u32,
 ) -> Result<Option<PageTold>, AllocError>
+    requires { IsReport session.now report.now }
     ensures { IfOk result (IsToldOfPage session.now number) }
 {
     session.keeps_limits();
     if number >= session.geometry().pages() {
         return Ok(None);
     }
-    let told = page_told(alloc, session, PageNo::new(number))?;
+    let told = page_told(alloc, session, report, PageNo::new(number))?;
     Ok(Some(told))
 }
 
@@ -149,14 +159,16 @@ pub fn told_of_page(
 fn told_of_its_page(
     alloc: Global,
     session: &Session,
+    report: &Report,
     log: LogName,
     place: u32,
 ) -> Result<Option<PageTold>, AllocError>
+    requires { IsReport session.now report.now }
     ensures { IfOk result (IsToldOfItsPage session.now (page_of session.now (log, place))) }
 {
     session.keeps_limits();
     match page_of(session, (log, place)) {
-        Some(page) => Ok(Some(page_told(alloc, session, page)?)),
+        Some(page) => Ok(Some(page_told(alloc, session, report, page)?)),
         None => Ok(None),
     }
 }
@@ -192,7 +204,7 @@ pub fn told_of_line(
     let Some((log, place)) = record_on(session, line) else {
         return Ok(None);
     };
-    let page = told_of_its_page(alloc, session, log, place)?;
+    let page = told_of_its_page(alloc, session, report, log, place)?;
     Ok(Some(LineTold {
         log,
         place,
@@ -214,7 +226,10 @@ pub fn tell(
 {
     match topic {
         Topic::Report => Ok(Told::Report(explain(alloc, session, report)?)),
-        Topic::Page(number) => Ok(Told::Page(number, told_of_page(alloc, session, number)?)),
+        Topic::Page(number) => Ok(Told::Page(
+            number,
+            told_of_page(alloc, session, report, number)?,
+        )),
         Topic::Line(line) => Ok(Told::Line(line, told_of_line(alloc, session, report, line)?)),
     }
 }

@@ -5,7 +5,6 @@ ghost use Rattle.session_story.specs.FaultWords.{always_words, changed_words, gi
 
 use super::records::push_recorded;
 use super::writing::push;
-use crate::amends::is_always;
 use crate::faults::FaultStory;
 use audit_model::PageReason;
 use migration_types::{LogName, Session};
@@ -144,7 +143,7 @@ fn shown(reason: PageReason) -> &'static str
 pub(crate) fn push_order(out: &mut String, story: &FaultStory) -> Result<(), AllocError>
     ensures { OnOk result (string_bytes out.new ≡ string_bytes out.old ++ order_words story.now) }
 {
-    if is_always(story) {
+    if story.in_every_order {
         push(out, always(story.fault.reason))
     } else {
         push(out, shown(story.fault.reason))

@@ -9,7 +9,6 @@ use super::records::push_recorded;
 use super::shapes::push_shape_story;
 use super::stories::push_story;
 use super::writing::{push, push_around, push_with};
-use crate::amends::is_always;
 use crate::concerns::Name;
 use crate::faults::{FaultStory, ShapeStory};
 use crate::topics::{LineTold, PageTold};
@@ -81,13 +80,14 @@ fn push_verdict(out: &mut String, page: u32, is_faulty: bool) -> Result<(), Allo
 }
 
 /// Whether it is known which orders show a fault of a page: the report has one that shows its own, and where there are
-/// orders at all, each shows a fault that is always there.
+/// orders at all, each shows a fault that every one shows.
 fn is_shown(report: &Report, story: &FaultStory) -> bool
     ensures { result ≡ is_shown report.now story.now }
 {
     match report {
         Report::Faulty { fault, .. } => {
-            is_always(story) || (fault.log == story.fault.log && fault.place == story.fault.place)
+            story.in_every_order
+                || (fault.log == story.fault.log && fault.place == story.fault.place)
         }
         _ => false,
     }

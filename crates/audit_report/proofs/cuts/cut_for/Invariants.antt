@@ -7,5 +7,5 @@ use Rattle.audit_report.proofs.cuts.cut_for.Given as goal
 abbrev pub invariant-loop-run : goal.invariant-loop-run
 invariant-loop-run l = record {
   at : cursors_of l.taken ≡ ends (take l.run-index l.runs);
-  cutting : IsCutting l.session l.place (cursors_of l.taken) (cursors_of l.cut);
+  cutting : IsCutting l.session l.fn.log l.place (cursors_of l.taken) (cursors_of l.cut);
 }

@@ -9,7 +9,7 @@ use Rattle.session_story.proofs.faults.fault_at.Goals as goal
 pub unreachable-requires : goal.unreachable-requires
 unreachable-requires c =
     let s = c.args.session.now in
-    go (λ e. fault_paged s c.args.fault.now.reason (c.args.fault.now.log, c.args.fault.now.place) c.requires.is_fault (sym c.page_at.ensures ∙ e)) c.page_at.result c.in_default.not-Some refl
+    go (λ e. fault_paged s c.args.fault.now.reason (c.args.fault.now.log, c.args.fault.now.place) c.requires.first.is_fault (sym c.page_at.ensures ∙ e)) c.page_at.result c.in_default.not-Some refl
   where
     go : (c.page_at.result ≡ None → ⊥) → (o : Option ℕ) → ((x : ℕ) → o ≡ Some x → ⊥) → c.page_at.result ≡ o → ⊥
     go none None never e = none e
@@ -22,7 +22,7 @@ pub story_of-requires : goal.story_of-requires
 story_of-requires c = page_is c.args.session.now c.keeps_limits.ensures (c.args.fault.now.log, c.args.fault.now.place) c.page_at.result c.in-Some.page c.in-Some.is c.page_at.ensures
 
 pub story_of_fault-requires-clause-fault : goal.story_of_fault-requires-clause-fault
-story_of_fault-requires-clause-fault c = c.requires.is_fault
+story_of_fault-requires-clause-fault c = c.requires.first.is_fault
 
 pub story_of_fault-requires-clause-of : goal.story_of_fault-requires-clause-of
 story_of_fault-requires-clause-of c = sym c.page_at.ensures ∙ c.in-Some.is ∙ ap (λ (p : ℕ). Some p) (sym c.in_ok-story.ensures.page_is)

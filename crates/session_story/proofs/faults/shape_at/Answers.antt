@@ -7,5 +7,5 @@ returns c = record {
   is_fault = refl;
   is_first = c.requires.is_first;
   handover = c.handover_of.ensures;
-  sent = c.first_send.ensures;
+  sent = c.sent_before.ensures;
 }

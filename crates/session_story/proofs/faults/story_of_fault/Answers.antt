@@ -31,4 +31,5 @@ returns-clause-story c = record {
   handover = c.handover_of.ensures;
   detail = c.in_ok-detail.ensures;
   cause = c.in_ok-cause.ensures;
+  orders = record { exactly = c.in_every_order.ensures.exactly; breaks = c.in_every_order.ensures.breaks };
 }
