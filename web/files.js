@@ -84,7 +84,7 @@ async function reportWords({ name, file }, { answer: { firstLine } }) {
 async function certificateWords({ name, file }, session) {
   const answer = await ask("check", session.file, { certificate: file });
   const which = filesOf("certificate").length > 1 || sessions().length > 1 ? `${name}, tried with this session: ` : "";
-  if (answer.failure) return `${which}The certificate could not be judged: ${answer.failure.words}.`;
+  if (answer.failure) return `The certificate ${name} could not be judged: ${answer.failure.words}.`;
   const kind = answer.kind === "YES" && session.answer.lack ? "RIGHT" : answer.kind;
   const words = CERTIFICATES[kind]?.replace("@", () => `line ${answer.line} of ${name}`);
   if (!words) return `${which}The certificate is not judged: that takes a session of the right shape.`;
