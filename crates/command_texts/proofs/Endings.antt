@@ -5,15 +5,17 @@ use Rattle.std.specs.Io.KnownBytes.{Appends, Keeps}
 use Rattle.std.proofs.KnownBytes.{Keeps-refl}
 use Rattle.command_texts.specs.declared.answer.Answer.{Answer}
 use Rattle.command_texts.specs.declared.answer.Fault.{Fault}
-use Rattle.command_texts.specs.declared.answer.Fault.TheVariants.{File, Link, Output, Memory}
-use Rattle.command_texts.specs.Answers.{IsLinkFault, IsReadFault, IsTextFault}
+use Rattle.command_texts.specs.declared.answer.Fault.TheVariants.{File, Changed, Link, Threads, Output, Memory}
+use Rattle.command_texts.specs.Answers.{IsHostFault, IsReadFault, IsRunStop, IsTextFault}
 use Rattle.command_texts.specs.Told.{CutsShort, Ends, Fails, IsLeft, Tells}
 use Rattle.command_texts.specs.Written.{AppendsFront, Streams}
 
 -- a fault at a text under one of some names is one at a text under one of more
 pub read_fault_in : (P Q : List ℕ → Type 0) → ((name : List ℕ) → P name → Q name) → (fault : Fault) → IsReadFault P fault → IsReadFault Q fault
 read_fault_in P Q more (File name) h = more name.now h
+read_fault_in P Q more (Changed name) h = more name.now h
 read_fault_in P Q more Link h = h
+read_fault_in P Q more Threads h = h
 read_fault_in P Q more Output h = h
 read_fault_in P Q more Memory h = h
 
@@ -23,21 +25,35 @@ read_faults_in P Q more (Err fault) h = read_fault_in P Q more fault h
 
 pub text_fault : (P : List ℕ → Type 0) (fault : Fault) → IsReadFault P fault → IsTextFault P fault
 text_fault P (File name) h = h
+text_fault P (Changed name) h = h
 text_fault P Link h = h
+text_fault P Threads h = h
 text_fault P Output h = tt
 text_fault P Memory h = h
 
-pub link_fault : (P : List ℕ → Type 0) (fault : Fault) → IsReadFault P fault → IsLinkFault P fault
-link_fault P (File name) h = h
-link_fault P Link h = tt
-link_fault P Output h = tt
-link_fault P Memory h = h
+pub host_fault : (P : List ℕ → Type 0) (fault : Fault) → IsReadFault P fault → IsHostFault P fault
+host_fault P (File name) h = h
+host_fault P (Changed name) h = h
+host_fault P Link h = tt
+host_fault P Threads h = tt
+host_fault P Output h = tt
+host_fault P Memory h = h
+
+pub stop_fault : (P : List ℕ → Type 0) (fault : Fault) → IsRunStop fault → IsHostFault P fault
+stop_fault P (File name) h = absurd h
+stop_fault P (Changed name) h = absurd h
+stop_fault P Link h = tt
+stop_fault P Threads h = tt
+stop_fault P Output h = tt
+stop_fault P Memory h = tt
 
 module _ {T : Type 0} (IsFault : Fault → Type 0) (AreTexts : T → Type 0) (IsAnswerTo : T → List ℕ → ℕ → Type 0) where
   -- the output stays at a fault that is not its own
   left_alone : (IsName : List ℕ → Type 0) (old : Option (List ℕ)) (IsCut : Type 0) (fault : Fault) → IsReadFault IsName fault → IsLeft fault IsCut (Keeps old old)
   left_alone IsName old IsCut (File name) h = Keeps-refl old
+  left_alone IsName old IsCut (Changed name) h = Keeps-refl old
   left_alone IsName old IsCut Link h = Keeps-refl old
+  left_alone IsName old IsCut Threads h = Keeps-refl old
   left_alone IsName old IsCut Output h = absurd h
   left_alone IsName old IsCut Memory h = Keeps-refl old
 
@@ -49,10 +65,14 @@ module _ {T : Type 0} (IsFault : Fault → Type 0) (AreTexts : T → Type 0) (Is
   pub no_memory : (old : Streams) (fault : Fault) → fault ≡ Memory → IsFault Memory → Fails IsFault AreTexts IsAnswerTo old old fault
   no_memory old fault e is = rw e record { is_fault = is; output = Keeps-refl old.0; errors = Keeps-refl old.1 }
 
-  -- there was no answer, for want of memory or since a link failed
-  pub no_answer : (old : Streams) (fault : Fault) → IsFault Memory → IsFault Link → (fault ≡ Memory) ⊎ (fault ≡ Link) → Fails IsFault AreTexts IsAnswerTo old old fault
-  no_answer old fault memory link (inl e) = no_memory old fault e memory
-  no_answer old fault memory link (inr e) = rw e record { is_fault = link; output = Keeps-refl old.0; errors = Keeps-refl old.1 }
+  -- there was no answer, since a run was not made to its end
+  pub no_answer : (old : Streams) (fault : Fault) → IsFault fault → IsRunStop fault → Fails IsFault AreTexts IsAnswerTo old old fault
+  no_answer old (File name) is h = absurd h
+  no_answer old (Changed name) is h = absurd h
+  no_answer old Link is h = record { is_fault = is; output = Keeps-refl old.0; errors = Keeps-refl old.1 }
+  no_answer old Threads is h = record { is_fault = is; output = Keeps-refl old.0; errors = Keeps-refl old.1 }
+  no_answer old Output is h = absurd h
+  no_answer old Memory is h = record { is_fault = is; output = Keeps-refl old.0; errors = Keeps-refl old.1 }
 
   -- the output failed
   pub not_written : (texts : T) (text : List ℕ) (status : ℕ) (old new : Option (List ℕ)) (errors : Option (List ℕ)) (fault : Fault) → fault ≡ Output → IsFault Output → AreTexts texts → IsAnswerTo texts text status → AppendsFront old new text → Fails IsFault AreTexts IsAnswerTo (old, errors) (new, errors) fault

@@ -6,5 +6,6 @@ pub mod Said
 pub mod WhatIsRead
 pub mod Names
 pub mod Listed
+pub mod Escapes
 pub mod Fronts
 pub mod Endings

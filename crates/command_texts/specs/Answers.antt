@@ -2,31 +2,46 @@
 use Rattle.std.specs.Prelude.{◌≡◌, ℕ, List, [], ◌∷◌, ◌++◌, codes, ⊤}
 use Rattle.std.specs.Fmt.{decimal}
 use Rattle.command_texts.specs.declared.answer.Answer.{Answer}
+use Rattle.command_texts.specs.Shown.{shown}
 use Rattle.command_texts.specs.declared.answer.Fault.{Fault}
-use Rattle.command_texts.specs.declared.answer.Fault.TheVariants.{File, Link, Output, Memory}
+use Rattle.command_texts.specs.declared.answer.Fault.TheVariants.{File, Changed, Link, Threads, Output, Memory}
 
--- 4 where there is no memory for it, and 3 for a text, a link or an output that failed
+-- 4 where there is no memory for it, and 3 for a text, a link, a thread or an output that failed
 abbrev pub fault_status : Fault → ℕ
 fault_status (File name) = 3
+fault_status (Changed name) = 3
 fault_status Link = 3
+fault_status Threads = 3
 fault_status Output = 3
 fault_status Memory = 4
 
 -- the line of a text that was not read whole
 abbrev pub file_line : List ℕ → List ℕ
-file_line name = codes "file " ++ name ++ codes "\n"
+file_line name = codes "file " ++ shown name ++ codes "\n"
 
--- the line that tells a fault
+-- why a text was not read, where it was not the same each time
+abbrev pub not_the_same : List ℕ
+not_the_same = codes ": it is read four times and has to be the same each time, as a pipe is not: name a file that stays\n"
+
+-- the lines of such a text
+abbrev pub changed_lines : List ℕ → List ℕ
+changed_lines name = file_line name ++ (shown name ++ not_the_same)
+
+-- the lines that tell a fault
 abbrev pub fault_line : Fault → List ℕ
 fault_line (File name) = file_line name.now
+fault_line (Changed name) = changed_lines name.now
 fault_line Link = codes "link\n"
+fault_line Threads = codes "threads\n"
 fault_line Output = codes "output\n"
 fault_line Memory = codes "out of memory\n"
 
 -- a text that was not read whole stands under such a name, or there was no memory
 abbrev pub IsReadFault : (List ℕ → Type 0) → Fault → Type 0
 IsReadFault IsName (File name) = IsName name.now
+IsReadFault IsName (Changed name) = IsName name.now
 IsReadFault IsName Link = ⊥
+IsReadFault IsName Threads = ⊥
 IsReadFault IsName Output = ⊥
 IsReadFault IsName Memory = ⊤
 
@@ -35,10 +50,20 @@ abbrev pub IsTextFault : (List ℕ → Type 0) → Fault → Type 0
 IsTextFault IsName Output = ⊤
 IsTextFault IsName other = IsReadFault IsName other
 
--- and of one that may use a link
-abbrev pub IsLinkFault : (List ℕ → Type 0) → Fault → Type 0
-IsLinkFault IsName Link = ⊤
-IsLinkFault IsName other = IsTextFault IsName other
+-- a migration was not run to its end: its link failed, or there was no thread or no memory for it
+abbrev pub IsRunStop : Fault → Type 0
+IsRunStop (File name) = ⊥
+IsRunStop (Changed name) = ⊥
+IsRunStop Link = ⊤
+IsRunStop Threads = ⊤
+IsRunStop Output = ⊥
+IsRunStop Memory = ⊤
+
+-- and of one that runs a migration
+abbrev pub IsHostFault : (List ℕ → Type 0) → Fault → Type 0
+IsHostFault IsName Link = ⊤
+IsHostFault IsName Threads = ⊤
+IsHostFault IsName other = IsTextFault IsName other
 
 -- an answer of this text and this status
 abbrev pub Says : Answer → List ℕ → ℕ → Type 0

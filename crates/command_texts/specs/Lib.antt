@@ -4,5 +4,6 @@ pub mod Answers
 pub mod Told
 pub mod Written
 pub mod Reasons
+pub mod Shown
 pub mod Several
 pub mod inner

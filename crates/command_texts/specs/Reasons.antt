@@ -8,6 +8,7 @@ use Rattle.refusal_words.specs.Placed.{AddsPlaced, AddsPlacedFirst}
 use Rattle.command_texts.specs.declared.why.Telling.{Telling}
 use Rattle.command_texts.specs.declared.why.Telling.TheVariants.{Short, Full}
 use Rattle.command_texts.specs.declared.why.Why.{Why}
+use Rattle.command_texts.specs.Shown.{shown}
 use Rattle.command_texts.specs.Written.{MayTell}
 
 -- the line at which a text is refused, or none where it is a spelling
@@ -41,10 +42,10 @@ first_place first second one other = option_or (place_of first one) (place_of se
 abbrev pub told_place : Why → Place
 told_place why = (why.name.now, why.refusal.fault.line)
 
--- words that tell why a text is refused: a line that begins with its name and that line, or in full more below it
+-- words that tell why a text is refused: a line that begins with its name, as it is shown, and that line, or in full more below it
 abbrev pub AreReasons : Telling → Place → List ℕ → Type 0
-AreReasons Short place words = AddsPlaced place.0 place.1 [] words
-AreReasons Full place words = AddsPlacedFirst place.0 place.1 [] words
+AreReasons Short place words = AddsPlaced (shown place.0) place.1 [] words
+AreReasons Full place words = AddsPlacedFirst (shown place.0) place.1 [] words
 
 -- why a text is refused is told, if one is
 abbrev pub TellsWhy : Telling → Option Place → Option (List ℕ) → Option (List ℕ) → Type 0
@@ -58,7 +59,7 @@ pub record TellsWhyOf (IsRefused : List ℕ → Option ℕ → Type 0) (telling 
   pub told : TellsWhy telling (place_of name line) old new
 
 -- what is told beside the answer to two texts under their names: why the first is refused, or else the second, and then what
--- more is told of them, with the name of the second
+-- more is told of them, with the name of the second, as it is shown
 pub record TellsBeside (IsFirstRefused IsSecondRefused : List ℕ → Option ℕ → Type 0) (AddsMore : List ℕ × List ℕ → List ℕ → List ℕ → List ℕ → Type 0) (first second : List ℕ) (texts : List ℕ × List ℕ) (old new : Option (List ℕ)) : Type 0 where
   pub one : Option ℕ
   pub other : Option ℕ
@@ -66,4 +67,4 @@ pub record TellsBeside (IsFirstRefused IsSecondRefused : List ℕ → Option ℕ
   pub is_other : IsSecondRefused texts.1 other
   pub between : Option (List ℕ)
   pub why : TellsWhy Short (first_place first second one other) old between
-  pub more : MayTell (AddsMore texts second []) between new
+  pub more : MayTell (AddsMore texts (shown second) []) between new

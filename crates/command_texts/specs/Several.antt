@@ -5,9 +5,10 @@ use Rattle.std.specs.List.{AllByRecursion, concat}
 use Rattle.std.specs.Borrow.{Bor}
 use Rattle.std.specs.Io.KnownBytes.{Appends, Keeps}
 use Rattle.command_texts.specs.declared.several.Listing.{Listing}
-use Rattle.command_texts.specs.declared.several.Listing.TheVariants.{Named, Bare}
+use Rattle.command_texts.specs.declared.several.Listing.TheVariants.{Named, Objects}
 use Rattle.command_texts.specs.declared.why.Telling.TheVariants.{Short}
 use Rattle.command_texts.specs.Reasons.{TellsWhy, place_of}
+use Rattle.command_texts.specs.Shown.{quoted, shown}
 use Rattle.command_texts.specs.Told.{IsNamed}
 use Rattle.command_texts.specs.Written.{Streams}
 
@@ -26,18 +27,23 @@ pub record IsRight (files : List ℕ → Option (List ℕ)) (IsAnswer : List ℕ
   pub is_answer : IsAnswer e.text e.said e.status
   pub is_line : IsRefused e.text e.line
 
--- how answers are listed: after their names, with these words after the counts at the end, or as they are
+-- how answers are listed: after their names, with these words after the counts at the end, or as objects with their names
 abbrev pub Style : Type 0
 Style = Option (List ℕ)
 
 abbrev pub style_of : Listing → Style
 style_of (Named sum) = Some sum.now
-style_of Bare = None
+style_of Objects = None
 
--- an answer in a list: after its name, as in "a: clean", or as it is
+-- an object with the name of its text before its other fields, as in {"file":"a","verdict":"clean"}
+abbrev pub in_object : List ℕ → List ℕ → List ℕ
+in_object name [] = []
+in_object name (brace ∷ fields) = brace ∷ codes "\"file\":" ++ quoted name ++ 44 ∷ fields
+
+-- an answer in a list: after its name, as in "a: clean", or an object with its name
 abbrev pub listed_as : Style → List ℕ → List ℕ → List ℕ
-listed_as (Some sum) name said = name ++ codes ": " ++ said
-listed_as None name said = said
+listed_as (Some sum) name said = shown name ++ codes ": " ++ said
+listed_as None name said = in_object name said
 
 abbrev pub listed : Style → Entry → List ℕ
 listed style e = listed_as style e.name e.said

@@ -1,11 +1,12 @@
 //! Answers and faults, with their statuses.
 
-ghost use Rattle.std.specs.Prelude.{◌≡◌, [], ◌∷◌, Ok, IfOk, IfErr, if◌then◌else◌};
+ghost use Rattle.std.specs.Prelude.{◌≡◌, [], ◌∷◌, Ok, IfOk, IfErr, if◌then◌else◌, true};
 ghost use Rattle.std.specs.Io.KnownBytes.{Appends};
 ghost use Rattle.text_lines.specs.Text.{ended};
-ghost use Rattle.command_texts.specs.Answers.{Says, fault_line, fault_status, file_line, numbered};
+ghost use Rattle.command_texts.specs.Answers.{Says, changed_lines, fault_line, fault_status, file_line, numbered};
 ghost use Rattle.command_texts.specs.Written.{AppendsFront};
 
+use crate::shown::write_shown;
 use crate::writing::write_whole;
 use std::alloc::{AllocError, Global};
 use std::io::Write;
@@ -20,7 +21,8 @@ pub const REFUSED: u8 = 1;
 /// The status of words that are no command.
 pub const USAGE: u8 = 2;
 
-/// The status of a text that was not read, of a link that failed, or of an output that was not written.
+/// The status of a text that was not read, of a link that failed, of a thread that could not be made, or of an output that was
+/// not written.
 pub const FAILED: u8 = 3;
 
 /// The status where memory ran out.
@@ -38,8 +40,12 @@ pub struct Answer {
 pub enum Fault<'a> {
     /// The text under this name was not read whole.
     File(&'a str),
+    /// The text under this name was not the same each time that it was read, as that of a pipe is not.
+    Changed(&'a str),
     /// The link of a migration failed.
     Link,
+    /// A thread of a migration could not be made.
+    Threads,
     /// The output was not written.
     Output,
     /// Memory was refused.
@@ -49,20 +55,39 @@ pub enum Fault<'a> {
 /// An answer, or the fault that there is none.
 pub type Given = Result<Answer, Fault<'static>>;
 
-// Tells of the text under this name that it failed.
-fn tell_file<E: Write>(name: &str, errors: &mut E)
-    ensures { AppendsFront (E.contents errors.old) (E.contents errors.new) (file_line name.now) }
+// Tells of the text under this name that it failed, and whether all of that is written.
+fn tell_file<E: Write>(name: &str, errors: &mut E) -> bool
+    ensures front { AppendsFront (E.contents errors.old) (E.contents errors.new) (file_line name.now) }
+    ensures whole { result ≡ true → Appends (E.contents errors.old) (E.contents errors.new) (file_line name.now) }
 {
     if !write_whole(errors, b"file ") {
-        return;
+        return false;
     }
-    if !write_whole(errors, name.as_bytes()) {
-        return;
+    if !write_shown(errors, name) {
+        return false;
     }
-    write_whole(errors, b"\n");
+    write_whole(errors, b"\n")
 }
 
-/// Tells a fault on a line of its own, and answers its status. Where that line is not written the status is the same.
+/// Why a text is not the same each time that it is read.
+const NOT_THE_SAME: &[u8] =
+    b": it is read four times and has to be the same each time, as a pipe is not: name a file that stays\n";
+
+// Tells of the text under this name that it was not the same each time.
+fn tell_changed<E: Write>(name: &str, errors: &mut E)
+    ensures { AppendsFront (E.contents errors.old) (E.contents errors.new) (changed_lines name.now) }
+{
+    if !tell_file(name, errors) {
+        return;
+    }
+    if !write_shown(errors, name) {
+        return;
+    }
+    write_whole(errors, NOT_THE_SAME);
+}
+
+/// Tells a fault on a line of its own, below which there may be a word on why, and answers its status. Where that is not written
+/// the status is the same.
 pub fn tell<E: Write>(fault: Fault<'_>, errors: &mut E) -> u8
     ensures status { result ≡ fault_status fault.entry }
     ensures told { AppendsFront (E.contents errors.old) (E.contents errors.new) (fault_line fault.entry) }
@@ -72,8 +97,16 @@ pub fn tell<E: Write>(fault: Fault<'_>, errors: &mut E) -> u8
             tell_file(name, errors);
             FAILED
         }
+        Fault::Changed(name) => {
+            tell_changed(name, errors);
+            FAILED
+        }
         Fault::Link => {
             write_whole(errors, b"link\n");
+            FAILED
+        }
+        Fault::Threads => {
+            write_whole(errors, b"threads\n");
             FAILED
         }
         Fault::Output => {

@@ -4,6 +4,7 @@
 ghost use Rattle.std.specs.Prelude.{◌≡◌, ⊤, ◌<◌, ◌⊎◌, ℕ, List, [], IfOk, IfErr, OnOk};
 ghost use Rattle.command_texts.specs.Answers.{IsTextFault};
 ghost use Rattle.command_texts.specs.Reasons.{TellsBeside, TellsWhyOf};
+ghost use Rattle.command_texts.specs.Shown.{shown};
 ghost use Rattle.command_texts.specs.declared.why.Telling.{Telling as HowMuch};
 ghost use Rattle.command_texts.specs.Told.{AreNamed, Ends, IsNamed};
 ghost use Rattle.command_texts.specs.Written.{BothGain, MayTell};
@@ -11,6 +12,7 @@ ghost use Rattle.command_texts.specs.Written.{BothGain, MayTell};
 use crate::answer::{Answer, Fault, Given, written};
 use crate::naming::{read_named, read_pair};
 use crate::reading::TextSource;
+use crate::shown::{is_plain, push_quoted};
 use crate::taking::Taker;
 use crate::why::{Telling, tell_why};
 use crate::writing::write_whole;
@@ -83,7 +85,7 @@ pub trait OnTwo {
         ensures fault { IfErr result (λ fault. fault ≡ Fault.Memory) };
 
     /// Adds what more can be told of what its answer says, in words for people, with the name that the second text stands
-    /// under. Many commands have no more to tell. An error: there is no memory for the words.
+    /// under, as it is shown. Many commands have no more to tell. An error: there is no memory for the words.
     fn push_more(
         &self,
         out: &mut Vec<u8>,
@@ -132,15 +134,21 @@ pub fn perform_one<
 fn more_words<C: OnTwo>(
     alloc: Global,
     command: &C,
-    name: &[u8],
+    name: &str,
     first: &<C::First as Taker>::Found,
     second: &<C::Second as Taker>::Found,
     said: C::Said,
 ) -> Result<Vec<u8>, AllocError>
-    ensures { (texts : List ℕ × List ℕ) → C.First.is_found texts.0 first.now → C.Second.is_found texts.1 second.now → C.is_said command.now texts said → IfOk result (λ words. C.adds_more command.now texts name.now [] words.items) }
+    ensures { (texts : List ℕ × List ℕ) → C.First.is_found texts.0 first.now → C.Second.is_found texts.1 second.now → C.is_said command.now texts said → IfOk result (λ words. C.adds_more command.now texts (shown name.now) [] words.items) }
 {
     let mut words = Vec::new(alloc);
-    command.push_more(&mut words, name, first, second, said)?;
+    if is_plain(name) {
+        command.push_more(&mut words, name.as_bytes(), first, second, said)?;
+    } else {
+        let mut quoted = Vec::new(alloc);
+        push_quoted(&mut quoted, name)?;
+        command.push_more(&mut words, quoted.as_slice(), first, second, said)?;
+    }
     Ok(words)
 }
 
@@ -149,13 +157,13 @@ fn more_words<C: OnTwo>(
 fn tell_more<C: OnTwo, E: Write>(
     alloc: Global,
     command: &C,
-    name: &[u8],
+    name: &str,
     first: &<C::First as Taker>::Found,
     second: &<C::Second as Taker>::Found,
     said: C::Said,
     errors: &mut E,
 )
-    ensures { (texts : List ℕ × List ℕ) → C.First.is_found texts.0 first.now → C.Second.is_found texts.1 second.now → C.is_said command.now texts said → MayTell (C.adds_more command.now texts name.now []) (E.contents errors.old) (E.contents errors.new) }
+    ensures { (texts : List ℕ × List ℕ) → C.First.is_found texts.0 first.now → C.Second.is_found texts.1 second.now → C.is_said command.now texts said → MayTell (C.adds_more command.now texts (shown name.now) []) (E.contents errors.old) (E.contents errors.new) }
 {
     if let Ok(words) = more_words(alloc, command, name, first, second, said) {
         write_whole(errors, words.as_slice());
@@ -194,15 +202,7 @@ pub fn perform_two<
     let (answer, said) = command.answer(alloc, &found, &other)?;
     let status = written(&answer, output)?;
     tell_why(alloc, &why, Telling::Short, errors);
-    tell_more(
-        alloc,
-        command,
-        second.as_bytes(),
-        &found,
-        &other,
-        said,
-        errors,
-    );
+    tell_more(alloc, command, second, &found, &other, said, errors);
     mem::forget((found, other));
     mem::forget(answer);
     Ok(status)

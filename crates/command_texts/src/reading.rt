@@ -25,6 +25,11 @@ pub trait TextSource {
     /// Opens the text under a name.
     fn text(&self, name: &str) -> io::Result<Self::Text>
         ensures { IfOk result (λ t. IfSome (bytes_of self.now name.now) (λ xs. Self.Text.remaining t ≡ Some xs)) };
+
+    /// Whether the text under a name may be read again, as that of a pipe may not. Nothing rests on it.
+    fn stays(&self, _name: &str) -> bool {
+        true
+    }
 }
 
 /// Why a text was not read whole.

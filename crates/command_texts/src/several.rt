@@ -2,13 +2,14 @@
 
 ghost use Rattle.std.specs.Prelude.{◌≡◌, ◌<◌, ◌++◌, ℕ, IfOk, IfErr, OnOk, map};
 ghost use Rattle.command_texts.specs.Answers.{IsReadFault, IsTextFault};
-ghost use Rattle.command_texts.specs.Several.{AreGathered, IsGathered, IsOneOf, TellsSeveral, list_end, listed_as, names_of, style_of};
+ghost use Rattle.command_texts.specs.Several.{AreGathered, IsGathered, IsOneOf, TellsSeveral, in_object, list_end, listed_as, names_of, style_of};
 ghost use Rattle.command_texts.specs.Written.{BothGain, Gains};
 
 use crate::answer::{ACCEPTED, Answer, Fault, status_where, written};
 use crate::naming::read_named;
 use crate::performing::OnOne;
 use crate::reading::TextSource;
+use crate::shown::{push_quoted, push_shown};
 use crate::why::{Telling, tell_why};
 use crate::writing::write_whole;
 use std::alloc::{AllocError, Global};
@@ -22,8 +23,22 @@ pub enum Listing<'a> {
     /// Each after the name of its text, as in `a: clean`. At the end stands how many of how many are well, and this after it,
     /// as in ` sessions are clean`.
     Named(&'a [u8]),
-    /// As they are.
-    Bare,
+    /// Each an object, with the name of its text in its first field, as in `{"file":"a","verdict":"clean"}`.
+    Objects,
+}
+
+// Adds an object with the name of its text before its other fields.
+fn push_object(out: &mut Vec<u8>, name: &str, object: &[u8]) -> Result<(), AllocError>
+    ensures { OnOk result (out.new.items ≡ out.old.items ++ in_object name.now object.now) }
+{
+    let [brace, fields @ ..] = object else {
+        return Ok(());
+    };
+    out.push(*brace)?;
+    out.extend_from_slice(b"\"file\":")?;
+    push_quoted(out, name)?;
+    out.push(b',')?;
+    out.extend_from_slice(fields)
 }
 
 impl Listing<'_> {
@@ -31,11 +46,14 @@ impl Listing<'_> {
     fn push_answer(self, out: &mut Vec<u8>, name: &str, answer: &Answer) -> Result<(), AllocError>
         ensures { OnOk result (out.new.items ≡ out.old.items ++ listed_as (style_of self.entry) name.now answer.now.text.items) }
     {
-        if let Listing::Named(_) = self {
-            out.extend_from_slice(name.as_bytes())?;
-            out.extend_from_slice(b": ")?;
+        match self {
+            Listing::Named(_) => {
+                push_shown(out, name)?;
+                out.extend_from_slice(b": ")?;
+                out.extend_from_slice(answer.text.as_slice())
+            }
+            Listing::Objects => push_object(out, name, answer.text.as_slice()),
         }
-        out.extend_from_slice(answer.text.as_slice())
     }
 
     // Adds what ends the list, where so many answers of so many say that all is well.

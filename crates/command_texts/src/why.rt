@@ -3,6 +3,7 @@
 ghost use Rattle.std.specs.Prelude.{◌≡◌, [], IfOk, option_map};
 ghost use Rattle.command_texts.specs.Reasons.{AreReasons, TellsWhy, line_of, place_of, told_place};
 
+use crate::shown::push_shown;
 use crate::writing::write_whole;
 use refusal_words::{push_why, push_why_in_full};
 use std::alloc::{AllocError, Global};
@@ -39,10 +40,12 @@ pub enum Telling {
 fn words(alloc: Global, why: &Why<'_>, telling: Telling) -> Result<Vec<u8>, AllocError>
     ensures { IfOk result (λ words. AreReasons telling (told_place why.now) words.items) }
 {
+    let mut name = Vec::new(alloc);
+    push_shown(&mut name, why.name)?;
     let mut out = Vec::new(alloc);
     match telling {
-        Telling::Short => push_why(&mut out, why.name.as_bytes(), &why.refusal)?,
-        Telling::Full => push_why_in_full(&mut out, why.name.as_bytes(), &why.refusal)?,
+        Telling::Short => push_why(&mut out, name.as_slice(), &why.refusal)?,
+        Telling::Full => push_why_in_full(&mut out, name.as_slice(), &why.refusal)?,
     }
     Ok(out)
 }

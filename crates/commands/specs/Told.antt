@@ -39,7 +39,7 @@ use Rattle.script_text.specs.Scripts.{SpellsScript}
 use Rattle.command_texts.specs.declared.answer.Fault.{Fault}
 use Rattle.command_texts.specs.declared.why.Telling.{Telling}
 use Rattle.command_texts.specs.declared.why.Telling.TheVariants.{Short, Full}
-use Rattle.command_texts.specs.Answers.{IsLinkFault, IsTextFault, fault_line, fault_status}
+use Rattle.command_texts.specs.Answers.{IsHostFault, IsTextFault, fault_line, fault_status}
 use Rattle.command_texts.specs.Reasons.{IsRefusedAt, TellsBeside, TellsWhyOf}
 use Rattle.command_texts.specs.Several.{IsOneOf, Style, TellsSeveral}
 use Rattle.command_texts.specs.Told.{AreNamed, AreOfInput, Ends, IsNamed}
@@ -195,7 +195,7 @@ EndsAsked (One task name) files input =
 EndsAsked (Two task first second) files input =
     Ends (IsFaultOfTwo first second) (AreNamed first second files input) (IsTwoAnswer task) (IsBesideTwo task first second)
 EndsAsked (Migrate carrier name) files input =
-    Ends (IsLinkFault (λ n. n ≡ name)) (IsNamed name files input) IsMigrateAnswer (TellsWhyOf (IsRefusedAt SpellsScript) Short name)
+    Ends (IsHostFault (λ n. n ≡ name)) (IsNamed name files input) IsMigrateAnswer (TellsWhyOf (IsRefusedAt SpellsScript) Short name)
 EndsAsked (Draw topic name None) files input =
     Ends (IsFaultOf name) (IsNamed name files input) (IsDrawAnswer (told_topic topic)) (TellsWhyOf (IsRefusedAt SpellsSession) Short name)
 EndsAsked (Draw topic first (Some second)) files input =

@@ -24,7 +24,7 @@ use Rattle.audit_report.specs.Reports.{IsReport, IsClean}
 use Rattle.host_checks.specs.declared.transcript.Answered.{Answered}
 use Rattle.host_checks.specs.declared.outcome.Migrated.{Migrated}
 use Rattle.host_checks.specs.declared.outcome.RunFault.{RunFault}
-use Rattle.host_checks.specs.declared.outcome.RunFault.TheVariants.{LogFull, Memory, AuditRefused, TranscriptDiffers, Link}
+use Rattle.host_checks.specs.declared.outcome.RunFault.TheVariants.{LogFull, Memory, Threads, AuditRefused, TranscriptDiffers, Link}
 
 abbrev pub answered : Op → ℕ → Answered
 answered op answer = record { op = op; answer = answer }
@@ -102,6 +102,7 @@ pub record HasMigrated (script : Scenario) (m : Migrated) : Type 0 where
 abbrev pub IsRunFault : Scenario → RunFault → Type 0
 IsRunFault script LogFull = Unit {0}
 IsRunFault script Memory = Unit {0}
+IsRunFault script Threads = Unit {0}
 IsRunFault script (AuditRefused report) = (logs : Logs) × IsReport (recorded script.version script.geometry script.init logs) report × ¬ IsClean report
 IsRunFault script TranscriptDiffers = Unit {0}
 IsRunFault script Link = Unit {0}
@@ -110,6 +111,7 @@ IsRunFault script Link = Unit {0}
 abbrev pub IsUnread : RunFault → Type 0
 IsUnread LogFull = ⊥
 IsUnread Memory = Unit {0}
+IsUnread Threads = ⊥
 IsUnread (AuditRefused report) = ⊥
 IsUnread TranscriptDiffers = Unit {0}
 IsUnread Link = ⊥
@@ -118,6 +120,7 @@ IsUnread Link = ⊥
 abbrev pub IsUnclean : Recorded → RunFault → Type 0
 IsUnclean s LogFull = ⊥
 IsUnclean s Memory = Unit {0}
+IsUnclean s Threads = ⊥
 IsUnclean s (AuditRefused report) = IsReport s report × ¬ IsClean report
 IsUnclean s TranscriptDiffers = ⊥
 IsUnclean s Link = ⊥
@@ -127,6 +130,7 @@ IsUnclean s Link = ⊥
 abbrev pub IsRefused : List Vcpu → Recorded → List (List Answered) → Frames → RunFault → Type 0
 IsRefused vcpus s transcripts frames LogFull = ⊥
 IsRefused vcpus s transcripts frames Memory = Unit {0}
+IsRefused vcpus s transcripts frames Threads = ⊥
 IsRefused vcpus s transcripts frames (AuditRefused report) = IsReport s report × ¬ IsClean report
 IsRefused vcpus s transcripts frames TranscriptDiffers = (cert : Certified) × IsReport s (Clean cert) × Differs vcpus s cert transcripts frames
 IsRefused vcpus s transcripts frames Link = ⊥

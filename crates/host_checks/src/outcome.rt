@@ -23,8 +23,10 @@ pub struct Migrated {
 pub enum RunFault {
     /// A log had no room for a record.
     LogFull,
-    /// There was no memory, or no thread could be made.
+    /// There was no memory.
     Memory,
+    /// A thread could not be made.
+    Threads,
     /// What was recorded is not clean: the audit's report.
     AuditRefused(Report),
     /// A transcript is not the script's, or not the guest's log's; or what is left is no whole migration: a book is

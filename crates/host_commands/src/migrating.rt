@@ -1,6 +1,6 @@
 //! The migration of a script, as a text and a status.
 
-ghost use Rattle.std.specs.Prelude.{◌≡◌, ◌⊎◌, ℕ, List, IfOk, IfErr};
+ghost use Rattle.std.specs.Prelude.{◌≡◌, ℕ, List, IfOk, IfErr};
 ghost use Rattle.text_lines.specs.Answer.{IsRead};
 ghost use Rattle.text_lines.specs.Text.{IsSpelling};
 ghost use Rattle.audit_report.specs.Reports.{ReportFits};
@@ -8,7 +8,7 @@ ghost use Rattle.report_text.specs.ReportText.{report_text};
 ghost use Rattle.script.specs.Scenarios.{Scenario};
 ghost use Rattle.script_text.specs.Scripts.{SpellsScript};
 ghost use Rattle.host_checks.specs.Outcomes.{IsRunFault};
-ghost use Rattle.command_texts.specs.Answers.{Says};
+ghost use Rattle.command_texts.specs.Answers.{IsRunStop, Says};
 ghost use Rattle.host_commands.specs.Migrations.{IsMigrateAnswer, IsMigrationOf, certified_text};
 
 use audit_report::Report;
@@ -69,11 +69,12 @@ fn reported(alloc: Global, report: &Report) -> Result<Answer, AllocError>
 fn stopped(alloc: Global, fault: &RunFault) -> Result<Answer, Fault<'static>>
     requires { (s : Scenario) × IsRunFault s fault.now }
     ensures told { (s : Scenario) (text : List ℕ) → IsRunFault s fault.now → IsSpelling SpellsScript s text → IfOk result (λ answer. IsMigrateAnswer text answer.text.items answer.status) }
-    ensures fault { IfErr result (λ fault. (fault ≡ Fault.Memory) ⊎ (fault ≡ Fault.Link)) }
+    ensures fault { IfErr result IsRunStop }
 {
     match fault {
         RunFault::LogFull => given(remark(alloc, b"log-full")),
         RunFault::Memory => Err(Fault::Memory),
+        RunFault::Threads => Err(Fault::Threads),
         RunFault::AuditRefused(report) => given(reported(alloc, report)),
         RunFault::TranscriptDiffers => given(remark(alloc, b"transcript-differs")),
         RunFault::Link => Err(Fault::Link),
@@ -88,7 +89,7 @@ fn answer_to<R: Threads + Wait + Sync + Net<Listener = TcpListener, Stream = Tcp
     script: &Script,
 ) -> Result<Answer, Fault<'static>>
     ensures told { (text : List ℕ) → IsSpelling SpellsScript script.now text → IfOk result (λ answer. IsMigrateAnswer text answer.text.items answer.status) }
-    ensures fault { IfErr result (λ fault. (fault ≡ Fault.Memory) ⊎ (fault ≡ Fault.Link)) }
+    ensures fault { IfErr result IsRunStop }
 {
     match carried(rt, alloc, carrier, script) {
         Ok(migrated) => {
@@ -101,7 +102,7 @@ fn answer_to<R: Threads + Wait + Sync + Net<Listener = TcpListener, Stream = Tcp
 }
 
 /// `migrate`: what becomes of a script, by what was read of its text. Its migration is run in threads over this carrier, with a
-/// gate that never waits. The faults: there is no memory, or the link failed.
+/// gate that never waits. The faults: there is no memory, a thread could not be made, or the link failed.
 pub fn migrate_read<R: Threads + Wait + Sync + Net<Listener = TcpListener, Stream = TcpStream>>(
     rt: &R,
     alloc: Global,
@@ -109,7 +110,7 @@ pub fn migrate_read<R: Threads + Wait + Sync + Net<Listener = TcpListener, Strea
     script: &Result<Script, u32>,
 ) -> Result<Answer, Fault<'static>>
     ensures told { (text : List ℕ) → IsRead SpellsScript text script.now → IfOk result (λ answer. IsMigrateAnswer text answer.text.items answer.status) }
-    ensures fault { IfErr result (λ fault. (fault ≡ Fault.Memory) ⊎ (fault ≡ Fault.Link)) }
+    ensures fault { IfErr result IsRunStop }
 {
     match script {
         Ok(script) => answer_to(rt, alloc, carrier, script),

@@ -12,7 +12,7 @@ use Rattle.host_checks.specs.declared.outcome.Migrated.{Migrated}
 use Rattle.host_checks.specs.declared.outcome.RunFault.{RunFault}
 use Rattle.host_checks.specs.declared.outcome.RunFault.TheVariants as told
 use Rattle.host_threads.specs.declared.bell.Fault.{Fault}
-use Rattle.host_threads.specs.declared.bell.Fault.TheVariants.{LogFull, Memory, Link, Astray}
+use Rattle.host_threads.specs.declared.bell.Fault.TheVariants.{LogFull, Memory, Threads, Link, Astray}
 use Rattle.host_threads.specs.declared.side.TargetSide.{TargetSide}
 use Rattle.host_threads.specs.declared.side.TargetSide.TheVariants.{Guest, Moving, Target}
 
@@ -27,6 +27,7 @@ IsLeft (Some s) link pager (Target t) left = left ≡ Some (record { guest = t.h
 abbrev pub told_as : Fault → Option RunFault
 told_as LogFull = Some told.LogFull
 told_as Memory = Some told.Memory
+told_as Threads = Some told.Threads
 told_as Link = Some told.Link
 told_as Astray = None
 

@@ -11,8 +11,10 @@ use std::thread::Parker;
 pub(crate) enum Fault {
     /// A log has no room for a record.
     LogFull,
-    /// There is no memory, or no thread could be made.
+    /// There is no memory.
     Memory,
+    /// A thread could not be made.
+    Threads,
     /// The link failed.
     Link,
     /// A book, a packet or an operation is not of the script's machine, or a book is not where it should be.

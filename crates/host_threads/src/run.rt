@@ -74,7 +74,7 @@ fn start_vcpus<'s, E, R: Threads + Wait + Sync, G: Gate>(
         }
         match scope.spawn(move || run_vcpu(rt, alloc, shared, gate, number, vcpu)) {
             Ok(thread) => threads.push_reserved(thread),
-            Err(_) => shared.bell.stop(rt, Fault::Memory),
+            Err(_) => shared.bell.stop(rt, Fault::Threads),
         }
     }
     threads
@@ -119,7 +119,7 @@ fn run_threads<R: Threads + Wait + Sync, G: Gate, L: Relay + Drop>(
             .ok();
         let pager = scope.spawn(move || run_pager(rt, shared, gate)).ok();
         if source.is_none() || link.is_none() || pager.is_none() {
-            shared.bell.stop(rt, Fault::Memory);
+            shared.bell.stop(rt, Fault::Threads);
         }
         join_vcpus(rt, shared, threads, &mut transcripts);
         for thread in [source, link, pager] {
@@ -138,6 +138,7 @@ fn refusal(fault: Fault) -> Option<RunFault>
     match fault {
         Fault::LogFull => Some(RunFault::LogFull),
         Fault::Memory => Some(RunFault::Memory),
+        Fault::Threads => Some(RunFault::Threads),
         Fault::Link => Some(RunFault::Link),
         Fault::Astray => None,
     }

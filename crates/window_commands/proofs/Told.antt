@@ -1,5 +1,5 @@
 -- What is told of a window.
-use Rattle.std.proofs.Common.{◌≡◌, ◌⊎◌, inl, inr, ℕ, ◌<◌, Bool, List, Option, Some, None, Result, Ok, Err, IfOk, subst}
+use Rattle.std.proofs.Common.{◌≡◌, ℕ, ◌<◌, Bool, List, Option, Some, None, Result, Ok, Err, IfOk, subst}
 use Rattle.std.specs.Prelude.{IfErr, IfSome}
 use Rattle.std.specs.Io.KnownBytes.{Appends}
 use Rattle.std.proofs.KnownBytes.{Keeps-refl}
@@ -14,7 +14,7 @@ use Rattle.command_texts.proofs.Said.{says_right}
 use Rattle.window_cut.specs.declared.faults.CutFault.{CutFault}
 use Rattle.window_cut.specs.declared.pages.Window.{Window}
 use Rattle.window_cut.specs.declared.session.WindowText.{WindowText}
-use Rattle.window_cut.specs.Cuts.{IsCutOf, IsTold, IsOneOf, OfOneRead, OfRead}
+use Rattle.window_cut.specs.Cuts.{IsCutOf, IsTold, OfRead}
 use Rattle.window_commands.specs.Found.{IsFound}
 use Rattle.window_commands.specs.Windows.{EndsWindow, IsReadUnder, IsWindowAnswer, IsWindowed, Seen, TellsNothing, Windowed, windowed_status, windowed_text, with_lines}
 
@@ -39,15 +39,10 @@ named_read : (bytes known : Option (List ℕ)) (Holds : List ℕ → Type 0) →
 named_read None known Holds e is = record { text = is.text; is_known = tt; holds = is.holds }
 named_read (Some xs) known Holds e is = record { text = is.text; is_known = subst (λ (o : Option (List ℕ)). IfSome o (λ ys. is.text ≡ ys)) e is.is_known; holds = is.holds }
 
-one_named : (bytes one two three four : Option (List ℕ)) (Holds : List ℕ → Type 0) → IfSome bytes (λ xs. one ≡ Some xs) → IfSome bytes (λ xs. two ≡ Some xs) → IfSome bytes (λ xs. three ≡ Some xs) → IfSome bytes (λ xs. four ≡ Some xs) → (known : Option (List ℕ)) → IsOneOf one two three four known → OfRead known Holds → OfRead bytes Holds
-one_named bytes one two three four Holds a b c d known (inl e) is = named_read bytes one Holds a (subst (λ o. OfRead o Holds) e is)
-one_named bytes one two three four Holds a b c d known (inr (inl e)) is = named_read bytes two Holds b (subst (λ o. OfRead o Holds) e is)
-one_named bytes one two three four Holds a b c d known (inr (inr (inl e))) is = named_read bytes three Holds c (subst (λ o. OfRead o Holds) e is)
-one_named bytes one two three four Holds a b c d known (inr (inr (inr e))) is = named_read bytes four Holds d (subst (λ o. OfRead o Holds) e is)
-
-pub found_named : (w : Window) (found : Result WindowText CutFault) (bytes one two three four : Option (List ℕ)) → IfSome bytes (λ xs. one ≡ Some xs) → IfSome bytes (λ xs. two ≡ Some xs) → IfSome bytes (λ xs. three ≡ Some xs) → IfSome bytes (λ xs. four ≡ Some xs) → IfOk found (λ cut. OfRead four (λ text. IsCutOf w text cut)) → IfErr found (λ fault. OfOneRead one two three four (λ text. IsTold w text fault)) → OfRead bytes (λ recording. IsFound w recording found)
-found_named w (Ok cut) bytes one two three four a b c d is refused = named_read bytes four (λ text. IsCutOf w text cut) d is
-found_named w (Err fault) bytes one two three four a b c d is refused = one_named bytes one two three four (λ text. IsTold w text fault) a b c d refused.known refused.is_one refused.read
+-- a window is one of what the fourth reader gave, and what is told where there is none is so of what the first gave
+pub found_named : (w : Window) (found : Result WindowText CutFault) (bytes one four : Option (List ℕ)) → IfSome bytes (λ xs. one ≡ Some xs) → IfSome bytes (λ xs. four ≡ Some xs) → IfOk found (λ cut. OfRead four (λ text. IsCutOf w text cut)) → IfErr found (λ fault. OfRead one (λ text. IsTold w text fault)) → OfRead bytes (λ recording. IsFound w recording found)
+found_named w (Ok cut) bytes one four a d is refused = named_read bytes four (λ text. IsCutOf w text cut) d is
+found_named w (Err fault) bytes one four a d is refused = named_read bytes one (λ text. IsTold w text fault) a refused
 
 -- the answer was written, or the output failed
 pub window_written : (w : Window) (lined : Bool) (name : List ℕ) (files : List ℕ → Option (List ℕ)) (answer : Answer) (old new errors : Option (List ℕ)) (r : Result ℕ Fault) → TellsOf w lined (files name) answer → IfOk r (λ status. status ≡ answer.status) → IfOk r (λ _. Appends old new answer.text.items) → IfErr r (λ fault. fault ≡ Output) → AppendsFront old new answer.text.items → EndsWindow w lined name files (old, errors) (new, errors) r

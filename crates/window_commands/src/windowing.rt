@@ -73,7 +73,7 @@ fn uncut<'a>(alloc: Global, name: &'a str, fault: CutFault) -> Result<Answer, Fa
     match fault {
         CutFault::Recording(fault) => unread(alloc, name, fault),
         CutFault::Outside => given(remark(alloc, b"no-such-pages")),
-        CutFault::Changed => Err(Fault::File(name)),
+        CutFault::Changed => Err(Fault::Changed(name)),
     }
 }
 
@@ -106,8 +106,8 @@ fn answer_to<'a, S: TextSource>(
     ensures told { IfOk result (λ answer. OfRead (S.bytes_of texts.now name.entry.now) (λ recording. IsWindowAnswer window lined recording answer.text.items answer.status)) }
     ensures fault { IfErr result (IsReadFault (λ n. n ≡ name.entry.now)) }
 {
-    if name == "-" {
-        return Err(Fault::File(name));
+    if name == "-" || !texts.stays(name) {
+        return Err(Fault::Changed(name));
     }
     match cut_named(alloc, window, name, texts)? {
         Ok(cut) => given(seen(cut, lined)),

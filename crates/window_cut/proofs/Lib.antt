@@ -11,3 +11,4 @@ pub mod Lineage
 pub mod Seen
 pub mod Same
 pub mod Read
+pub mod Later

@@ -21,7 +21,7 @@ use Rattle.window_cut.specs.inner.Met.{Found}
 use Rattle.window_cut.specs.inner.Settled.{Meets, IsNotWrittenBy}
 
 -- where nothing is told of it, some text is one that was read
-some_read : (known : Option (List ℕ)) (Holds : List ℕ → Type 0) → ((text : List ℕ) → Holds text) → OfRead known Holds
+pub some_read : (known : Option (List ℕ)) (Holds : List ℕ → Type 0) → ((text : List ℕ) → Holds text) → OfRead known Holds
 some_read None Holds all = record { text = []; is_known = tt; holds = all [] }
 some_read (Some text) Holds all = record { text = text; is_known = refl; holds = all text }
 

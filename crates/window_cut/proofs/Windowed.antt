@@ -1,6 +1,6 @@
 -- What is written by marks that are right is the window.
-use Rattle.std.proofs.Common.{◌≡◌, ℕ, ◌-◌, Bool, List, map, Option, Some, refl, sym, ap, ◌∙◌, subst}
-use Rattle.std.specs.Prelude.{IfSome, IfOk, IfErr, Result, Ok, Err}
+use Rattle.std.proofs.Common.{◌≡◌, ℕ, ◌-◌, Bool, List, map, Option, Some, refl, ap, ◌∙◌, subst}
+use Rattle.std.specs.Prelude.{IfSome, IfErr, Result, Ok, Err}
 use Rattle.migration_types.specs.declared.records.LogName.TheVariants.{Guest, Source, Link, Lane, Pager}
 use Rattle.migration_types.specs.declared.records.GuestRec.{GuestRec}
 use Rattle.migration_types.specs.declared.records.GuestRec.TheVariants.{Read, Write, Release, Miss, Halt, Resume, See}
@@ -26,7 +26,7 @@ use Rattle.window_cut.specs.declared.sections.Sections.{Sections}
 use Rattle.window_cut.specs.declared.pages.Window.{Window}
 use Rattle.window_cut.specs.declared.visiting.Marking.{Marking}
 use Rattle.window_cut.specs.declared.visiting.Writing.{Writing}
-use Rattle.window_cut.specs.inner.Settled.{Meets, IsFoundIn, FindsOthers, IsNotWrittenBy}
+use Rattle.window_cut.specs.inner.Settled.{FindsOthers, IsFoundIn, IsInside, IsNotWrittenBy, Meets}
 use Rattle.window_cut.specs.Pages.{numbers_of}
 use Rattle.window_cut.specs.inner.Guided.{reach_by, new_guest_by, new_source_by, new_link_by, new_lane_by, new_pager_by}
 use Rattle.window_cut.specs.inner.Met.{AreRight, Found, AreSame, Written, IsSection, lines_of}
@@ -140,6 +140,12 @@ pub found_by : {W : Type 0} (guide : Guide) (marking : Marking W) (w : Window) (
 found_by guide marking w marks known text by e walks =
     let met = walked_known (λ a d. (a.guide ≡ guide) × Found (numbers_of a.guide.window) a.guide.known a.found d) known marking text e walks in
     record { s = met.0; spelled = met.1; is_found = subst (λ g. Found (numbers_of g.window) g.known marking.found met.0) (met.2.0 ∙ by) met.2.1 }
+
+-- and the window is of the machine that it met
+pub inside_by : {W : Type 0} (guide : Guide) (marking : Marking W) (w : Window) (marks : Marks) (known : Option (List ℕ)) (text : List ℕ) → guide ≡ record { window = w; known = marks } → known ≡ Some text → Walks (λ a d. (a.guide ≡ guide) × Found (numbers_of a.guide.window) a.guide.known a.found d) known marking → IsOf w marking.found.machine.pages → IsInside w text
+inside_by guide marking w marks known text by e walks within =
+    let met = walked_known (λ a d. (a.guide ≡ guide) × Found (numbers_of a.guide.window) a.guide.known a.found d) known marking text e walks in
+    record { s = met.0; spelled = met.1; inside = subst (IsOf w) (ap (λ x. x.pages) met.2.1.extent) within }
 
 -- where a pass found the marks again that it went by, what it wrote is the window
 pub window_of : {W : Type 0} (writing : Writing W) (w : Window) (s : Recorded) (out : WindowText) → Meets writing s → writing.guide.window ≡ w → AreSame writing.guide.known writing.found → IsOf w writing.found.machine.pages →

@@ -56,13 +56,3 @@ pub record OfRead (known : Option (List ℕ)) (Holds : List ℕ → Type 0) : Ty
   pub text : List ℕ
   pub is_known : IfSome known (λ xs. text ≡ xs)
   pub holds : Holds text
-
--- what is known of one of four
-abbrev pub IsOneOf : Option (List ℕ) → Option (List ℕ) → Option (List ℕ) → Option (List ℕ) → Option (List ℕ) → Type 0
-IsOneOf one two three four known = (known ≡ one) ⊎ (known ≡ two) ⊎ (known ≡ three) ⊎ (known ≡ four)
-
--- and of a text that one of four readers gave
-pub record OfOneRead (one two three four : Option (List ℕ)) (Holds : List ℕ → Type 0) : Type 0 where
-  pub known : Option (List ℕ)
-  pub is_one : IsOneOf one two three four known
-  pub read : OfRead known Holds

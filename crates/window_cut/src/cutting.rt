@@ -1,15 +1,15 @@
 //! Cutting a window out of a recording.
 
 ghost use Rattle.std.specs.Prelude.{◌≡◌, ℕ, List, Some, IfOk, IfErr};
-ghost use Rattle.window_cut.specs.Cuts.{IsCutOf, IsNotCutBy, IsTold, OfOneRead, OfRead};
-ghost use Rattle.window_cut.specs.inner.Settled.{IsFoundIn, IsNotWrittenBy};
+ghost use Rattle.window_cut.specs.Cuts.{IsCutOf, IsNotCutBy, IsTold, OfRead};
+ghost use Rattle.window_cut.specs.inner.Settled.{IsFoundIn, IsInside, IsNotWrittenBy, found_later};
 
 use crate::faults::CutFault;
 use crate::marking::Marks;
 use crate::pages::Window;
 use crate::session::WindowText;
 use crate::visiting::{Marking, Way, Writing};
-use recording_text::walk;
+use recording_text::{RecordingFault, walk};
 use std::alloc::Global;
 use std::io::Read;
 use std::marker::Brand;
@@ -20,8 +20,9 @@ use std::marker::Brand;
 ///
 /// # Errors
 ///
-/// Where `walk` has no recording, its fault; `Outside` where there is no page in the window, or one that the machine has not;
-/// and `Changed` where the readers did not give one text, so that what is kept by the last differs from what the others told.
+/// Where `walk` has no recording of what the first gives, its fault; `Outside` where there is no page in the window, or one that
+/// the first's machine has not; and `Changed` where the readers did not give one text: another gives no recording, or one of a
+/// machine that has not these pages, or what is kept by the last differs from what the others told.
 pub fn cut<R: Read>(
     alloc: Global,
     window: Window,
@@ -31,13 +32,25 @@ pub fn cut<R: Read>(
     four: &mut R,
 ) -> Result<WindowText, CutFault>
     ensures cut { IfOk result (λ out. OfRead (R.remaining four.old) (λ text. IsCutOf window text out)) }
-    ensures told { IfErr result (λ fault. OfOneRead (R.remaining one.old) (R.remaining two.old) (R.remaining three.old) (R.remaining four.old) (λ text. IsTold window text fault)) }
+    ensures told { IfErr result (λ fault. OfRead (R.remaining one.old) (λ text. IsTold window text fault)) }
     ensures refused { IfErr result (λ fault. (text : List ℕ) → R.remaining one.old ≡ Some text → R.remaining two.old ≡ Some text → R.remaining three.old ≡ Some text → R.remaining four.old ≡ Some text → IsNotCutBy window text fault) }
 {
     let first = mark::<R, Brand>(alloc, window, Marks::new(alloc), one)?;
-    let second = mark::<R, Brand>(alloc, window, first, two)?;
-    let third = mark::<R, Brand>(alloc, window, second, three)?;
-    write::<R, Brand>(alloc, window, third, four)
+    let second = again(mark::<R, Brand>(alloc, window, first, two))?;
+    let third = again(mark::<R, Brand>(alloc, window, second, three))?;
+    again(write::<R, Brand>(alloc, window, third, four))
+}
+
+/// What a later pass comes to, where the first went through: if it refuses the text, that changed.
+fn again<T: Drop>(found: Result<T, CutFault>) -> Result<T, CutFault>
+    ensures { result ≡ found_later found }
+{
+    match found {
+        Err(CutFault::Recording(RecordingFault::Line(_)) | CutFault::Outside) => {
+            Err(CutFault::Changed)
+        }
+        found => found,
+    }
 }
 
 /// Finds what is kept, by what the pass before found.
@@ -50,6 +63,7 @@ fn mark<R: Read, W: Way>(
 ) -> Result<Marks, CutFault>
     requires { W.guide ≡ record { window = window; known = known } }
     ensures found { IfOk result (λ found. (text : List ℕ) → R.remaining reader.old ≡ Some text → IsFoundIn window known found text) }
+    ensures inside { IfOk result (λ found. (text : List ℕ) → R.remaining reader.old ≡ Some text → IsInside window text) }
     ensures refused { IfErr result (λ fault. (text : List ℕ) → R.remaining reader.old ≡ Some text → IsNotCutBy window text fault) }
     ensures told { IfErr result (λ fault. OfRead (R.remaining reader.old) (λ text. IsTold window text fault)) }
 {

@@ -1,14 +1,15 @@
 -- What a pass comes to.
-use Rattle.std.specs.Prelude.{ℕ, List}
+use Rattle.std.specs.Prelude.{ℕ, List, Result, Ok, Err}
 use Rattle.migration_types.specs.Sessions.{Recorded}
 use Rattle.text_lines.specs.Text.{IsSpelling}
 use Rattle.recordings.specs.Recordings.{SpellsRecording}
+use Rattle.recording_text.specs.declared.RecordingFault.TheVariants.{Line, File, Memory}
 use Rattle.window_cut.specs.declared.faults.CutFault.{CutFault}
 use Rattle.window_cut.specs.declared.faults.CutFault.TheVariants.{Recording, Outside, Changed}
 use Rattle.window_cut.specs.declared.marking.Marks.{Marks}
 use Rattle.window_cut.specs.declared.pages.Window.{Window}
 use Rattle.window_cut.specs.declared.visiting.Writing.{Writing}
-use Rattle.window_cut.specs.Cuts.{IsNotCutBy}
+use Rattle.window_cut.specs.Cuts.{IsNotCutBy, IsOf}
 use Rattle.window_cut.specs.Pages.{numbers_of}
 use Rattle.window_cut.specs.inner.Met.{AreSame, Found, Written}
 
@@ -22,6 +23,25 @@ pub record IsFoundIn (w : Window) (known found : Marks) (text : List ℕ) : Type
   pub s : Recorded
   pub spelled : IsSpelling SpellsRecording s text
   pub is_found : Found (numbers_of w) known found s
+
+-- the window is of the text's machine
+pub record IsInside (w : Window) (text : List ℕ) : Type 0 where
+  pub s : Recorded
+  pub spelled : IsSpelling SpellsRecording s text
+  pub inside : IsOf w s.geometry.pages
+
+-- why there is no window, where a pass that comes later refuses the text: it changed
+abbrev pub later : CutFault → CutFault
+later (Recording (Line line)) = Changed
+later (Recording File) = Recording File
+later (Recording Memory) = Recording Memory
+later Outside = Changed
+later Changed = Changed
+
+-- what a later pass comes to
+abbrev pub found_later : {T : Type 0} → Result T CutFault → Result T CutFault
+found_later (Ok found) = Ok found
+found_later (Err fault) = Err (later fault)
 
 -- what it finds is not what it goes by
 pub record FindsOthers (w : Window) (known : Marks) (text : List ℕ) : Type 0 where

@@ -1,19 +1,25 @@
 use Rattle.std.proofs.Common.{◌≡◌, codes, ◌++◌, true}
+use Rattle.std.proofs.KnownBytes.{Appends-trans}
+use Rattle.command_texts.specs.Shown.{shown}
 use Rattle.command_texts.proofs.Fronts.{front_before, front_behind}
 use Rattle.command_texts.proofs.answer.tell_file.Goals as goal
 
-pub returns-then-not-write_whole : goal.returns-then-not-write_whole
-returns-then-not-write_whole g c = front_before _ _ (codes "file ") (c.args.name.now ++ codes "\n") c.write_whole.ensures.front
+pub returns-then-not-write_whole-clause-front : goal.returns-then-not-write_whole-clause-front
+returns-then-not-write_whole-clause-front g c = front_before _ _ (codes "file ") (shown c.args.name.now ++ codes "\n") c.write_whole.ensures.front
 
-pub returns-then-not-write_whole-2 : goal.returns-then-not-write_whole-2
-returns-then-not-write_whole-2 g c =
+pub returns-then-not-write_shown-clause-front : goal.returns-then-not-write_shown-clause-front
+returns-then-not-write_shown-clause-front g c =
     let first : c.write_whole.result ≡ true = cc in
-    let same : c.as_bytes.result.now ≡ c.args.name.now = cc in
-    front_behind _ _ _ (codes "file ") (c.args.name.now ++ codes "\n") (c.write_whole.ensures.whole first) (front_before _ _ c.args.name.now (codes "\n") (rw same at c.write_whole-2.ensures.front))
+    front_behind _ _ _ (codes "file ") (shown c.args.name.now ++ codes "\n") (c.write_whole.ensures.whole first) (front_before _ _ (shown c.args.name.now) (codes "\n") c.write_shown.ensures.front)
 
-pub returns : goal.returns
-returns g c =
+pub returns-clause-front : goal.returns-clause-front
+returns-clause-front g c =
     let first : c.write_whole.result ≡ true = cc in
-    let same : c.as_bytes.result.now ≡ c.args.name.now = cc in
-    let second : c.write_whole-2.result ≡ true = cc in
-    front_behind _ _ _ (codes "file ") (c.args.name.now ++ codes "\n") (c.write_whole.ensures.whole first) (front_behind _ _ _ c.args.name.now (codes "\n") (rw same at (c.write_whole-2.ensures.whole second)) c.write_whole-3.ensures.front)
+    let second : c.write_shown.result ≡ true = cc in
+    front_behind _ _ _ (codes "file ") (shown c.args.name.now ++ codes "\n") (c.write_whole.ensures.whole first) (front_behind _ _ _ (shown c.args.name.now) (codes "\n") (c.write_shown.ensures.whole second) c.write_whole-2.ensures.front)
+
+pub returns-clause-whole : goal.returns-clause-whole
+returns-clause-whole g c =
+    let first : c.write_whole.result ≡ true = cc in
+    let second : c.write_shown.result ≡ true = cc in
+    λ third. Appends-trans _ _ _ (codes "file ") (shown c.args.name.now ++ codes "\n") (c.write_whole.ensures.whole first) (Appends-trans _ _ _ (shown c.args.name.now) (codes "\n") (c.write_shown.ensures.whole second) (c.write_whole-2.ensures.whole third))

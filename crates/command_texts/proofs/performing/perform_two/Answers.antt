@@ -42,7 +42,6 @@ pub returns-clause-told : goal.returns-clause-told
 returns-clause-told g c =
     let n = c.in_ok-found.ensures.named in
     let w = n.4 in
-    let same : c.as_bytes.result.now ≡ c.args.second.now = cc in
     let told = c.tell_more.ensures n.0 n.2 n.3 (c.in_ok-answer.ensures.said n.0 n.2 n.3) in
     written_whole _ _ _ n.0 c.in_ok-answer.answer _ _ _ c.in_ok-status.ensures.status n.1 (c.in_ok-answer.ensures.told n.0 n.2 n.3) c.in_ok-status.ensures.text
     (record {
@@ -52,7 +51,7 @@ returns-clause-told g c =
       is_other = w.3;
       between = g.E.Write.contents c.tell_why.new.errors;
       why = subst (λ (place : Option Place). TellsWhy Short place (g.E.Write.contents c.args.errors.now) (g.E.Write.contents c.tell_why.new.errors)) w.4 c.tell_why.ensures;
-      more = rw same at told;
+      more = told;
     })
 
 pub returns-clause-gains : goal.returns-clause-gains

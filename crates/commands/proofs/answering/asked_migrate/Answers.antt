@@ -2,7 +2,7 @@ use Rattle.std.proofs.Common.{◌≡◌, ◌⊎◌, List, ℕ, Option, subst, in
 use Rattle.std.proofs.lemmas.Result.{err_from_is_err_and}
 use Rattle.command_texts.specs.declared.why.Telling.TheVariants.{Short}
 use Rattle.command_texts.specs.Reasons.{Place, TellsWhy}
-use Rattle.command_texts.proofs.Endings.{link_fault, no_answer, not_read, not_written, written_whole}
+use Rattle.command_texts.proofs.Endings.{host_fault, no_answer, not_read, not_written, stop_fault, written_whole}
 use Rattle.command_texts.proofs.Fronts.{front_gains, same_gains, why_gains}
 use Rattle.host_commands.proofs.Statuses.{migrate_few}
 use Rattle.commands.proofs.answering.asked_migrate.Goals as goal
@@ -11,7 +11,7 @@ pub returns-in_err-script-clause-told : goal.returns-in_err-script-clause-told
 returns-in_err-script-clause-told g c =
     let p = err_from_is_err_and c.from_residual.result c.from_residual.ensures.1 in
     let h = c.in_err-script.ensures.fault in
-    rw (p.1, p.2) (not_read _ _ _ (λ (n : List ℕ). n ≡ c.args.name.now) _ _ (link_fault (λ (n : List ℕ). n ≡ c.args.name.now) _ h) h)
+    rw (p.1, p.2) (not_read _ _ _ (λ (n : List ℕ). n ≡ c.args.name.now) _ _ (host_fault (λ (n : List ℕ). n ≡ c.args.name.now) _ h) h)
 
 pub returns-in_err-script-clause-gains : goal.returns-in_err-script-clause-gains
 returns-in_err-script-clause-gains g c = (same_gains _, same_gains _)
@@ -19,7 +19,7 @@ returns-in_err-script-clause-gains g c = (same_gains _, same_gains _)
 pub returns-in_err-answer-clause-told : goal.returns-in_err-answer-clause-told
 returns-in_err-answer-clause-told g c =
     let p = err_from_is_err_and c.from_residual-in_err-answer.result c.from_residual-in_err-answer.ensures.1 in
-    rw (p.1, p.2) (no_answer _ _ _ _ _ tt tt c.in_err-answer.ensures.fault)
+    rw (p.1, p.2) (no_answer _ _ _ _ _ (stop_fault (λ (n : List ℕ). n ≡ c.args.name.now) _ c.in_err-answer.ensures.fault) c.in_err-answer.ensures.fault)
 
 pub returns-in_err-answer-clause-gains : goal.returns-in_err-answer-clause-gains
 returns-in_err-answer-clause-gains g c = (same_gains _, same_gains _)
