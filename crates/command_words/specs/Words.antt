@@ -30,6 +30,7 @@ use Rattle.command_words.specs.declared.asked.TwoTexts.{TwoTexts}
 use Rattle.command_words.specs.declared.asked.TwoTexts.TheVariants.{Check, Replay, Steps}
 use Rattle.command_words.specs.declared.asked.TwoTexts.TheVariants as two
 use Rattle.clap.specs.declared.builder.action.ArgAction.TheVariants.{Append, SetTrue}
+use Rattle.command_words.specs.declared.asked.Targets.{Targets}
 use Rattle.command_words.specs.declared.building.Choices.{Choices}
 use Rattle.command_words.specs.Table.{carriers, carrier_name, carrier_named, form_name, form_named, forms, plain_audit, table}
 
@@ -308,6 +309,25 @@ several_asked words = several_found (subcommand_of postcopy_words words)
 -- the file that the words name for the answer
 abbrev pub output_named : List Text → Option Text
 output_named words = option_and_then (λ given. first_of (codes "output") given.1) (subcommand_of postcopy_words words)
+
+-- the file for the lines of a window, where one is asked for
+abbrev pub lines_file_of : Asked Text → Option Text
+lines_file_of (Window pages name lines) = lines
+lines_file_of (One task name) = None
+lines_file_of (Two task first second) = None
+lines_file_of (Migrate carrier name) = None
+lines_file_of (Draw topic name further) = None
+
+abbrev pub lines_file : Option (Asked Text) → Option Text
+lines_file asked = option_and_then lines_file_of asked
+
+-- the files that the words name for what is written: for the lines of a window, and for the answer
+abbrev pub targets_named : List Text → Option Text × Option Text
+targets_named words = (lines_file (asked words), output_named words)
+
+-- the files that are named
+abbrev pub target_names : Targets → Option Text × Option Text
+target_names targets = (option_map (λ name. name.now) targets.lines, option_map (λ name. name.now) targets.output)
 
 -- a name that is no option: it is `-`, or does not begin with `-`
 abbrev pub IsPlainName : Text → Type 0

@@ -165,3 +165,12 @@ pub enum Wish<'a> {
     /// The audit of several sessions.
     Several(Several<'a>),
 }
+
+/// The files that the words name for what is written.
+#[derive(Clone, Copy)]
+pub struct Targets<'a> {
+    /// For the lines of a window.
+    pub lines: Option<&'a str>,
+    /// For the answer.
+    pub output: Option<&'a str>,
+}

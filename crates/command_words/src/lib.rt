@@ -8,6 +8,6 @@ mod table;
 
 pub use asked::{
     Asked, Asking, Audits, Carrier, Demand, Explains, Faults, Form, Job, OneText, Pages, Several,
-    Topic, TwoTexts, Wish,
+    Targets, Topic, TwoTexts, Wish,
 };
-pub use matching::{read_output, read_words};
+pub use matching::{read_targets, read_words};

@@ -3,12 +3,12 @@
 ghost use Rattle.std.specs.Prelude.{◌≡◌, IfOk, IfErr, codes, option_and_then, option_map, true, find};
 ghost use Rattle.std.specs.Str.{bytes_eq};
 ghost use Rattle.command_words.specs.Table.{asked_names, further_name, job_of, several_names, several_of, word_names};
-ghost use Rattle.command_words.specs.Words.{asked, asked_in, asking_in, audits_in, carrier_in, count_in, count_of, demand_in, explains_in, faults_in, form_in, format_in, further_in, given_in, is_set, number_in, number_of, one_in, only_of, output_named, page_in, postcopy_words, several_among, several_asked, several_found, several_in, shortened, told_with, topic_in, two_in, window_in, word_texts};
+ghost use Rattle.command_words.specs.Words.{asked, asked_in, asking_in, audits_in, carrier_in, count_in, count_of, demand_in, explains_in, faults_in, form_in, format_in, further_in, given_in, is_set, lines_file, number_in, number_of, one_in, only_of, page_in, postcopy_words, several_among, several_asked, several_found, several_in, shortened, target_names, targets_named, told_with, topic_in, two_in, window_in, word_texts};
 ghost use Rattle.clap.specs.Words.{all_of, first_of, found_of, kind_of, rows_of, subcommand_of, subcommand_rows_of, takes};
 
 use crate::asked::{
     Asked, Asking, Audits, Carrier, Demand, Explains, Faults, Form, Job, OneText, Pages, Several,
-    Topic, TwoTexts, Wish,
+    Targets, Topic, TwoTexts, Wish,
 };
 use crate::building::{Choices, command_line};
 use crate::table::{
@@ -395,10 +395,24 @@ fn output_in<'a>(matches: &ArgMatches<'a>) -> Option<&'a str>
     }
 }
 
-/// The file that the words name for the answer, as in `-o FILE`. The error as for [`read_words`].
-pub fn read_output<'a>(alloc: Global, words: &'a [&'a str]) -> Result<Option<&'a str>, clap::Error>
-    ensures ok { IfOk result (λ r. option_map (λ name. name.now) r ≡ output_named (word_texts words.entry.now)) }
+// The file for the lines of a window, where one is asked for.
+fn lines_file<'a>(job: &Option<Job<'a>>) -> Option<&'a str>
+    ensures { option_map (λ name. name.now) result ≡ lines_file (option_map asked_names job.now) }
+{
+    match job {
+        Some(Asked::Window(_, _, lines)) => *lines,
+        _ => None,
+    }
+}
+
+/// The files that the words name for what is written, as in `-o FILE` and `--lines FILE`. The error as for [`read_words`].
+pub fn read_targets<'a>(alloc: Global, words: &'a [&'a str]) -> Result<Targets<'a>, clap::Error>
+    ensures ok { IfOk result (λ targets. target_names targets ≡ targets_named (word_texts words.entry.now)) }
+    ensures err { IfErr result (λ e. takes postcopy_words (word_texts words.entry.now) ≡ true → kind_of e ≡ ErrorKind.OutOfMemory) }
 {
     let matches = matches_in(alloc, words)?;
-    Ok(output_in(&matches))
+    Ok(Targets {
+        lines: lines_file(&job_in(&matches)),
+        output: output_in(&matches),
+    })
 }

@@ -1,5 +1,5 @@
 -- What the program tells of the texts that the words name.
-use Rattle.std.specs.Prelude.{◌≡◌, ◌<◌, ◌⊎◌, ℕ, List, Option, Some, None, Result, Ok, Err, MatchResult, codes, is_some, option_and_then}
+use Rattle.std.specs.Prelude.{◌≡◌, ◌<◌, ◌⊎◌, ℕ, List, Option, Some, None, Result, Ok, Err, MatchResult, codes, is_some}
 use Rattle.command_words.specs.declared.asked.Asked.{Asked}
 use Rattle.command_words.specs.declared.asked.Asked.TheVariants.{One, Two, Migrate, Draw, Window}
 use Rattle.command_words.specs.declared.asked.Pages.{Pages}
@@ -176,17 +176,6 @@ IsFaultOfTwo first second = IsTextFault (λ n. (n ≡ first) ⊎ (n ≡ second))
 -- the pages that a window has
 abbrev pub window_of : Pages → CutWindow
 window_of pages = record { first = pages.first; count = pages.count }
-
--- the file for the lines of a window, where one is asked for
-abbrev pub lines_file_of : Asked (List ℕ) → Option (List ℕ)
-lines_file_of (Window pages name lines) = lines
-lines_file_of (One task name) = None
-lines_file_of (Two task first second) = None
-lines_file_of (Migrate carrier name) = None
-lines_file_of (Draw topic name further) = None
-
-abbrev pub lines_file : Option (Asked (List ℕ)) → Option (List ℕ)
-lines_file asked = option_and_then lines_file_of asked
 
 -- what a command asks for was told of the texts under its names, or it came to a fault
 abbrev pub EndsAsked : Asked (List ℕ) → (List ℕ → Option (List ℕ)) → Option (List ℕ) → Streams → Streams → Result ℕ Fault → Type 0

@@ -10,5 +10,6 @@ mod retelling;
 mod several;
 mod topics;
 
+pub use command_words::Targets;
 pub use laws::{migrations_are_judged_yes, recorded_sessions_are_clean};
-pub use program::{lines_named, output_named, run};
+pub use program::{run, targets_named};

@@ -1,20 +1,20 @@
 //! The program, from its words to its status.
 
-ghost use Rattle.std.specs.Prelude.{◌≡◌, ◌≢◌, ◌<◌, ◌≤◌, ℕ, List, IfOk, IfSome, MatchResult, Some, length, true};
+ghost use Rattle.std.specs.Prelude.{◌≡◌, ◌≢◌, ◌<◌, ◌≤◌, ◌⊎◌, ℕ, List, IfOk, IfSome, MatchResult, None, length, true};
 ghost use Rattle.std.specs.Io.KnownBytes.{Keeps};
 ghost use Rattle.clap.specs.Words.{kind_of, takes};
 ghost use Rattle.command_words.specs.Table.{job_of, several_of};
-ghost use Rattle.command_words.specs.Words.{IsPlain, asked, asked_by, output_named, postcopy_words, several_asked, word_texts};
+ghost use Rattle.command_words.specs.Words.{IsPlain, asked, asked_by, postcopy_words, several_asked, target_names, targets_named, word_texts};
 ghost use Rattle.command_texts.specs.Answers.{fault_line, fault_status};
 ghost use Rattle.command_texts.specs.Written.{AppendsFront, BothGain, Gains};
 ghost use Rattle.commands.specs.Refused.{IsRefusalOf, IsStarved};
-ghost use Rattle.commands.specs.Told.{EndsAsked, EndsBare, EndsSeveral, IsFaultTold, IsSettled, lines_file};
+ghost use Rattle.commands.specs.Told.{EndsAsked, EndsBare, EndsSeveral, IsFaultTold, IsSettled};
 
 use crate::answering::perform;
 use crate::several::asked_several;
 use clap::error::ErrorKind;
 use command_texts::{ACCEPTED, Fault, TextSource, USAGE, perform_two, tell, write_whole};
-use command_words::{Asked, Wish, read_output, read_words};
+use command_words::{Targets, Wish, read_targets, read_words};
 use judge_commands::{CheckCommand, InLine};
 use std::alloc::{AllocError, Global};
 use std::io::{Read, Write};
@@ -168,7 +168,7 @@ fn check_bare<R: Threads + Sync, S: TextSource, I: Read + Send, O: Write, E: Wri
 /// was not written, and 4 where memory ran out. At 2 to 4 the errors tell why. At 1 they tell why a text is refused, or what of
 /// a certificate does not fit its session. The texts are read in the order of the words, and both before an answer is sought;
 /// of several sessions each is audited before the next is read, and of the input among them nothing is said. The output gains the
-/// answer also where the words name a file for it: [`output_named`] tells which.
+/// answer also where the words name a file for it: [`targets_named`] tells which.
 ///
 /// The handle starts and joins threads, and opens the connection of a migration over TCP. Nothing is promised of when a
 /// migration ends.
@@ -208,24 +208,26 @@ pub fn run<
     }
 }
 
-/// The file that the words name for the lines of a window, where they ask for a window. The answer has them after the session.
-/// None also where memory for reading the words ran out, which [`run`] tells.
-pub fn lines_named<'a>(alloc: Global, words: &'a [&'a str]) -> Option<&'a str>
-    ensures { IfSome result (λ name. lines_file (asked (word_texts words.entry.now)) ≡ Some name.now) }
-{
-    match read_words(alloc, words) {
-        Ok(Some(Wish::Job(Asked::Window(_, _, lines)))) => lines,
-        _ => None,
-    }
-}
+// No file is named.
+const NO_TARGETS: Targets<'static> = Targets {
+    lines: None,
+    output: None,
+};
 
-/// The file that the words name for the answer, as in `-o FILE`, where they are words of a command that has one. None also where
-/// memory for reading the words ran out, which [`run`] tells.
-pub fn output_named<'a>(alloc: Global, words: &'a [&'a str]) -> Option<&'a str>
-    ensures { IfSome result (λ name. output_named (word_texts words.entry.now) ≡ Some name.now) }
+/// The files that the words name for what is written: for the answer, as in `-o FILE`, where they are words of a command that has
+/// one, and for the lines of a window, as in `--lines FILE`. Of words that are no command no file is named, or what they say.
+/// The answer of [`run`] has the lines after the session. An error: there is no memory for reading the words.
+pub fn targets_named<'a>(alloc: Global, words: &'a [&'a str]) -> Result<Targets<'a>, AllocError>
+    ensures taken { IfOk result (λ targets. takes postcopy_words (word_texts words.entry.now) ≡ true → target_names targets ≡ targets_named (word_texts words.entry.now)) }
+    ensures other { IfOk result (λ targets. (target_names targets ≡ targets_named (word_texts words.entry.now)) ⊎ (target_names targets ≡ (None, None))) }
 {
-    match read_output(alloc, words) {
-        Ok(named) => named,
-        Err(_) => None,
+    match read_targets(alloc, words) {
+        Ok(targets) => Ok(targets),
+        Err(error) => {
+            if error.kind() == ErrorKind::OutOfMemory {
+                return Err(AllocError);
+            }
+            Ok(NO_TARGETS)
+        }
     }
 }

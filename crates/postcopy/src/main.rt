@@ -16,17 +16,21 @@ ghost use Rattle.std.specs.Prelude.{◌≤◌, length};
 
 mod saving;
 
-use crate::saving::save;
+use crate::saving::{Draft, is_one_file};
 use command_texts::{ACCEPTED, Closable, Fault, TextSource, USAGE, tell};
-use commands::{lines_named, output_named, run};
+use commands::{Targets, run, targets_named};
+use refusal_words::push_quote;
 use std::alloc::{AllocError, Global};
+use std::env::FillError;
 use std::io::{ErrorKind, Input, Write};
 use std::net::{Net, TcpListener, TcpStream};
+use std::os::unix::fs::FileTypeExt;
 use std::process::ExitCode;
+use std::random::RandomSource;
 use std::rt::{Env, Files};
 use std::sync::Wait;
 use std::thread::Threads;
-use std::{env, fs, io};
+use std::{env, fs, io, str};
 
 /// The closing line of a text, with the line feeds around it.
 const END: &[u8] = b"\nend\n";
@@ -46,6 +50,13 @@ where
     fn text(&self, name: &str) -> io::Result<R::File> {
         fs::open(self.rt, name)
     }
+
+    fn stays(&self, name: &str) -> bool {
+        match fs::metadata(self.rt, name) {
+            Ok(found) => !found.file_type().is_fifo(),
+            Err(_) => true,
+        }
+    }
 }
 
 fn words<R: Env + AllocGlobal>(rt: &R) -> io::Result<Vec<String>> {
@@ -56,14 +67,54 @@ fn slices<'a>(alloc: Global, words: &'a [String]) -> Result<Vec<&'a str>, AllocE
     words.iter().map(|word| word.as_str()).collect(alloc)
 }
 
+// The bytes of a word, of which the first is the program's own name, or none where there are no more.
+fn word_bytes<R: Env>(rt: &R, alloc: Global, number: usize) -> Result<Option<Vec<u8>>, AllocError> {
+    let mut room = 256_usize;
+    for _ in 0..usize::BITS {
+        let mut bytes = vec![in alloc; 0u8; room]?;
+        match rt.arg(number, bytes.as_mut_slice()) {
+            Ok(count) => {
+                bytes.truncate(count);
+                return Ok(Some(bytes));
+            }
+            Err(FillError::TooLong) => room = room.saturating_mul(2),
+            Err(FillError::NotPresent) => return Ok(None),
+        }
+    }
+    Err(AllocError)
+}
+
+// Adds which word is the first that is not UTF-8.
+fn push_wrong_word<R: Env>(rt: &R, alloc: Global, out: &mut String) -> Result<(), AllocError> {
+    for number in 0..usize::MAX {
+        let Some(bytes) = word_bytes(rt, alloc, number)? else {
+            break;
+        };
+        if str::from_utf8(bytes.as_slice()).is_err() {
+            write!(out, "error: word {number} is not UTF-8: ")?;
+            push_quote(out, bytes.as_slice())?;
+            break;
+        }
+    }
+    out.push('\n')
+}
+
+// Tells which word is not UTF-8.
+fn tell_wrong_word<R: Env, E: Write>(rt: &R, alloc: Global, errors: &mut E) {
+    let mut told = String::new(alloc);
+    if push_wrong_word(rt, alloc, &mut told).is_ok() {
+        let _ = errors.write_all(told.as_bytes());
+    }
+}
+
 // Tells why the words were not had.
-fn refuse_words<E: Write>(error: &io::Error, errors: &mut E) -> u8
+fn refuse_words<R: Env, E: Write>(rt: &R, alloc: Global, error: &io::Error, errors: &mut E) -> u8
     ensures { (2 ≤ result) × (result ≤ 4) }
 {
     if error.kind() == ErrorKind::OutOfMemory {
         return tell(Fault::Memory, errors);
     }
-    let _ = errors.write_all(b"error: a word is not UTF-8\n");
+    tell_wrong_word(rt, alloc, errors);
     USAGE
 }
 
@@ -84,8 +135,8 @@ where
     run(rt, alloc, words, &files, &mut rt.reader(), output, errors)
 }
 
-// Puts a text into the file of this name, or else to the output.
-fn put<R: Files, O: Write>(
+// Gives a text its name, where it has a file, or else writes it to the output.
+fn keep_or_write<R: Files + RandomSource, O: Write>(
     rt: &R,
     alloc: Global,
     name: Option<&str>,
@@ -93,8 +144,31 @@ fn put<R: Files, O: Write>(
     output: &mut O,
 ) -> io::Result<()> {
     match name {
-        Some(name) => save(rt, alloc, name, text),
+        Some(name) => Draft::new(rt, alloc, name, text)?.keep(rt),
         None => output.write_all(text),
+    }
+}
+
+// Puts an answer where it goes: into the file of its name or else to the output, and the lines behind it into theirs. Each has
+// all of it or stays as it was, and the file of the lines does where the answer goes nowhere.
+fn put<R: Files + RandomSource, O: Write>(
+    rt: &R,
+    alloc: Global,
+    targets: Targets<'_>,
+    text: &[u8],
+    output: &mut O,
+) -> io::Result<()> {
+    let Some(lines) = targets.lines else {
+        return keep_or_write(rt, alloc, targets.output, text, output);
+    };
+    let (session, table) = text.split_at(end_of_session(text));
+    let table = Draft::new(rt, alloc, lines, table)?;
+    match keep_or_write(rt, alloc, targets.output, session, output) {
+        Ok(()) => table.keep(rt),
+        Err(error) => {
+            table.remove(rt);
+            Err(error)
+        }
     }
 }
 
@@ -117,56 +191,71 @@ fn end_of_session(text: &[u8]) -> usize
     }
 }
 
-// Answers to the words, which ask for a window. Where all is well its session goes to the file of the second name, if there is
-// one, and its lines to that of the first.
-fn answer_lined<R, O: Write, E: Write>(
-    rt: &R,
-    alloc: Global,
-    words: &[&str],
-    lines: &str,
-    name: Option<&str>,
-    output: &mut O,
-    errors: &mut E,
-) -> u8
-where
-    R: Threads + Wait + Sync + Net<Listener = TcpListener, Stream = TcpStream> + Files + Input,
-    R::File: Send,
-    R::Reader: Send,
-{
-    let mut text = Vec::new(alloc);
-    let status = answer(rt, alloc, words, &mut text, errors);
-    if status != ACCEPTED {
-        return settled(output.write_all(text.as_slice()), status, errors);
-    }
-    let (session, table) = text.as_slice().split_at(end_of_session(text.as_slice()));
-    match save(rt, alloc, lines, table) {
-        Ok(()) => settled(put(rt, alloc, name, session, output), status, errors),
-        Err(error) => settled(Err(error), status, errors),
-    }
-}
-
-// Answers to the words. Where all is well the answer goes to the file of this name, and else to the output.
+// Answers to the words. Where all is well the answer goes where they say, and else to the output.
 fn answer_into<R, O: Write, E: Write>(
     rt: &R,
     alloc: Global,
     words: &[&str],
-    name: &str,
+    targets: Targets<'_>,
     output: &mut O,
     errors: &mut E,
 ) -> u8
 where
     R: Threads + Wait + Sync + Net<Listener = TcpListener, Stream = TcpStream> + Files + Input,
+    R: RandomSource,
     R::File: Send,
     R::Reader: Send,
 {
     let mut text = Vec::new(alloc);
     let status = answer(rt, alloc, words, &mut text, errors);
-    let file = if status == ACCEPTED { Some(name) } else { None };
-    settled(
-        put(rt, alloc, file, text.as_slice(), output),
-        status,
-        errors,
-    )
+    let put = if status == ACCEPTED {
+        put(rt, alloc, targets, text.as_slice(), output)
+    } else {
+        output.write_all(text.as_slice())
+    };
+    settled(put, status, errors)
+}
+
+// Whether the two files that the words name are one, as far as it can be told.
+fn are_one<R: Files>(rt: &R, alloc: Global, targets: Targets<'_>) -> io::Result<bool> {
+    match (targets.lines, targets.output) {
+        (Some(lines), Some(output)) => is_one_file(rt, alloc, lines, output),
+        _ => Ok(false),
+    }
+}
+
+// Tells that the two files that the words name are one.
+fn refuse_targets<E: Write>(errors: &mut E) -> u8 {
+    let _ = errors.write_all(b"error: --lines and --output name one file\n");
+    USAGE
+}
+
+// Answers to the words, and writes the answer where they say.
+fn answer_to<R, O: Write, E: Write>(
+    rt: &R,
+    alloc: Global,
+    words: &[&str],
+    output: &mut O,
+    errors: &mut E,
+) -> u8
+where
+    R: Threads + Wait + Sync + Net<Listener = TcpListener, Stream = TcpStream> + Files + Input,
+    R: RandomSource,
+    R::File: Send,
+    R::Reader: Send,
+{
+    let Ok(targets) = targets_named(alloc, words) else {
+        return tell(Fault::Memory, errors);
+    };
+    if targets.lines.is_none() && targets.output.is_none() {
+        return answer(rt, alloc, words, output, errors);
+    }
+    match are_one(rt, alloc, targets) {
+        Ok(true) => refuse_targets(errors),
+        Err(error) if error.kind() == ErrorKind::OutOfMemory => tell(Fault::Memory, errors),
+        // Where it cannot be told, it is told by the writing that fails.
+        Ok(false) | Err(_) => answer_into(rt, alloc, words, targets, output, errors),
+    }
 }
 
 fn main(rt: HostRuntime) -> ExitCode {
@@ -174,19 +263,11 @@ fn main(rt: HostRuntime) -> ExitCode {
     let mut errors = rt.stderr();
     let words = match words(&rt) {
         Ok(words) => words,
-        Err(error) => return ExitCode::from(refuse_words(&error, &mut errors)),
+        Err(error) => return ExitCode::from(refuse_words(&rt, alloc, &error, &mut errors)),
     };
     let Ok(words) = slices(alloc, words.as_slice()) else {
         return ExitCode::from(tell(Fault::Memory, &mut errors));
     };
-    let words = words.as_slice();
     let mut output = Closable::new(rt.stdout());
-    let status = match (lines_named(alloc, words), output_named(alloc, words)) {
-        (Some(lines), name) => {
-            answer_lined(&rt, alloc, words, lines, name, &mut output, &mut errors)
-        }
-        (None, Some(name)) => answer_into(&rt, alloc, words, name, &mut output, &mut errors),
-        (None, None) => answer(&rt, alloc, words, &mut output, &mut errors),
-    };
-    ExitCode::from(status)
+    ExitCode::from(answer_to(&rt, alloc, words.as_slice(), &mut output, &mut errors))
 }

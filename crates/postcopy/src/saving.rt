@@ -1,56 +1,237 @@
-//! A file that has an answer whole, or stays as it was.
+//! Files that have an answer whole, or stay as they were.
 
 use std::alloc::{AllocError, Global};
-use std::fs::{self, OpenFile, OpenOptions};
-use std::io::{self, Write};
+use std::fs::{self, Metadata, OpenFile, OpenOptions, Permissions};
+use std::io::{self, ErrorKind, Write};
+use std::os::unix::fs::{MetadataExt, OpenOptionsExt, PermissionsExt, chown};
+use std::path::PathBuf;
+use std::random::RandomSource;
 use std::rt::Files;
 
-// The name under which a file is written before it has its own.
-fn part_name(alloc: Global, name: &str) -> Result<String, AllocError> {
-    let mut part = String::new(alloc);
-    part.push_str(name)?;
-    part.push_str(".part")?;
-    Ok(part)
+/// The most links that lead to a file: the system follows no more.
+const MOST_LINKS: u32 = 40;
+
+/// The most names that are tried for a draft.
+const MOST_NAMES: u32 = 64;
+
+/// Who may read, write and run a file that is new, as far as the process's mask lets them.
+const NEW_MODE: u32 = 0o666;
+
+/// The bits of a mode that tell who may read, write and run the file.
+const MODE_BITS: u32 = 0o777;
+
+// Where a name leads.
+#[derive(Drop)]
+enum Place {
+    // To a plain file, or to none yet. The name is no link.
+    Named(PathBuf, Option<Metadata>),
+    // To what keeps its place: a device, a pipe, a folder, or an open file of a process.
+    Fixed,
 }
 
-// A file of this name, empty.
-fn emptied<F: Files>(files: &F, name: &str) -> io::Result<F::File> {
-    OpenOptions::new()
-        .write(true)
-        .create(true)
-        .truncate(true)
-        .open(files, name)
-}
-
-// Writes a file of this name, and waits until it is kept.
-fn write_whole<F: Files>(files: &F, name: &str, text: &[u8]) -> io::Result<()> {
-    let mut file = emptied(files, name)?;
-    file.write_all(text)?;
-    file.sync_all()
-}
-
-// Whether there is something under this name that is no plain file: a device, a pipe or a folder.
-fn is_special<F: Files>(files: &F, name: &str) -> bool {
-    match fs::metadata(files, name) {
-        Ok(found) => !found.is_file(),
+// Whether a link is one of a process to its open files, as `/dev/stdout` leads to one.
+fn is_of_process<F: Files>(files: &F, link: &Metadata) -> bool {
+    match fs::metadata(files, "/proc") {
+        Ok(found) => found.dev() == link.dev(),
         Err(_) => false,
     }
 }
 
-/// Puts a text into the file of this name. The file has all of it, or stays as it was: the text is written under the name with
-/// `.part` after it, and gets its own name at the end. A device or a pipe is written as it stands.
-pub fn save<F: Files>(files: &F, alloc: Global, name: &str, text: &[u8]) -> io::Result<()> {
-    if is_special(files, name) {
-        return emptied(files, name)?.write_all(text);
+// Where a name leads, behind all links.
+fn place_of<F: Files>(files: &F, alloc: Global, name: &str) -> io::Result<Place> {
+    let mut at = PathBuf::from_str(alloc, name)?;
+    for _ in 0..MOST_LINKS {
+        let found = match fs::symlink_metadata(files, at.as_str()) {
+            Ok(found) => found,
+            Err(error) if error.kind() == ErrorKind::NotFound => {
+                return Ok(Place::Named(at, None));
+            }
+            Err(error) => return Err(error),
+        };
+        if found.is_file() {
+            return Ok(Place::Named(at, Some(found)));
+        }
+        if !found.is_symlink() || is_of_process(files, &found) {
+            return Ok(Place::Fixed);
+        }
+        let leads_to = files.read_link(alloc, at.as_str())?;
+        at = at.with_file_name(alloc, leads_to.as_str())?;
     }
-    let part = part_name(alloc, name)?;
-    let written = write_whole(files, part.as_str(), text);
-    let named = match written {
-        Ok(()) => fs::rename(files, part.as_str(), name),
-        Err(error) => Err(error),
-    };
-    if named.is_err() {
-        let _ = fs::remove_file(files, part.as_str());
+    Err(io::Error::from(ErrorKind::InvalidInput))
+}
+
+// Whether two names are those of one folder. The name of the folder that the process is in is empty.
+fn is_one_folder<F: Files>(files: &F, one: &str, other: &str) -> io::Result<bool> {
+    let one = fs::metadata(files, if one == "" { "." } else { one })?;
+    let other = fs::metadata(files, if other == "" { "." } else { other })?;
+    Ok(one.dev() == other.dev() && one.ino() == other.ino())
+}
+
+// Whether two names, which are no links, are the same name in the same folder.
+fn is_one_name<F: Files>(files: &F, one: &PathBuf, other: &PathBuf) -> io::Result<bool> {
+    if one.file_name() != other.file_name() {
+        return Ok(false);
     }
-    named
+    match (one.parent(), other.parent()) {
+        (Some(one), Some(other)) => is_one_folder(files, one.as_str(), other.as_str()),
+        _ => Ok(false),
+    }
+}
+
+/// Whether two names lead to one file, as far as it can be told: they are equal, or behind all links they are the same name in
+/// the same folder.
+pub fn is_one_file<F: Files>(files: &F, alloc: Global, one: &str, other: &str) -> io::Result<bool> {
+    if one == other {
+        return Ok(true);
+    }
+    match (place_of(files, alloc, one)?, place_of(files, alloc, other)?) {
+        (Place::Named(one, _), Place::Named(other, _)) => is_one_name(files, &one, &other),
+        _ => Ok(false),
+    }
+}
+
+// A number that nobody guesses.
+fn random_number<R: RandomSource>(random: &R) -> io::Result<u64> {
+    let mut bytes = [0; 8];
+    random.fill_bytes(&mut bytes)?;
+    Ok(u64::from_le_bytes(bytes))
+}
+
+// The name of a draft in the folder of a file.
+fn draft_name(alloc: Global, name: &PathBuf, number: u64) -> Result<PathBuf, AllocError> {
+    let draft = format!(in alloc; ".postcopy-{number:016x}.part")?;
+    name.with_file_name(alloc, draft.as_str())
+}
+
+// A new file in the folder of another, under a name that nothing had.
+fn created<F: Files + RandomSource>(
+    files: &F,
+    alloc: Global,
+    name: &PathBuf,
+    mode: u32,
+) -> io::Result<(PathBuf, F::File)> {
+    for _ in 0..MOST_NAMES {
+        let draft = draft_name(alloc, name, random_number(files)?)?;
+        let opened = OpenOptions::new()
+            .write(true)
+            .create_new(true)
+            .mode(mode)
+            .open(files, draft.as_str());
+        match opened {
+            Ok(file) => return Ok((draft, file)),
+            Err(error) if error.kind() == ErrorKind::AlreadyExists => {}
+            Err(error) => return Err(error),
+        }
+    }
+    Err(io::Error::from(ErrorKind::AlreadyExists))
+}
+
+// Gives a draft the owner and the group of the file whose name it gets, where the process may, or else the group alone.
+fn keep_owner<F: Files>(files: &F, draft: &PathBuf, old: &Metadata, new: &Metadata) {
+    if old.uid() == new.uid() && old.gid() == new.gid() {
+        return;
+    }
+    let group = Some(old.gid());
+    if chown(files, draft.as_str(), Some(old.uid()), group).is_err() {
+        let _ = chown(files, draft.as_str(), None, group);
+    }
+}
+
+// Gives a draft what the file whose name it gets has beside its text: its owner, as far as it can be, and its mode.
+fn keep_access<F: Files>(
+    files: &F,
+    draft: &PathBuf,
+    file: &F::File,
+    old: &Metadata,
+) -> io::Result<()> {
+    keep_owner(files, draft, old, &file.metadata()?);
+    let mode = old.mode() & MODE_BITS;
+    if file.metadata()?.mode() & MODE_BITS == mode {
+        return Ok(());
+    }
+    file.set_permissions(Permissions::from_mode(mode))
+}
+
+// Writes a draft, and waits until it is kept.
+fn write_draft<F: Files>(
+    files: &F,
+    draft: &PathBuf,
+    file: &mut F::File,
+    old: &Option<Metadata>,
+    text: &[u8],
+) -> io::Result<()> {
+    if let Some(old) = old {
+        keep_access(files, draft, file, old)?;
+    }
+    file.write_all(text)?;
+    file.sync_all()
+}
+
+// Writes to what keeps its place. An open file of a process is gone on with.
+fn write_fixed<F: Files>(files: &F, name: &str, text: &[u8]) -> io::Result<()> {
+    let goes_on = fs::metadata(files, name)?.is_file();
+    OpenOptions::new()
+        .write(true)
+        .append(goes_on)
+        .open(files, name)?
+        .write_all(text)
+}
+
+/// A text that is written, and gets its name by [`Draft::keep`].
+#[derive(Drop)]
+pub enum Draft {
+    /// It stands under the first of these names, and gets the second.
+    Part(PathBuf, PathBuf),
+    /// It was written to what keeps its place.
+    Written,
+}
+
+impl Draft {
+    /// Writes a text that is to get this name. It stands in the same folder under a name of its own until it gets this one. What
+    /// has its own place, as a device or a pipe, is written at once.
+    pub fn new<F: Files + RandomSource>(
+        files: &F,
+        alloc: Global,
+        name: &str,
+        text: &[u8],
+    ) -> io::Result<Draft> {
+        let (name, old) = match place_of(files, alloc, name)? {
+            Place::Named(name, old) => (name, old),
+            Place::Fixed => {
+                write_fixed(files, name, text)?;
+                return Ok(Draft::Written);
+            }
+        };
+        let mode = match &old {
+            Some(old) => old.mode() & MODE_BITS,
+            None => NEW_MODE,
+        };
+        let (draft, mut file) = created(files, alloc, &name, mode)?;
+        match write_draft(files, &draft, &mut file, &old, text) {
+            Ok(()) => Ok(Draft::Part(draft, name)),
+            Err(error) => {
+                let _ = fs::remove_file(files, draft.as_str());
+                Err(error)
+            }
+        }
+    }
+
+    /// Gives the text its name. Where that fails it is removed.
+    pub fn keep<F: Files>(self, files: &F) -> io::Result<()> {
+        let Draft::Part(draft, name) = &self else {
+            return Ok(());
+        };
+        let named = fs::rename(files, draft.as_str(), name.as_str());
+        if named.is_err() {
+            self.remove(files);
+        }
+        named
+    }
+
+    /// Removes the text.
+    pub fn remove<F: Files>(&self, files: &F) {
+        if let Draft::Part(draft, _) = self {
+            let _ = fs::remove_file(files, draft.as_str());
+        }
+    }
 }

@@ -3,7 +3,7 @@
 use audit_model::ShapeReason;
 use cert_check::{ShapeFault, Verdict};
 use command_texts::TextSource;
-use commands::{output_named, run};
+use commands::{run, targets_named};
 use judge_commands::{push_verdict, verdict_status};
 use migration_types::LogName;
 use std::alloc::Global;
@@ -298,25 +298,44 @@ fn several(rt: HostRuntime) {
     none_is_wrong(&rt, wrong_case(&rt, SEVERAL.as_slice()));
 }
 
-// Whether these words name this file for the answer.
-fn is_named<R: AllocGlobal>(rt: &R, words: &[&str], file: Option<&str>) -> bool {
-    match (output_named(rt.alloc(), words), file) {
+// Whether a file that is named is this one, or there is none, as it is to be.
+fn is_this(found: Option<&str>, file: Option<&str>) -> bool {
+    match (found, file) {
         (Some(found), Some(file)) => found == file,
         (None, None) => true,
         _ => false,
     }
 }
 
+// Whether these words name these files for the lines of a window and for the answer.
+fn is_named<R: AllocGlobal>(
+    rt: &R,
+    words: &[&str],
+    lines: Option<&str>,
+    output: Option<&str>,
+) -> bool {
+    match targets_named(rt.alloc(), words) {
+        Ok(targets) => is_this(targets.lines, lines) && is_this(targets.output, output),
+        Err(_) => false,
+    }
+}
+
 #[test]
 fn outputs(rt: HostRuntime) {
     let steps = ["postcopy", "steps", "-o", "out", "script", "events"];
-    assert!(rt; is_named(&rt, steps.as_slice(), Some("out")));
+    assert!(rt; is_named(&rt, steps.as_slice(), None, Some("out")));
     let long = ["postcopy", "migrate", "--output=out", "script"];
-    assert!(rt; is_named(&rt, long.as_slice(), Some("out")));
+    assert!(rt; is_named(&rt, long.as_slice(), None, Some("out")));
     let plain = ["postcopy", "migrate", "script"];
-    assert!(rt; is_named(&rt, plain.as_slice(), None));
+    assert!(rt; is_named(&rt, plain.as_slice(), None, None));
     let refused = ["postcopy", "audit", "-o", "out", "session"];
-    assert!(rt; is_named(&rt, refused.as_slice(), None));
+    assert!(rt; is_named(&rt, refused.as_slice(), None, None));
+    let both = ["postcopy", "window", "--lines", "table", "-o", "out", "recording", "0", "1"];
+    assert!(rt; is_named(&rt, both.as_slice(), Some("table"), Some("out")));
+    let lines = ["postcopy", "window", "--lines", "table", "recording", "0", "1"];
+    assert!(rt; is_named(&rt, lines.as_slice(), Some("table"), None));
+    let told = ["postcopy", "explain", "--lines", "table", "session"];
+    assert!(rt; is_named(&rt, told.as_slice(), None, None));
 }
 
 // Mergings of sessions.
