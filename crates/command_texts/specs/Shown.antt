@@ -36,6 +36,10 @@ abbrev pub begins_quoted : List ℕ → Bool
 begins_quoted [] = false
 begins_quoted (b ∷ bs) = b == 34
 
--- a name as it is shown: between quotation marks where it has a control character or begins with such a mark, and else as it is
+-- whether a name has no control character, and does not begin with a quotation mark
+abbrev pub is_plain : List ℕ → Bool
+is_plain name = are_printed (chars name) && not (begins_quoted name)
+
+-- a name as it is shown: between quotation marks, where it is not plain
 abbrev pub shown : List ℕ → List ℕ
-shown name = if are_printed (chars name) && not (begins_quoted name) then name else quoted name
+shown name = if is_plain name then name else quoted name

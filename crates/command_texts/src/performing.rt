@@ -12,7 +12,7 @@ ghost use Rattle.command_texts.specs.Written.{BothGain, MayTell};
 use crate::answer::{Answer, Fault, Given, written};
 use crate::naming::{read_named, read_pair};
 use crate::reading::TextSource;
-use crate::shown::push_shown;
+use crate::shown::{is_plain, push_quoted};
 use crate::taking::Taker;
 use crate::why::{Telling, tell_why};
 use crate::writing::write_whole;
@@ -141,10 +141,14 @@ fn more_words<C: OnTwo>(
 ) -> Result<Vec<u8>, AllocError>
     ensures { (texts : List ℕ × List ℕ) → C.First.is_found texts.0 first.now → C.Second.is_found texts.1 second.now → C.is_said command.now texts said → IfOk result (λ words. C.adds_more command.now texts (shown name.now) [] words.items) }
 {
-    let mut shown = Vec::new(alloc);
-    push_shown(&mut shown, name)?;
     let mut words = Vec::new(alloc);
-    command.push_more(&mut words, shown.as_slice(), first, second, said)?;
+    if is_plain(name) {
+        command.push_more(&mut words, name.as_bytes(), first, second, said)?;
+    } else {
+        let mut quoted = Vec::new(alloc);
+        push_quoted(&mut quoted, name)?;
+        command.push_more(&mut words, quoted.as_slice(), first, second, said)?;
+    }
     Ok(words)
 }
 

@@ -3,7 +3,7 @@
 ghost use Rattle.std.specs.Prelude.{◌≡◌, ◌<◌, ◌++◌, OnOk, true};
 ghost use Rattle.std.specs.Io.KnownBytes.{Appends};
 ghost use Rattle.std.specs.Str.{chars};
-ghost use Rattle.command_texts.specs.Shown.{are_printed, begins_quoted, escaped, hex_digit, is_control, quoted, shown};
+ghost use Rattle.command_texts.specs.Shown.{are_printed, begins_quoted, escaped, hex_digit, is_control, is_plain, quoted, shown};
 ghost use Rattle.command_texts.specs.Written.{AppendsFront};
 
 use crate::writing::write_whole;
@@ -92,12 +92,19 @@ fn begins_quoted(name: &str) -> bool
     }
 }
 
+/// Whether a name is shown as it is: it has no control character, and does not begin with a quotation mark.
+pub(crate) fn is_plain(name: &str) -> bool
+    ensures { result ≡ is_plain name.now }
+{
+    are_printed(name) && !begins_quoted(name)
+}
+
 /// Writes a name as it is shown, and tells whether all of it is written. It takes no memory.
 pub fn write_shown<W: Write>(output: &mut W, name: &str) -> bool
     ensures front { AppendsFront (W.contents output.old) (W.contents output.new) (shown name.now) }
     ensures whole { result ≡ true → Appends (W.contents output.old) (W.contents output.new) (shown name.now) }
 {
-    if are_printed(name) && !begins_quoted(name) {
+    if is_plain(name) {
         write_whole(output, name.as_bytes())
     } else {
         write_quoted(output, name)

@@ -218,11 +218,16 @@ const NO_TARGETS: Targets<'static> = Targets {
 /// one, and for the lines of a window, as in `--lines FILE`. Of words that are no command no file is named, or what they say.
 /// The answer of [`run`] has the lines after the session. An error: there is no memory for reading the words.
 pub fn targets_named<'a>(alloc: Global, words: &'a [&'a str]) -> Result<Targets<'a>, AllocError>
-    ensures { IfOk result (λ targets. (target_names targets ≡ targets_named (word_texts words.entry.now)) ⊎ ((takes postcopy_words (word_texts words.entry.now) ≢ true) × (target_names targets ≡ (None, None)))) }
+    ensures taken { IfOk result (λ targets. takes postcopy_words (word_texts words.entry.now) ≡ true → target_names targets ≡ targets_named (word_texts words.entry.now)) }
+    ensures other { IfOk result (λ targets. (target_names targets ≡ targets_named (word_texts words.entry.now)) ⊎ (target_names targets ≡ (None, None))) }
 {
     match read_targets(alloc, words) {
         Ok(targets) => Ok(targets),
-        Err(error) if error.kind() == ErrorKind::OutOfMemory => Err(AllocError),
-        Err(_) => Ok(NO_TARGETS),
+        Err(error) => {
+            if error.kind() == ErrorKind::OutOfMemory {
+                return Err(AllocError);
+            }
+            Ok(NO_TARGETS)
+        }
     }
 }

@@ -111,6 +111,7 @@ IsRunFault script Link = Unit {0}
 abbrev pub IsUnread : RunFault → Type 0
 IsUnread LogFull = ⊥
 IsUnread Memory = Unit {0}
+IsUnread Threads = ⊥
 IsUnread (AuditRefused report) = ⊥
 IsUnread TranscriptDiffers = Unit {0}
 IsUnread Link = ⊥
@@ -119,6 +120,7 @@ IsUnread Link = ⊥
 abbrev pub IsUnclean : Recorded → RunFault → Type 0
 IsUnclean s LogFull = ⊥
 IsUnclean s Memory = Unit {0}
+IsUnclean s Threads = ⊥
 IsUnclean s (AuditRefused report) = IsReport s report × ¬ IsClean report
 IsUnclean s TranscriptDiffers = ⊥
 IsUnclean s Link = ⊥
@@ -128,6 +130,7 @@ IsUnclean s Link = ⊥
 abbrev pub IsRefused : List Vcpu → Recorded → List (List Answered) → Frames → RunFault → Type 0
 IsRefused vcpus s transcripts frames LogFull = ⊥
 IsRefused vcpus s transcripts frames Memory = Unit {0}
+IsRefused vcpus s transcripts frames Threads = ⊥
 IsRefused vcpus s transcripts frames (AuditRefused report) = IsReport s report × ¬ IsClean report
 IsRefused vcpus s transcripts frames TranscriptDiffers = (cert : Certified) × IsReport s (Clean cert) × Differs vcpus s cert transcripts frames
 IsRefused vcpus s transcripts frames Link = ⊥

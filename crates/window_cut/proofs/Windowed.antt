@@ -1,6 +1,6 @@
 -- What is written by marks that are right is the window.
-use Rattle.std.proofs.Common.{◌≡◌, ℕ, ◌-◌, Bool, List, map, Option, Some, refl, sym, ap, ◌∙◌, subst}
-use Rattle.std.specs.Prelude.{IfSome, IfOk, IfErr, Result, Ok, Err}
+use Rattle.std.proofs.Common.{◌≡◌, ℕ, ◌-◌, Bool, List, map, Option, Some, refl, ap, ◌∙◌, subst}
+use Rattle.std.specs.Prelude.{IfSome, IfErr, Result, Ok, Err}
 use Rattle.migration_types.specs.declared.records.LogName.TheVariants.{Guest, Source, Link, Lane, Pager}
 use Rattle.migration_types.specs.declared.records.GuestRec.{GuestRec}
 use Rattle.migration_types.specs.declared.records.GuestRec.TheVariants.{Read, Write, Release, Miss, Halt, Resume, See}
