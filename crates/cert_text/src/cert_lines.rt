@@ -102,6 +102,14 @@ impl CertParts {
     }
 }
 
+/// Which certificates have more pages than those of a size.
+fn more_pages(size: Size) -> &'static str {
+    match size {
+        Size::Small => "postcopy-certificate 3 has up to 16777216",
+        Size::Large => "",
+    }
+}
+
 /// How the header is written.
 const HEADER_FORMS: &[&str] = &[
     "postcopy-certificate 1",
@@ -165,9 +173,9 @@ impl Stages for CertParts {
         let limits = self.runs.size().limits();
         let wanted = match stage {
             Stage::Header => Wanted::one("the header of a certificate", HEADER_FORMS),
-            Stage::Pages => {
-                Wanted::one("the number of pages", &["pages N"]).within(1, limits.pages)
-            }
+            Stage::Pages => Wanted::one("the number of pages", &["pages N"])
+                .within(1, limits.pages)
+                .under(more_pages(self.runs.size())),
             Stage::Entries => self.wanted_in_entries(),
         };
         wanted.of_machine(self.pages, 0).of_logs(limits.records)

@@ -146,7 +146,7 @@ impl RunLines {
         if self.runs.is_whole() {
             Wanted::closing_line()
         } else {
-            wanted_run(self.form.version, self.form.size)
+            wanted_run(self.form.version, self.form.size, self.runs.items())
         }
     }
 

@@ -68,23 +68,51 @@ fn run_then(text: &[u8], version: Version, size: Size) -> Option<(Run, &[u8])>
     Some((Run { log, count }, rest))
 }
 
-/// How the runs of a version are written.
-fn run_forms(version: Version) -> &'static [&'static str] {
-    match version {
-        Version::One => &["run guest N", "run source N", "run link N", "run pager N"],
-        Version::Two => &[
-            "run guest N",
-            "run source N",
-            "run link N",
-            "run lane N",
-            "run pager N",
-        ],
+/// How a run of the guest is written, and of each other log.
+const GUEST: &str = "run guest N";
+
+const SOURCE: &str = "run source N";
+
+const LINK: &str = "run link N";
+
+const LANE: &str = "run lane N";
+
+const PAGER: &str = "run pager N";
+
+/// How the runs of the first version are written behind one of this log.
+fn first_forms(last: Option<LogName>) -> &'static [&'static str] {
+    match last {
+        None | Some(LogName::Lane) => &[GUEST, SOURCE, LINK, PAGER],
+        Some(LogName::Guest) => &[SOURCE, LINK, PAGER],
+        Some(LogName::Source) => &[GUEST, LINK, PAGER],
+        Some(LogName::Link) => &[GUEST, SOURCE, PAGER],
+        Some(LogName::Pager) => &[GUEST, SOURCE, LINK],
     }
 }
 
-/// What may stand where a run of a version and a size does.
-pub fn wanted_run(version: Version, size: Size) -> Wanted {
-    Wanted::one("a run", run_forms(version))
+/// How the runs of the second version are written behind one of this log.
+fn second_forms(last: Option<LogName>) -> &'static [&'static str] {
+    match last {
+        None => &[GUEST, SOURCE, LINK, LANE, PAGER],
+        Some(LogName::Guest) => &[SOURCE, LINK, LANE, PAGER],
+        Some(LogName::Source) => &[GUEST, LINK, LANE, PAGER],
+        Some(LogName::Link) => &[GUEST, SOURCE, LANE, PAGER],
+        Some(LogName::Lane) => &[GUEST, SOURCE, LINK, PAGER],
+        Some(LogName::Pager) => &[GUEST, SOURCE, LINK, LANE],
+    }
+}
+
+/// What may stand behind these runs of a version and a size, where one more does.
+pub fn wanted_run(version: Version, size: Size, before: &[Run]) -> Wanted {
+    let last = match before.last() {
+        Some(run) => Some(run.log),
+        None => None,
+    };
+    let forms = match version {
+        Version::One => first_forms(last),
+        Version::Two => second_forms(last),
+    };
+    Wanted::one("a run", forms)
         .within(1, size.limits().records)
         .under("two runs in a row take from different logs")
 }

@@ -60,6 +60,7 @@ pub(crate) fn cause_of(refusal: &Refusal) -> Cause<'_> {
 /// How many bytes of the line stand before the place where it is wrong.
 pub(crate) fn place_of(refusal: &Refusal, cause: &Cause<'_>) -> usize {
     match cause {
+        Cause::Stops(fit) if fit.is_of_line() => 0,
         Cause::Stops(fit) => fit.at,
         Cause::Unended => refusal.line.len(),
         Cause::Special(Special::CarriageReturn) => refusal.line.len().saturating_sub(1),

@@ -75,6 +75,16 @@ pub(crate) fn field_of(slot: &str) -> Option<Field> {
     }
 }
 
+/// Whether a word of a form stands for a field.
+fn is_field(slot: &str) -> bool {
+    field_of(slot).is_some()
+}
+
+/// Whether a form has a field.
+pub(crate) fn has_field(form: &str) -> bool {
+    form.split(' ').any(|slot| is_field(slot))
+}
+
 /// From 0 to one less than a count, or than the most where the count is not known.
 fn below(count: u32, most: u32) -> Range {
     let count = if count == 0 { most } else { count };

@@ -1,6 +1,6 @@
 //! The form that a line fits furthest, and where it stops.
 
-use crate::fields::{Misfit, field_of, may_go_on, misfit_of};
+use crate::fields::{Misfit, field_of, has_field, may_go_on, misfit_of};
 use memchr::memchr;
 use text_lines::{Refusal, Wanted};
 
@@ -42,6 +42,14 @@ impl<'a> Fit<'a> {
         match self.stop {
             Stop::Missing(slot) | Stop::Cut(slot) | Stop::Word { slot, .. } => Some(slot),
             Stop::Nowhere | Stop::Surplus => None,
+        }
+    }
+
+    /// Whether the line as a whole is told as what was found: it stops at a word of a form that has no field.
+    pub(crate) fn is_of_line(&self) -> bool {
+        match self.stop {
+            Stop::Word { word, .. } => !word.is_empty() && !has_field(self.form),
+            _ => false,
         }
     }
 
@@ -126,7 +134,7 @@ pub(crate) fn fit_of<'a>(refusal: &'a Refusal, form: &'static str) -> Fit<'a> {
             return Fit {
                 form,
                 words,
-                at: line.len().saturating_add(1),
+                at: line.len(),
                 stop: Stop::Missing(slot),
             };
         };

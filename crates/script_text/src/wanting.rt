@@ -48,7 +48,7 @@ impl ScriptParts {
         let wanted = if self.init.is_whole() {
             Wanted::one("the number of pivots", &["pivots N"]).within(1, MOST_PIVOTS)
         } else {
-            wanted_init_page()
+            wanted_init_page(&self.init, self.sizes.pages)
         };
         wanted.of_list(&self.init, INIT_LINE)
     }

@@ -14,7 +14,7 @@ use crate::keys::PAGE_KEY;
 use crate::writing::push_page;
 use migration_types::{Contents, InitPage, PageNo};
 use std::alloc::{AllocError, Global};
-use text_lines::{FaultKind, LineForm, Wanted, after_key, next_line, number_then};
+use text_lines::{Counted, FaultKind, LineForm, Wanted, after_key, next_line, number_then};
 
 /// The page that a line spells, for a page from `low` to `high` with so many cells, not all of them zero.
 pub(crate) fn read_page(
@@ -81,11 +81,13 @@ pub fn wanted_init_count(pages: u32) -> Wanted {
     Wanted::one("the number of initial pages", &["init N"]).within(0, pages)
 }
 
-/// What may stand where an initial page does.
-pub fn wanted_init_page() -> Wanted {
-    Wanted::one("an initial page", &["page P HEX"]).under(
-        "pages rise, each leaves room for those to come, and none has contents of zeros alone",
-    )
+/// What may stand where the next initial page of a machine with so many pages does: pages rise, and each leaves room for
+/// those to come.
+pub fn wanted_init_page(init: &Counted<InitPage>, pages: u32) -> Wanted {
+    let most = pages.saturating_sub(init.left());
+    Wanted::one("an initial page", &["page N HEX"])
+        .within(next_page(init.items()), most)
+        .under("no page has contents of zeros alone")
 }
 
 /// The lines of the initial pages, of which the next is at most the page `high`.

@@ -12,7 +12,7 @@ use crate::pager::pager_forms;
 use crate::pages::{wanted_init_count, wanted_init_page};
 use crate::parts::{Parts, Stage};
 use crate::source::SOURCE_FORMS;
-use migration_types::Version;
+use migration_types::{Size, Version};
 use text_lines::Wanted;
 
 impl Parts {
@@ -33,7 +33,7 @@ impl Parts {
     /// The next item of a stage's list.
     fn wanted_item(&self, stage: Stage) -> Wanted {
         match stage {
-            Stage::Init => wanted_init_page(),
+            Stage::Init => wanted_init_page(&self.init, self.sizes.pages),
             Stage::Guest => Wanted::one("a record of the guest", GUEST_FORMS),
             Stage::Source => Wanted::one("a record of the source", SOURCE_FORMS),
             Stage::Link => Wanted::one("a record of the link", LINK_FORMS),
@@ -47,7 +47,7 @@ impl Parts {
     fn wanted_behind(&self, stage: Stage) -> Wanted {
         match stage {
             Stage::Header => Wanted::one("the header of a session", HEADER_FORMS),
-            Stage::Pages => wanted_pages(self.sizes.size),
+            Stage::Pages => wanted_pages(self.sizes.size).under(more_pages(self.sizes.size)),
             Stage::Cells => wanted_cells(self.sizes.size),
             Stage::InitCount => wanted_init_count(self.sizes.pages),
             Stage::Init => self.records_of("the number of the guest's records", &["guest N"]),
@@ -107,6 +107,14 @@ impl Parts {
             Stage::Pager => pager,
             _ => 0,
         }
+    }
+}
+
+/// Which sessions have more pages than those of a size.
+fn more_pages(size: Size) -> &'static str {
+    match size {
+        Size::Small => "postcopy-session 3 has up to 16777216",
+        Size::Large => "",
     }
 }
 

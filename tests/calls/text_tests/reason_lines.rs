@@ -12,7 +12,7 @@ pub struct Case(pub At, pub u32, pub &'static [u8], pub &'static str);
 pub struct Group(pub At, pub u32, pub &'static str);
 
 /// Lines of plain words.
-pub static WORDS: [Group; 22] = [
+pub static WORDS: [Group; 23] = [
     Group(
         At::Guest,
         15,
@@ -37,7 +37,7 @@ w 64 0 0 5
 r 0 63 2 5
 8: found "2" in "r 0 63 2 5"; expected C, a cell from 0 to 1, as in "r V P C X"
 w 0 3 0
-9: found the end of the line after "w 0 3 0"; expected X, a value from 0 to 18446744073709551615, as in "w V P C X"
+8: found the end of the line after "w 0 3 0"; expected X, a value from 0 to 18446744073709551615, as in "w V P C X"
 w 0 3 0 18446744073709551616
 9: found "18446744073709551616" in "w 0 3 0 18446744073709551616"; expected X, a value from 0 to 18446744073709551615, as in "w V P C X"
 w 0 3 0 +5
@@ -120,7 +120,7 @@ lane 1048577
         At::Pages,
         2,
         r#"pages 1048576
-7: found "1048576"; expected N, a number from 1 to 65536, as in "pages N"; of a larger machine a window can be recorded: see RECORDING
+7: found "1048576"; expected N, a number from 1 to 65536, as in "pages N"; postcopy-session 3 has up to 16777216; of a larger machine a window can be recorded: see RECORDING
 pages 0
 7: found "0"; expected N, a number from 1 to 65536, as in "pages N"
 page 5
@@ -130,8 +130,21 @@ page 5
     Group(
         At::InitialPage,
         6,
-        r#"page 0 00000000000000010000000000000002
-1: found "page 0 00000000000000010000000000000002"; expected an initial page, the 2nd of 2 that line 6 promises: pages rise
+        r#"page 0 00000000000000000000000000000000
+6: found "0" in "page 0 00000000000000000000000000000000"; expected N, a number from 3 to 7, as in "page N HEX"
+page 3 00000000000000000000000000000000
+1: found "page 3 00000000000000000000000000000000"; expected an initial page, the 2nd of 2 that line 6 promises: no page has contents of zeros alone
+"#,
+    ),
+    Group(
+        At::Run,
+        4,
+        r#"run gast 1
+5: found "gast" in "run gast 1"; expected "source", "link" or "pager", as in "run source N"; two runs in a row take from different logs
+run guest 1
+5: found "guest" in "run guest 1"; expected "source", "link" or "pager", as in "run source N"; two runs in a row take from different logs
+run link 10
+10: found "10" in "run link 10"; expected N, a number from 1 to 9, as in "run link N"
 "#,
     ),
     Group(
@@ -160,7 +173,7 @@ page 3 source 1 2 - 4
         r#"lanes  2
 7: found a second space in "lanes  2"; expected "lanes 1" or "lanes 2"; words are separated by one space
 lanes 3
-7: found "lanes 3"; expected "lanes 1" or "lanes 2"
+1: found "lanes 3"; expected "lanes 1" or "lanes 2"
 "#,
     ),
     Group(
@@ -192,7 +205,7 @@ link up dropped
         At::SessionHead,
         1,
         r#"postcopy-session 4
-18: found "postcopy-session 4"; expected "postcopy-session 1", "postcopy-session 2" or "postcopy-session 3"
+1: found "postcopy-session 4"; expected "postcopy-session 1", "postcopy-session 2" or "postcopy-session 3"
 hello
 1: found "hello"; expected "postcopy-session 1", "postcopy-session 2" or "postcopy-session 3", the header of a session
 postcopy-certificate 1
@@ -229,9 +242,9 @@ BZh91AY
         At::OrderHead,
         1,
         r#"postcopy-certificate 4
-22: found "postcopy-certificate 4"; expected "postcopy-certificate 1", "postcopy-certificate 2" or "postcopy-certificate 3"
+1: found "postcopy-certificate 4"; expected "postcopy-certificate 1", "postcopy-certificate 2" or "postcopy-certificate 3"
 postcopy-runs 2
-15: found "postcopy-runs 2"; expected "postcopy-runs 1"
+1: found "postcopy-runs 2"; expected "postcopy-runs 1"
 postcopy-session 2
 1: this is a session; expected a text of runs: are the two files swapped?
 faulty line 9 late

@@ -82,6 +82,7 @@ pub enum At {
     EventsHead,
     Pages,
     InitialPage,
+    Run,
     Guest,
     ThirdOfGuest,
     EleventhOfGuest,
@@ -126,10 +127,21 @@ fn wanted_at(at: At) -> Wanted {
         At::RunsHead => alone("the header of runs", &["postcopy-runs 1"], 0, 0),
         At::OrderHead => alone("the first line of an order", &ORDERS, 1, 4_294_967_295),
         At::EventsHead => alone("the header of events", &["postcopy-events 1"], 0, 0),
-        At::Pages => alone("the number of pages", &["pages N"], 1, 65_536),
+        At::Pages => Wanted {
+            rule: "postcopy-session 3 has up to 16777216",
+            ..alone("the number of pages", &["pages N"], 1, 65_536)
+        },
         At::InitialPage => Wanted {
-            rule: "pages rise",
-            ..listed("an initial page", &["page P HEX"], 1, 2)
+            rule: "no page has contents of zeros alone",
+            least: 3,
+            most: 7,
+            ..listed("an initial page", &["page N HEX"], 1, 2)
+        },
+        At::Run => Wanted {
+            rule: "two runs in a row take from different logs",
+            least: 1,
+            most: 9,
+            ..listed("a run", &["run source N", "run link N", "run pager N"], 1, 3)
         },
         At::Guest => listed("a record of the guest", &GUEST, 8, 9),
         At::ThirdOfGuest => listed("a record of the guest", &GUEST, 2, 9),
@@ -254,9 +266,9 @@ fn the_mark_may_stand_behind_the_line(rt: HostRuntime) -> Result<(), Fail> {
     let refusal = refusal(rt.alloc(), &case, false)?;
     let said = said_in_full(rt.alloc(), &refusal)?;
     let marked =
-        r#"session:9:9: found the end of the line after "w 0 3 0"; expected X, a value from 0 to 18446744073709551615, as in "w V P C X"
+        r#"session:9:8: found the end of the line after "w 0 3 0"; expected X, a value from 0 to 18446744073709551615, as in "w V P C X"
   w 0 3 0
-          ^
+         ^
 "#;
     assert!(rt; said.as_str().starts_with(marked), "{said}");
     Ok(())

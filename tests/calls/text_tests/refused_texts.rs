@@ -74,7 +74,7 @@ pub static REFUSED: [Refused; 62] = [
         Session,
         "postcopy-session 1\npages 2\ncells 1\ninit 2\npage 1 0000000000000001\n",
         "an initial page",
-        "page P HEX",
+        "page N HEX",
         [0, 2, 4, 0, 0, 2, 1],
     ),
     (
@@ -249,14 +249,14 @@ pub static REFUSED: [Refused; 62] = [
         Cert,
         "postcopy-certificate 1\npages 2\npage 0 none\npage 1 none\nruns 3\nrun guest 1\nrun lane 1\n",
         "a run",
-        "run guest N|run source N|run link N|run pager N",
+        "run source N|run link N|run pager N",
         [1, 3, 5, 1, 1048576, 2, 0],
     ),
     (
         Cert,
         "postcopy-certificate 2\npages 2\npage 0 none\npage 1 none\nruns 3\nrun guest 1\nrun guest 1\n",
         "a run",
-        "run guest N|run source N|run link N|run lane N|run pager N",
+        "run source N|run link N|run lane N|run pager N",
         [1, 3, 5, 1, 1048576, 2, 0],
     ),
     (
@@ -291,7 +291,7 @@ pub static REFUSED: [Refused; 62] = [
         Runs,
         "postcopy-runs 1\nruns 2\nrun guest 1\nrun guest 1\n",
         "a run",
-        "run guest N|run source N|run link N|run lane N|run pager N",
+        "run source N|run link N|run lane N|run pager N",
         [1, 2, 2, 1, 134217728, 0, 0],
     ),
     (
@@ -340,8 +340,8 @@ pub static REFUSED: [Refused; 62] = [
         Script,
         "postcopy-script 1\npages 2\ncells 1\ninit 2\npage 0 0000000000000001\npage 0 0000000000000001\n",
         "an initial page",
-        "page P HEX",
-        [1, 2, 4, 0, 0, 2, 1],
+        "page N HEX",
+        [1, 2, 4, 1, 1, 2, 1],
     ),
     (
         Script,
@@ -472,7 +472,17 @@ pub static REFUSED: [Refused; 62] = [
 ];
 
 /// Texts that are refused, and what else holds of a line in one of the forms that are wanted there.
-pub static RULES: [(Text, &str, &str); 5] = [
+pub static RULES: [(Text, &str, &str); 7] = [
+    (
+        Session,
+        "postcopy-session 2\npages 65537\n",
+        "postcopy-session 3 has up to 16777216",
+    ),
+    (
+        Cert,
+        "postcopy-certificate 1\npages 65537\n",
+        "postcopy-certificate 3 has up to 16777216",
+    ),
     (
         Session,
         "postcopy-session 1\npages 65536\ncells 17\n",
@@ -481,12 +491,12 @@ pub static RULES: [(Text, &str, &str); 5] = [
     (
         Session,
         "postcopy-session 1\npages 1\ncells 1\ninit 1\npage 0 0000000000000000\n",
-        "pages rise, each leaves room for those to come, and none has contents of zeros alone",
+        "no page has contents of zeros alone",
     ),
     (
         Script,
         "postcopy-script 1\npages 2\ncells 1\ninit 2\npage 1 0000000000000001\n",
-        "pages rise, each leaves room for those to come, and none has contents of zeros alone",
+        "no page has contents of zeros alone",
     ),
     (
         Runs,

@@ -1,9 +1,8 @@
 //! What may stand at a line, in words.
 
-use super::found::has_field;
 use super::meanings::{push_meaning, push_new};
 use crate::cause::Cause;
-use crate::fields::field_of;
+use crate::fields::{field_of, has_field};
 use crate::fitting::{Fit, Stop, fit_of};
 use crate::quoting::push_quote;
 use crate::slips::{Slip, slip_between, slip_of, slip_of_line};
@@ -91,7 +90,7 @@ fn push_rule(out: &mut String, wanted: &Wanted) -> Result<(), AllocError> {
 }
 
 /// Adds what is unusual about what was found.
-fn push_slip(out: &mut String, slip: Option<Slip>) -> Result<(), AllocError> {
+fn push_slip(out: &mut String, slip: Option<Slip>, wanted: &Wanted) -> Result<(), AllocError> {
     let Some(slip) = slip else {
         return Ok(());
     };
@@ -102,6 +101,8 @@ fn push_slip(out: &mut String, slip: Option<Slip>) -> Result<(), AllocError> {
         Slip::Hexadecimal => out.push_str("numbers are decimal"),
         Slip::LeadingZero => out.push_str("a number has no leading zero"),
         Slip::TooManyPages => {
+            out.push_str(wanted.rule)?;
+            out.push_str(if wanted.rule.is_empty() { "" } else { "; " })?;
             out.push_str("of a larger machine a window can be recorded: see RECORDING")
         }
         Slip::Prefixed => out.push_str("contents have no 0x"),
@@ -162,6 +163,19 @@ fn slip_at(fit: &Fit<'_>, wanted: &Wanted) -> Option<Slip> {
     }
 }
 
+/// Adds the rule by which a line has one word of the form, and no other, where it stops at such a word.
+fn push_kept(out: &mut String, fit: &Fit<'_>, wanted: &Wanted) -> Result<(), AllocError> {
+    let is_chosen = match fit.slot() {
+        Some(slot) => fit.words > 0 && field_of(slot).is_none(),
+        None => false,
+    };
+    if !is_chosen || wanted.rule.is_empty() {
+        return Ok(());
+    }
+    out.push_str("; ")?;
+    out.push_str(wanted.rule)
+}
+
 /// Adds what may stand where a line stops being in a form.
 fn push_stop(out: &mut String, refusal: &Refusal, fit: &Fit<'_>) -> Result<(), AllocError> {
     if fit.slot().is_none() {
@@ -175,7 +189,8 @@ fn push_stop(out: &mut String, refusal: &Refusal, fit: &Fit<'_>) -> Result<(), A
     } else {
         push_forms(out, choices.forms.as_slice())?;
     }
-    push_slip(out, slip_at(fit, &refusal.wanted))
+    push_kept(out, fit, &refusal.wanted)?;
+    push_slip(out, slip_at(fit, &refusal.wanted), &refusal.wanted)
 }
 
 /// Adds what may stand at a line.
@@ -196,7 +211,7 @@ pub(crate) fn push_expected(
         Cause::Stops(fit) => push_stop(out, refusal, fit),
         Cause::Memory | Cause::Special(_) | Cause::Ends | Cause::Empty | Cause::Other => {
             push_wanted(out, wanted)?;
-            push_slip(out, slip_of_line(line))
+            push_slip(out, slip_of_line(line), wanted)
         }
     }
 }

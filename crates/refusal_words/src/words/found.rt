@@ -1,21 +1,11 @@
 //! What was found at a line, in words.
 
 use crate::cause::Cause;
-use crate::fields::{Misfit, field_of};
+use crate::fields::Misfit;
 use crate::fitting::{Fit, Stop};
 use crate::quoting::push_quote;
 use std::alloc::AllocError;
 use text_lines::Refusal;
-
-/// Whether a word of a form stands for a field.
-fn is_field(slot: &str) -> bool {
-    field_of(slot).is_some()
-}
-
-/// Whether a form has a field.
-pub(crate) fn has_field(form: &str) -> bool {
-    form.split(' ').any(|slot| is_field(slot))
-}
 
 /// Whether a form is a key and one word more, which needs no line around it to be understood.
 fn is_keyed(form: &str) -> bool {
@@ -43,9 +33,6 @@ fn push_word(
     if word.is_empty() {
         out.push_str("found a second space")?;
         return push_in_line(out, line);
-    }
-    if !has_field(form) {
-        return push_found_quote(out, line);
     }
     match misfit {
         Misfit::Byte(at) => {
@@ -80,6 +67,7 @@ fn push_stop(
             })?;
             push_quote(out, line)
         }
+        _ if fit.is_of_line() => push_found_quote(out, line),
         Stop::Word { word, misfit, .. } => push_word(out, line, fit.form, word, misfit),
         Stop::Surplus => {
             let (before, surplus) = line.split_at(fit.at.min(line.len()));
