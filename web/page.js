@@ -44,14 +44,10 @@ function ask(call, session, { certificate, topic, say } = {}) {
   });
 }
 
-// The library's call that says what a clean session lacks first to tell that its guest moved: a `halt`, a `resume`, a page.
-const MISSING_PAGES = "missing";
-
-// What a clean session lacks of that, as a line, or `failure` in its place. (The call tells later of what may be left out.)
+// What a clean session lacks first to tell that its guest moved, a `halt`, a `resume` or a page, as a line; or `failure`.
 async function missingPages(session, how) {
-  const { failure, kind, bytes } = await ask(MISSING_PAGES, session, how);
-  const line = kind === "INCOMPLETE" ? firstLineOf(bytes) : "";
-  return failure ? { failure } : { lack: /^incomplete (all|done|line \d+)$/.test(line) ? "" : line };
+  const { failure, kind, bytes } = await ask("missing_pages", session, how);
+  return failure ? { failure } : { lack: kind === "INCOMPLETE" ? firstLineOf(bytes) : "" };
 }
 
 function stop() {
