@@ -398,7 +398,7 @@ pub static LAST: [Case; 16] = [
         At::Guest,
         9,
         b"w 0 3",
-        r#"7: the text ends in the middle of a line, after "w 0 3"; expected C, a cell from 0 to 1, as in "w V P C X""#,
+        r#"6: the text ends in the middle of a line, after "w 0 3"; expected C, a cell from 0 to 1, as in "w V P C X""#,
     ),
     Case(
         At::Guest,
