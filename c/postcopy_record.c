@@ -1,33 +1,50 @@
 /* Records what the parties of a migration do: see postcopy_record.h.
 
-   A thread's records of a log stand in a file of their own, FOLDER/PARTY.PROCESS.N, as lines `NUMBER RECORD`. A file grows by
-   chunks, which are taken from the disk before they are mapped. Behind the last line there are bytes 0, until the thread or
-   the log ends. The end of a line is written last, so a line that a process did not live to finish has none. */
+   A thread's records of a log stand in a file of their own, FOLDER/PARTY.PROCESS.N:
+
+       postcopy-records 1
+       recording NAME
+       log PARTY FIRST OPENING
+       NUMBER RECORD       a line for each
+       end COUNT           in the log's first file, where it was closed
+
+   OPENING is the N of that file, and COUNT the number behind the last record. In the place of `end COUNT` stands `next COUNT`
+   where the log was handed over, and `lost ERRNO` where a record was not written. The folder's file recording-name has NAME.
+
+   A file grows by chunks, which are taken from the disk before they are mapped. Behind the last line there are bytes 0, until
+   the thread or the log ends. The end of a line is written last, so one that a process did not live to finish has none. */
 #define _GNU_SOURCE
 #include "postcopy_record.h"
 
 #include <errno.h>
 #include <fcntl.h>
+#include <inttypes.h>
 #include <pthread.h>
 #include <stdatomic.h>
 #include <stdio.h>
 #include <stdlib.h>
 #include <string.h>
 #include <sys/mman.h>
+#include <sys/random.h>
+#include <sys/resource.h>
 #include <sys/stat.h>
 #include <unistd.h>
 
 #define CHUNK ((off_t)1 << 18)
 #define CELLS_MAX 512
-#define WORDS_MAX 128 /* a line is shorter than this, but for its contents */
+#define WORDS_MAX 160 /* a head, or a line but for its contents, is so much shorter that a last line has room behind it */
 
 enum party { MACHINE, GUEST, SOURCE, LINK, LANE, PAGER, PARTIES };
 static const char *const names[PARTIES] = {"machine", "guest", "source", "link", "lane", "pager"};
 
-/* The file of one thread. `at` is where its next line goes; the mapping is of `start` on. */
+/* The file of one thread. `at` is where its next line goes; the mapping is of `start` on. It belongs to the thread and to the
+   log, and goes with the last of them. */
 struct part {
     struct part *next;
-    int file;
+    atomic_int owners;
+    unsigned forks; /* as the log's */
+    int is_first;   /* whether it is the log's first, which is open as long as the log is */
+    atomic_int file;
     off_t start;
     char *base, *at;
 };
@@ -39,8 +56,11 @@ struct postcopy_log {
     atomic_int error;             /* why the log has ended, or 0 */
     atomic_uint files;            /* how many names of files were tried */
     _Atomic(struct part *) parts; /* of all threads */
-    pthread_key_t mine;           /* the calling thread's part */
-    char stem[];                  /* how the files' names begin */
+    struct part *first;
+    pthread_key_t mine; /* the calling thread's part */
+    char name[POSTCOPY_NAME_SIZE];
+    char head[WORDS_MAX]; /* how its files begin .. */
+    char stem[];          /* .. and their names */
 };
 
 /* A forked child has its parent's mappings, and would write over what the parent writes. */
@@ -57,6 +77,94 @@ static void watch_forks(void)
     pthread_atfork(NULL, NULL, count_fork);
 }
 
+/* Whether a file may have so many bytes. (One that grows past the process's limit is told by a signal, which would end it.) */
+static int is_allowed(off_t length)
+{
+    struct rlimit limit;
+    if (getrlimit(RLIMIT_FSIZE, &limit) || limit.rlim_cur == RLIM_INFINITY || (rlim_t)length <= limit.rlim_cur)
+        return 1;
+    errno = EFBIG;
+    return 0;
+}
+
+/* The recording's name. */
+
+static int is_name(const char *name)
+{
+    size_t length = strspn(name, "abcdefghijklmnopqrstuvwxyzABCDEFGHIJKLMNOPQRSTUVWXYZ0123456789-_.");
+    return length && length < POSTCOPY_NAME_SIZE && !name[length];
+}
+
+static int make_name(char name[POSTCOPY_NAME_SIZE])
+{
+    unsigned char bytes[16];
+    if (getentropy(bytes, sizeof bytes))
+        return -1;
+    for (size_t n = 0; n < sizeof bytes; n++)
+        sprintf(name + 2 * n, "%02x", bytes[n]);
+    return 0;
+}
+
+static int read_name(const char *path, char name[POSTCOPY_NAME_SIZE])
+{
+    int file = open(path, O_RDONLY | O_CLOEXEC);
+    if (file < 0)
+        return -1;
+    char text[POSTCOPY_NAME_SIZE + 1] = {0}, *end;
+    ssize_t length = read(file, text, POSTCOPY_NAME_SIZE);
+    int error = length < 0 ? errno : EBADMSG;
+    close(file);
+    if ((end = strchr(text, '\n')))
+        *end = 0;
+    if (end && is_name(text))
+        return strcpy(name, text), 0;
+    errno = error;
+    return -1;
+}
+
+/* Makes the file with the name, whole at once, by way of another file. It fails where the file is there. */
+static int write_name(const char *path, const char *name, const char *other)
+{
+    char own[strlen(path) + POSTCOPY_NAME_SIZE];
+    sprintf(own, "%s.%s", path, other);
+    int file = is_allowed(POSTCOPY_NAME_SIZE) ? open(own, O_WRONLY | O_CREAT | O_EXCL | O_CLOEXEC, 0666) : -1;
+    if (file < 0)
+        return -1;
+    errno = ENOSPC;
+    int is_done = dprintf(file, "%s\n", name) == (int)strlen(name) + 1 && link(own, path) == 0, error = errno;
+    close(file);
+    unlink(own);
+    errno = error;
+    return is_done ? 0 : -1;
+}
+
+/* The name of a folder's recording: the one that it has, or else the one that is given, or a new one. */
+static int name_recording(const char *folder, const char *given, char name[POSTCOPY_NAME_SIZE])
+{
+    char path[strlen(folder) + 32], made[POSTCOPY_NAME_SIZE];
+    sprintf(path, "%s/recording-name", folder);
+    if (mkdir(folder, 0777) && errno != EEXIST)
+        return -1;
+    if (read_name(path, name) == 0)
+        return 0;
+    if (errno != ENOENT || make_name(made) || (write_name(path, given ? given : made, made) && errno != EEXIST))
+        return -1;
+    return read_name(path, name);
+}
+
+int postcopy_recording_join(const char *folder, const char *recording)
+{
+    char name[POSTCOPY_NAME_SIZE];
+    if (!is_name(recording))
+        errno = EINVAL;
+    else if (name_recording(folder, recording, name) == 0) {
+        if (strcmp(name, recording) == 0)
+            return 0;
+        errno = EEXIST;
+    }
+    return -1;
+}
+
 /* Parts. */
 
 static off_t used(const struct part *part)
@@ -64,54 +172,33 @@ static off_t used(const struct part *part)
     return part->start + (part->at - part->base);
 }
 
-/* Ends a part: its file has its lines and no more. A part that has ended has no file. */
-static void end_part(void *what)
+/* Ends a part: its file has its lines and no more. (A thread may end while its log is closed; one of them does it.) */
+static void end_part(struct part *part)
 {
-    struct part *part = what;
-    if (part->file < 0)
+    int file = atomic_exchange(&part->file, -1);
+    if (file < 0)
         return;
-    if (ftruncate(part->file, used(part))) {
-        /* the bytes 0 stay, and are no line */
-    }
+    (void)!ftruncate(file, used(part)); /* where it fails the bytes 0 stay, and are no line */
     if (part->base)
         munmap(part->base, CHUNK);
-    close(part->file);
-    part->file = -1;
+    close(file);
 }
 
-static int new_file(postcopy_log *log)
+static void disown_part(struct part *part)
 {
-    char path[strlen(log->stem) + 16];
-    int file;
-    do {
-        sprintf(path, "%s.%u", log->stem, atomic_fetch_add(&log->files, 1));
-        file = open(path, O_RDWR | O_CREAT | O_EXCL | O_CLOEXEC, 0666);
-    } while (file < 0 && errno == EEXIST);
-    return file;
-}
-
-/* The calling thread's part, or NULL with errno. */
-static struct part *part_of(postcopy_log *log)
-{
-    struct part *part = pthread_getspecific(log->mine);
-    if (part)
-        return part;
-    part = calloc(1, sizeof *part);
-    if (!part)
-        return NULL;
-    part->file = new_file(log);
-    if (part->file < 0 || (errno = pthread_setspecific(log->mine, part))) {
-        int error = errno;
-        if (part->file >= 0)
-            close(part->file);
+    if (atomic_fetch_sub(&part->owners, 1) == 1)
         free(part);
-        errno = error;
-        return NULL;
-    }
-    part->next = atomic_load(&log->parts);
-    while (!atomic_compare_exchange_weak(&log->parts, &part->next, part)) {
-    }
-    return part;
+}
+
+/* What becomes of a part when its thread ends; nothing, where it is the parent's. */
+static void leave_part(void *what)
+{
+    struct part *part = what;
+    if (part->forks != atomic_load(&forks))
+        return;
+    if (!part->is_first)
+        end_part(part);
+    disown_part(part);
 }
 
 /* Whether so many bytes can be written from `at` on; if not, errno tells why. */
@@ -119,8 +206,12 @@ static int has_room(struct part *part, size_t length)
 {
     if (part->base && length <= (size_t)(part->base + CHUNK - part->at))
         return 1;
-    off_t end = used(part), start = end - end % sysconf(_SC_PAGESIZE);
-    if ((errno = posix_fallocate(part->file, start, CHUNK)))
+    off_t end = part->base ? used(part) : 0, start = end - end % sysconf(_SC_PAGESIZE);
+    if (!is_allowed(start + CHUNK))
+        return 0;
+    while ((errno = posix_fallocate(part->file, start, CHUNK)) == EINTR) {
+    }
+    if (errno)
         return 0;
     char *base = mmap(NULL, CHUNK, PROT_READ | PROT_WRITE, MAP_SHARED, part->file, start);
     if (base == MAP_FAILED)
@@ -131,6 +222,40 @@ static int has_room(struct part *part, size_t length)
     part->base = base;
     part->at = base + (end - start);
     return 1;
+}
+
+/* Begins a part of the calling thread: NULL, with errno, where that cannot be done. */
+static struct part *begin_part(postcopy_log *log)
+{
+    char path[strlen(log->stem) + 16];
+    unsigned number;
+    struct part *part = calloc(1, sizeof *part);
+    if (!part)
+        return NULL;
+    part->owners = 2;
+    part->forks = log->forks;
+    part->is_first = !log->first;
+    do {
+        number = atomic_fetch_add(&log->files, 1);
+        sprintf(path, "%s.%u", log->stem, number);
+        part->file = open(path, O_RDWR | O_CREAT | O_EXCL | O_CLOEXEC, 0666);
+    } while (part->file < 0 && errno == EEXIST);
+    if (part->file < 0 || !has_room(part, WORDS_MAX) || (errno = pthread_setspecific(log->mine, part))) {
+        int error = errno;
+        if (part->file >= 0)
+            unlink(path);
+        end_part(part);
+        free(part);
+        errno = error;
+        return NULL;
+    }
+    if (part->is_first)
+        sprintf(log->head, "postcopy-records 1\nrecording %s\nlog %s %" PRIu64 " %u\n", log->name, names[log->party], log->next, number);
+    part->at = stpcpy(part->at, log->head);
+    part->next = atomic_load(&log->parts);
+    while (!atomic_compare_exchange_weak(&log->parts, &part->next, part)) {
+    }
+    return part;
 }
 
 /* Lines. */
@@ -155,11 +280,12 @@ static char *put_cells(char *at, const uint64_t *contents, size_t cells)
     return at;
 }
 
-/* A record: its word, numbers, and for some contents. */
+/* A record: its word, numbers, and for some a page's contents. */
 struct record {
     const char *word;
     int count;
     uint64_t numbers[4];
+    int is_of_page;
     const uint64_t *contents;
     size_t cells;
 };
@@ -173,10 +299,20 @@ static void put_line(struct part *part, uint64_t number, const struct record *re
         *at++ = ' ';
         at = put_number(at, record->numbers[n]);
     }
-    if (record->contents) {
+    if (record->is_of_page) {
         *at++ = ' ';
         at = put_cells(at, record->contents, record->cells);
     }
+    __atomic_store_n(at, '\n', __ATOMIC_RELEASE);
+    part->at = at + 1;
+}
+
+/* The log's last line. */
+static void put_last(struct part *part, const char *word, uint64_t number)
+{
+    char *at = stpcpy(part->at, word);
+    *at++ = ' ';
+    at = put_number(at, number);
     __atomic_store_n(at, '\n', __ATOMIC_RELEASE);
     part->at = at + 1;
 }
@@ -196,16 +332,16 @@ static uint32_t append(postcopy_log *log, unsigned parties, struct record record
 {
     if (!log || atomic_load(&log->error) || log->forks != atomic_load(&forks))
         return POSTCOPY_LOST;
-    if (!(parties >> log->party & 1) || record.cells > CELLS_MAX)
+    if (!(parties >> log->party & 1) || (record.is_of_page && !(record.contents && record.cells && record.cells <= CELLS_MAX)))
         return lose(log, EINVAL);
     int error = errno;
-    struct part *part = part_of(log);
-    if (!part || !has_room(part, WORDS_MAX + 16 * record.cells)) {
-        uint32_t lost = lose(log, errno);
-        errno = error;
-        return lost;
-    }
+    struct part *part = pthread_getspecific(log->mine);
+    if (!part)
+        part = begin_part(log);
+    int why = part && has_room(part, WORDS_MAX + 16 * record.cells) ? 0 : errno;
     errno = error;
+    if (why)
+        return lose(log, why);
     uint64_t number = atomic_fetch_add(&log->next, 1);
     if (number >= POSTCOPY_LOST)
         return lose(log, EOVERFLOW);
@@ -218,26 +354,38 @@ postcopy_log *postcopy_log_open(const char *folder, const char *party, uint32_t 
     enum party which = MACHINE;
     while (which < PARTIES && strcmp(party, names[which]))
         which++;
-    if (which == PARTIES) {
+    if (which == PARTIES || first == POSTCOPY_LOST) {
         errno = EINVAL;
         return NULL;
     }
-    if (mkdir(folder, 0777) && errno != EEXIST)
+    char name[POSTCOPY_NAME_SIZE];
+    if (name_recording(folder, NULL, name))
         return NULL;
     pthread_once(&watched, watch_forks);
     size_t length = strlen(folder) + strlen(party) + 32;
     postcopy_log *log = calloc(1, sizeof *log + length);
     if (!log)
         return NULL;
-    if ((errno = pthread_key_create(&log->mine, end_part))) {
-        free(log);
-        return NULL;
-    }
     log->party = which;
     log->forks = atomic_load(&forks);
     atomic_store(&log->next, first);
+    strcpy(log->name, name);
     snprintf(log->stem, length, "%s/%s.%ld", folder, party, (long)getpid());
-    return log;
+    int error = pthread_key_create(&log->mine, leave_part);
+    if (!error && !(log->first = begin_part(log))) {
+        error = errno;
+        pthread_key_delete(log->mine);
+    }
+    if (!error)
+        return log;
+    free(log);
+    errno = error;
+    return NULL;
+}
+
+const char *postcopy_log_recording(const postcopy_log *log)
+{
+    return log ? log->name : "";
 }
 
 int postcopy_log_error(const postcopy_log *log)
@@ -245,174 +393,93 @@ int postcopy_log_error(const postcopy_log *log)
     return log ? atomic_load(&log->error) : 0;
 }
 
-void postcopy_log_close(postcopy_log *log)
+/* Closes a log. Answers the number behind its last record, or POSTCOPY_LOST where one was lost, or where it is the parent's. */
+static uint32_t close_log(postcopy_log *log, const char *word)
 {
     if (!log)
-        return;
+        return POSTCOPY_LOST;
+    int is_own = log->forks == atomic_load(&forks), error = atomic_load(&log->error);
+    uint32_t count = is_own && !error ? atomic_load(&log->next) : POSTCOPY_LOST;
+    struct part *mine = pthread_getspecific(log->mine);
     pthread_key_delete(log->mine);
+    if (is_own)
+        put_last(log->first, error ? "lost" : word, error ? (uint64_t)error : count);
     for (struct part *part = atomic_load(&log->parts), *next; part; part = next) {
         next = part->next;
-        if (log->forks == atomic_load(&forks))
+        if (is_own)
             end_part(part);
-        free(part);
+        disown_part(part);
     }
+    if (mine)
+        disown_part(mine);
     free(log);
+    return count;
+}
+
+uint32_t postcopy_log_hand_over(postcopy_log *log)
+{
+    return close_log(log, "next");
+}
+
+void postcopy_log_close(postcopy_log *log)
+{
+    close_log(log, "end");
 }
 
 /* The records. */
 
 #define OF(party) (1u << (party))
-#define NUMBERS(...) .count = sizeof((uint64_t[]){__VA_ARGS__}) / sizeof(uint64_t), .numbers = {__VA_ARGS__}
-#define APPEND(log, parties, ...) append(log, parties, (struct record){.word = __VA_ARGS__})
 
-uint32_t postcopy_record_machine(postcopy_log *machine, uint32_t pages, uint32_t cells)
-{
-    return APPEND(machine, OF(MACHINE), "pages", NUMBERS(pages, cells));
-}
+/* Calls of no number, of one, two and four, and of a page's contents. */
+#define APPEND(parties, word, count, ...) { return append(log, parties, (struct record){word, count, {__VA_ARGS__}, 0, NULL, 0}); }
+#define CALL_0(call, parties, word) \
+    uint32_t postcopy_record_##call(postcopy_log *log) APPEND(parties, word, 0, 0)
+#define CALL_1(call, parties, word) \
+    uint32_t postcopy_record_##call(postcopy_log *log, uint32_t one) APPEND(parties, word, 1, one)
+#define CALL_2(call, parties, word) \
+    uint32_t postcopy_record_##call(postcopy_log *log, uint32_t one, uint32_t two) APPEND(parties, word, 2, one, two)
+#define CALL_4(call, parties, word) \
+    uint32_t postcopy_record_##call(postcopy_log *log, uint32_t one, uint32_t two, uint32_t three, uint64_t four) \
+        APPEND(parties, word, 4, one, two, three, four)
+#define CALL_PAGE(call, parties, word) \
+    uint32_t postcopy_record_##call(postcopy_log *log, uint32_t page, const uint64_t *contents, size_t cells) \
+    { \
+        return append(log, parties, (struct record){word, 1, {page}, 1, contents, cells}); \
+    }
 
-uint32_t postcopy_record_initial(postcopy_log *machine, uint32_t page, const uint64_t *contents, size_t cells)
-{
-    return APPEND(machine, OF(MACHINE), "page", NUMBERS(page), .contents = contents, .cells = cells);
-}
-
-uint32_t postcopy_record_read(postcopy_log *guest, uint32_t vcpu, uint32_t page, uint32_t cell, uint64_t value)
-{
-    return APPEND(guest, OF(GUEST), "r", NUMBERS(vcpu, page, cell, value));
-}
-
-uint32_t postcopy_record_write(postcopy_log *guest, uint32_t vcpu, uint32_t page, uint32_t cell, uint64_t value)
-{
-    return APPEND(guest, OF(GUEST), "w", NUMBERS(vcpu, page, cell, value));
-}
-
-uint32_t postcopy_record_release(postcopy_log *guest, uint32_t vcpu, uint32_t page)
-{
-    return APPEND(guest, OF(GUEST), "z", NUMBERS(vcpu, page));
-}
-
-uint32_t postcopy_record_miss(postcopy_log *guest, uint32_t vcpu, uint32_t page)
-{
-    return APPEND(guest, OF(GUEST), "miss", NUMBERS(vcpu, page));
-}
-
-uint32_t postcopy_record_halt(postcopy_log *guest)
-{
-    return APPEND(guest, OF(GUEST), "halt");
-}
-
-uint32_t postcopy_record_resume(postcopy_log *guest, uint32_t ready)
-{
-    return APPEND(guest, OF(GUEST), "resume", NUMBERS(ready));
-}
-
-uint32_t postcopy_record_see(postcopy_log *guest, uint32_t placement)
-{
-    return APPEND(guest, OF(GUEST), "see", NUMBERS(placement));
-}
-
-uint32_t postcopy_record_halted(postcopy_log *source, uint32_t halt)
-{
-    return APPEND(source, OF(SOURCE), "halted", NUMBERS(halt));
-}
-
-uint32_t postcopy_record_state(postcopy_log *source)
-{
-    return APPEND(source, OF(SOURCE), "state");
-}
-
-uint32_t postcopy_record_send(postcopy_log *source, uint32_t page, const uint64_t *contents, size_t cells)
-{
-    return APPEND(source, OF(SOURCE), "send", NUMBERS(page), .contents = contents, .cells = cells);
-}
-
-uint32_t postcopy_record_again(postcopy_log *source, uint32_t sent)
-{
-    return APPEND(source, OF(SOURCE), "again", NUMBERS(sent));
-}
-
-uint32_t postcopy_record_ask(postcopy_log *source, uint32_t up)
-{
-    return APPEND(source, OF(SOURCE), "ask", NUMBERS(up));
-}
-
-uint32_t postcopy_record_ask_sent(postcopy_log *source, uint32_t sent)
-{
-    return APPEND(source, OF(SOURCE), "ask-sent", NUMBERS(sent));
-}
-
-uint32_t postcopy_record_done(postcopy_log *source)
-{
-    return APPEND(source, OF(SOURCE), "done");
-}
-
-uint32_t postcopy_record_down(postcopy_log *link_or_lane, uint32_t sent)
-{
-    return APPEND(link_or_lane, OF(LINK) | OF(LANE), "down", NUMBERS(sent));
-}
-
-uint32_t postcopy_record_up(postcopy_log *link, uint32_t sent)
-{
-    return APPEND(link, OF(LINK), "up", NUMBERS(sent));
-}
-
-uint32_t postcopy_record_got(postcopy_log *pager, uint32_t down)
-{
-    return APPEND(pager, OF(PAGER), "got", NUMBERS(down));
-}
-
-uint32_t postcopy_record_got_sent(postcopy_log *pager, uint32_t sent)
-{
-    return APPEND(pager, OF(PAGER), "got-sent", NUMBERS(sent));
-}
-
-uint32_t postcopy_record_pull(postcopy_log *pager, uint32_t down)
-{
-    return APPEND(pager, OF(PAGER), "pull", NUMBERS(down));
-}
-
-uint32_t postcopy_record_pull_sent(postcopy_log *pager, uint32_t sent)
-{
-    return APPEND(pager, OF(PAGER), "pull-sent", NUMBERS(sent));
-}
-
-uint32_t postcopy_record_ready(postcopy_log *pager)
-{
-    return APPEND(pager, OF(PAGER), "ready");
-}
-
-uint32_t postcopy_record_fault(postcopy_log *pager, uint32_t miss)
-{
-    return APPEND(pager, OF(PAGER), "fault", NUMBERS(miss));
-}
-
-uint32_t postcopy_record_join(postcopy_log *pager, uint32_t want)
-{
-    return APPEND(pager, OF(PAGER), "join", NUMBERS(want));
-}
-
-uint32_t postcopy_record_want(postcopy_log *pager, uint32_t page)
-{
-    return APPEND(pager, OF(PAGER), "want", NUMBERS(page));
-}
+CALL_2(machine, OF(MACHINE), "pages")
+CALL_PAGE(initial, OF(MACHINE), "page")
+CALL_4(read, OF(GUEST), "r")
+CALL_4(write, OF(GUEST), "w")
+CALL_2(release, OF(GUEST), "z")
+CALL_2(miss, OF(GUEST), "miss")
+CALL_0(halt, OF(GUEST), "halt")
+CALL_1(resume, OF(GUEST), "resume")
+CALL_1(see, OF(GUEST), "see")
+CALL_1(halted, OF(SOURCE), "halted")
+CALL_0(state, OF(SOURCE), "state")
+CALL_PAGE(send, OF(SOURCE), "send")
+CALL_1(again, OF(SOURCE), "again")
+CALL_1(ask, OF(SOURCE), "ask")
+CALL_1(ask_sent, OF(SOURCE), "ask-sent")
+CALL_0(done, OF(SOURCE), "done")
+CALL_1(down, OF(LINK) | OF(LANE), "down")
+CALL_1(up, OF(LINK), "up")
+CALL_1(got, OF(PAGER), "got")
+CALL_1(got_sent, OF(PAGER), "got-sent")
+CALL_1(pull, OF(PAGER), "pull")
+CALL_1(pull_sent, OF(PAGER), "pull-sent")
+CALL_0(ready, OF(PAGER), "ready")
+CALL_1(fault, OF(PAGER), "fault")
+CALL_1(join, OF(PAGER), "join")
+CALL_1(want, OF(PAGER), "want")
+CALL_1(zero, OF(PAGER), "zero")
+CALL_1(skip, OF(PAGER), "skip")
+CALL_0(all, OF(PAGER), "all")
 
 uint32_t postcopy_record_place(postcopy_log *pager, uint32_t page, uint32_t got, const uint64_t *contents, size_t cells)
 {
-    return APPEND(pager, OF(PAGER), "place", NUMBERS(page, got), .contents = contents, .cells = cells);
-}
-
-uint32_t postcopy_record_zero(postcopy_log *pager, uint32_t page)
-{
-    return APPEND(pager, OF(PAGER), "zero", NUMBERS(page));
-}
-
-uint32_t postcopy_record_skip(postcopy_log *pager, uint32_t got)
-{
-    return APPEND(pager, OF(PAGER), "skip", NUMBERS(got));
-}
-
-uint32_t postcopy_record_all(postcopy_log *pager)
-{
-    return APPEND(pager, OF(PAGER), "all");
+    return append(pager, OF(PAGER), (struct record){"place", 2, {page, got}, 1, contents, cells});
 }
 
 uint64_t postcopy_page_hash(const void *page, size_t length)

@@ -7,11 +7,14 @@
    its numbers come from an atomic counter, and each thread writes to a file of its own, which is mapped. So what was recorded
    is in the file when the call returns, and stays there however the process ends. (It may be lost where the machine fails.)
 
-   `postcopy-session FOLDER..` makes the session of the files.
+   A folder holds one recording: give each run a folder of its own. `postcopy-session FOLDER..` makes the session of the files,
+   and tells what is missing: so close each log where its party is through, or hand it over.
 
    Nothing that the recorder does ends a process: where a record cannot be written the call answers POSTCOPY_LOST, the log
-   ends there for all threads, and postcopy_log_error tells why. A log that is NULL records nothing, and all its calls answer
-   POSTCOPY_LOST. */
+   ends there for all threads, and postcopy_log_error tells why; EFBIG is the process's limit on files, and raises no SIGXFSZ.
+   (What others do may: a file that somebody else makes shorter, or a disk that does not keep the room that it gave, ends who
+   writes there by SIGBUS.) A log that is NULL records nothing, and all its calls answer POSTCOPY_LOST; so does a log in a
+   forked child, which opens its own. */
 #ifndef POSTCOPY_RECORD_H
 #define POSTCOPY_RECORD_H
 
@@ -29,15 +32,30 @@ typedef struct postcopy_log postcopy_log;
 
 /* Opens the log of a party, "guest", "source", "link", "lane" or "pager", or "machine" for the first two calls below. Its
    files are made in the folder, which is made where it is not there. `first` is the number of its first record: 0, or where
-   another process has written the log so far (the guest's, as far as the halt) the number behind its last record. NULL, with
-   errno, where that cannot be done. */
+   another process handed the log over (the guest's, behind the halt) what it was answered. NULL, with errno, where that cannot
+   be done: EINVAL where there is no such party, or `first` is POSTCOPY_LOST; EBADMSG where what the folder's file
+   recording-name holds is no name. */
 postcopy_log *postcopy_log_open(const char *folder, const char *party, uint32_t first);
 
 /* Why a record of the log was not written: an errno, or 0 if all were. */
 int postcopy_log_error(const postcopy_log *log);
 
-/* Closes the log, which nobody may use meanwhile or later. Without it nothing is lost. */
+/* Closes the log, which nobody may use meanwhile or later. Its files tell then how many records it has. What was recorded is not
+   lost without it, but nobody can know that it is all: the recording is told as one that is not whole. */
 void postcopy_log_close(postcopy_log *log);
+
+/* Closes the log like postcopy_log_close, where another process goes on with it: answers the number that this one opens it with.
+   POSTCOPY_LOST where a record was lost, so that nobody can go on. */
+uint32_t postcopy_log_hand_over(postcopy_log *log);
+
+/* The recording's name, of at most POSTCOPY_NAME_SIZE bytes with its end: letters, digits, `-`, `_` and `.`. Who opens the first
+   log in a folder makes one at random. It is told as long as the log is open; that of a log that is NULL is empty. */
+#define POSTCOPY_NAME_SIZE 65
+const char *postcopy_log_recording(const postcopy_log *log);
+
+/* Makes a folder one of the recording of this name: at another machine, before the first log is opened there. 0, or -1 with
+   errno: EEXIST where the folder has another name, EINVAL where this is none. */
+int postcopy_recording_join(const char *folder, const char *recording);
 
 /* The machine: how many pages, and cells of 64 bits in each; and what a page holds at first, if it is not zeros alone. */
 uint32_t postcopy_record_machine(postcopy_log *machine, uint32_t pages, uint32_t cells);

@@ -43,19 +43,30 @@ def known_sessions(audit):
     return found
 
 
+def text_of_file(log, records, first=0, last=None, name="made"):
+    """The text of a recorder's file: its head, the records, which have their numbers, and perhaps how the log was closed."""
+    lines = ["postcopy-records 1", f"recording {name}", f"log {log} {first} 0", *records, *([last] if last else [])]
+    return "".join(f"{line}\n" for line in lines)
+
+
+def numbered(records, first=0):
+    return [f"{number} {record}" for number, record in enumerate(records, first)]
+
+
 def files_of(session, folder, parts=1, chance=None, lengths=None):
-    """Writes the files that recorders would have of a session, each log's records in so many, and only so many of them."""
+    """Writes the files that recorders would have of a session, each log's records by so many threads. A log of which only so many
+    records are written has no end."""
     os.makedirs(folder)
     machine = [" ".join(line.split(" ")[1] for line in session.head[1:3])]
     logs = {"machine": [f"pages {machine[0]}", *session.head[4:]], **{log: session.logs[log] for log in session.told()}}
     for log, records in logs.items():
-        lines = [f"{number} {record}\n" for number, record in enumerate(records)][: (lengths or {}).get(log)]
+        length = (lengths or {}).get(log)
         spread = [[] for _ in range(parts)]
-        for line in lines:
+        for line in numbered(records)[:length]:
             (chance.choice(spread) if chance else spread[0]).append(line)
         for part, some in enumerate(spread):
-            with open(f"{folder}/{log}.{part + 1}.0", "w", encoding="ascii") as file:
-                file.write("".join(some))
+            with open(f"{folder}/{log}.1.{part}", "w", encoding="ascii") as file:
+                file.write(text_of_file(log, some, last=f"end {len(records)}" if length is None and part == 0 else None))
                 if chance and chance.random() < 0.5:
                     file.write(chance.choice(["\0" * 100, f"{len(records)} rea", "\0\0w 1 2 3 4\n\0"]))
 
@@ -224,7 +235,7 @@ class MadeSessions:
         }
         for log, records in logs.items():
             with open(f"{folder}/{log}.1.0", "w", encoding="ascii") as file:
-                file.writelines(f"{number} {record}\n" for number, record in enumerate(records))
+                file.write(text_of_file(log, numbered(records), last=f"end {len(records)}"))
         return folder
 
     def of_larger_machines(self):
@@ -270,10 +281,10 @@ class MadeSessions:
             with open(f"{hole}/{log}.1.0", encoding="ascii") as file:
                 lines = file.readlines()
             with open(f"{hole}/{log}.1.0", "w", encoding="ascii") as file:
-                file.write("".join(lines[:3] + lines[4:]))
+                file.write("".join(lines[:6] + lines[7:]))
             made, said = self.made_of(hole)
             self.tests.same(f"a hole in the {log}'s log", made, self.made_of(ended)[0])
-            wanted = f"{log}: {len(lines) - 4} records left out: record 3 is missing"
+            wanted = f"{log}: {len(lines) - 8} records left out: record 3 is missing"
             self.tests.same("what is said of it", wanted in said, True)
         for log in ("guest", "source", "link", "pager"):
             missing, empty = self.folder(), self.folder()
@@ -284,26 +295,6 @@ class MadeSessions:
             self.tests.same(f"no file of the {log}", made, self.made_of(empty)[0])
             self.tests.same("what is said of it", f"{log}: there is no record" in said, True)
             self.tests.same("its verdict", self.tests.audit(made), "clean")
-        for log, line, wanted in (
-            ("pager", "3 skip 2\n", "the pager's log has a second record 3"),
-            ("pager", "18 skipp 2\n", "the pager's log: the pager's log has no record 'skipp'"),
-            ("guest", "17 r 0 1 0\n", "the guest's log: 'r' has 4 fields and not 3"),
-            ("guest", "17 r 64 1 0 0\n", "the guest's log: '64' is no vcpu"),
-            ("guest", "17 r 0 4 0 0\n", "record 17 of the guest's log: the machine has no such page"),
-            ("guest", "17 w 0 3 1 0\n", "record 17 of the guest's log: the machine has no such cell"),
-            ("source", "10 send 3 00\n", "the source's log: '00' is no contents"),
-            ("source", "ten done\n", "line 1 is no record"),
-            ("pager", "18 got-sent 1\n", "'got-sent 1', where the link has a log of its own"),
-            ("machine", "9 cells 3\n", "the machine's log has no record 'cells 3'"),
-            ("machine", "9 page 4 0000000000000001\n", "what a page holds at first is not of this machine"),
-        ):
-            folder = self.folder()
-            files_of(session, folder)
-            with open(f"{folder}/{log}.2.0", "w", encoding="ascii") as file:
-                file.write(line)
-            made, said = self.made_of(folder)
-            self.tests.same(f"{line!r} more", (made, [it.split(": ", 1)[1] if it.startswith("/") else it for it in said]), (None, [wanted]))
-
     def of_the_script(self):
         """The program: its folders, its options and its statuses."""
         session = SessionText(read(f"{TRACES}/session"))
@@ -320,12 +311,13 @@ class MadeSessions:
         ran = self.script(first, second, "-o", f"{both}/session")
         with open(f"{both}/session", encoding="ascii") as file:
             self.tests.same("a session of two folders", (ran.stdout, ran.returncode, file.read()), ("", 0, wanted))
-        ran = self.script(first, "--whole")
-        self.tests.same("a part, where the whole is wanted", (ran.stdout, ran.returncode), ("", 1))
-        ran = self.script(first, "--whole", "--recording")
-        self.tests.same("a part, where the whole recording is wanted", (ran.stdout, ran.returncode), ("", 1))
+        for words in ([], ["--recording"]):
+            ran = self.script(first, *words)
+            self.tests.same(f"a part {words}", (ran.stdout, ran.returncode), ("", 1))
+            ran = self.script(first, "--cut", *words)
+            self.tests.same(f"a part, cut {words}", (ran.stdout[:16], ran.returncode), ("postcopy-session", 0))
+            self.tests.same("what is said of it", "session: guest: there is no record\n" in ran.stderr, True)
         for words, said in (
-            ([second], "session: no file tells how many pages and cells the machine has\n"),
             ([both, "--window", "2-4"], "session: the machine has 4 pages\n"),
             ([f"{both}/none"], f"session: [Errno 2] No such file or directory: '{both}/none'\n"),
         ):

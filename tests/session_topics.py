@@ -42,21 +42,22 @@ class Topic(NamedTuple):
 def text_of(call, written):
     """The text of a call, by what the program writes: where it is asked what is missing, the first line, and none of a session that
     is clean and lacks nothing."""
-    if call != "missing":
+    if call not in ("missing", "missing_pages"):
         return written
     first = written[: written.find(b"\n") + 1]
     return b"" if first == b"clean\n" else first
 
 
 def topics_of(session):
-    """What is asked of a session: all faults, what is missing, two pages and one that no machine has, the first line of the guest's log, a line that
-    tells no record, and the picture of a page."""
+    """What is asked of a session: all faults, what is missing, of the whole and of its pages, two pages and one that no machine
+    has, the first line of the guest's log, a line that tells no record, and the picture of a page."""
     with open(session, "rb") as file:
         text = file.read()
     guest = re.search(rb"^guest \d+$", text, re.M)
     line = text[: guest.end()].count(b"\n") + 2 if guest else 1
     yield Topic("audit_all", "audit", "--all", session)
     yield Topic("missing", "audit", "--complete", session)
+    yield Topic("missing_pages", "audit", "--complete-pages", session)
     for page in (0, 1, 65536):
         yield Topic("explain_page", "explain", "--page", session, page)
     for line in (line, 1):

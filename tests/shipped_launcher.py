@@ -6,7 +6,7 @@ import shutil
 import subprocess
 import time
 
-from shipped_copies import (COMMANDS, BEGINS, NOBODY, PROGRAM, SHIPPED, SOURCE, YES, Ran, append, check, count, crates_below, home, is_put,
+from shipped_copies import (COMMANDS, BEGINS, LIBRARIES, NAMES, NOBODY, PROGRAM, SHIPPED, SOURCE, YES, Ran, append, check, count, crates_below, home, is_put,
                             is_superuser, kept_in, left_out, manifest, put_back, read, read_only, rewrite, run, same, says, sum_of, write)
 
 def tests_of_answers(room):
@@ -14,9 +14,9 @@ def tests_of_answers(room):
     copy = room.copy()
     same("the first answer", check(copy, room), YES)
     count(is_put(copy), "the first call put the program into out/")
-    # (the digest of the sources takes xargs and sha256sum)
-    quick = room.commands("quick", [it for it in COMMANDS if it not in ("xargs", "sha256sum")])
-    same("a later answer, with no digest taken", check(copy, room, path=quick), YES)
+    # (the digest of the sources takes xargs)
+    quick = room.commands("quick", [it for it in COMMANDS if it != "xargs"])
+    same("a later answer, with no digest of the sources taken", check(copy, room, path=quick), YES)
     found = 0
     for folder in sorted(glob.glob(f"{copy}/examples/*/stdout")):
         folder = os.path.dirname(folder)
@@ -91,7 +91,8 @@ def tests_of_read_only(room):
         says("read-only, and a source changed", check(other, room, user=NOBODY, HOME=at), 2, "not those", "install the Rattle toolchain")
         says("the same with a toolchain", check(other, room, user=NOBODY, HOME=at, path=room.with_rt), 2, "cannot be written")
     with read_only(copy):
-        same("the first one, meanwhile", check(copy, room, user=NOBODY, HOME=at, path=no_digest), YES)
+        same("the first one, meanwhile", check(copy, room, user=NOBODY, HOME=at), YES)
+        same("and later, with no digest of the sources", check(copy, room, user=NOBODY, HOME=at, path=no_digest), YES)
 
     # What one user put into out/ alone, another cannot run.
     if is_superuser():
@@ -198,6 +199,106 @@ def tests_of_builds(room):
         same(f"the library for {kernel} on {machine}", run(f"{copy}/tools/library", "--where", path=f"{stand_in}:{room.plain}").status, 1)
 
 
+PLANT = b"#!/bin/sh\necho planted\n"
+NOT_RUN = b"postcopy: crates/postcopy/out/postcopy is not the program of these sources, and is not run: the shipped one is\n"
+
+
+def plant(copy):
+    """Puts another program into out/, newer than all sources."""
+    write(f"{copy}/{PROGRAM}", PLANT, 0o755)
+    later = time.time() + 60
+    os.utime(f"{copy}/{PROGRAM}", (later, later))
+
+
+def tests_of_plants(room):
+    """Another program stands in out/, where that of the sources would."""
+    copy = room.copy()
+    for when in ("before the first call", "later"):
+        plant(copy)
+        same(f"a program that was put into out/ {when}", check(copy, room), YES._replace(err=NOT_RUN))
+        count(is_put(copy), f"the shipped program is in its place, {when}")
+        same(f"the next answer, {when}", check(copy, room), YES)
+    plant(copy)
+    at = home(room, "home-of-plants")
+    with read_only(copy):
+        same("one in a checkout that cannot be written", check(copy, room, user=NOBODY, HOME=at), YES._replace(err=NOT_RUN))
+    other = f"{room.folder}/other-kit"
+    shutil.copytree(f"{room.folder}/kit", other)
+    append(f"{other}/WHAT", b"archive 2\n")
+    same("one that another toolchain may have built", check(copy, room, path=f"{other}:{room.plain}", HOME=at), YES._replace(err=NOT_RUN))
+    same("it stays", read(f"{copy}/{PROGRAM}"), PLANT)
+
+    # where it is not the shipped program that is run, the digest of what was built here is kept beside it
+    append(f"{copy}/{SOURCE}", b"// x\n")
+    os.remove(f"{copy}/{PROGRAM}")
+    same("a build", check(copy, room, path=room.with_rt).out, b"built here\n")
+    same("what was built", check(copy, room, path=room.with_rt), Ran(0, b"built here\n", b""))
+    plant(copy)
+    says("another program in its place", check(copy, room), 2, "install the Rattle toolchain")
+    same("it is built again", check(copy, room, path=room.with_rt).out, b"built here\n")
+
+    copy = room.copy()
+    told = manifest(copy)
+    plant(copy)
+    for name in LIBRARIES:
+        write(f"{copy}/crates/postcopy_c/out/{name}", PLANT)
+    for path in (room.plain, f"{other}:{room.plain}"):
+        where = run(f"{copy}/tools/library", "--where", path=path)
+        same("the library where others are in out/", where, Ran(0, f"{copy}/{SHIPPED}\n".encode(), b""))
+        prefix = f"{room.folder}/prefix-{len(path)}"
+        same("an installation where others are in out/", run(f"{copy}/tools/install", prefix, path=path).status, 0)
+        for name, file in zip(NAMES, ("bin/postcopy", "lib/libpostcopy.so", "lib/libpostcopy.a")):
+            same(f"what is installed of {name}", sum_of(f"{prefix}/{file}"), told[name])
+    same("the library is put in place", run(f"{copy}/tools/library", path=room.plain), Ran(0, b"", b""))
+    same("its bytes", [sum_of(f"{copy}/crates/postcopy_c/out/{it}") for it in LIBRARIES], [told[it] for it in LIBRARIES])
+
+
+def edit_in_place(file):
+    """Changes a file, and gives it the time that it had."""
+    held = os.stat(file)
+    append(file, b"// x\n")
+    os.utime(file, ns=(held.st_atime_ns, held.st_mtime_ns))
+
+
+def tests_of_old_times(room):
+    """A source is changed, and has an older time than the program all the same."""
+    copy = room.copy()
+    same("before the change", check(copy, room), YES)
+    time.sleep(0.02)
+    edit_in_place(f"{copy}/{SOURCE}")
+    says("a source that was changed, with its old time", check(copy, room), 2, "the sources here are not those")
+    same("the library of it", run(f"{copy}/tools/library", "--where", path=room.plain), Ran(1, b"", b""))
+    same("a build of it", check(copy, room, path=room.with_rt).out, b"built here\n")
+    same("what was built", check(copy, room), Ran(0, b"built here\n", b""))
+    edit_in_place(f"{copy}/{SOURCE}")
+    says("the same of a program that was built here", check(copy, room), 2, "the sources here are not those")
+
+    at = home(room, "home-of-old-times")
+    copy = room.copy()
+    with read_only(copy):
+        same("a checkout that cannot be written", check(copy, room, user=NOBODY, HOME=at), YES)
+    time.sleep(0.02)
+    edit_in_place(f"{copy}/{SOURCE}")
+    with read_only(copy):
+        says("a source changed there, with its old time", check(copy, room, user=NOBODY, HOME=at), 2, "the sources here are not those")
+
+    copy = room.copy()
+    same("the first answer", check(copy, room), YES)
+    moved = room.copy(of=copy)
+    same("a copy with what is in out/, whose sources the system wrote later", check(moved, room), YES)
+    count(is_put(moved), "the program is there")
+    same("later, with no digest of the sources", check(moved, room, path=room.commands("plain-of-copy", [it for it in COMMANDS if it != "xargs"])), YES)
+
+
+def tests_of_limits(room):
+    """A limit of a file's size: a write that fails, and no signal that ends the program."""
+    copy = room.copy()
+    words = [f"{copy}/postcopy", "certify", f"{copy}/examples/qemu-live/session"]
+    for when in ("first", "second"):
+        same(f"a file that may not grow, the {when} time", run("sh", "-c", 'ulimit -f 1; exec "$@" > "$0"', f"{room.folder}/limited", *words, path=room.plain),
+             Ran(3, b"", b"output\n"))
+
+
 def tests_of_damage(room):
     """A shipped program that is not what the manifest says, or that does not run."""
     copy = room.copy()
@@ -274,5 +375,5 @@ def tests_of_git(room):
     same("an archive with no git", check(unpacked, room), YES)
 
 
-TESTS = (tests_of_answers, tests_of_places, tests_of_read_only, tests_of_forty, tests_of_changes, tests_of_builds, tests_of_damage,
-         tests_of_mounts, tests_of_git)
+TESTS = (tests_of_answers, tests_of_places, tests_of_read_only, tests_of_forty, tests_of_changes, tests_of_builds, tests_of_plants,
+         tests_of_old_times, tests_of_limits, tests_of_damage, tests_of_mounts, tests_of_git)

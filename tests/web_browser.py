@@ -44,6 +44,24 @@ class Browser:
         self.type("#files", "\n".join(files))
         self.settle()
 
+    def hold(self, *files):
+        """Has files ready to be dropped, which may be gone by then."""
+        self.run("document.getElementById('held')?.remove();"
+                 "document.body.append(Object.assign(document.createElement('input'), { id: 'held', type: 'file', multiple: true }))")
+        self.type("#held", "\n".join(files))
+
+    def drop_held(self):
+        """Drops these files, and waits for what the page shows of them. Tells the kind of the verdict that stood when they were dropped."""
+        left = self.run("delete document.body.dataset.done; const data = new DataTransfer(), drop = { bubbles: true, cancelable: true, dataTransfer: data };"
+                        "for (const it of document.getElementById('held').files) data.items.add(it);"
+                        "document.body.dispatchEvent(new DragEvent('drop', drop)); return document.getElementById('verdict').className")
+        self.settle()
+        return left
+
+    def drop(self, *files):
+        self.hold(*files)
+        return self.drop_held()
+
     def settle(self, seconds=100):
         """Waits until the page is done with the files."""
         self.wait_for(lambda: self.run("return document.body.dataset.done !== undefined"), "the page is not done", seconds)
@@ -123,6 +141,14 @@ class Chromium(Browser):
 
     def log(self, kind):
         return self.call("POST", "/se/log", {"type": kind})
+
+    def drop_folder(self, folder):
+        """Drops a folder, as a hand does."""
+        self.run("delete document.body.dataset.done")
+        data = {"items": [], "files": [folder], "dragOperationsMask": 1}
+        for kind in ("dragEnter", "dragOver", "drop"):
+            self.cdp("Input.dispatchDragEvent", type=kind, x=400, y=200, data=data)
+        self.settle()
 
     def requests(self):
         """The places that were asked for, since the last call."""

@@ -4,6 +4,7 @@ shipped=$top/shipped/x86_64-linux
 shipped_page=$top/shipped/web
 # shellcheck disable=SC2034
 shipped_files="postcopy libpostcopy.so libpostcopy.a"
+sources=
 
 # What the manifest of a folder has under a name; nothing where it has none, or there is no manifest.
 told_in() {
@@ -37,18 +38,37 @@ is_up_to_date() {
     [ -z "$(cd "${2:-$top}" && find $places -newer "$1" -print -quit)" ]
 }
 
+# Whether no source was written since a file was, under whatever time: the system tells when it last wrote of each, and nobody
+# sets that. It says so too of a source that was only copied or renamed: then the digest tells.
+is_unchanged_since() {
+    [ -r "$1" ] || return 1
+    places=$(sh "$top/tools/shipped-sources" --places) || return 1
+    # shellcheck disable=SC2086
+    [ -z "$(cd "$top" && find $places \( -newer "$1" -o -cnewer "$1" \) -print -quit)" ]
+}
+
 is_of_machine() {
     [ "$(uname -s)-$(uname -m)" = Linux-x86_64 ]
 }
 
+# Sets `sources` to the digest of the sources that are here, once.
+take_digest() {
+    sources=${sources:-$(sh "$top/tools/shipped-sources")}
+}
+
 # Whether what is shipped was built from the sources that are here.
 is_of_sources() {
-    [ -f "$shipped/manifest" ] && [ "$(sh "$top/tools/shipped-sources")" = "$(manifest sources)" ]
+    [ -f "$shipped/manifest" ] && take_digest && [ "$sources" = "$(manifest sources)" ]
 }
 
 # Whether the shipped page was made of what is here.
 is_page_of_sources() {
     [ -f "$shipped_page/manifest" ] && [ "$(sh "$top/tools/page-sources")" = "$(told_in "$shipped_page" sources)" ]
+}
+
+# Whether there is a toolchain here, and another one than that of what is shipped: it may make other bytes of the same sources.
+is_other_toolchain() {
+    command -v rt > /dev/null && [ "$(toolchain_digest)" != "$(manifest toolchain-digest)" ]
 }
 
 # The identity of the toolchain that is here: its logic, and the digests of its archive and compiler.

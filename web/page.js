@@ -1,39 +1,6 @@
 // The page: it hands the files that are chosen or dropped to a worker, which holds the module, and shows what that answers.
 "use strict";
 
-// What each verdict says first, and whether it is good, bad or neither.
-const VERDICTS = {
-  CLEAN: ["good", "Safe.", "In every order in which the parties may have acted, the guest found each page in place and as it left it."],
-  FAULTY: ["bad", "Not safe."],
-  KNOT: ["bad", "These records cannot all have happened.", "Some of them wait for one another, so they have no order."],
-  SHAPE: ["bad", "This session has not the right shape."],
-  SESSION_TEXT: ["odd", "This is not a session."],
-};
-
-// What the verdict on a certificate says, where @ is the line that it names.
-const CERTIFICATES = {
-  YES: "The certificate is right: it shows that the session is safe.",
-  CERT_TEXT: "The other file is not a certificate: it is refused at @.",
-  PAGES: "The certificate is of a machine of another size than the session's.",
-  RUNS: "The certificate is not right: its run at @ cannot be taken.",
-  PAGE: "The certificate is not right: its entry at @ is wrong.",
-};
-
-const REASONS = {
-  1: "a record stands in the wrong phase",
-  2: "a record names what is not there, or of the wrong kind",
-  3: "a log does not begin as it has to",
-  4: "a page is sent a second time",
-  11: "the guest reads another value than on one machine that never moved",
-  12: "the guest uses a page that it was not seen to have by then",
-  13: "a page is sent that the guest had released",
-  14: "a page is sent with other contents than it has at the halt",
-  15: "a page is placed a second time",
-  16: "a page is placed with other contents than it has at the halt",
-  17: "zeros are placed for a page that was not released",
-  18: "a page is placed over the guest's release at the target",
-};
-
 const MOST_LINES = 400;
 const AT = /\bline (\d+)\b(?: \(\w+ \d+\))?/g;
 const at = (name) => document.getElementById(name);
@@ -77,6 +44,16 @@ function ask(call, session, { certificate, topic, say } = {}) {
   });
 }
 
+// The library's call that says what a clean session lacks first to tell that its guest moved: a `halt`, a `resume`, a page.
+const MISSING_PAGES = "missing";
+
+// What a clean session lacks of that, as a line, or `failure` in its place. (The call tells later of what may be left out.)
+async function missingPages(session, how) {
+  const { failure, kind, bytes } = await ask(MISSING_PAGES, session, how);
+  const line = kind === "INCOMPLETE" ? firstLineOf(bytes) : "";
+  return failure ? { failure } : { lack: /^incomplete (all|done|line \d+)$/.test(line) ? "" : line };
+}
+
 function stop() {
   worker?.terminate();
   worker = undefined;
@@ -93,31 +70,11 @@ function busy(what, done, total) {
   else at("progress").removeAttribute("value");
 }
 
-const mib = (length) => (length < 1 << 20 ? `${Math.ceil(length / 1024)} KiB` : `${(length / (1 << 20)).toFixed(1)} MiB`);
-
-function show(kind, head, ...sentences) {
-  at("verdict").className = kind;
-  at("verdict").replaceChildren(made("strong", {}, head), ...sentences.filter(Boolean).map((it) => made("p", {}, it)));
-}
-
-function showFailure(failure, session) {
-  if (failure.isMemory) {
-    show("odd", "The memory did not suffice.", `The page may not take as much memory as this session of ${mib(session.size)} needs: ${failure.words}.`,
-      "Nothing is said of the session. Close other pages and try again, or have the program judge it: postcopy audit FILE.");
-  } else {
-    show("odd", "The session could not be judged.", `${failure.words}. Nothing is said of the session.`);
-  }
-}
-
-// Why a text is refused, as a sentence.
-const whyRefused = ({ column, why }) => (why ? `At column ${column}: ${why}.` : "");
-
-function verdictWords({ kind, line, reason, ...refusal }) {
-  const [colour, head, sentence] = VERDICTS[kind];
-  const why = REASONS[reason];
-  if (kind === "SESSION_TEXT") return [colour, head, `No text of a session goes on as this file does at line ${line}, or it ends there too early.`,
-    whyRefused(refusal)];
-  return [colour, head, sentence, why ? `${why[0].toUpperCase()}${why.slice(1)}: line ${line}.` : line ? `The first of them: line ${line}.` : ""];
+// Shows a verdict, and the name of the file that it is on.
+function show({ colour, head, sentences }, name, more = []) {
+  at("verdict").className = colour;
+  const of = name ? [made("p", { className: "soft", textContent: name })] : [];
+  at("verdict").replaceChildren(made("h2", {}, head), ...of, ...[...sentences, ...more].map((it) => made("p", {}, it)));
 }
 
 // The record that is marked, in the words, the picture and the text.
@@ -219,8 +176,9 @@ let texts = [], first = 1, showing = 0;
 
 // Where a text's lines stand.
 async function indexed(it) {
-  it.index ??= await ask("lines", it.file);
-  return it.index;
+  const found = it.index ?? (await ask("lines", it.file));
+  if (found.failure) throw new Error(found.failure.words);
+  return (it.index = found);
 }
 
 // So many lines of a text from one on.
@@ -234,10 +192,17 @@ async function linesFrom(it, from, count) {
 
 async function showLines(from) {
   const mine = ++showing, it = text;
-  const { lines } = await indexed(it);
-  from = Math.max(1, Math.min(from, lines - MOST_LINES + 1));
-  const found = await linesFrom(it, from, MOST_LINES);
-  if (mine !== showing) return;
+  try {
+    const { lines } = await indexed(it);
+    from = Math.max(1, Math.min(from, lines - MOST_LINES + 1));
+    const found = await linesFrom(it, from, MOST_LINES);
+    if (mine === showing) fillLines(it, lines, from, found);
+  } catch (error) {
+    if (mine === showing) at("extent").textContent = unreadWords(it.file.name, error);
+  }
+}
+
+function fillLines(it, lines, from, found) {
   first = from;
   const isSession = it === texts[0];
   at("lines").start = from;
@@ -275,19 +240,20 @@ function addText(name, file, index) {
 
 const pictureFile = ({ bytes }) => new File([bytes], "picture.svg", { type: "image/svg+xml" });
 
-// A session, with its certificate, is judged.
+// The sessions are judged, and one of them is shown.
 
 let judging = 0;
 
 // What says how much of a session is read, and then what is done with it.
-const sayingOf = (session, what, current) => (done, total) =>
-  current() && busy(total ? `Reading ${session.name}: ${mib(done)} of ${mib(total)}` : what, done, total);
+const sayingOf = ({ name }, what, current) => (done, total) => current() && busy(total ? `Reading ${name}: ${mib(done)} of ${mib(total)}` : what, done, total);
 
+// Nothing is shown of the session before, and nothing is asked of it.
 function cleared() {
   stop();
+  showing++;
   marked = first = 0;
   texts = [];
-  about = undefined;
+  about = shown = undefined;
   picture?.replaceChildren();
   delete document.body.dataset.done;
   for (const it of ["story", "about", "drawn", "texts", "bar"]) at(it).hidden = true;
@@ -295,65 +261,84 @@ function cleared() {
   at("numbers").textContent = "";
 }
 
-// Which of the files is what, by how they begin.
-async function sorted(files) {
-  const found = {};
-  for (const file of files) {
-    const head = await file.slice(0, 24).text();
-    const kind = ["certificate", "runs"].find((it) => head.startsWith(`postcopy-${it} `)) ?? "session";
-    found[kind] ??= file;
-  }
-  return found;
-}
-
-async function certificateWords(session, certificate) {
-  const answer = await ask("check", session, { certificate });
-  if (answer.failure) return `The certificate could not be judged: ${answer.failure.words}.`;
-  const words = CERTIFICATES[answer.kind]?.replace("@", () => `line ${answer.line} of ${certificate.name}`);
-  return answer.why ? `${words} ${whyRefused(answer)}` : words;
-}
-
+// Judges what was handed over, in place of what was there.
 async function judged(files) {
+  const mine = ++judging;
+  cleared();
+  handed = [];
+  listSessions();
+  show(worded("", "Reading .."));
+  const found = await Promise.all(files.map(handedOver));
+  if (mine !== judging) return;
+  handed = found;
+  listSessions();
+  if (sessions().length) return work();
+  busy();
+  show(noSession());
+  document.body.dataset.done = judging;
+}
+
+// Tells of the session that is wanted, and judges those that are not judged yet; where none is wanted, it tells of the worst then.
+async function work(wanted) {
   const mine = ++judging, current = () => mine === judging;
   cleared();
-  const { session, certificate, runs } = await sorted(files);
-  if (!current()) return;
-  if (!session) {
-    show("odd", "There is no session.", `A ${certificate ? "certificate" : "file of runs"} goes with a session: choose both together.`);
-    document.body.dataset.done = mine;
-    return;
-  }
-  const saying = (what) => sayingOf(session, what, current);
   at("given").open = false;
-  busy(`Reading ${session.name}`);
-  show("", `Judging ${session.name} ..`);
-  const question = async (call, what) => {
-    const answer = await ask(call, session, { say: saying(what) });
-    if (answer.failure && current()) showFailure(answer.failure, session);
-    return current() && !answer.failure ? answer : undefined;
-  };
-  const answer = await question("audit", "Judging");
-  if (answer) await tell(answer, { session, certificate, runs }, question, current);
-  if (!current()) return;
-  busy();
-  document.body.dataset.done = mine;
+  if (wanted) await tell(wanted, current);
+  await judgeOthers(current);
+  if (!wanted && current()) await tell(firstToShow(), current);
+  finish(current);
 }
 
-// Shows the verdict, the words, the picture and the texts, one after another.
-async function tell(answer, { session, certificate, runs }, question, current) {
-  const words = verdictWords(answer);
-  show(...words);
-  const time = `${session.name}, ${mib(session.size)}: judged in ${answer.ms.toFixed(0)} ms, with ${mib(answer.memory)} of memory`;
-  at("numbers").textContent = time;
-  const of = certificate && (await certificateWords(session, certificate));
+function finish(current) {
   if (!current()) return;
-  const more = runs && "The runs are not read here: the program replays them, with postcopy replay.";
-  if (of || more) show(...words, of, more);
+  busy();
+  document.body.dataset.done = judging;
+}
+
+async function judgeOthers(current) {
+  for (const it of sessions()) {
+    if (current() && !it.verdict) await judge(it, current);
+  }
+}
+
+const firstLineOf = (bytes) => new TextDecoder().decode(bytes.subarray(0, LONGEST_FIRST_LINE)).split("\n")[0];
+
+// Asks for the verdict on a session.
+async function judge(it, current) {
+  busy(`Reading ${it.name}`);
+  if (!shown) show(worded("", `Judging ${it.name} ..`));
+  const how = { say: sayingOf(it, `Judging ${it.name}`, current) };
+  const answer = await ask("audit", it.file, how);
+  const { lack, failure = answer.failure } = answer.kind === "CLEAN" ? await missingPages(it.file, how) : {};
+  if (!current()) return;
+  it.verdict = failure ? verdictOnFailure(failure, it) : verdictOn({ ...answer, lack });
+  it.answer = failure ? undefined : { ...answer, lack, bytes: undefined, report: new File([answer.bytes], "report"), firstLine: firstLineOf(answer.bytes) };
+  sayInList(it);
+}
+
+// Shows the verdict on a session, the words, the picture and the texts, one after another.
+async function tell(it, current) {
+  if (!it.answer) await judge(it, current);
+  if (!current()) return;
+  shown = it;
+  showInList();
+  show(it.verdict, it.name, unread());
+  const { answer } = it;
+  if (!answer) return;
+  at("numbers").textContent = `${it.name}, ${mib(it.file.size)}: judged in ${answer.ms.toFixed(0)} ms, with ${mib(answer.memory)} of memory`;
+  it.beside = [...unread(), ...(await besideWords(it))];
+  if (!current()) return;
+  show(it.verdict, it.name, it.beside);
+  const question = async (call, what) => {
+    const found = await ask(call, it.file, { say: sayingOf(it, what, current) });
+    if (found.failure && current()) show(it.verdict, it.name, [...it.beside, `No more could be told: ${found.failure.words}.`]);
+    return current() && !found.failure ? found : undefined;
+  };
   const told = await question("explain", "Finding out what happened");
   if (!told) return;
   showWords(new TextDecoder().decode(told.bytes));
-  addText("Session", session);
-  addText("Report", new File([answer.bytes], "report"));
+  addText("Session", it.file);
+  addText("Report", answer.report);
   await showText(texts[0], answer.line || 1);
   if (!current()) return;
   at("texts").hidden = false;
@@ -367,7 +352,7 @@ async function tell(answer, { session, certificate, runs }, question, current) {
   const all = current() && answer.kind === "FAULTY" && (await question("audit_all", "Looking for all faults"));
   if (!current()) return;
   await showText(texts[0], answer.line || 1);
-  if (drawn) showTopics(session, answer.line, all ? faultsIn(all.bytes) : []);
+  if (drawn) showTopics(it, answer.line, all ? faultsIn(all.bytes) : []);
 }
 
 // The examples, and what the reader does.
@@ -375,11 +360,35 @@ async function tell(answer, { session, certificate, runs }, question, current) {
 const examples = JSON.parse(at("data").textContent);
 
 function judgeExample() {
-  const it = examples.find(({ name }) => name === decodeURIComponent(location.hash.slice(1)));
+  const it = examples.find(({ name }) => location.hash === `#${name}`);
   if (!it) return;
-  const named = (name) => it[name] !== undefined && new File([it[name]], name);
-  judged([named("session"), named("certificate")].filter(Boolean));
+  at("files").value = "";
+  const certificate = it.certificate === undefined ? [] : [{ file: new File([it.certificate], "certificate") }];
+  judged([{ file: new File([it.session], "session"), name: `session of the example ${it.name}` }, ...certificate]);
   at("verdict").scrollIntoView({ block: "nearest" });
+}
+
+// Judges files of the reader: the address names no example any more.
+function judgeFiles(files) {
+  history.replaceState(null, "", location.href.split("#")[0]);
+  judged(files);
+}
+
+// The files that are dropped, and which of them are folders.
+const droppedFiles = ({ items }) => [...items].filter(({ kind }) => kind === "file").map((it) => {
+  const file = it.getAsFile(), entry = it.webkitGetAsEntry?.();
+  return { file, name: file?.name ?? entry?.name, isFolder: entry?.isDirectory };
+});
+
+// What is judged or told is stopped, and nothing more is asked.
+function endWork() {
+  judging++;
+  stop();
+  busy();
+  if (about) stayAtTopic();
+  else if (shown) show(shown.verdict, shown.name, [...(shown.beside ?? unread()), "It was stopped: no more is told."]);
+  else show(worded("odd", "Stopped.", "Nothing is said of what is not judged yet."));
+  document.body.dataset.done = judging;
 }
 
 function listen() {
@@ -391,16 +400,13 @@ function listen() {
   addEventListener("drop", (event) => {
     event.preventDefault();
     at("choose").classList.remove("over");
-    if (event.dataTransfer.files.length) judged([...event.dataTransfer.files]);
+    const files = droppedFiles(event.dataTransfer);
+    if (!files.length) return;
+    at("files").value = "";
+    judgeFiles(files);
   });
-  at("files").onchange = () => at("files").files.length && judged([...at("files").files]);
-  at("stop").onclick = () => {
-    judging++;
-    stop();
-    busy();
-    if (about) stayAtTopic();
-    else show("odd", "Stopped.", "Nothing is said of the session.");
-  };
+  at("files").onchange = () => at("files").files.length && judgeFiles([...at("files").files].map((file) => ({ file })));
+  at("stop").onclick = endWork;
   at("next-fault").onclick = () => goToFault(1);
   at("previous-fault").onclick = () => goToFault(-1);
   at("page").onchange = () => at("page").validity.valid && tellOf(at("page").value === "" ? undefined : +at("page").value);
@@ -435,6 +441,6 @@ if (canJudge()) {
   listen();
   judgeExample();
 } else {
-  show("odd", "This browser cannot judge.", "It has no WebAssembly with 64-bit addresses. Chromium has it from 133 on, and Firefox from 134 on.");
+  show(worded("odd", "This browser cannot judge.", "It has no WebAssembly with 64-bit addresses. Chromium has it from 133 on, and Firefox from 134 on."));
   at("files").disabled = true;
 }

@@ -34,16 +34,15 @@ async function tellOf(page) {
   delete document.body.dataset.done;
   const question = async (call, what) => {
     const how = { topic: page, say: sayingOf(session, what, current) };
-    const answer = await ask(page === undefined ? call : `${call}_page`, session, how);
+    const answer = await ask(page === undefined ? call : `${call}_page`, session.file, how);
     if (answer.failure && current()) at("topic").textContent = `It could not be told: ${answer.failure.words}.`;
     return current() && !answer.failure ? answer : undefined;
   };
   const told = await question("explain", "Finding out what happened");
   const drawn = told && (await question("draw", "Drawing"));
   if (drawn) await showTold(page, told, drawn, faults[found]?.line ?? (page === undefined ? about.line : 0));
-  if (!current()) return;
-  busy();
-  document.body.dataset.done = mine;
+  await judgeOthers(current);
+  finish(current);
 }
 
 async function showTold(page, told, drawn, line) {
@@ -61,7 +60,6 @@ function stayAtTopic() {
   const found = placeOf(about.page);
   if (found >= 0) about.place = found;
   nameTopic();
-  document.body.dataset.done = judging;
 }
 
 // Tells of the page with the next fault, or with the one before; the first comes after the last.

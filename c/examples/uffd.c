@@ -65,7 +65,7 @@ struct message {
     uint32_t kind, number, page; /* `number`: of the record that tells of this message */
 };
 struct state {
-    uint32_t guest_records;     /* how many the guest's log has */
+    uint32_t guest_first;       /* with which record the guest's log goes on */
     uint64_t seeds[VCPUS];      /* the guest's processors */
     unsigned char free_[PAGES]; /* the pages that it has released */
 };
@@ -161,7 +161,7 @@ static void be_source(uint64_t seed)
 
     uint32_t halt = postcopy_record_halt(guest);
     postcopy_record_halted(source, halt);
-    struct state state = {.guest_records = halt + 1};
+    struct state state = {.guest_first = postcopy_log_hand_over(guest)};
     for (int n = 0; n < VCPUS; n++)
         state.seeds[n] = vcpus[n].seed;
     memcpy(state.free_, is_free, sizeof is_free);
@@ -172,7 +172,6 @@ static void be_source(uint64_t seed)
     start(&pushing, push, NULL);
     answer();
     pthread_join(pushing, NULL);
-    postcopy_log_close(guest);
     postcopy_log_close(source);
 }
 
@@ -350,7 +349,7 @@ static void take_state(void)
     if (!take(&message, sizeof message) || !take(&state, sizeof state))
         _exit(1);
     postcopy_record_got_sent(pager, message.number);
-    guest = open_log("guest", state.guest_records);
+    guest = open_log("guest", state.guest_first);
     memcpy(is_free, state.free_, sizeof is_free);
     for (int n = 0; n < VCPUS; n++)
         vcpus[n].seed = state.seeds[n];

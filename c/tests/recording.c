@@ -6,6 +6,10 @@
        recording endless FOLDER THREADS           appends until it is killed; ANSWERED in the folder has what was answered
        recording full FOLDER                      appends until a record is lost, and tells how many were not, and why
        recording refused FOLDER                   calls that record nothing
+       recording forked FOLDER                    records on, where forked children end in each way that they have
+       recording leaving FOLDER                   closes logs while threads end that appended to them
+       recording named FOLDER                     names of recordings
+       recording moved FOLDER PAGES               a migration of so many pages; the last comes as zeros, and is read so
        recording hash                             the hash of each page of standard input
        recording speed FOLDER RECORDS             how much processor a record takes */
 #define _GNU_SOURCE
@@ -13,7 +17,7 @@
 #include <fcntl.h>
 #include <inttypes.h>
 #include <pthread.h>
-#include <signal.h>
+#include <stdatomic.h>
 #include <stdio.h>
 #include <stdlib.h>
 #include <string.h>
@@ -189,7 +193,6 @@ static void map_answers(const char *folder)
 
 static void fill(const char *folder)
 {
-    signal(SIGXFSZ, SIG_IGN);
     postcopy_log *log = postcopy_log_open(folder, "guest", 0);
     want(log != NULL, "a log");
     uint32_t kept = 0;
@@ -231,11 +234,16 @@ static void refuse(const char *folder)
     want(postcopy_record_halt(log) == POSTCOPY_LOST, "the log has ended");
     postcopy_log_close(log);
 
-    for (uint32_t n = 0; n < 2; n++) {
-        log = postcopy_log_open(folder, "link", n);
-        want(postcopy_record_down(log, 4 + n) == n, "a log that is gone on with");
-        postcopy_log_close(log);
-    }
+    log = postcopy_log_open(folder, "link", 0);
+    want(postcopy_record_down(log, 4) == 0 && postcopy_log_hand_over(log) == 1, "a log that is handed over");
+    log = postcopy_log_open(folder, "link", 1);
+    want(postcopy_record_down(log, 5) == 1, "a log that is gone on with");
+    postcopy_log_close(log);
+    want(postcopy_log_hand_over(NULL) == POSTCOPY_LOST, "no log to be handed over");
+    log = postcopy_log_open(folder, "lane", 3);
+    want(postcopy_record_up(log, 1) == POSTCOPY_LOST && postcopy_log_hand_over(log) == POSTCOPY_LOST, "a log with a lost record");
+    errno = 0;
+    want(!postcopy_log_open(folder, "guest", POSTCOPY_LOST) && errno == EINVAL, "what was not handed over");
 
     uint64_t contents[513] = {0};
     log = postcopy_log_open(folder, "source", POSTCOPY_LOST - 2);
@@ -246,6 +254,124 @@ static void refuse(const char *folder)
     log = postcopy_log_open(folder, "source", 0);
     want(postcopy_record_send(log, 0, contents, 513) == POSTCOPY_LOST && postcopy_log_error(log) == EINVAL, "too many cells");
     postcopy_log_close(log);
+    log = postcopy_log_open(folder, "pager", 0);
+    want(postcopy_record_place(log, 0, 0, NULL, 1) == POSTCOPY_LOST && postcopy_log_error(log) == EINVAL, "no contents");
+    postcopy_log_close(log);
+}
+
+/* Forked children, which leave their parent's log alone however they end: FORKS says how. */
+
+enum { EXITED, CLOSED, ENDED, RETURNED, FORKS };
+
+static void *fork_in_thread(void *what)
+{
+    int how = (uintptr_t)what;
+    want(postcopy_record_read(guest, 0, 0, 0, how) != POSTCOPY_LOST, "a record in front of a fork");
+    fflush(stdout);
+    pid_t child = fork();
+    if (child == 0) {
+        if (postcopy_record_read(guest, 0, 0, 0, how) != POSTCOPY_LOST)
+            _exit(1);
+        if (how == CLOSED)
+            postcopy_log_close(guest);
+        if (how == ENDED)
+            pthread_exit(NULL);
+        if (how == RETURNED)
+            return NULL;
+        exit(0);
+    }
+    int status;
+    waitpid(child, &status, 0);
+    want(WIFEXITED(status) && WEXITSTATUS(status) == 0, "a child's end");
+    for (int n = 0; n < 10000; n++)
+        want(postcopy_record_read(guest, 0, 0, 0, how) != POSTCOPY_LOST, "the parent's records");
+    return NULL;
+}
+
+static void fork_children(const char *folder)
+{
+    guest = postcopy_log_open(folder, "guest", 0);
+    for (uintptr_t how = 0; how < FORKS; how++) {
+        pthread_t thread;
+        want(pthread_create(&thread, NULL, fork_in_thread, (void *)how) == 0, "a thread");
+        pthread_join(thread, NULL);
+        if (how != RETURNED)
+            fork_in_thread((void *)how);
+    }
+    want(postcopy_log_hand_over(guest) == (2 * FORKS - 1) * 10001, "the number of the records");
+}
+
+/* Threads that have appended, and end while the log is closed. */
+
+static atomic_int has_left;
+
+static void *append_and_leave(void *log)
+{
+    want(postcopy_record_halt(log) != POSTCOPY_LOST, "a record of a thread that leaves");
+    atomic_fetch_add(&has_left, 1);
+    return NULL;
+}
+
+static void leave(const char *folder)
+{
+    for (int turn = 0; turn < 200; turn++) {
+        postcopy_log *log = postcopy_log_open(folder, "guest", 4 * turn);
+        pthread_t threads[4];
+        atomic_store(&has_left, 0);
+        for (int n = 0; n < 4; n++)
+            want(pthread_create(&threads[n], NULL, append_and_leave, log) == 0, "a thread");
+        while (atomic_load(&has_left) < 4) {
+        }
+        want(postcopy_log_hand_over(log) == 4 * turn + 4u, "the number of the records");
+        for (int n = 0; n < 4; n++)
+            pthread_join(threads[n], NULL);
+    }
+}
+
+static void name(const char *folder)
+{
+    char other[4096];
+    snprintf(other, sizeof other, "%s-other", folder);
+    errno = 0;
+    want(postcopy_recording_join(folder, "a b") == -1 && errno == EINVAL, "what is no name");
+    want(postcopy_recording_join(folder, "") == -1 && errno == EINVAL, "an empty name");
+    want(!*postcopy_log_recording(NULL), "the name of no log");
+    postcopy_log *log = postcopy_log_open(folder, "guest", 0), *second = postcopy_log_open(folder, "pager", 0);
+    const char *made = postcopy_log_recording(log);
+    want(strlen(made) == 32 && !strcmp(made, postcopy_log_recording(second)), "a name that is made");
+    want(postcopy_recording_join(folder, made) == 0, "the name that it has");
+    want(postcopy_recording_join(folder, "another") == -1 && errno == EEXIST, "another name");
+    want(postcopy_recording_join(other, made) == 0, "a second machine");
+    postcopy_log *third = postcopy_log_open(other, "source", 0);
+    want(!strcmp(made, postcopy_log_recording(third)), "the name at a second machine");
+    postcopy_log_close(log);
+    postcopy_log_close(second);
+    postcopy_log_close(third);
+    snprintf(other, sizeof other, "%s/recording-name", folder);
+    want(truncate(other, 5) == 0, other);
+    want(!postcopy_log_open(folder, "guest", 0) && errno == EBADMSG, "a name that was cut");
+}
+
+static void move(const char *folder, uint32_t pages)
+{
+    static const char *const parties[] = {"machine", "guest", "source", "pager"};
+    static uint64_t page[512], zeros[512];
+    postcopy_log *logs[4];
+    for (int n = 0; n < 4; n++)
+        want((logs[n] = postcopy_log_open(folder, parties[n], 0)) != NULL, parties[n]);
+    for (int cell = 0; cell < 512; cell++)
+        page[cell] = 7;
+    postcopy_record_machine(logs[0], pages, 512);
+    for (uint32_t n = 0; n < pages; n++)
+        postcopy_record_initial(logs[0], n, page, 512);
+    postcopy_record_halted(logs[2], postcopy_record_halt(logs[1]));
+    postcopy_record_got_sent(logs[3], postcopy_record_state(logs[2]));
+    postcopy_record_resume(logs[1], postcopy_record_ready(logs[3]));
+    uint32_t got = postcopy_record_got_sent(logs[3], postcopy_record_send(logs[2], pages - 1, zeros, 512));
+    postcopy_record_see(logs[1], postcopy_record_place(logs[3], pages - 1, got, zeros, 512));
+    postcopy_record_read(logs[1], 0, pages - 1, 0, 0);
+    for (int n = 0; n < 4; n++)
+        postcopy_log_close(logs[n]);
 }
 
 static void hash(void)
@@ -285,6 +411,14 @@ int main(int count, char **words)
         fill(folder);
     else if (!strcmp(what, "refused"))
         refuse(folder);
+    else if (!strcmp(what, "forked"))
+        fork_children(folder);
+    else if (!strcmp(what, "leaving"))
+        leave(folder);
+    else if (!strcmp(what, "named"))
+        name(folder);
+    else if (!strcmp(what, "moved"))
+        move(folder, number);
     else if (!strcmp(what, "hash"))
         hash();
     else if (!strcmp(what, "speed"))

@@ -33,7 +33,7 @@ from typing import Callable, List, NamedTuple, Optional, TypeVar, Union
 from .records import page_in
 
 __all__ = ["Answer", "Fault", "Kind", "OutOfMemory", "Reason", "Refused", "Report", "Text", "audit", "audit_all", "certify", "check",
-           "draw", "explain", "missing", "replay", "version", "why"]
+           "draw", "explain", "missing", "missing_pages", "replay", "version", "why"]
 
 __version__ = "1.0.0"
 
@@ -66,8 +66,8 @@ class Kind(enum.IntEnum):
     machines of different sizes. RUNS, PAGE: the run, or the entry, at the line of the certificate is not right. KNOT: the session's
     records wait for one another in a cycle. FAULTY: the session is not safe, because of the record at the line.
 
-    READ: a text is read, and no line of it is refused; `why` answers None then. INCOMPLETE, of `missing` alone: every merging is
-    safe, but the session does not tell of a whole migration.
+    READ: a text is read, and no line of it is refused; `why` answers None then. INCOMPLETE, of `missing` and `missing_pages` alone:
+    every merging is safe, but the session does not tell of a whole migration, or not of each owed page.
 
     Of a replay, and so of one order alone: SAFE: each record finds what it demands; other orders may go wrong. NO_MERGING: the runs
     spell no merging of the session. BROKEN: the record at the line is the first that does not find what it demands.
@@ -142,8 +142,8 @@ class Answer:
     """An answer: its kind, the line of a text that it names, its reason, and its text.
 
     The text is that which the program's command writes: of `certify` the certificate, or the first line of the report, of
-    `audit` the report, of `audit_all` its first line and each page that has a fault, of `missing` the line of what is missing, of
-    `explain` what happened in words, and of `draw` a picture as SVG. `check` and `replay` have none. A notebook shows a picture.
+    `audit` the report, of `audit_all` its first line and each page that has a fault, of `missing` and `missing_pages` the line of what
+    is missing, of `explain` what happened in words, and of `draw` a picture as SVG. `check` and `replay` have none. A notebook shows a picture.
     Where a text is refused, `column` and `why` tell more of it, as Refused has them.
     """
 
@@ -320,9 +320,10 @@ def _library() -> ctypes.CDLL:
         raise ImportError("there is no libpostcopy: in a checkout tools/library builds it, and tools/install installs it")
     library = ctypes.CDLL(name)
     text = [ctypes.c_void_p, ctypes.c_size_t]
-    for name in ("check", "replay", "certify", "audit", "audit_all", "missing", "explain", "draw"):
-        call = getattr(library, f"postcopy_{name}")
-        call.argtypes, call.restype = text + text, _Answer
+    for name in ("check", "replay", "certify", "audit", "audit_all", "missing", "missing_pages", "explain", "draw"):
+        call = getattr(library, f"postcopy_{name}", None)  # (an older library lacks some: who calls those is told so)
+        if call is not None:
+            call.argtypes, call.restype = text + text, _Answer
     for name in ("explain_page", "explain_line", "draw_page"):
         call = getattr(library, f"postcopy_{name}")
         call.argtypes, call.restype = [*text, ctypes.c_uint32, *text], _Answer
@@ -426,6 +427,12 @@ def missing(session: Text) -> Answer:
     INCOMPLETE; CLEAN, with no text, where it lacks nothing; and of another session the first line of its report. Raises OutOfMemory
     where memory is refused."""
     return _with_text(_library().postcopy_missing, session)
+
+
+def missing_pages(session: Text) -> Answer:
+    """The same as `missing`, but asked only that the guest was halted, that it was resumed, and that each page that the target was
+    owed was placed or released there: by the line that `audit --complete-pages` writes. Raises OutOfMemory where memory is refused."""
+    return _with_text(_library().postcopy_missing_pages, session)
 
 
 def explain(session: Text, page: Optional[int] = None, line: Optional[int] = None) -> Answer:

@@ -6,82 +6,170 @@
     0
     >>> pager.ready()
     1
+    >>> pager.close()
 
 Each party has a log, open in the process that acts for it. A call appends one record and answers its number, which goes into
 the message; who takes the message names it in a record of its own. `man 5 postcopy` has the records.
 A record is in the log's file when its call returns, and stays there however the process ends. Any number of threads may call.
-`postcopy-session FOLDER..` makes the session of the files, be they of this module or of the C recorder.
+
+A folder holds one recording: give each run a folder of its own. `postcopy-session FOLDER..` makes the session of the files, be
+they of this module or of the C recorder, and tells what is missing: so close each log where its party is through.
 
 Where a record cannot be written the call answers LOST, the log ends there, and `error` tells why. So too in a forked child,
 in the logs that its parent opened. Nothing here needs the library.
 """
 from __future__ import annotations
 
+import contextlib
+import errno
 import os
+import re
+import secrets
 import threading
 from typing import Iterable, Optional, Union
 
 from .records import LOGS, LOST
 
-__all__ = ["LOST", "Log", "page_hash"]
+__all__ = ["LOST", "Log", "join", "page_hash"]
+
+Folder = Union[str, "os.PathLike[str]"]
+
+_NAME = re.compile("[A-Za-z0-9_.-]{1,64}", re.ASCII)
+
+
+def join(folder: Folder, recording: str) -> None:
+    """Makes a folder one of the recording of this name: at another machine, before the first log is opened there. Raises
+    FileExistsError where the folder has another name, and ValueError where this is none: 1 to 64 letters, digits, `-`, `_` and `.`."""
+    if not _NAME.fullmatch(recording):
+        raise ValueError(f"{recording!r} is no name of a recording")
+    found = _name_recording(folder, recording)
+    if found != recording:
+        raise FileExistsError(errno.EEXIST, f"the folder is one of the recording {found}", os.fspath(folder))
+
+
+def _name_recording(folder: Folder, given: Optional[str] = None) -> str:
+    """The name of a folder's recording: the one that it has, or else the one that is given, or a new one."""
+    os.makedirs(folder, exist_ok=True)
+    path = os.path.join(folder, "recording-name")
+    if not os.path.exists(path):
+        own = f"{path}.{secrets.token_hex(16)}"
+        try:
+            with open(own, "x", encoding="ascii") as file:
+                file.write(f"{given or secrets.token_hex(16)}\n")
+            with contextlib.suppress(FileExistsError):
+                os.link(own, path)
+        finally:
+            with contextlib.suppress(OSError):
+                os.remove(own)
+    with open(path, encoding="ascii", errors="replace") as file:
+        name, end, _ = file.read(66).partition("\n")
+    if not end or not _NAME.fullmatch(name):
+        raise OSError(errno.EBADMSG, "what it holds is no name of a recording", path)
+    return name
 
 
 class Log:
     """The log of a party: "guest", "source", "link", "lane" or "pager", or "machine" for the first two calls.
 
     The folder is made where it is not there; where it is None nothing is recorded, and all calls answer LOST. `first` is the
-    number of the first record: 0, or where another process has written the log so far (the guest's, as far as the halt) the
-    number behind its last record.
+    number of the first record: 0, or where another process handed the log over (the guest's, behind the halt) what hand_over
+    answered; where that is LOST nothing is recorded. `recording` is the recording's name: who opens the first log in a folder
+    makes one at random.
+
+    At the end of a `with` the log is closed, but where an exception ends it: then it is left as by a process that died.
     """
 
-    def __init__(self, folder: Union[str, "os.PathLike[str]", None], party: str, first: int = 0) -> None:
+    def __init__(self, folder: Optional[Folder], party: str, first: int = 0) -> None:
         if party not in LOGS and party != "machine":
             raise ValueError(f"there is no party {party}")
         self.error: Optional[OSError] = None
+        self.recording: Optional[str] = None
         self._party, self._next, self._lock = party, first, threading.Lock()
         self._process, self._file = os.getpid(), -1
-        if folder is not None:
-            os.makedirs(folder, exist_ok=True)
-            self._file = self._new_file(os.path.join(folder, f"{party}.{self._process}"))
+        if first >= LOST:
+            self.error = OSError(errno.EINVAL, "the log was not handed over, as a record was lost")
+        elif folder is not None:
+            self.recording = _name_recording(folder)
+            self._begin(os.path.join(folder, f"{party}.{self._process}"))
 
-    @staticmethod
-    def _new_file(stem: str) -> int:
-        number = 0
-        while True:
-            try:
-                return os.open(f"{stem}.{number}", os.O_WRONLY | os.O_CREAT | os.O_EXCL | os.O_CLOEXEC, 0o666)
-            except FileExistsError:
-                number += 1
+    def _begin(self, stem: str) -> None:
+        number = -1
+        while self._file < 0:
+            number += 1
+            path = f"{stem}.{number}"
+            with contextlib.suppress(FileExistsError):
+                self._file = os.open(path, os.O_WRONLY | os.O_APPEND | os.O_CREAT | os.O_EXCL | os.O_CLOEXEC, 0o666)
+        try:
+            self._put(f"postcopy-records 1\nrecording {self.recording}\nlog {self._party} {self._next} {number}\n")
+        except OSError:
+            os.close(self._file)
+            os.remove(path)
+            raise
+
+    def _put(self, text: str) -> None:
+        """Writes lines whole, or not at all."""
+        data, written = text.encode("ascii"), 0
+        try:
+            while written < len(data):
+                written += os.write(self._file, data[written:])
+        except OSError:
+            os.ftruncate(self._file, os.fstat(self._file).st_size - written)
+            raise
+
+    def _is_open(self) -> bool:
+        """Whether this process writes the log. (To be asked before the lock is taken: in a forked child nobody may give it back.)"""
+        return self._file >= 0 and self._process == os.getpid()
 
     def close(self) -> None:
-        """Closes the log; without it nothing is lost. Later calls answer LOST."""
+        """Closes the log: its file tells then how many records it has. What was recorded is not lost without it, but nobody can
+        know that it is all: the recording is told as one that is not whole. Later calls answer LOST."""
+        self._end("end")
+
+    def hand_over(self) -> int:
+        """Closes the log where another process goes on with it: answers the number that this one opens it with, or LOST where a
+        record was lost, so that nobody can go on."""
+        return self._end("next")
+
+    def _end(self, word: Optional[str]) -> int:
+        if not self._is_open():
+            return LOST
         with self._lock:
-            if self._file >= 0:
-                os.close(self._file)
+            if self._file < 0:
+                return LOST
+            number = self._next if self.error is None else LOST
+            try:
+                if word is not None:
+                    self._put(f"{word} {number}\n" if self.error is None else f"lost {self.error.errno}\n")
+            except OSError as error:
+                self.error = self.error or error
+            os.close(self._file)
             self._file = -1
+            return number
 
     def __enter__(self) -> "Log":
         return self
 
-    def __exit__(self, *_: object) -> None:
-        self.close()
+    def __exit__(self, kind: object, *_: object) -> None:
+        self._end("end" if kind is None else None)
 
     def _append(self, party: str, *record: object) -> int:
         if party != self._party:
             raise ValueError(f"'{record[0]}' is no record of the {self._party}'s log")
+        if not self._is_open():
+            return LOST
         with self._lock:
-            if self._file < 0 or self.error is not None or self._process != os.getpid():
+            if self._file < 0 or self.error is not None:
                 return LOST
             number = self._next
-            line = " ".join(map(str, (number, *record))).encode("ascii") + b"\n"
+            self._next += 1
             try:
-                if os.write(self._file, line) == len(line):
-                    self._next += 1
-                    return number
-                self.error = OSError("a record was not written to its end")
+                if number >= LOST:
+                    raise OSError(errno.EOVERFLOW, os.strerror(errno.EOVERFLOW))
+                self._put(" ".join(map(str, (number, *record))) + "\n")
             except OSError as error:
                 self.error = error
-            return LOST
+                return LOST
+            return number
 
     # The machine.
 

@@ -126,9 +126,11 @@ def _field(field: Field, text: str) -> Union[str, int]:
     if field.name == "contents":
         if _CONTENTS.fullmatch(text):
             return text
-    elif _NUMBER.fullmatch(text) and len(text) <= 20 and int(text) < _LIMITS.get(field.name, LOST + 1):
+        raise ValueError(f"{text[:60]!a} is no contents: 16 digits of 0 to 9 and a to f for each cell")
+    limit = _LIMITS.get(field.name, LOST + 1)
+    if _NUMBER.fullmatch(text) and len(text) <= 20 and int(text) < limit:
         return int(text)
-    raise ValueError(f"'{text}' is no {field.name}")
+    raise ValueError(f"{text[:60]!a} is no {field.name}: a number from 0 to {limit - 1}")
 
 
 def read_record(log: str, text: str) -> Record:
@@ -136,7 +138,7 @@ def read_record(log: str, text: str) -> Record:
     word, *fields = text.split(" ")
     kind = RECORDS[log].get(word)
     if kind is None:
-        raise ValueError(f"the {log}'s log has no record '{word}'")
+        raise ValueError(f"the {log}'s log has no record {word[:60]!a}")
     if len(fields) != len(kind.fields):
         raise ValueError(f"'{word}' has {len(kind.fields)} fields and not {len(fields)}")
     return (word, *map(_field, kind.fields, fields))

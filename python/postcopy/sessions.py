@@ -15,6 +15,13 @@ __all__ = ["Session"]
 
 PLACEMENTS = ("place", "zero")
 
+#: Says of a log's record which one it is, and perhaps where it stands.
+Place = Callable[[str, int], str]
+
+
+def _place(log: str, number: int) -> str:
+    return f"record {number} of the {log}'s log"
+
 
 def _no_logs() -> Dict[str, List[Record]]:
     return {log: [] for log in LOGS}
@@ -79,15 +86,18 @@ class Session:
                     yield f"{spelled(record)}\n"
         yield "end\n"
 
-    def deliver(self) -> None:
+    def deliver(self, place: Place = _place) -> None:
         """Makes the logs of the link and the lane where those who received wrote which message came.
 
         Each packet is delivered right before the pager takes it. What the pager sent is delivered as soon as it is sent, so
         behind the last packet that the pager took before. Raises ValueError where there is such a log all the same.
         """
-        for record in self.logs["source"] + self.logs["pager"]:
-            if self.logs.get(RECEIVED.get(str(record[0]), "")):
-                raise ValueError(f"'{spelled(record)}', where the {RECEIVED[str(record[0])]} has a log of its own")
+        for log in ("source", "pager"):
+            for number, record in enumerate(self.logs[log]):
+                other = RECEIVED.get(str(record[0]), "")
+                if self.logs.get(other):
+                    word = str(record[0]).split("-")[0]
+                    raise ValueError(f"{place(log, number)}, '{spelled(record)}': the {other} has a log of its own, whose number '{word}' names")
         times = Counter(record[1] for record in self.logs["source"] if record[0] == "ask-sent")
         ups: Dict[int, List[int]] = {}
         for number, record in enumerate(self.logs["pager"]):
@@ -102,13 +112,13 @@ class Session:
             if record[0] == "ask-sent":
                 self.logs["source"][number] = ("ask", ups[int(record[1])].pop() if record[1] in ups else LOST)
 
-    def cut(self, most: int = LARGE.records) -> List[str]:
+    def cut(self, most: int = LARGE.records, place: Place = _place) -> List[str]:
         """Cuts each log in front of its first record that names one which is not there, until there is none; and tells what
         was left out. So too a `halted` that is alone, and what is past so many records: those of a session, or more where a window
         is still to come."""
         reach = {log: _Reach(log, self.logs[log]) for log in LOGS}
         lengths = {log: min(len(self.logs[log]), most) for log in LOGS}
-        said = {log: f"a session's log has {most} records at most" for log in LOGS if lengths[log] < len(self.logs[log])}
+        lacking = {log: "" for log in LOGS if lengths[log] < len(self.logs[log])}
         is_cut = True
         while is_cut:
             is_cut = False
@@ -116,14 +126,29 @@ class Session:
                 for other in reach[log].logs():
                     end = reach[log].end(other, lengths[other])
                     if end < lengths[log]:
-                        lengths[log], is_cut = end, True
-                        said[log] = f"record {end} names one of the {other}'s log that is not there"
+                        lengths[log], lacking[log], is_cut = end, other, True
         if lengths["source"] == 1 and self.logs["source"][0][0] == "halted":
-            lengths["source"], said["source"] = 0, "a halted that is alone tells nothing"
-        told = [f"{log}: {len(self.logs[log]) - lengths[log]} records left out: {said[log]}" for log in LOGS if log in said]
+            lengths["source"], lacking["source"] = 0, ""
+        told = [f"{log}: {len(self.logs[log]) - lengths[log]} records left out: {self._lack(log, lengths[log], most, lacking[log], place)}"
+                for log in LOGS if log in lacking]
         for log in LOGS:
             del self.logs[log][lengths[log]:]
         return told
+
+    def _lack(self, log: str, end: int, most: int, other: str, place: Place) -> str:
+        """Why a log is cut in front of this record: for want of one of the other log, if there is one."""
+        if end == most:
+            return f"a session's log has {most} records at most"
+        if not other:
+            return "a halted that is alone tells nothing"
+        record = self.logs[log][end]
+        number = next(it for of, it in named(log, record) if of == other)
+        if number == LOST:
+            return f"{place(log, end)}, '{spelled(record):.60}', names no record of the {other}'s log: the number was lost"
+        why = "left out too" if number < len(self.logs[other]) else "not there"
+        if other in RECEIVED.values() and not self.logs[other]:
+            why += f": where nobody writes the {other}'s log it is '{record[0]}_sent' that takes the sender's number"
+        return f"{place(log, end)}, '{spelled(record):.60}', names record {number} of the {other}'s log, which is {why}"
 
     def window(self, first: int, last: int) -> "Session":
         """The session seen through some of its pages, which are numbered from 0: what tells of another page is left out, and

@@ -7,15 +7,57 @@
 """
 from __future__ import annotations
 
-from . import Report, Text, audit
+from typing import Optional
+
+from . import Answer, Kind, Report, Text, audit, missing, missing_pages
 
 __all__ = ["assert_clean"]
 
+#: What can be asked of a session besides that it is clean, and how less is asked for.
+_ASKED = {
+    "pages": (missing_pages, "Where that is meant, as of a migration that failed, complete=None asks for a clean session alone."),
+    "whole": (missing, 'complete="pages" asks for the halt, the resume and each owed page alone, and complete=None for a clean session.'),
+}
 
-def assert_clean(session: Text) -> Report:
-    """Fails where a session is not clean, and tells what happened, in the words of `explain`. Answers its report."""
+#: What is missing, by the word after `incomplete` and the number after that.
+_MISSING = {
+    "halt": "The guest was never halted: its log has no `halt`, so nothing says that a migration began.",
+    "resume": "The guest never went on at the target: its log has no `resume`.",
+    "page": "Page {} was owed to the target at the halt, and was neither placed nor released there.",
+    "all": "The pager never said that every owed page had come: its log has no `all`.",
+    "done": "The source never learned that every owed page had come: its log has no `done`.",
+    "line": "What the pager took by its record at line {} was neither placed nor dropped.",
+}
+
+
+def assert_clean(session: Text, complete: Optional[str] = "pages") -> Report:
+    """Fails where a session is not clean, and tells what happened, in the words of `explain`, or why its text is refused. Answers
+    its report.
+
+    Logs that say nothing are clean, so it fails too where a session does not tell of a migration. With "pages" the guest has to be
+    halted and resumed, and each page that the target was owed placed or released there. With "whole" the pager has to say besides
+    that every owed page had come, the source that it learned of it, and all that the pager took has to be placed or dropped. With
+    None nothing of that is asked. Raises ValueError for any other word."""
     __tracebackhide__ = True  # (pytest shows the line of the test)
+    if complete is not None and complete not in _ASKED:
+        raise ValueError(f'complete is "pages", "whole" or None, and not {complete!r}')
     report = audit(session)
     if not report.is_safe:
-        raise AssertionError(report.explain())
+        raise AssertionError(_what_happened(report))
+    if complete is not None:
+        call, less = _ASKED[complete]
+        lacks = call(session)
+        if lacks.kind is not Kind.CLEAN:
+            raise AssertionError(f"{lacks}\n{_what_is_missing(lacks)}\n{less}")
     return report
+
+
+def _what_happened(report: Report) -> str:
+    """The words of `explain`, and of a text that is refused what was found in it and what may stand there."""
+    told = report.explain()
+    return told if report.why is None else f"{told}Line {report.line}, column {report.column}: {report.why}\n"
+
+
+def _what_is_missing(lacks: Answer) -> str:
+    _, what, *number = str(lacks).split(" ")
+    return f"Nothing in the logs is wrong, but they do not tell of a whole migration.\n{_MISSING[what].format(*number)}"

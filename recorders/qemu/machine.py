@@ -49,27 +49,31 @@ class PipeReader:
 
 
 class Machine:
-    def __init__(self, name, folder, plan, library, trace, extra=()):
+    """QEMU stands in `folder`, and finds there what it reads and writes. Its sockets, its pipe and a link to the library that it
+    preloads are in `room`. So whatever the name of the folder has in it, no option of QEMU does."""
+
+    def __init__(self, name, folder, room, plan, library, trace, extra=()):
         self.name, self.folder = name, folder
-        self.pipe, self.socket = f"{folder}/{name}.pipe", f"{folder}/{name}.qmp"
-        os.mkfifo(self.pipe)
+        self.pipe, self.socket, preloaded = room.name(f"{name}.pipe"), room.name(f"{name}.qmp"), room.name(f"{name}.so")
+        os.mkfifo(self.pipe, 0o600)
+        os.symlink(os.path.abspath(library), preloaded)
         self.reader = PipeReader(self.pipe, f"{folder}/{name}.raw")
         self.errors = f"{folder}/{name}.errors"
         environment = dict(
-            os.environ, LD_PRELOAD=library, RECORD_PIPE=self.pipe, RECORD_CONTENTS=f"{folder}/{name}.pages",
+            os.environ, LD_PRELOAD=preloaded, RECORD_PIPE=self.pipe, RECORD_CONTENTS=f"{name}.pages",
             RECORD_RAM=str(plan.ram << 20), RECORD_BASE=str(plan.base), RECORD_PAGES=str(plan.pages),
             RECORD_LINGER=str(plan.linger),
             RECORD_EARLY=str(plan.skip + 1 if plan.fault == "early" and name == "target" else 0))
         command = [
             "qemu-system-x86_64", "-name", name, "-machine", "pc,accel=tcg", "-m", f"{plan.ram}M", "-smp", str(plan.cpus),
-            "-nodefaults", "-no-user-config", "-display", "none", "-bios", f"{folder}/guest.bin",
+            "-nodefaults", "-no-user-config", "-display", "none", "-bios", "./guest.bin",
             "-chardev", f"file,id=told,path={self.pipe}", "-device", "isa-debugcon,iobase=0xe9,chardev=told",
             "-qmp", f"unix:{self.socket},server=on,wait=off", "-D", self.pipe,
             *(word for event in trace for word in ("-trace", event)), *extra]
         with open(f"{folder}/{name}.command", "w") as out:
             print(*command, file=out)
         with open(self.errors, "w") as errors:
-            self.process = subprocess.Popen(command, env=environment, stderr=errors, stdin=subprocess.DEVNULL)
+            self.process = subprocess.Popen(command, cwd=folder, env=environment, stderr=errors, stdin=subprocess.DEVNULL)
         self.qmp = None
 
     def is_running(self):
@@ -121,6 +125,3 @@ class Machine:
         if self.qmp:
             self.qmp.close()
         self.reader.end()
-        for path in (self.pipe, self.socket):
-            if os.path.exists(path):
-                os.unlink(path)

@@ -27,10 +27,12 @@ def pack(folder, path):
 
 
 def unpacked(path):
-    """The files of a packed recording, by their names."""
+    """The files of a packed recording, by their names. Raises ValueError where it holds any other."""
     with open(path, "rb") as file:
         packed = io.BytesIO(lzma.decompress(file.read()))
     with tarfile.open(fileobj=packed) as archive:
+        if strange := set(archive.getnames()) - set(FILES):
+            raise ValueError(f"{path} holds {', '.join(sorted(strange))}, and a recording has no such file")
         return {member.name: archive.extractfile(member).read() for member in archive}
 
 

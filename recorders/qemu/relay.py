@@ -71,19 +71,21 @@ class Connection:
 
 
 class Relay:
-    """Listens on a port of its own, `port`, and goes to `target_port`, which may change between connections."""
+    """Listens on a socket of its own in `room`, `path`, and goes to the socket `target`, which may change between connections."""
 
-    def __init__(self, folder, window, target_port, fault=None, skip=0, cuts=()):
+    def __init__(self, folder, room, window, target, fault=None, skip=0, cuts=()):
         self.log = open(f"{folder}/relay.log", "w")
         self.contents = open(f"{folder}/relay.pages", "wb")
-        self.window, self.target_port, self.cuts = window, target_port, list(cuts)
+        self.window, self.target, self.cuts = window, target, list(cuts)
         self.fault = fault_of(fault, skip, window, self.tell)
         self.lock, self.stored, self.is_post = threading.Lock(), 0, False
         self.connections, self.threads, self.lost, self.complaint = [], [], [], None
         self.was_cut = threading.Event()
         self.sent_before = self.sent_after = 0
-        self.listener = socket.create_server(("127.0.0.1", 0))
-        self.port = self.listener.getsockname()[1]
+        self.path = room.name("relay")
+        self.listener = socket.socket(socket.AF_UNIX)
+        self.listener.bind(self.path)
+        self.listener.listen()
         threading.Thread(target=self.accept, daemon=True).start()
 
     def tell(self, *fields):
@@ -97,6 +99,7 @@ class Relay:
         return self.stored - 1
 
     def end(self):
+        self.listener.shutdown(socket.SHUT_RDWR)  # which wakes who waits for the next one
         self.listener.close()
         for connection in self.connections:
             connection.shut()
@@ -116,13 +119,13 @@ class Relay:
                 source, _ = self.listener.accept()
             except OSError:
                 return
+            target = socket.socket(socket.AF_UNIX)
             try:
-                target = socket.create_connection(("127.0.0.1", self.target_port))
+                target.connect(self.target)
             except OSError:
                 source.close()
+                target.close()
                 continue
-            for end in (source, target):
-                end.setsockopt(socket.IPPROTO_TCP, socket.TCP_NODELAY, 1)
             with self.lock:
                 connection = self.opened(source, target)
             for work in (self.down, self.up):

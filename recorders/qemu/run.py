@@ -1,11 +1,10 @@
 """One migration, recorded: both QEMUs, the relay between them, and what they tell, in a folder."""
 import json
-import os
-import socket
 import time
 from dataclasses import asdict, dataclass, field
 
 import build
+import folders
 from machine import SOURCE_TRACE, TARGET_TRACE, Machine
 from qmp import Gone, Refused
 from relay import CutPlan, Relay, Window
@@ -35,38 +34,27 @@ class Outcome:
         return ", ".join([*parts, f"{self.requests} requests"])
 
 
-def free_port():
-    with socket.socket() as probe:
-        probe.bind(("127.0.0.1", 0))
-        return probe.getsockname()[1]
-
-
 class Migration:
-    """`say` takes lines of progress."""
+    """Recorded into `folder`, which has to be one that folders.take takes. `say` takes lines of progress."""
 
     def __init__(self, plan, folder, say):
         self.plan, self.folder, self.say, self.outcome = plan, folder, say, Outcome()
         self.machines = []
 
     def run(self):
+        folders.look_at(self.folder)
         build.require_tools()
         rom, library = build.build()
-        self.prepare()
+        folders.take(self.folder)
+        with open(f"{self.folder}/plan.json", "w") as out:
+            out.write(self.plan.to_text())
         build.rom_for(self.plan, rom, f"{self.folder}/guest.bin")
         began = time.monotonic()
-        port = free_port()
-        cuts = [CutPlan(behind) for behind in self.plan.cuts]
-        self.relay = Relay(self.folder, Window(self.plan.base, self.plan.pages), port, self.plan.fault, self.plan.skip, cuts)
+        self.room = folders.Room()
         try:
-            self.target = self.start("target", library, TARGET_TRACE, ["-incoming", "defer"])
-            self.source = self.start("source", library, SOURCE_TRACE)
-            self.migrate(port)
-        except Gone as fault:
-            self.remark(f"gave up: {fault}")
+            self.record(library)
         finally:
-            for machine in reversed(self.machines):
-                machine.end(self.outcome.is_whole)
-            self.relay.end()
+            self.room.end()
         if self.relay.complaint:
             self.remark(self.relay.complaint)
         self.outcome.seconds = round(time.monotonic() - began, 1)
@@ -74,34 +62,39 @@ class Migration:
             json.dump(asdict(self.outcome), out, indent=1)
         return self.outcome
 
-    def prepare(self):
-        """The folder, without what an earlier run left in it."""
-        os.makedirs(self.folder, exist_ok=True)
-        for name in os.listdir(self.folder):
-            if name.split(".")[0] in ("source", "target", "relay", "halt", "guest", "outcome", "session", "report",
-                                      "certificate", "explained", "picture", "verdict", "witness"):
-                os.unlink(f"{self.folder}/{name}")
-        with open(f"{self.folder}/plan.json", "w") as out:
-            out.write(self.plan.to_text())
+    def record(self, library):
+        cuts = [CutPlan(behind) for behind in self.plan.cuts]
+        self.relay = Relay(self.folder, self.room, Window(self.plan.base, self.plan.pages), self.room.name("target"),
+                           self.plan.fault, self.plan.skip, cuts)
+        try:
+            self.target = self.start("target", library, TARGET_TRACE, ["-incoming", "defer"])
+            self.source = self.start("source", library, SOURCE_TRACE)
+            self.migrate()
+        except Gone as fault:
+            self.remark(f"gave up: {fault}")
+        finally:
+            for machine in reversed(self.machines):
+                machine.end(self.outcome.is_whole)
+            self.relay.end()
 
     def start(self, name, library, trace, extra=()):
-        self.machines.append(Machine(name, self.folder, self.plan, library, trace, extra))
+        self.machines.append(Machine(name, self.folder, self.room, self.plan, library, trace, extra))
         return self.machines[-1]
 
     def remark(self, words):
         self.outcome.remarks.append(words)
         self.say(words)
 
-    def migrate(self, port):
+    def migrate(self):
         plan = self.plan
         self.set_up()
-        self.target("migrate-incoming", uri=f"tcp:127.0.0.1:{port}")
+        self.target("migrate-incoming", uri=f"unix:{self.relay.target}")
         self.say(f"guest: {plan.pages} pages of {plan.words} words, {plan.cpus} processor{'s' if plan.cpus > 1 else ''}")
         if not self.source.wait_for_accesses(plan.pages * 3 // 4 + plan.warm, plan.limit):
             raise Gone("the guest does not walk")
         if plan.paused:
             self.source("stop")
-        self.source("migrate", uri=f"tcp:127.0.0.1:{self.relay.port}")
+        self.source("migrate", uri=f"unix:{self.relay.path}")
         self.wait_for_precopy()
         self.say(f"pre-copy: {self.relay.sent_before} pages; now post-copy")
         self.source("migrate-start-postcopy")
@@ -178,11 +171,11 @@ class Migration:
         if stands["target"] != "postcopy-paused" or stands["source"] not in ("postcopy-paused", "postcopy-active"):
             self.remark("no recovery: " + ", ".join(f"{name} {status}" for name, status in stands.items()))
             return False
-        port = free_port()
+        again = self.room.name(f"target-{self.outcome.recoveries + 1}")
         try:
-            self.target("migrate-recover", uri=f"tcp:127.0.0.1:{port}")
-            self.relay.target_port = port
-            self.source("migrate", uri=f"tcp:127.0.0.1:{self.relay.port}", resume=True)
+            self.target("migrate-recover", uri=f"unix:{again}")
+            self.relay.target = again
+            self.source("migrate", uri=f"unix:{self.relay.path}", resume=True)
         except (Refused, Gone) as fault:
             self.remark(f"no recovery: {fault}")
             return False
@@ -211,7 +204,7 @@ class Migration:
             self.remark(f"target: {self.target.last_error()}")
         try:
             outcome.requests = self.source("query-migrate").get("ram", {}).get("postcopy-requests", 0)
-            self.source("pmemsave", val=plan.base, size=plan.pages * 4096, filename=f"{self.folder}/halt.mem")
+            self.source("pmemsave", val=plan.base, size=plan.pages * 4096, filename="halt.mem")
         except (Gone, Refused) as fault:
             self.remark(f"source: {fault}")
         if not self.source.is_running():

@@ -5,6 +5,7 @@ import tempfile
 import time
 
 import stream
+from folders import Room
 from relay import CutPlan, Relay, Window
 from streams import END, EOS, HEADER, bitmap, command, discard, footer, package, page, request, section_part
 
@@ -31,14 +32,18 @@ AFTER = section(page(at(0), filled(100), "pc.ram"), *(page(at(n), filled(100 + n
 class Ends:
     """A source and a target on both sides of a relay."""
 
-    def __init__(self, room, **options):
-        self.room = room
-        self.listener = socket.create_server(("127.0.0.1", 0))
+    def __init__(self, folder, **options):
+        self.folder, self.room = folder, Room()
+        self.listener = socket.socket(socket.AF_UNIX)
+        self.listener.bind(self.room.name("target"))
+        self.listener.listen()
         self.listener.settimeout(10)
-        self.relay = Relay(room, Window(BASE, PAGES), self.listener.getsockname()[1], **options)
+        self.relay = Relay(folder, self.room, Window(BASE, PAGES), self.room.name("target"), **options)
 
     def connect(self):
-        source = socket.create_connection(("127.0.0.1", self.relay.port), 10)
+        source = socket.socket(socket.AF_UNIX)
+        source.settimeout(10)
+        source.connect(self.relay.path)
         target, _ = self.listener.accept()
         target.settimeout(10)
         return source, target
@@ -46,7 +51,8 @@ class Ends:
     def end(self):
         self.relay.end()
         self.listener.close()
-        with open(f"{self.room}/relay.log") as log:
+        self.room.end()
+        with open(f"{self.folder}/relay.log") as log:
             return log.read().splitlines()
 
 

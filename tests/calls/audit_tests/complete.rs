@@ -1,7 +1,8 @@
-//! What is missing first from sessions of two pages, of which page 0 begins as 5. Not all of them are of the right shape.
+//! What is missing first from sessions of two pages, of which page 0 begins as 5, to either extent. Not all of them are of the
+//! right shape.
 
 use crate::texts::{Logs, session_of};
-use completeness::{Missing, first_missing};
+use completeness::{Extent, Missing, first_missing};
 use std::alloc::Global;
 
 /// The logs of a session, and what is missing from it first.
@@ -157,18 +158,32 @@ fn said(missing: Option<Missing>) -> (&'static str, u32) {
     }
 }
 
-/// Whether what is said of a session is told of it.
-fn is_met(alloc: Global, case: &Case) -> bool {
+/// What is missing first from a session of which its pages alone are asked.
+fn of_pages(case: &Case) -> (&'static str, u32) {
+    match case.missing.0 {
+        "halt" | "resume" | "page" => case.missing,
+        _ => ("nothing", 0),
+    }
+}
+
+/// Whether this is missing first to an extent.
+fn is_told(alloc: Global, case: &Case, extent: Extent, wanted: (&'static str, u32)) -> bool {
     let Some(session) = session_of(alloc, &case.logs) else {
         return false;
     };
-    match first_missing(alloc, &session) {
+    match first_missing(alloc, &session, extent) {
         Ok(missing) => {
             let (kind, number) = said(missing);
-            kind == case.missing.0 && number == case.missing.1
+            kind == wanted.0 && number == wanted.1
         }
         Err(_) => false,
     }
+}
+
+/// Whether what is said of a session is told of it, to either extent.
+fn is_met(alloc: Global, case: &Case) -> bool {
+    is_told(alloc, case, Extent::Whole, case.missing)
+        && is_told(alloc, case, Extent::Pages, of_pages(case))
 }
 
 #[test]

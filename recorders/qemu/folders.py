@@ -1,0 +1,99 @@
+"""The folders of a recording: the user's, where it is left, and a room for sockets and pipes while it is made.
+
+Nothing is removed from a folder that was not made here. One that was made here holds MARK, and of it exactly the files that a
+recorder writes are replaced.
+"""
+import os
+import re
+import shutil
+import stat
+import tempfile
+
+import build
+
+MARK = ".postcopy-recording"
+ON_MARK = "This folder was made by recorders/qemu, which replaces its own files in it when it records into it again.\n"
+FILES = ("plan.json", "guest.bin", "outcome.json", "halt.mem", "relay.log", "relay.pages", "session", "report", "certificate",
+         "explained", "picture.svg", "verdict", "witness",
+         *(f"{machine}.{what}" for machine in ("source", "target") for what in ("raw", "pages", "errors", "command")))
+
+# A socket's path has at most 107 bytes. QEMU's options are cut at commas, and the name of its log at a percent sign.
+LONGEST_TOP = 60
+PLAIN = re.compile(r"/[A-Za-z0-9/._-]*")
+
+
+class NotOurs(Exception):
+    """A folder that nothing is recorded into, in words."""
+
+
+def is_ours(folder):
+    """Whether a folder was made here."""
+    try:
+        return stat.S_ISREG(os.lstat(f"{folder}/{MARK}").st_mode)
+    except OSError:
+        return False
+
+
+def look_at(folder, files=FILES):
+    """Raises NotOurs where a folder cannot be taken: it has to be one that is not there yet, an empty one, or one made here."""
+    try:
+        names = os.listdir(folder)
+    except FileNotFoundError:
+        return
+    except OSError as fault:
+        raise NotOurs(f"{folder} cannot be recorded into: {fault.strerror}") from None
+    if names and not is_ours(folder):
+        raise NotOurs(f"{folder} is not empty, and was not made by this recorder: name a folder that is not there yet, or an empty one")
+    for name in files:
+        if os.path.isdir(f"{folder}/{name}") and not os.path.islink(f"{folder}/{name}"):
+            raise NotOurs(f"{folder}/{name} is a folder, and a file of the recording would have its name")
+
+
+def take(folder, files=FILES):
+    """Makes a folder, or takes one that `look_at` lets pass, without what an earlier run left in it."""
+    look_at(folder, files)
+    try:
+        os.makedirs(folder, exist_ok=True)
+        with open(f"{folder}/{MARK}", "w", encoding="ascii") as mark:
+            mark.write(ON_MARK)
+        clear(folder, files)
+    except OSError as fault:
+        raise NotOurs(f"{folder} cannot be recorded into: {fault.strerror}") from None
+
+
+def clear(folder, files):
+    for name in files:
+        try:
+            os.unlink(f"{folder}/{name}")
+        except FileNotFoundError:
+            pass
+
+
+def remove(folder, files=FILES):
+    """Removes what was recorded into a folder that was made here, and the folder where nothing else is in it."""
+    if not is_ours(folder):
+        return
+    clear(folder, files)
+    if os.listdir(folder) == [MARK]:
+        os.unlink(f"{folder}/{MARK}")
+        os.rmdir(folder)
+
+
+class Room:
+    """A folder that this user alone can enter, for the sockets and pipes of a migration. Its path is short and plain."""
+
+    def __init__(self):
+        tops = [top for top in (tempfile.gettempdir(), "/tmp", "/var/tmp") if len(top) <= LONGEST_TOP and PLAIN.fullmatch(top)]
+        for top in tops:
+            try:
+                self.path = tempfile.mkdtemp(prefix="postcopy-", dir=top)  # of mode 0700
+                return
+            except OSError as fault:
+                why = fault.strerror
+        raise build.Missing(f"no folder for sockets can be made in {top}: {why}")
+
+    def name(self, name):
+        return f"{self.path}/{name}"
+
+    def end(self):
+        shutil.rmtree(self.path, ignore_errors=True)

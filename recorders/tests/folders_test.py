@@ -1,0 +1,151 @@
+"""The folders that a recorder takes, and what it leaves alone in all others; and who may enter where its sockets are."""
+import io
+import lzma
+import os
+import socket
+import stat
+import subprocess
+import sys
+import tarfile
+import tempfile
+import time
+
+import folders
+import pack
+from kinds import plan_of
+from machine import Machine
+from relay import Relay, Window
+
+HERE = os.path.dirname(os.path.abspath(__file__))
+QEMU = f"{os.path.dirname(HERE)}/qemu"
+OF_A_USER = ("report.pdf", "source.tar.gz", "guest.img", "picture.png", "session", "plan.json")
+
+
+def fill(folder, names=OF_A_USER):
+    os.makedirs(folder)
+    for name in names:
+        with open(f"{folder}/{name}", "w", encoding="ascii") as out:
+            out.write(name)
+
+
+def held(folder):
+    """The names in a folder, with what each file holds."""
+    found = {}
+    for name in sorted(os.listdir(folder)):
+        with open(f"{folder}/{name}", encoding="utf-8") as file:
+            found[name] = file.read()
+    return found
+
+
+def of_a_users_folder(tests, room):
+    folder = f"{room}/mine"
+    fill(folder)
+    before = held(folder)
+    said = tests.refuses("a folder with files of a user", folders.NotOurs, lambda: folders.take(folder))
+    tests.wants("it is named", folder in said and "not empty" in said, True)
+    tests.wants("nothing of it is gone", held(folder), before)
+    for words in (["migrate", "live"], ["campaign", "1", "--folder"]):
+        done = subprocess.run([sys.executable, f"{QEMU}/{words[0]}", *words[1:], folder], capture_output=True, text=True)
+        tests.wants(f"{words[0]} into it", (done.returncode, done.stdout, done.stderr), (2, "", f"{words[0]}: {said}\n"))
+        tests.wants(f"what {words[0]} left there", held(folder), before)
+    folders.remove(folder)
+    tests.wants("nor is it removed", held(folder), before)
+    file = f"{folder}/session"
+    tests.refuses("a file", folders.NotOurs, lambda: folders.take(file))
+    tests.refuses("a folder in a file", folders.NotOurs, lambda: folders.take(f"{file}/more"))
+    tests.refuses("a name that is too long", folders.NotOurs, lambda: folders.take(f"{room}/{'x' * 300}"))
+
+
+def of_a_folder_of_its_own(tests, room):
+    for what, folder in (("a folder that is not there", f"{room}/new/within"), ("an empty folder", f"{room}/empty")):
+        if what.startswith("an"):
+            os.mkdir(folder)
+        folders.take(folder)
+        tests.wants(f"{what} is taken", (os.listdir(folder), folders.is_ours(folder)), ([folders.MARK], True))
+    for name in (*folders.FILES, *OF_A_USER):
+        with open(f"{folder}/{name}", "w", encoding="ascii") as out:
+            out.write(name)
+    folders.take(folder)
+    kept = {folders.MARK, *OF_A_USER} - set(folders.FILES)
+    tests.wants("a second run replaces its own files alone", set(os.listdir(folder)), kept)
+    folders.remove(folder)
+    tests.wants("what else is in a folder stays where it is removed", set(os.listdir(folder)), kept)
+    for name in kept - {folders.MARK}:
+        os.unlink(f"{folder}/{name}")
+    folders.remove(folder)
+    tests.wants("a folder with nothing else is removed", os.path.exists(folder), False)
+    folders.take(folder)
+    os.mkdir(f"{folder}/source.raw")
+    with open(f"{folder}/session", "w", encoding="ascii"):
+        pass
+    said = tests.refuses("a folder that has a file's name", folders.NotOurs, lambda: folders.take(folder))
+    tests.wants("it is named", f"{folder}/source.raw" in said, True)
+    tests.wants("and nothing is gone", set(os.listdir(folder)), {folders.MARK, "session", "source.raw"})
+
+
+def modes_of(path):
+    return stat.S_IMODE(os.stat(path).st_mode)
+
+
+def of_a_room(tests, room):
+    before = tempfile.tempdir
+    for what, top in (("a long path", f"{room}/{'x' * 90}"), ("a comma", f"{room}/a,b"), ("a percent sign", f"{room}/a%d"), ("a plain one", room)):
+        os.makedirs(top, exist_ok=True)
+        tempfile.tempdir = top
+        made = folders.Room()
+        tests.wants(f"a room with {what} as the folder of temporary files", (modes_of(made.path), os.path.dirname(made.path) == top), (0o700, top == room))
+        with socket.socket(socket.AF_UNIX) as one:
+            one.bind(made.name("target-12345"))
+        made.end()
+        tests.wants("it is gone at the end", os.path.exists(made.path), False)
+    tempfile.tempdir = before
+
+
+def of_the_sockets(tests, room):
+    """Where the relay and the monitors listen, and what QEMU is told of it; a program that only waits stands in for QEMU."""
+    folder = f"{room}/a,b %d"
+    folders.take(folder)
+    os.makedirs(f"{room}/bin")
+    with open(f"{room}/bin/qemu-system-x86_64", "w", encoding="ascii") as out:
+        out.write("#!/bin/sh\nunset LD_PRELOAD\npwd > where\nexec sleep 60\n")
+    os.chmod(out.name, 0o755)
+    path, os.environ["PATH"] = os.environ["PATH"], f"{room}/bin:{os.environ['PATH']}"
+    made = folders.Room()
+    relay = Relay(folder, made, Window(0x400000, 8), made.name("target"))
+    machine = Machine("target", folder, made, plan_of("live"), f"{room}/a library.so", ())
+    os.environ["PATH"] = path
+    tests.wants("the relay listens on a socket", relay.listener.family, socket.AF_UNIX)
+    tests.wants("the sockets and the pipe stand in the room", {os.path.dirname(it) for it in (relay.path, machine.socket, machine.pipe)}, {made.path})
+    tests.wants("which is for this user alone", modes_of(made.path), 0o700)
+    with open(f"{folder}/target.command", encoding="utf-8") as file:
+        words = file.read()
+    tests.wants("no option has the name of the folder", "a,b" in words or "tcp" in words, False)
+    until = time.monotonic() + 10
+    while not (os.path.exists(f"{folder}/where") and os.path.getsize(f"{folder}/where")) and time.monotonic() < until:
+        time.sleep(0.01)
+    with open(f"{folder}/where", encoding="utf-8") as file:
+        tests.wants("QEMU stands in the folder", os.path.samefile(file.read().rstrip("\n"), folder), True)
+    machine.end(False)
+    relay.end()
+    made.end()
+
+
+def of_packed(tests, room):
+    """A packed recording that names a file of elsewhere."""
+    packed = io.BytesIO()
+    with tarfile.open(fileobj=packed, mode="w") as archive:
+        archive.addfile(tarfile.TarInfo("../outside"))
+    with open(f"{room}/packed", "wb") as out:
+        out.write(lzma.compress(packed.getvalue()))
+    said = tests.refuses("a packed file that is none of a recording", ValueError, lambda: pack.unpack(f"{room}/packed", f"{room}/unpacked"))
+    tests.wants("it is named", "../outside" in said, True)
+    tests.wants("and not written", os.path.exists(f"{room}/outside"), False)
+
+
+def run(tests):
+    with tempfile.TemporaryDirectory() as room:
+        of_a_users_folder(tests, room)
+        of_a_folder_of_its_own(tests, room)
+        of_a_room(tests, room)
+        of_the_sockets(tests, room)
+        of_packed(tests, room)

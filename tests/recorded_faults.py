@@ -1,0 +1,401 @@
+"""Recordings that are not whole, or are none: what recorders/session says of each, its status, and that it writes nothing.
+
+Each is a right recording with one fault: of the disk, of a file, of the program that records. And what the script writes with -o,
+where others write there too, or the disk is full.
+"""
+import contextlib
+import importlib.machinery
+import importlib.util
+import io
+import os
+import re
+import resource
+import shutil
+import stat
+import subprocess
+import sys
+import threading
+import time
+
+from made_sessions import TOP, numbered, text_of_file
+from postcopy.recorded import session_of
+from postcopy.recorder import LOST, Log, join
+
+# A machine of two pages of one cell, and one of them moved. By log, the records.
+MOVED = {
+    "machine": ["pages 2 1", "page 1 0000000000000007"],
+    "guest": ["w 0 0 0 5", "halt", "resume 1", "see 3", "r 0 0 0 5"],
+    "source": ["halted 1", "state", "send 0 0000000000000005"],
+    "link": ["down 1", "down 2"],
+    "pager": ["got 0", "ready", "got 1", "place 0 2 0000000000000005"],
+}
+
+PAGES = 64  # of the machine whose recording does not fit on a small disk
+
+
+def limited(length):
+    """What a process calls so that no file of its grows past this length."""
+    return lambda: resource.setrlimit(resource.RLIMIT_FSIZE, (length, length))
+
+
+class Faults:
+    def __init__(self, tests, room, program):
+        self.tests, self.room, self.program, self.made = tests, room, program, 0
+        loader = importlib.machinery.SourceFileLoader("session", f"{TOP}/recorders/session")
+        self.script = importlib.util.module_from_spec(importlib.util.spec_from_loader("session", loader))
+        loader.exec_module(self.script)
+        self.script.NAME = "session"
+
+    def folder(self):
+        self.made += 1
+        return f"{self.room}/fault-{self.made}"
+
+    def session(self, *words):
+        """What the script writes and says, and its status, without a process of its own."""
+        out, said = io.StringIO(), io.StringIO()
+        with contextlib.redirect_stdout(out), contextlib.redirect_stderr(said):
+            sys.argv, before = ["session", *words], sys.argv
+            try:
+                status = self.script.main()
+            except SystemExit as end:
+                status = end.code
+            finally:
+                sys.argv = before
+        return subprocess.CompletedProcess(words, status, out.getvalue(), said.getvalue())
+
+    @staticmethod
+    def session_alone(*words, **more):
+        return subprocess.run([sys.executable, f"{TOP}/recorders/session", *words], capture_output=True, encoding="ascii", timeout=60, **more)
+
+    def put(self, name, text):
+        os.makedirs(os.path.dirname(name), exist_ok=True)
+        with open(name, "w", encoding="ascii") as file:
+            file.write(text)
+
+    def has(self, name):
+        with open(name, encoding="ascii") as file:
+            return file.read()
+
+    def recording(self, **changed):
+        """A folder with the right recording, but for these logs: the text of the file, or the records."""
+        folder = self.folder()
+        for log, records in {**MOVED, **changed}.items():
+            if records is not None:
+                is_text = isinstance(records, str)
+                self.put(f"{folder}/{log}.1.0", records if is_text else text_of_file(log, numbered(records), last=f"end {len(records)}"))
+        return folder
+
+    def told(self, what, ran, status, *lines, folder=""):
+        """Whether nothing was written, with this status and with a line of these words, where FOLDER is the folder."""
+        said = ran.stderr.replace(folder, "FOLDER") if folder else ran.stderr
+        self.tests.same(f"{what}: status and output", (ran.returncode, ran.stdout), (status, ""))
+        for line in lines:
+            is_said = f"session: {line}\n" in said
+            self.tests.same(f"{what}: what is said", (is_said, line if is_said else said), (True, line))
+
+    def wants(self, what, folder, status, *lines):
+        self.told(what, self.session(folder), status, *lines, folder=folder)
+        if status == 1:
+            ran = self.session(folder, "--cut")
+            self.tests.same(f"{what}, cut", (ran.returncode, ran.stdout[:17]), (0, "postcopy-session "))
+            for line in lines:
+                self.tests.same(f"{what}, cut: what is said", f"session: {line}\n" in ran.stderr.replace(folder, "FOLDER"), True)
+
+    def run(self):
+        self.of_whole_ones()
+        self.of_full_disks()
+        self.of_lost_files()
+        self.of_slips()
+        self.of_two_recordings()
+        self.of_words()
+        self.of_machines()
+        self.of_children()
+        self.of_python()
+        self.of_output()
+
+    def of_whole_ones(self):
+        folder = self.recording()
+        ran = self.session_alone(folder)
+        self.tests.same("a whole recording", (ran.returncode, ran.stderr, self.tests.audit(ran.stdout)), (0, "", "clean"))
+        self.tests.same("an option that there is no more", self.session(folder, "--whole").returncode, 2)
+        for log in MOVED:
+            lines = text_of_file(log, numbered(MOVED[log]))
+            self.wants(f"the {log}'s log has no end", self.recording(**{log: lines}), 1, f"{log}: FOLDER/{log}.1.0 has no end: its process died, or did not close the log")
+            lines += "lost 28\n"
+            self.wants(f"a record of the {log} is lost", self.recording(**{log: lines}), 1, f"{log}: FOLDER/{log}.1.0:{len(MOVED[log]) + 4}: a record was not written: No space left on device")
+
+    def of_full_disks(self):
+        """A recording that does not fit: a file that may not grow, and a small disk. With room it is one of a fault."""
+        folder = self.folder()
+        self.tests.same("with room", subprocess.run([self.program, "moved", folder, str(PAGES)]).returncode, 0)
+        ran = self.session(folder)
+        self.tests.same("with room: its verdict", (ran.returncode, ran.stderr, self.tests.audit(ran.stdout)), (0, "", f"faulty line {PAGES + 9} read"))
+        folder = self.folder()
+        ran = subprocess.run([self.program, "moved", folder, str(PAGES)], preexec_fn=limited(300000))
+        self.tests.same("a file that may not grow ends no process", ran.returncode, 0)
+        self.wants("a file that may not grow", folder, 1, f"machine: FOLDER/{self.only(folder, 'machine')}:36: a record was not written: File too large")
+        folder = self.folder()
+        os.makedirs(folder)
+        script = 'mount -t tmpfs -o size=1100k none "$1" && mkdir "$1/log" && "$2" moved "$1/log" "$3" && cp -r "$1/log" "$1.kept"'
+        unshare = ["unshare", "--mount", *([] if os.getuid() == 0 else ["--map-root-user"]), "sh", "-c", script, "", folder, self.program, str(PAGES)]
+        subprocess.run(unshare, stderr=subprocess.DEVNULL)
+        if os.path.isdir(f"{folder}.kept"):
+            folder = f"{folder}.kept"
+            self.wants("a full disk", folder, 1, f"machine: FOLDER/{self.only(folder, 'machine')}:36: a record was not written: No space left on device")
+        else:
+            self.tests.left_out.append("a recording on a full disk, since no small one can be mounted here")
+        self.tests.same("a limit of no bytes ends no process", subprocess.run([self.program, "full", self.folder()], preexec_fn=limited(0), stdout=subprocess.PIPE).returncode, 1)
+
+    def only(self, folder, log):
+        """The name of a log's only file."""
+        name, = [name for name in os.listdir(folder) if name.startswith(f"{log}.")]
+        return name
+
+    def of_lost_files(self):
+        """A thread's file that is missing, the one with the log's end, and a tail."""
+        for log, records in MOVED.items():
+            lines = numbered(records)
+            for what, files, kept, said in (
+                ("a thread's file", (lines[:-1], lines[-1:]), 0, f"{log}: record {len(lines) - 1} is missing"),
+                ("the file with the end", (lines[-1:], lines[:-1]), 1, f"{log}: FOLDER/{log}.1.1 has no end: its process died, or did not close the log"),
+            ):
+                folder = self.recording(**{log: text_of_file(log, files[0], last=f"end {len(lines)}")})
+                self.put(f"{folder}/{log}.1.1", text_of_file(log, files[1]))
+                self.tests.same(f"{what} of the {log} is there", self.session(folder).returncode, 0)
+                os.remove(f"{folder}/{log}.1.{1 - kept}")
+                if log == "machine" and kept == 0:
+                    said += ": pages whose contents are not told are taken for zeros"
+                self.wants(f"{what} of the {log} is missing", folder, 1, said)
+        self.wants("a tail of initial pages", self.recording(machine=text_of_file("machine", numbered(MOVED["machine"]), last="end 65")), 1,
+                   "machine: records 2 to 64 are missing: pages whose contents are not told are taken for zeros")
+        folder = self.recording(guest=text_of_file("guest", numbered(MOVED["guest"])[:2], last="next 2"))
+        self.wants("who went on with the guest's log", folder, 1, "guest: FOLDER/guest.1.0:6: handed over with 2 records, and there is no file of who went on")
+        self.put(f"{folder}/guest.2.0", text_of_file("guest", numbered(MOVED["guest"])[2:], first=2, last="end 5"))
+        self.tests.same("the guest's log is gone on with", self.session(folder).returncode, 0)
+
+    def of_slips(self):
+        """Slips of a program that records. (The first four are those of an audit that was `clean`.)"""
+        on = "a log is gone on with from the number that postcopy_log_hand_over or Log.hand_over answers"
+        source = text_of_file("guest", numbered(MOVED["guest"])[:2], last="end 2")
+        folder = self.recording(guest=source)
+        self.put(f"{folder}/guest.2.0", text_of_file("guest", numbered(MOVED["guest"][2:], 3), first=3, last="end 6"))
+        self.wants("the guest's log opened one record too late", folder, 1, "guest: 3 records left out: record 2 is missing",
+                   f"guest: FOLDER/guest.2.0 begins with record 3, where the log has 2 in front of it: {on}")
+        folder = self.recording(guest=source)
+        self.put(f"{folder}/guest.2.0", text_of_file("guest", numbered(MOVED["guest"][2:], 1), first=1, last="end 4"))
+        self.wants("the guest's log opened one record too early", folder, 2,
+                   f"FOLDER/guest.2.0:4: a second record 1 of the guest's log, beside FOLDER/guest.1.0:5: record 1 of the guest's log: {on}")
+        folder = self.recording(guest=text_of_file("guest", numbered(MOVED["guest"])[:1], last="end 1"))
+        self.put(f"{folder}/guest.2.0", text_of_file("guest", numbered(MOVED["guest"][2:], 2), first=2, last="end 5"))
+        self.wants("a halt that was forgotten", folder, 1, "guest: 3 records left out: record 1 is missing")
+        self.wants("got for got_sent", self.recording(link=None, pager=["got 1", *MOVED["pager"][1:]]), 1,
+                   "pager: 4 records left out: FOLDER/pager.1.0:4: record 0 of the pager's log, 'got 1', names record 1 of the link's log, which is not "
+                   "there: where nobody writes the link's log it is 'got_sent' that takes the sender's number")
+        self.wants("a number that was lost", self.recording(pager=[f"got {LOST}", *MOVED["pager"][1:]]), 1,
+                   f"pager: 4 records left out: FOLDER/pager.1.0:4: record 0 of the pager's log, 'got {LOST}', names no record of the link's log: the number was lost")
+        self.wants("no resume", self.recording(guest=[*MOVED["guest"][:2], "r 0 0 0 5"]), 1,
+                   "guest: FOLDER/guest.1.0:6: record 2 of the guest's log comes behind the halt, and there is no resume: postcopy_record_resume, or "
+                   "Log.resume, where the guest runs at the target")
+        for log in ("guest", "source", "pager"):
+            self.wants(f"no record of the {log}", self.recording(**{log: []}), 1, f"{log}: there is no record")
+
+    def of_two_recordings(self):
+        twice = "two recordings are in one folder, or the log was opened twice from this number on"
+        folder = self.recording()
+        for log, records in MOVED.items():
+            self.put(f"{folder}/{log}.2.0", text_of_file(log, numbered(records), last=f"end {len(records)}"))
+        self.wants("two runs in a folder", folder, 2, f"FOLDER/guest.2.0:4: a second record 0 of the guest's log, beside FOLDER/guest.1.0:4: record 0 of the guest's log: {twice}")
+        folder = self.recording(pager=text_of_file("pager", numbered(MOVED["pager"]), last="end 4", name="other"))
+        both = ("these are two recordings, each of which has its own session (a folder at a second machine is given the name: postcopy_recording_join, or join)")
+        self.wants("files of two names", folder, 2, f"FOLDER/pager.1.0 is of the recording other, and FOLDER/machine.1.0 of the recording made: {both}")
+        folder = self.recording()
+        self.told("a folder that is named twice", self.session(folder, f"{folder}/."), 2, f"{folder}/. is named twice")
+        first, second, third = self.folder(), self.folder(), self.folder()
+        with Log(first, "guest") as log:
+            join(second, log.recording)
+            join(second, log.recording)
+            join(third, "another")
+        with Log(second, "source") as source, Log(third, "source") as other:
+            self.tests.same("the name at a second machine", (source.recording, other.recording), (log.recording, "another"))
+        for what, error, call in (("another name", FileExistsError, lambda: join(second, "another")), ("no name", ValueError, lambda: join(third, "a b"))):
+            try:
+                call()
+                self.tests.same(what, "taken", "refused")
+            except error:
+                self.tests.passed += 1
+        self.tests.same("the names in C", subprocess.run([self.program, "named", self.folder()], stdout=subprocess.PIPE).stdout, b"")
+
+    def of_words(self):
+        """Lines that are none: which file, which line, what stands there, and what it should be."""
+        def line(log, changed, *said, at=4):
+            lines = text_of_file(log, numbered(MOVED[log]), last=f"end {len(MOVED[log])}").split("\n")
+            lines[at - 1:at] = [changed] if isinstance(changed, str) else changed
+            self.wants(f"{changed!r} in the {log}'s log", self.recording(**{log: "\n".join(lines)}), 2, *said)
+
+        record = "FOLDER/guest.1.0:4: record 0 of the guest's log, "
+        line("guest", "0 w 64 0 0 5", f"{record}'w 64 0 0 5': '64' is no vcpu: a number from 0 to 63")
+        line("guest", "0 w 0 2 0 5", f"{record}'w 0 2 0 5': there is no page 2: the machine has 2 pages, from 0 on")
+        line("guest", "0 w 0 0 1 5", f"{record}'w 0 0 1 5': there is no cell 1: a page has 1 cells, from 0 on")
+        line("guest", "0 w 0 0 0", f"{record}'w 0 0 0': 'w' has 4 fields and not 3")
+        line("guest", "0 ww 0 0 0 5", f"{record}'ww 0 0 0 5': the guest's log has no record 'ww'")
+        line("source", "2 send 0 05", "FOLDER/source.1.0:6: record 2 of the source's log, 'send 0 05': '05' is no contents: 16 digits of 0 to 9 and a to f for each cell", at=6)
+        line("source", f"2 send 0 {'0' * 32}", f"FOLDER/source.1.0:6: record 2 of the source's log, 'send 0 {'0' * 32}': contents of 2 cells, where a page of the machine has 1", at=6)
+        no_record = "which is no record: expected its number, its word and its fields"
+        line("guest", "w 0 \x1b[0m", f"FOLDER/guest.1.0:4: found 'w 0 \\x1b[0m', {no_record}")
+        line("guest", "", f"FOLDER/guest.1.0:4: found '', {no_record}")
+        line("guest", ["end 5", "5 r 0 0 0 5"], "FOLDER/guest.1.0:10: found '5 r 0 0 0 5' behind the log's end, 'end 5'", at=9)
+        line("guest", "end 4", "FOLDER/guest.1.0:9: found 'end 4', where the guest's log has a record 4", at=9)
+        line("guest", "0 halt", "FOLDER/guest.1.0:1: found '0 halt'; expected 'postcopy-records 1': no recorder of this release wrote it", at=1)
+        line("guest", "recording a b", "FOLDER/guest.1.0:2: found 'recording a b'; expected 'recording NAME'", at=2)
+        line("guest", "log pager 0 0", "FOLDER/guest.1.0:3: found 'log pager 0 0'; expected 'log guest FIRST OPENING'", at=3)
+        line("guest", "log guest 2 0", "FOLDER/guest.1.0:4: record 0 of the guest's log is in a file of the records from 2 on", at=3)
+        line("pager", "0 got-sent 1", "FOLDER/pager.1.0:4: record 0 of the pager's log, 'got-sent 1': the link has a log of its own, whose number 'got' names")
+        folder = self.recording(guest=text_of_file("guest", numbered(MOVED["guest"])[:4], last="end 4"))
+        self.put(f"{folder}/guest.1.1", text_of_file("guest", numbered(MOVED["guest"])[4:]))
+        self.wants("a record behind the end", folder, 2, "FOLDER/guest.1.1:4: record 4 of the guest's log is behind the end that FOLDER/guest.1.0:8 tells")
+        for text in ("", "postcopy-records 1\nrecord", "postcopy-records 1\n\0\0\0"):
+            self.wants("a file that ends in its head", self.recording(guest=text), 1, "guest: FOLDER/guest.1.0 ends in its head: its process died as it began the file")
+
+    def of_machines(self):
+        """What is told of the machine: once, and of its pages alone."""
+        call = "postcopy_record_machine, or Log.machine"
+        place = "FOLDER/machine.1.0:%d: record %d of the machine's log"
+        for what, records, said in (
+            ("two machines", ["pages 2 1", "pages 4 1"], f"{place % (5, 1)}: a second 'pages 4 1', beside {place % (4, 0)}: 'pages 2 1'"),
+            ("a page that is told twice", ["pages 2 1", *["page 1 0000000000000007"] * 2], f"{place % (6, 2)}: what page 1 holds at first is told twice, beside {place % (5, 1)}"),
+            ("a page past the last", ["page 2 0000000000000007", "pages 2 1"], f"{place % (4, 0)}: there is no page 2: the machine has 2 pages, from 0 on"),
+            ("a page of two cells", ["pages 2 1", f"page 1 {'0' * 31}7"], f"{place % (5, 1)}: contents of 2 cells, where a page of the machine has 1"),
+            ("another record", ["pages 2 1", "cells 1"], f"{place % (5, 1)}: found 'cells 1'; expected 'pages PAGES CELLS' or 'page PAGE CONTENTS'"),
+            ("no machine", ["page 1 0000000000000007"], f"FOLDER/machine.1.0: no record tells how many pages there are: {call}"),
+            ("no file of the machine", None, f"there is no file of the machine's log, which tells how many pages there are: {call}"),
+        ):
+            self.wants(what, self.recording(machine=records), 2, said)
+        folder = self.folder()
+        os.makedirs(folder)
+        self.wants("an empty folder", folder, 2, "FOLDER: there is no file of a recorder, PARTY.PROCESS.N")
+
+    def of_children(self):
+        """Forked children: none hangs, none records, and none does anything to its parent's files."""
+        for mode in ("forked", "leaving"):
+            folder = self.folder()
+            ran = subprocess.run([self.program, mode, folder], stdout=subprocess.PIPE, timeout=120)
+            self.tests.same(f"c/tests/recording.c {mode}", (ran.returncode, ran.stdout), (0, b""))
+        log, is_over = Log(self.folder(), "guest"), threading.Event()
+
+        def append():
+            while not is_over.is_set():
+                log.read(0, 0, 0, 1)
+
+        threads = [threading.Thread(target=append) for _ in range(2)]
+        for thread in threads:
+            thread.start()
+        ends = []
+        for _ in range(30):
+            child = os.fork()
+            if child == 0:
+                answers = (log.read(0, 0, 0, 2), log.hand_over(), log.close())
+                os._exit(0 if answers == (LOST, LOST, None) else 1)
+            ends.append(self.waited(child))
+        is_over.set()
+        for thread in threads:
+            thread.join()
+        self.tests.same("forked children in Python", ends, [0] * 30)
+        self.tests.same("the parent goes on", log.read(0, 0, 0, 3) != LOST, True)
+        log.close()
+
+    @staticmethod
+    def waited(child):
+        """A child's status; where it hangs it is killed."""
+        for _ in range(500):
+            pid, status = os.waitpid(child, os.WNOHANG)
+            if pid:
+                return status
+            time.sleep(0.01)
+        os.kill(child, 9)
+        return os.waitpid(child, 0)[1]
+
+    def of_python(self):
+        """Python's recorder: what a `with` leaves that an exception ended, a log that is handed over, and half a record."""
+        folder = self.folder()
+        try:
+            with Log(folder, "machine") as log:
+                log.machine(2, 1)
+                raise KeyboardInterrupt
+        except KeyboardInterrupt:
+            pass
+        with Log(folder, "guest") as guest:
+            guest.halt()
+            number = guest.hand_over()
+            self.tests.same("a log that was handed over", (number, guest.halt(), guest.hand_over()), (1, LOST, LOST))
+        with Log(folder, "guest", number) as guest:
+            self.tests.same("who goes on", guest.resume(1), 1)
+        lost = Log(folder, "pager", LOST)
+        self.tests.same("a log that nobody could hand over", (lost.ready(), lost.hand_over(), lost.error is None), (LOST, LOST, False))
+        said = session_of([folder])[1]
+        self.tests.same("an exception leaves no end", [it for it in said if it.startswith(("machine", "guest: /"))],
+                        [f"machine: {folder}/{self.only(folder, 'machine')} has no end: its process died, or did not close the log"])
+        folder = self.folder()
+        words = ("import sys; from postcopy.recorder import LOST, Log; log = Log(sys.argv[1], 'machine'); log.machine(64, 512)\n"
+                 "lost = sum(log.initial(page, [7] * 512) == LOST for page in range(64)); log.close()\n"
+                 "print(lost, log.error.errno)")
+        for limit, last in ((100000, b"lost 27\n"), (8322 + 75, b"")):
+            shutil.rmtree(folder, ignore_errors=True)
+            ran = subprocess.run([sys.executable, "-B", "-c", words, folder], stdout=subprocess.PIPE, preexec_fn=limited(limit), env={**os.environ, "PYTHONPATH": f"{TOP}/python"})
+            lost, error = map(int, ran.stdout.split())
+            with open(f"{folder}/{self.only(folder, 'machine')}", "rb") as file:
+                text = file.read()
+            self.tests.same("half a record is taken back", (error, text.endswith(last), text.count(b"\n") - text.count(b"lost")), (27, True, 4 + 64 - lost))
+            self.tests.same("what is said of it", any(it.startswith("machine: ") for it in session_of([folder])[1]), True)
+
+    def of_output(self):
+        """-o: the file is whole, or as it was; it keeps its mode, and what somebody planted beside it stays."""
+        folder, place = self.recording(), self.folder()
+        os.makedirs(place)
+        wanted = self.session(folder).stdout
+        old = os.umask(0o027)
+        try:
+            self.tests.same("a new file", (self.session(folder, "-o", f"{place}/new").returncode, self.has(f"{place}/new"), self.mode(f"{place}/new")), (0, wanted, 0o640))
+            self.put(f"{place}/kept", "as it was\n")
+            os.chmod(f"{place}/kept", 0o606)
+            with open(f"{place}/kept", encoding="ascii") as before:
+                self.tests.same("a file that is there", (self.session(folder, "-o", f"{place}/kept").returncode, self.has(f"{place}/kept")), (0, wanted))
+                self.tests.same("who had it open reads what it was", before.read(), "as it was\n")
+            self.tests.same("its mode", self.mode(f"{place}/kept"), 0o606)
+        finally:
+            os.umask(old)
+        os.symlink("kept", f"{place}/link")
+        self.put(f"{place}/kept", "as it was\n")
+        self.tests.same("a link", (self.session(folder, "-o", f"{place}/link").returncode, os.readlink(f"{place}/link"), self.has(f"{place}/kept")), (0, "kept", wanted))
+        for name in ("kept.part", ".kept.part"):
+            os.symlink("victim", f"{place}/{name}")
+        self.put(f"{place}/victim", "mine\n")
+        self.session(folder, "-o", f"{place}/kept")
+        self.tests.same("what somebody planted", self.has(f"{place}/victim"), "mine\n")
+        self.put(f"{place}/kept", "as it was\n")
+        names = set(os.listdir(place))
+        for words in (("-o", f"{place}/kept"), ("-o", f"{place}/none"), ("--windows", "2", "-o", f"{place}/by")):
+            ran = self.session_alone(folder, *words, preexec_fn=limited(100))
+            self.tests.same("a full disk", (ran.returncode, "File too large" in ran.stderr, self.has(f"{place}/kept")), (2, True, "as it was\n"))
+        self.tests.same("a full disk leaves nothing", (set(os.listdir(place)) - names, os.listdir(f"{place}/by")), ({"by"}, []))
+        cut = self.recording(pager=None)
+        ran = self.session(cut, "-o", f"{place}/kept")
+        self.tests.same("a part", (ran.returncode, self.has(f"{place}/kept")), (1, "as it was\n"))
+        self.tests.same("a device", self.session(folder, "-o", "/dev/null").returncode, 0)
+        ran = self.session_alone(folder, "-o", "/dev/stdout")
+        self.tests.same("a pipe", (ran.returncode, ran.stdout), (0, wanted))
+        self.of_two_writers(place)
+
+    def of_two_writers(self, place):
+        """Two at once: the file is what one of them wrote."""
+        long = [*MOVED["guest"], *["r 0 0 0 5"] * 30000]
+        folders = self.recording(), self.recording(guest=long)
+        texts = [self.session(folder).stdout for folder in folders]
+        for _ in range(3):
+            writers = [subprocess.Popen([sys.executable, f"{TOP}/recorders/session", folder, "-o", f"{place}/shared"]) for folder in folders]
+            statuses = [writer.wait() for writer in writers]
+            self.tests.same("two writers", (statuses, self.has(f"{place}/shared") in texts), ([0, 0], True))
+        self.tests.same("two writers leave nothing", [name for name in os.listdir(place) if re.match(r"\.(session|postcopy-session)", name)], [])
+
+    @staticmethod
+    def mode(name):
+        return stat.S_IMODE(os.stat(name).st_mode)

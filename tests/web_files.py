@@ -1,0 +1,133 @@
+"""Tests of the files that are handed to the page: which of them is judged, and what is told of the others."""
+import os
+
+from web_checks import count, example, is_shown, read, rows_drawn, rows_shown, same, says, squeezed, words_of, write
+
+IS_LISTED = "return document.getElementById('sessions').hidden ? null : [...document.querySelectorAll('#list li')].map((it) => [it.className, it.textContent])"
+WATCH = "addEventListener('unhandledrejection', () => { document.body.dataset.rejected = 'yes' })"
+
+
+def listed(browser):
+    """The sessions that are listed: the kind of each, and what is said of it; None where there is no list."""
+    return browser.run(IS_LISTED)
+
+
+def choose_listed(browser, place):
+    browser.run("delete document.body.dataset.done; document.querySelectorAll('#list button')[arguments[0]].click()", place)
+    browser.settle()
+
+
+def tests_of_reading(browser, room):
+    """What cannot be read is told by its name, and nothing stays of the session before."""
+    safe = write(f"{room}/safe", read(example("handover")[0]))
+    gone, lost = (write(f"{room}/{it}", read(safe)) for it in ("gone", "lost"))
+    is_shown(browser, "a session, before one that is gone", [safe], "good", "Safe.", "safe")
+    browser.hold(gone)
+    browser.run("document.getElementById('held').files[0].size")
+    os.remove(gone)
+    same("the verdict when a file is dropped", browser.drop_held(), "")
+    says(browser, "a file that is gone", "odd", "There is no session.", "gone could not be read: ")
+    same("what is shown of the session before", browser.run("return document.getElementById('story').hidden"), True)
+    is_shown(browser, "a session, before it and one that is gone", [safe], "good", "Safe.")
+    browser.hold(safe, lost)
+    os.remove(lost)
+    browser.drop_held()
+    says(browser, "a session, with a file that is gone", "good", "Safe.", "lost could not be read: ")
+    left = write(f"{room}/left", read(safe))
+    browser.choose(left)
+    os.remove(left)
+    browser.run("delete document.body.dataset.done; const it = document.getElementById('page'); it.value = 1; it.onchange()")
+    browser.settle()
+    count("could not be told" in browser.text("#topic"), f"a page of a session that is gone: {browser.text('#topic')}")
+    browser.fill("#line", 1)
+    browser.wait_for(lambda: "left could not be read: " in browser.text("#extent"), "nothing is said of a text that is gone")
+
+
+def tests_of_folder(browser, room):
+    folder = f"{room}/a folder"
+    os.mkdir(folder)
+    write(f"{folder}/session", read(example("stale-page")[0]))
+    is_shown(browser, "a session, before a folder", example("handover"), "good", "Safe.")
+    browser.drop_folder(folder)
+    says(browser, "a folder", "odd", "There is no session.", "a folder is a folder, and is not read")
+    browser.drop(*example("stale-page"))
+    says(browser, "a session, after a folder", "bad", "Not safe.")
+
+
+def tests_of_sessions(browser, room, program):
+    """Of several sessions each is judged, the worst is shown, and each other can be."""
+    safe, faulty = write(f"{room}/first", read(example("handover")[0])), write(f"{room}/second", read(example("stale-page")[0]))
+    knot, none = write(f"{room}/third", read(example("circle-of-receipts")[0])), write(f"{room}/fourth", read(example("leading-zero")[0]))
+    browser.choose(safe)
+    same("the list of one session", listed(browser), None)
+    browser.drop(safe, faulty)
+    says(browser, "two sessions", "bad", "Not safe.", "second", "line 18")
+    stale = "second: Not safe. A page is sent with other contents than it has at the halt: line 18."
+    same("the list of two sessions", listed(browser), [["good", "first: Safe."], ["bad", stale]])
+    choose_listed(browser, 0)
+    says(browser, "the first of two sessions", "good", "Safe.", "first")
+    same("which is marked in the list", browser.text("#list [aria-current=true]"), "first")
+    same("the words on the first of two", squeezed(browser.text("#words")), squeezed(words_of(program, "explain", safe)))
+    same("the rows of the picture of the first of two", rows_shown(browser), rows_drawn(program, safe))
+    choose_listed(browser, 1)
+    same("the words on the second of two", squeezed(browser.text("#words")), squeezed(words_of(program, "explain", faulty)))
+    browser.drop(none, safe, knot)
+    says(browser, "three sessions", "bad", "cannot all have happened", "third")
+    same("the kinds of three sessions", [it for it, _ in listed(browser)], ["odd", "good", "bad"])
+    choose_listed(browser, 0)
+    says(browser, "one of them that is none", "odd", "This is not a session.", "fourth", "line 7")
+
+
+def tests_of_companions(browser, room, program):
+    """What goes with a session is taken as what it is, wherever it stands among the files."""
+    safe, faulty = example("handover")[0], example("stale-page")[0]
+    first, last = write(f"{room}/0-report", words_of(program, "audit", safe)), write(f"{room}/z-report", words_of(program, "audit", faulty))
+    for files in ([first, safe], [safe, first]):
+        browser.drop(*files)
+        says(browser, "a session with its report", "good", "Safe.", "session", "The report 0-report says the same: clean.")
+        same("the list of a session with its report", listed(browser), None)
+    browser.drop(safe, last)
+    says(browser, "a session with the report on another", "good", "Safe.", "The report z-report is not on this session: it says faulty line 18 stale.")
+    browser.drop(first)
+    says(browser, "a report alone", "odd", "There is no session.", "0-report is a report")
+    slip = write(f"{room}/a-slip", read(example("handover", "certificate")[0]).replace(b"certificate", b"certifcate", 1))
+    browser.drop(slip, safe)
+    says(browser, "a session with a certificate that has a slip", "good", "Safe.", "session")
+    (_, said), other = listed(browser)
+    count(said.startswith("a-slip: This is not a session.") and '"postcopy-certifcate 1"' in said, f"a slip is told: {said}")
+    same("the session beside a slip", other, ["good", "session: Safe."])
+    right, wrong = example("handover", "certificate")[0], write(f"{room}/wrong", b"postcopy-certificate 1\npages 1\npage 0 none\nruns 0\nend\n")
+    browser.drop(wrong, safe, right)
+    says(browser, "a session with two certificates", "good", "Safe.", "wrong, tried with this session: The certificate is of a machine of another size",
+         "certificate, tried with this session: The certificate is right")
+    browser.drop(right, *example("leading-zero"))
+    says(browser, "no session, with a certificate", "odd", "This is not a session.", "The certificate is not judged")
+
+
+def tests_of_address(browser, url):
+    """The address names an example while that is shown, and the verdict names what it is on."""
+    browser.open("about:blank")
+    browser.open(f"{url}#stale-page")
+    browser.settle()
+    says(browser, "an example", "bad", "Not safe.", "the example stale-page")
+    is_shown(browser, "a file after an example", example("handover"), "good", "Safe.", "session")
+    same("the address then", browser.run("return location.href"), url)
+    browser.open(browser.run("return location.href"))
+    says(browser, "nothing, when the page is loaded anew", "")
+    browser.run("location.hash = '#stale-page'")
+    browser.settle()
+    browser.drop(*example("handover"))
+    browser.run("delete document.body.dataset.done; document.querySelector('#examples a[href=\"#stale-page\"]').click()")
+    browser.settle()
+    says(browser, "an example that is chosen again", "bad", "Not safe.", "the example stale-page")
+
+
+def run_all(browser, room, program, url):
+    browser.run(WATCH)
+    tests_of_reading(browser, room)
+    if hasattr(browser, "drop_folder"):
+        tests_of_folder(browser, room)
+    tests_of_sessions(browser, room, program)
+    tests_of_companions(browser, room, program)
+    same("whether a promise was left rejected", browser.run("return document.body.dataset.rejected ?? 'no'"), "no")
+    tests_of_address(browser, url)

@@ -1,0 +1,100 @@
+// The files that are handed to the page: what each of them is, and the list of the sessions among them. It is a part of the script
+// of page.js, and stands before it.
+"use strict";
+
+// How a text of each kind begins. What begins in no such way is judged as a session is, which says why it is none.
+const BEGINNINGS = {
+  session: /^postcopy-session /,
+  certificate: /^postcopy-certificate /,
+  runs: /^postcopy-runs /,
+  report: /^(clean\n|(faulty|knot|shape|session-text) line \d)/,
+};
+const LONGEST_BEGINNING = 24, LONGEST_FIRST_LINE = 80;
+
+// What goes with a session, by its kind.
+const BESIDE = { certificate: "a certificate", runs: "a file of runs", report: "a report" };
+
+// The files that were handed over last, and the session among them that is shown.
+let handed = [], shown;
+
+const unreadWords = (name, error) => `${name} could not be read: ${error.message}`;
+
+// A file by its name and its kind, or words on one that cannot be read.
+async function handedOver({ file, name = file.name, isFolder }) {
+  if (isFolder) return { name, unread: `${name} is a folder, and is not read: choose the files in it.` };
+  try {
+    // (a browser may take a file that is gone for an empty one, and notice only where the whole is read)
+    const head = await (file.size > LONGEST_BEGINNING ? file.slice(0, LONGEST_BEGINNING) : file).text();
+    return { name, file, kind: Object.keys(BEGINNINGS).find((it) => BEGINNINGS[it].test(head)) ?? "other" };
+  } catch (error) {
+    return { name, unread: unreadWords(name, error) };
+  }
+}
+
+const filesOf = (kind) => handed.filter((it) => it.kind === kind);
+const sessions = () => handed.filter(({ kind }) => kind === "session" || kind === "other");
+const unread = () => handed.flatMap((it) => it.unread ?? []);
+
+// What is said where no session is among the files.
+function noSession() {
+  const beside = handed.filter(({ kind }) => kind).map(({ name, kind }) => `${name} is ${BESIDE[kind]}, which goes with a session: choose both together.`);
+  return worded("odd", "There is no session.", ...beside, ...unread());
+}
+
+// The session to show where none is wanted: of those that begin as one does, the first of the worst.
+function firstToShow() {
+  const named = filesOf("session"), among = named.length ? named : sessions();
+  return ["bad", "odd", "good"].map((colour) => among.find(({ verdict }) => verdict.colour === colour)).find(Boolean);
+}
+
+// Lists the sessions, where there are more than one, each with a way to it.
+function listSessions() {
+  const all = sessions();
+  at("sessions").hidden = all.length < 2;
+  at("list").replaceChildren(...all.map((it) => {
+    it.way = made("button", { type: "button", className: "link", textContent: it.name, onclick: () => work(it) });
+    it.said = made("span", { textContent: "not judged yet" });
+    it.row = made("li", {}, it.way, ": ", it.said);
+    return it.row;
+  }));
+}
+
+// Has in the list what the verdict on a session is, and which session is shown.
+function sayInList(it) {
+  const { colour, head, sentences } = it.verdict;
+  it.row.className = colour;
+  it.said.textContent = colour === "good" || !sentences.length ? head : `${head} ${sentences.at(-1)}`;
+}
+
+function showInList() {
+  for (const it of sessions()) it.way.setAttribute("aria-current", it === shown);
+}
+
+// What a report says first, beside what the report on the session says first.
+async function reportWords({ name, file }, { answer: { firstLine } }) {
+  try {
+    const said = (await file.slice(0, LONGEST_FIRST_LINE).text()).split("\n")[0];
+    return said === firstLine ? `The report ${name} says the same: ${said}.` : `The report ${name} is not on this session: it says ${said}.`;
+  } catch (error) {
+    return unreadWords(name, error);
+  }
+}
+
+async function certificateWords({ name, file }, session) {
+  const answer = await ask("check", session.file, { certificate: file });
+  const which = filesOf("certificate").length > 1 || sessions().length > 1 ? `${name}, tried with this session: ` : "";
+  if (answer.failure) return `${which}The certificate could not be judged: ${answer.failure.words}.`;
+  const kind = answer.kind === "YES" && session.answer.lack ? "RIGHT" : answer.kind;
+  const words = CERTIFICATES[kind]?.replace("@", () => `line ${answer.line} of ${name}`);
+  if (!words) return `${which}The certificate is not judged: that takes a session of the right shape.`;
+  return which + words + (answer.why ? ` ${whyRefused(answer)}` : "");
+}
+
+// What is said of the files that go with a session.
+async function besideWords(session) {
+  const found = [];
+  for (const it of filesOf("certificate")) found.push(await certificateWords(it, session));
+  for (const it of filesOf("report")) found.push(await reportWords(it, session));
+  if (filesOf("runs").length) found.push("The runs are not read here: the program replays them, with postcopy replay.");
+  return found;
+}
