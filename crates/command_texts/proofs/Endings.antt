@@ -1,5 +1,5 @@
 -- How a command ends.
-use Rattle.std.proofs.Common.{◌≡◌, ◌⊎◌, inl, inr, ℕ, ◌<◌, List, Option, Result, Ok, Err, IfOk, MatchResult, subst, sym}
+use Rattle.std.proofs.Common.{◌≡◌, ◌⊎◌, inl, inr, ℕ, List, Option, Result, Ok, Err, subst, sym}
 use Rattle.std.specs.Prelude.{IfErr}
 use Rattle.std.specs.Io.KnownBytes.{Appends, Keeps}
 use Rattle.std.proofs.KnownBytes.{Keeps-refl}
@@ -80,6 +80,6 @@ module _ {T : Type 0} (IsFault : Fault → Type 0) (AreTexts : T → Type 0) (Is
       rw e record { is_fault = is; output = record { texts = texts; are_texts = are; text = text; status = status; is_answer = is_answer; written = front }; errors = Keeps-refl errors }
 
 -- the answer was written
-pub written_whole : {T : Type 0} (AreTexts : T → Type 0) (IsAnswerTo : T → List ℕ → ℕ → Type 0) (IsBeside : T → Option (List ℕ) → Option (List ℕ) → Type 0) (texts : T) (answer : Answer) (status : ℕ) (old new : Streams) → status ≡ answer.status → AreTexts texts → IsAnswerTo texts answer.text.items answer.status → Appends old.0 new.0 answer.text.items → IsBeside texts old.1 new.1 → Tells AreTexts IsAnswerTo IsBeside old new status
+pub written_whole : {T : Type 0} (AreTexts : T → Type 0) (IsAnswerTo : T → List ℕ → ℕ → Type 0) (IsBeside : T → ℕ → Option (List ℕ) → Option (List ℕ) → Type 0) (texts : T) (answer : Answer) (status : ℕ) (old new : Streams) → status ≡ answer.status → AreTexts texts → IsAnswerTo texts answer.text.items answer.status → Appends old.0 new.0 answer.text.items → IsBeside texts status old.1 new.1 → Tells AreTexts IsAnswerTo IsBeside old new status
 written_whole AreTexts IsAnswerTo IsBeside texts answer status old new e are is_answer written beside =
     record { texts = texts; are_texts = are; told = record { text = answer.text.items; is_answer = subst (λ (n : ℕ). IsAnswerTo texts answer.text.items n) (sym e) is_answer; written = written }; beside = beside }

@@ -46,17 +46,17 @@ why_behind telling None a b c k h = Keeps-trans a b c k h
 why_behind telling (Some p) a b c k (inl h) = inl (Keeps-trans a b c k h)
 why_behind telling (Some p) a b c k (inr h) = inr (h.0, h.1, front_kept a b c h.0 k h.2)
 
-told_more : (es : List Entry) (e : Entry) (a b c : Option (List ℕ)) → TellsEach es a b → TellsEntry e b c → TellsEach (es ++ e ∷ []) a c
-told_more [] e a b c h k = (c, why_behind Short (place_of e.name e.line) a b c h k, Keeps-refl c)
-told_more (x ∷ es) e a b c h k = (h.0, h.1, told_more es e h.0 b c h.2 k)
+told_more : (HasNote : List ℕ → Type 0) (es : List Entry) (e : Entry) (a b c : Option (List ℕ)) → TellsEach HasNote es a b → TellsEntry HasNote e b c → TellsEach HasNote (es ++ e ∷ []) a c
+told_more HasNote [] e a b c h k = (c, record { between = k.between; why = why_behind Short (place_of e.name e.line) a b k.between h k.why; noted = k.noted }, Keeps-refl c)
+told_more HasNote (x ∷ es) e a b c h k = (h.0, h.1, told_more HasNote es e h.0 b c h.2 k)
 
-module _ (files : List ℕ → Option (List ℕ)) (IsAnswer : List ℕ → List ℕ → ℕ → Type 0) (IsRefused : List ℕ → Option ℕ → Type 0) (style : Style) where
+module _ (files : List ℕ → Option (List ℕ)) (IsAnswer : List ℕ → List ℕ → ℕ → Type 0) (IsRefused : List ℕ → Option ℕ → Type 0) (HasNote : List ℕ → Type 0) (style : Style) where
   -- nothing was added yet
-  pub none_gathered : (old : Listed) → AreGathered files IsAnswer IsRefused style [] old old 0
+  pub none_gathered : (old : Listed) → AreGathered files IsAnswer IsRefused HasNote style [] old old 0
   none_gathered old = record { entries = []; are_names = refl; are_right = tt; added = sym (append-nil old.0); told = Keeps-refl old.1; tells = refl }
 
   -- one more was added
-  pub one_gathered : (names : List (List ℕ)) (name : List ℕ) (old mid new : Listed) (count : ℕ) (is_well : Bool) → AreGathered files IsAnswer IsRefused style names old mid count → IsGathered files IsAnswer IsRefused style name mid new is_well → AreGathered files IsAnswer IsRefused style (names ++ name ∷ []) old new (count + cond is_well 1 0)
+  pub one_gathered : (names : List (List ℕ)) (name : List ℕ) (old mid new : Listed) (count : ℕ) (is_well : Bool) → AreGathered files IsAnswer IsRefused HasNote style names old mid count → IsGathered files IsAnswer IsRefused HasNote style name mid new is_well → AreGathered files IsAnswer IsRefused HasNote style (names ++ name ∷ []) old new (count + cond is_well 1 0)
   one_gathered names name old mid new count is_well h k =
       let es = h.entries in
       let e = k.entry in
@@ -66,19 +66,19 @@ module _ (files : List ℕ → Option (List ℕ)) (IsAnswer : List ℕ → List 
         are_right = all_more (IsRight files IsAnswer IsRefused) es e h.are_right k.is_right;
         added = k.added ∙ ap (λ xs. xs ++ listed style e) h.added ∙ append_assoc old.0 (concat (map (listed style) es)) (listed style e)
             ∙ ap (λ xs. old.0 ++ xs) (sym (ap concat (map_more (listed style) es e) ∙ concat_more (map (listed style) es) (listed style e)));
-        told = told_more es e old.1 mid.1 new.1 h.told k.told;
+        told = told_more HasNote es e old.1 mid.1 new.1 h.told k.told;
         tells = ap₂ (λ (n : ℕ) (b : Bool). n + cond b 1 0) h.tells k.tells ∙ sym (well_more es e);
       }
 
   -- the next of the names was added
-  pub next_gathered : (names : List (Bor (List ℕ))) (k : ℕ) (d : Bor (List ℕ)) (old mid new : Listed) (count : ℕ) (is_well : Bool) → k < length names → AreGathered files IsAnswer IsRefused style (names_of (take k names)) old mid count → IsGathered files IsAnswer IsRefused style (get_or names k d).now mid new is_well → AreGathered files IsAnswer IsRefused style (names_of (take (k + 1) names)) old new (count + cond is_well 1 0)
+  pub next_gathered : (names : List (Bor (List ℕ))) (k : ℕ) (d : Bor (List ℕ)) (old mid new : Listed) (count : ℕ) (is_well : Bool) → k < length names → AreGathered files IsAnswer IsRefused HasNote style (names_of (take k names)) old mid count → IsGathered files IsAnswer IsRefused HasNote style (get_or names k d).now mid new is_well → AreGathered files IsAnswer IsRefused HasNote style (names_of (take (k + 1) names)) old new (count + cond is_well 1 0)
   next_gathered names k d old mid new count is_well lt h next =
       let more : names_of (take (k + 1) names) ≡ names_of (take k names) ++ (get_or names k d).now ∷ [] = ap names_of (take_more names k d lt) ∙ map_more (λ (name : Bor (List ℕ)). name.now) (take k names) (get_or names k d) in
-      subst (λ ns. AreGathered files IsAnswer IsRefused style ns old new (count + cond is_well 1 0)) (sym more) (one_gathered (names_of (take k names)) (get_or names k d).now old mid new count is_well h next)
+      subst (λ ns. AreGathered files IsAnswer IsRefused HasNote style ns old new (count + cond is_well 1 0)) (sym more) (one_gathered (names_of (take k names)) (get_or names k d).now old mid new count is_well h next)
 
   -- all names were added
-  pub all_gathered : (names : List (Bor (List ℕ))) (k : ℕ) (old new : Listed) (count : ℕ) → length names ≤ k → AreGathered files IsAnswer IsRefused style (names_of (take k names)) old new count → AreGathered files IsAnswer IsRefused style (names_of names) old new count
-  all_gathered names k old new count le h = subst (λ ns. AreGathered files IsAnswer IsRefused style (names_of ns) old new count) (take_all k names le) h
+  pub all_gathered : (names : List (Bor (List ℕ))) (k : ℕ) (old new : Listed) (count : ℕ) → length names ≤ k → AreGathered files IsAnswer IsRefused HasNote style (names_of (take k names)) old new count → AreGathered files IsAnswer IsRefused HasNote style (names_of names) old new count
+  all_gathered names k old new count le h = subst (λ ns. AreGathered files IsAnswer IsRefused HasNote style (names_of ns) old new count) (take_all k names le) h
 
 -- one of the names
 pub name_at : (names : List (Bor (List ℕ))) (k : ℕ) (d : Bor (List ℕ)) → k < length names → IsOneOf (names_of names) (get_or names k d).now

@@ -1,5 +1,5 @@
 -- Why a text is refused, told beside the answer.
-use Rattle.std.specs.Prelude.{◌≡◌, ℕ, List, [], Option, Some, None, option_map}
+use Rattle.std.specs.Prelude.{◌≡◌, ℕ, List, [], ◌∷◌, ◌++◌, Option, Some, None, codes, option_map}
 use Rattle.std.specs.Option.{option_or}
 use Rattle.std.specs.Io.KnownBytes.{Keeps}
 use Rattle.text_lines.specs.Text.{IsRefusalLine, IsSpelling}
@@ -52,19 +52,31 @@ abbrev pub TellsWhy : Telling → Option Place → Option (List ℕ) → Option 
 TellsWhy telling None old new = Keeps old new
 TellsWhy telling (Some place) old new = MayTell (AreReasons telling place) old new
 
--- what is told beside the answer to a text under a name: why it is refused
-pub record TellsWhyOf (IsRefused : List ℕ → Option ℕ → Type 0) (telling : Telling) (name text : List ℕ) (old new : Option (List ℕ)) : Type 0 where
+-- a note on a text, where there is one and all is well by the status: one line that begins with the text's name, as it is
+-- shown
+pub record IsNote (Has : Type 0) (name : List ℕ) (status : ℕ) (line : List ℕ) : Type 0 where
+  pub has : Has
+  pub is_well : status ≡ 0
+  pub words : List ℕ
+  pub is_line : line ≡ shown name ++ codes ": " ++ words ++ 10 ∷ []
+
+-- what is told beside the answer to a text under a name: why it is refused, and then a note
+pub record TellsWhyOf (IsRefused : List ℕ → Option ℕ → Type 0) (HasNote : List ℕ → Type 0) (telling : Telling) (name text : List ℕ) (status : ℕ) (old new : Option (List ℕ)) : Type 0 where
   pub line : Option ℕ
   pub is_line : IsRefused text line
-  pub told : TellsWhy telling (place_of name line) old new
+  pub between : Option (List ℕ)
+  pub told : TellsWhy telling (place_of name line) old between
+  pub noted : MayTell (IsNote (HasNote text) name status) between new
 
--- what is told beside the answer to two texts under their names: why the first is refused, or else the second, and then what
--- more is told of them, with the name of the second, as it is shown
-pub record TellsBeside (IsFirstRefused IsSecondRefused : List ℕ → Option ℕ → Type 0) (AddsMore : List ℕ × List ℕ → List ℕ → List ℕ → List ℕ → Type 0) (first second : List ℕ) (texts : List ℕ × List ℕ) (old new : Option (List ℕ)) : Type 0 where
+-- what is told beside the answer to two texts under their names: why the first is refused, or else the second, then what
+-- more is told of them, with the name of the second, as it is shown, and then a note on the first
+pub record TellsBeside (IsFirstRefused IsSecondRefused : List ℕ → Option ℕ → Type 0) (AddsMore : List ℕ × List ℕ → List ℕ → List ℕ → List ℕ → Type 0) (HasNote : List ℕ × List ℕ → Type 0) (first second : List ℕ) (texts : List ℕ × List ℕ) (status : ℕ) (old new : Option (List ℕ)) : Type 0 where
   pub one : Option ℕ
   pub other : Option ℕ
   pub is_one : IsFirstRefused texts.0 one
   pub is_other : IsSecondRefused texts.1 other
   pub between : Option (List ℕ)
+  pub behind : Option (List ℕ)
   pub why : TellsWhy Short (first_place first second one other) old between
-  pub more : MayTell (AddsMore texts (shown second) []) between new
+  pub more : MayTell (AddsMore texts (shown second) []) between behind
+  pub noted : MayTell (IsNote (HasNote texts) first status) behind new

@@ -7,10 +7,10 @@ use Rattle.std.specs.Io.KnownBytes.{Appends, Keeps}
 use Rattle.command_texts.specs.declared.several.Listing.{Listing}
 use Rattle.command_texts.specs.declared.several.Listing.TheVariants.{Named, Objects}
 use Rattle.command_texts.specs.declared.why.Telling.TheVariants.{Short}
-use Rattle.command_texts.specs.Reasons.{TellsWhy, place_of}
+use Rattle.command_texts.specs.Reasons.{IsNote, TellsWhy, place_of}
 use Rattle.command_texts.specs.Shown.{quoted, shown}
 use Rattle.command_texts.specs.Told.{IsNamed}
-use Rattle.command_texts.specs.Written.{Streams}
+use Rattle.command_texts.specs.Written.{MayTell, Streams}
 
 -- a name, the text that stood under it, the answer to this text with its status, and the line at which it is refused, if it is
 pub record Entry : Type 0 where
@@ -66,45 +66,47 @@ list_text style es = concat (map (listed style) es) ++ list_end style (well es) 
 abbrev pub names_of : List (Bor (List ℕ)) → List (List ℕ)
 names_of names = map (λ name. name.now) names
 
--- why a text is refused is told, if it is
-abbrev pub TellsEntry : Entry → Option (List ℕ) → Option (List ℕ) → Type 0
-TellsEntry e = TellsWhy Short (place_of e.name e.line)
+-- why a text is refused is told, if it is, and then a note
+pub record TellsEntry (HasNote : List ℕ → Type 0) (e : Entry) (old new : Option (List ℕ)) : Type 0 where
+  pub between : Option (List ℕ)
+  pub why : TellsWhy Short (place_of e.name e.line) old between
+  pub noted : MayTell (IsNote (HasNote e.text) e.name e.status) between new
 
 -- and so of each, one after the other
-abbrev pub TellsEach : List Entry → Option (List ℕ) → Option (List ℕ) → Type 0
-TellsEach [] old new = Keeps old new
-TellsEach (e ∷ es) old new = (between : Option (List ℕ)) × TellsEntry e old between × TellsEach es between new
+abbrev pub TellsEach : (List ℕ → Type 0) → List Entry → Option (List ℕ) → Option (List ℕ) → Type 0
+TellsEach HasNote [] old new = Keeps old new
+TellsEach HasNote (e ∷ es) old new = (between : Option (List ℕ)) × TellsEntry HasNote e old between × TellsEach HasNote es between new
 
 -- a list, and what the standard error has, as far as it is known
 abbrev pub Listed : Type 0
 Listed = List ℕ × Option (List ℕ)
 
 -- the answer to the text under a name was added to a list, and this tells whether all is well by it
-pub record IsGathered (files : List ℕ → Option (List ℕ)) (IsAnswer : List ℕ → List ℕ → ℕ → Type 0) (IsRefused : List ℕ → Option ℕ → Type 0) (style : Style) (name : List ℕ) (old new : Listed) (is_well : Bool) : Type 0 where
+pub record IsGathered (files : List ℕ → Option (List ℕ)) (IsAnswer : List ℕ → List ℕ → ℕ → Type 0) (IsRefused : List ℕ → Option ℕ → Type 0) (HasNote : List ℕ → Type 0) (style : Style) (name : List ℕ) (old new : Listed) (is_well : Bool) : Type 0 where
   pub entry : Entry
   pub is_name : entry.name ≡ name
   pub is_right : IsRight files IsAnswer IsRefused entry
   pub added : new.0 ≡ old.0 ++ listed style entry
-  pub told : TellsEntry entry old.1 new.1
+  pub told : TellsEntry HasNote entry old.1 new.1
   pub tells : is_well ≡ (entry.status == 0)
 
 -- the answers to the texts under these names were added to a list, and by so many of them all is well
-pub record AreGathered (files : List ℕ → Option (List ℕ)) (IsAnswer : List ℕ → List ℕ → ℕ → Type 0) (IsRefused : List ℕ → Option ℕ → Type 0) (style : Style) (names : List (List ℕ)) (old new : Listed) (count : ℕ) : Type 0 where
+pub record AreGathered (files : List ℕ → Option (List ℕ)) (IsAnswer : List ℕ → List ℕ → ℕ → Type 0) (IsRefused : List ℕ → Option ℕ → Type 0) (HasNote : List ℕ → Type 0) (style : Style) (names : List (List ℕ)) (old new : Listed) (count : ℕ) : Type 0 where
   pub entries : List Entry
   pub are_names : map (λ e. e.name) entries ≡ names
   pub are_right : AllByRecursion (IsRight files IsAnswer IsRefused) entries
   pub added : new.0 ≡ old.0 ++ concat (map (listed style) entries)
-  pub told : TellsEach entries old.1 new.1
+  pub told : TellsEach HasNote entries old.1 new.1
   pub tells : count ≡ well entries
 
--- the answers to the texts under these names were told, and beside them why texts are refused; the status is 0 where each says
--- that all is well
-pub record TellsSeveral (files : List ℕ → Option (List ℕ)) (IsAnswer : List ℕ → List ℕ → ℕ → Type 0) (IsRefused : List ℕ → Option ℕ → Type 0) (style : Style) (names : List (List ℕ)) (old new : Streams) (status : ℕ) : Type 0 where
+-- the answers to the texts under these names were told, and beside them why texts are refused, with notes; the status is 0 where
+-- each says that all is well
+pub record TellsSeveral (files : List ℕ → Option (List ℕ)) (IsAnswer : List ℕ → List ℕ → ℕ → Type 0) (IsRefused : List ℕ → Option ℕ → Type 0) (HasNote : List ℕ → Type 0) (style : Style) (names : List (List ℕ)) (old new : Streams) (status : ℕ) : Type 0 where
   pub entries : List Entry
   pub are_names : map (λ e. e.name) entries ≡ names
   pub are_right : AllByRecursion (IsRight files IsAnswer IsRefused) entries
   pub written : Appends old.0 new.0 (list_text style entries)
-  pub beside : TellsEach entries old.1 new.1
+  pub beside : TellsEach HasNote entries old.1 new.1
   pub is_status : status ≡ (if well entries == length entries then 0 else 1)
 
 -- one of these names

@@ -46,12 +46,12 @@ pub record TellsOf (IsAnswer : List ℕ → ℕ → Type 0) (old new : Option (L
   pub is_answer : IsAnswer text status
   pub written : Appends old new text
 
--- the answer to such texts was told, and beside it what such a relation says
-pub record Tells {T : Type 0} (AreTexts : T → Type 0) (IsAnswerTo : T → List ℕ → ℕ → Type 0) (IsBeside : T → Option (List ℕ) → Option (List ℕ) → Type 0) (old new : Streams) (status : ℕ) : Type 0 where
+-- the answer to such texts was told, and beside it what such a relation says by its status
+pub record Tells {T : Type 0} (AreTexts : T → Type 0) (IsAnswerTo : T → List ℕ → ℕ → Type 0) (IsBeside : T → ℕ → Option (List ℕ) → Option (List ℕ) → Type 0) (old new : Streams) (status : ℕ) : Type 0 where
   pub texts : T
   pub are_texts : AreTexts texts
   pub told : TellsOf (IsAnswerTo texts) old.0 new.0 status
-  pub beside : IsBeside texts old.1 new.1
+  pub beside : IsBeside texts status old.1 new.1
 
 -- the output gained a front of the answer to such texts
 pub record CutsShort {T : Type 0} (AreTexts : T → Type 0) (IsAnswerTo : T → List ℕ → ℕ → Type 0) (old new : Option (List ℕ)) : Type 0 where
@@ -74,6 +74,6 @@ pub record Fails {T : Type 0} (IsFault : Fault → Type 0) (AreTexts : T → Typ
   pub errors : Keeps old.1 new.1
 
 -- the answer to such texts was told, or it came to such a fault
-abbrev pub Ends : {T : Type 0} → (Fault → Type 0) → (T → Type 0) → (T → List ℕ → ℕ → Type 0) → (T → Option (List ℕ) → Option (List ℕ) → Type 0) → Streams → Streams → Result ℕ Fault → Type 0
+abbrev pub Ends : {T : Type 0} → (Fault → Type 0) → (T → Type 0) → (T → List ℕ → ℕ → Type 0) → (T → ℕ → Option (List ℕ) → Option (List ℕ) → Type 0) → Streams → Streams → Result ℕ Fault → Type 0
 Ends IsFault AreTexts IsAnswerTo IsBeside old new done =
     MatchResult done (Tells AreTexts IsAnswerTo IsBeside old new) (Fails IsFault AreTexts IsAnswerTo old new)

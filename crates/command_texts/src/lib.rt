@@ -8,6 +8,7 @@ mod closing;
 mod cutting;
 mod limits;
 mod naming;
+mod noting;
 mod performing;
 mod reading;
 mod several;

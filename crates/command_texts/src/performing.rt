@@ -1,7 +1,7 @@
 //! Commands, whatever they answer: the texts under their names are read, and the answer is written. The program ends
 //! then, and all its memory goes at once: what was found of the texts is forgotten, and not freed piece by piece.
 
-ghost use Rattle.std.specs.Prelude.{◌≡◌, ⊤, ◌<◌, ◌⊎◌, ℕ, List, [], IfOk, IfErr, OnOk};
+ghost use Rattle.std.specs.Prelude.{◌≡◌, ⊤, ◌<◌, ◌⊎◌, ℕ, List, [], IfOk, IfErr, MatchOption, OnOk};
 ghost use Rattle.command_texts.specs.Answers.{IsTextFault};
 ghost use Rattle.command_texts.specs.Reasons.{TellsBeside, TellsWhyOf};
 ghost use Rattle.command_texts.specs.Shown.{shown};
@@ -11,6 +11,7 @@ ghost use Rattle.command_texts.specs.Written.{BothGain, MayTell};
 
 use crate::answer::{Answer, Fault, Given, written};
 use crate::naming::{read_named, read_pair};
+use crate::noting::tell_note;
 use crate::reading::TextSource;
 use crate::shown::{is_plain, push_quoted};
 use crate::taking::Taker;
@@ -35,6 +36,9 @@ pub trait OnOne {
     /// How much it tells of a text that is refused.
     ghost how_much: { Self → HowMuch };
 
+    /// There is a note on this text, for an answer by which all is well.
+    ghost has_note: { Self → List ℕ → Type 0 };
+
     /// How much it tells of a text that is refused.
     fn telling(&self) -> Telling
         ensures { result ≡ how_much self.now };
@@ -45,6 +49,10 @@ pub trait OnOne {
         ensures few { (text : List ℕ) → Self.Text.is_found text found.now → IfOk result (λ answer. answer.status < 2) }
         ensures told { (text : List ℕ) → Self.Text.is_found text found.now → IfOk result (λ answer. is_answer self.now text answer.text.items answer.status) }
         ensures fault { IfErr result (λ fault. fault ≡ Fault.Memory) };
+
+    /// The note on what was found of a text, if there is one, in one line of words for people.
+    fn note(&self, found: &<Self::Text as Taker>::Found) -> Option<&'static str>
+        ensures { (text : List ℕ) → Self.Text.is_found text found.now → MatchOption result (has_note self.now text → ⊥) (λ _. has_note self.now text) };
 }
 
 /// A command on two texts.
@@ -69,6 +77,9 @@ pub trait OnTwo {
 
     /// This is what more is told of two texts: with the name of the second, what stands before it, and with it.
     ghost adds_more: { Self → List ℕ × List ℕ → List ℕ → List ℕ → List ℕ → Type 0 };
+
+    /// There is a note on these texts, for an answer by which all is well.
+    ghost has_note: { Self → List ℕ × List ℕ → Type 0 };
 
     /// Its answer to what was found of two texts, with a status of 0 or 1, and what this says. There is none where memory ran
     /// out.
@@ -95,9 +106,17 @@ pub trait OnTwo {
         said: Self::Said,
     ) -> Result<(), AllocError>
         ensures { (texts : List ℕ × List ℕ) → Self.First.is_found texts.0 first.now → Self.Second.is_found texts.1 second.now → is_said self.now texts said → OnOk result (adds_more self.now texts name.now out.old.items out.new.items) };
+
+    /// The note on what was found of two texts, if there is one, in one line of words for people.
+    fn note(
+        &self,
+        first: &<Self::First as Taker>::Found,
+        second: &<Self::Second as Taker>::Found,
+    ) -> Option<&'static str>
+        ensures { (texts : List ℕ × List ℕ) → Self.First.is_found texts.0 first.now → Self.Second.is_found texts.1 second.now → MatchOption result (has_note self.now texts → ⊥) (λ _. has_note self.now texts) };
 }
 
-/// Does a command on the text under a name. Where it is refused, the errors tell why.
+/// Does a command on the text under a name. Where it is refused, the errors tell why, and where all is well they have its note.
 pub fn perform_one<
     'a,
     C: OnOne,
@@ -118,13 +137,15 @@ pub fn perform_one<
 ) -> Result<u8, Fault<'a>>
     requires ready { C.ready }
     ensures few { IfOk result (λ status. status < 2) }
-    ensures told { Ends (IsTextFault (λ n. n ≡ name.entry.now)) (IsNamed name.entry.now (S.bytes_of texts.now) (I.remaining input.old)) (C.is_answer command.now) (TellsWhyOf C.Text.is_refused (C.how_much command.now) name.entry.now) (O.contents output.old, E.contents errors.old) (O.contents output.new, E.contents errors.new) result }
+    ensures told { Ends (IsTextFault (λ n. n ≡ name.entry.now)) (IsNamed name.entry.now (S.bytes_of texts.now) (I.remaining input.old)) (C.is_answer command.now) (TellsWhyOf C.Text.is_refused (C.has_note command.now) (C.how_much command.now) name.entry.now) (O.contents output.old, E.contents errors.old) (O.contents output.new, E.contents errors.new) result }
     ensures gains { BothGain (O.contents output.old, E.contents errors.old) (O.contents output.new, E.contents errors.new) }
 {
     let (found, why) = read_named::<C::Text, R, S, I>(rt, alloc, name, texts, input)?;
     let answer = command.answer(alloc, &found)?;
     let status = written(&answer, output)?;
     tell_why(alloc, &why, command.telling(), errors);
+    let note = command.note(&found);
+    tell_note(alloc, name, note, status, errors);
     mem::forget(found);
     mem::forget(answer);
     Ok(status)
@@ -171,7 +192,7 @@ fn tell_more<C: OnTwo, E: Write>(
 }
 
 /// Does a command on the texts under two names, which are read in this order. Where one is refused, the errors tell why, of the
-/// first where both are; and they tell what more there is to tell of the answer.
+/// first where both are; and they tell what more there is to tell of the answer, and where all is well its note on the first.
 pub fn perform_two<
     'a,
     C: OnTwo,
@@ -193,7 +214,7 @@ pub fn perform_two<
 ) -> Result<u8, Fault<'a>>
     requires ready { C.ready }
     ensures few { IfOk result (λ status. status < 2) }
-    ensures told { Ends (IsTextFault (λ n. (n ≡ first.entry.now) ⊎ (n ≡ second.entry.now))) (AreNamed first.entry.now second.entry.now (S.bytes_of texts.now) (I.remaining input.old)) (C.is_answer command.now) (TellsBeside C.First.is_refused C.Second.is_refused (C.adds_more command.now) first.entry.now second.entry.now) (O.contents output.old, E.contents errors.old) (O.contents output.new, E.contents errors.new) result }
+    ensures told { Ends (IsTextFault (λ n. (n ≡ first.entry.now) ⊎ (n ≡ second.entry.now))) (AreNamed first.entry.now second.entry.now (S.bytes_of texts.now) (I.remaining input.old)) (C.is_answer command.now) (TellsBeside C.First.is_refused C.Second.is_refused (C.adds_more command.now) (C.has_note command.now) first.entry.now second.entry.now) (O.contents output.old, E.contents errors.old) (O.contents output.new, E.contents errors.new) result }
     ensures gains { BothGain (O.contents output.old, E.contents errors.old) (O.contents output.new, E.contents errors.new) }
 {
     let ((found, other), why) = read_pair::<C::First, C::Second, R, S, I>(
@@ -203,6 +224,8 @@ pub fn perform_two<
     let status = written(&answer, output)?;
     tell_why(alloc, &why, Telling::Short, errors);
     tell_more(alloc, command, second, &found, &other, said, errors);
+    let note = command.note(&found, &other);
+    tell_note(alloc, first, note, status, errors);
     mem::forget((found, other));
     mem::forget(answer);
     Ok(status)

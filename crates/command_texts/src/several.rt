@@ -7,6 +7,7 @@ ghost use Rattle.command_texts.specs.Written.{BothGain, Gains};
 
 use crate::answer::{ACCEPTED, Answer, Fault, status_where, written};
 use crate::naming::read_named;
+use crate::noting::tell_note;
 use crate::performing::OnOne;
 use crate::reading::TextSource;
 use crate::shown::{push_quoted, push_shown};
@@ -83,13 +84,15 @@ fn push_one<'a, C: OnOne, R: Threads + Sync, S: TextSource, I: Read + Send, E: W
     errors: &mut E,
 ) -> Result<bool, Fault<'a>>
     requires ready { C.ready }
-    ensures gathered { IfOk result (IsGathered (S.bytes_of texts.now) (C.is_answer command.now) C.Text.is_refused (style_of listing.entry) name.entry.now (out.old.items, E.contents errors.old) (out.new.items, E.contents errors.new)) }
+    ensures gathered { IfOk result (IsGathered (S.bytes_of texts.now) (C.is_answer command.now) C.Text.is_refused (C.has_note command.now) (style_of listing.entry) name.entry.now (out.old.items, E.contents errors.old) (out.new.items, E.contents errors.new)) }
     ensures fault { IfErr result (IsReadFault (λ n. n ≡ name.entry.now)) }
     ensures gains { Gains (E.contents errors.old) (E.contents errors.new) }
 {
     let (found, why) = read_named::<C::Text, R, S, I>(rt, alloc, name, texts, input)?;
     let answer = command.answer(alloc, &found)?;
     tell_why(alloc, &why, Telling::Short, errors);
+    let note = command.note(&found);
+    tell_note(alloc, name, note, answer.status, errors);
     match listing.push_answer(out, name, &answer) {
         Ok(()) => Ok(answer.status == ACCEPTED),
         Err(_) => Err(Fault::Memory),
@@ -109,7 +112,7 @@ fn push_each<'a, C: OnOne, R: Threads + Sync, S: TextSource, I: Read + Send, E: 
     errors: &mut E,
 ) -> Result<usize, Fault<'a>>
     requires ready { C.ready }
-    ensures gathered { IfOk result (AreGathered (S.bytes_of texts.now) (C.is_answer command.now) C.Text.is_refused (style_of listing.entry) (names_of names.now) (out.old.items, E.contents errors.old) (out.new.items, E.contents errors.new)) }
+    ensures gathered { IfOk result (AreGathered (S.bytes_of texts.now) (C.is_answer command.now) C.Text.is_refused (C.has_note command.now) (style_of listing.entry) (names_of names.now) (out.old.items, E.contents errors.old) (out.new.items, E.contents errors.new)) }
     ensures fault { IfErr result (IsReadFault (IsOneOf (names_of names.now))) }
     ensures gains { Gains (E.contents errors.old) (E.contents errors.new) }
 {
@@ -123,8 +126,8 @@ fn push_each<'a, C: OnOne, R: Threads + Sync, S: TextSource, I: Read + Send, E: 
 }
 
 /// Does a command on each of the texts under these names, one after the other, and lists the answers. The status is 0 where each
-/// answer says that all is well, and else 1. Where a text is refused, the errors tell why. A fault ends the list: what was
-/// answered before it is written.
+/// answer says that all is well, and else 1. Where a text is refused, the errors tell why, and where all is well they have the
+/// note on it. A fault ends the list: what was answered before it is written.
 ///
 /// Memory is taken for one text at a time, and for the answers.
 pub fn perform_several<
@@ -148,7 +151,7 @@ pub fn perform_several<
 ) -> Result<u8, Fault<'a>>
     requires ready { C.ready }
     ensures few { IfOk result (λ status. status < 2) }
-    ensures told { IfOk result (TellsSeveral (S.bytes_of texts.now) (C.is_answer command.now) C.Text.is_refused (style_of listing.entry) (names_of names.now) (O.contents output.old, E.contents errors.old) (O.contents output.new, E.contents errors.new)) }
+    ensures told { IfOk result (TellsSeveral (S.bytes_of texts.now) (C.is_answer command.now) C.Text.is_refused (C.has_note command.now) (style_of listing.entry) (names_of names.now) (O.contents output.old, E.contents errors.old) (O.contents output.new, E.contents errors.new)) }
     ensures fault { IfErr result (IsTextFault (IsOneOf (names_of names.now))) }
     ensures gains { BothGain (O.contents output.old, E.contents errors.old) (O.contents output.new, E.contents errors.new) }
 {

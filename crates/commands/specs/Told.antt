@@ -49,6 +49,7 @@ use Rattle.command_texts.specs.Told.{AreNamed, AreOfInput, Ends, IsNamed}
 use Rattle.command_texts.specs.Written.{AppendsFront, BothGain, Gains, Streams}
 use Rattle.judge_commands.specs.Answers.{AddsMisfitOf, IsAllFaultsAnswer, IsAuditAnswer, IsAuditObject, IsExplainAnswer, IsExplainObject, IsVerdictAnswer, IsVerdictObject}
 use Rattle.judge_commands.specs.Completed.{IsCompleteAnswer, TellsInLine, TellsInObject, TellsInWords}
+use Rattle.judge_commands.specs.Noted.{TellsNoUse}
 use Rattle.judge_commands.specs.Replayed.{IsReplayAnswer}
 use Rattle.host_commands.specs.Steps.{IsStepsAnswer}
 use Rattle.host_commands.specs.Migrations.{IsMigrateAnswer}
@@ -161,21 +162,29 @@ abbrev pub how_much : OneText → Telling
 how_much (Explain explains) = how_much_in explains.asking.form
 how_much other = Short
 
--- what is told beside the answer of a command on one text: why it is refused
-abbrev pub IsBesideOne : OneText → List ℕ → List ℕ → Option (List ℕ) → Option (List ℕ) → Type 0
-IsBesideOne task name = TellsWhyOf (IsRefusedAt SpellsSession) (how_much task) name
+-- there is no note
+abbrev pub NoNote : {T : Type 0} → T → Type 0
+NoNote texts = ⊥
+
+-- there is one on the first of two texts, a session
+abbrev pub NotesFirst : List ℕ × List ℕ → Type 0
+NotesFirst texts = TellsNoUse texts.0
+
+-- what is told beside the answer of a command on one text: why it is refused, and that a session tells of no use
+abbrev pub IsBesideOne : OneText → List ℕ → List ℕ → ℕ → Option (List ℕ) → Option (List ℕ) → Type 0
+IsBesideOne task name = TellsWhyOf (IsRefusedAt SpellsSession) TellsNoUse (how_much task) name
 
 -- nothing more is told of two texts
 abbrev pub AddsNothing : List ℕ × List ℕ → List ℕ → List ℕ → List ℕ → Type 0
 AddsNothing texts name before after = after ≡ before
 
--- what is told beside the answer of a command on two texts: why one is refused, and of `check` what of the certificate does not
--- fit the session
-abbrev pub IsBesideTwo : TwoTexts → List ℕ → List ℕ → List ℕ × List ℕ → Option (List ℕ) → Option (List ℕ) → Type 0
-IsBesideTwo (Check asking) = TellsBeside (IsRefusedAt SpellsSession) (IsRefusedAt SpellsCert) AddsMisfitOf
-IsBesideTwo Replay = TellsBeside (IsRefusedAt SpellsSession) (IsRefusedAt SpellsOrder) AddsNothing
-IsBesideTwo Steps = TellsBeside (IsRefusedAt SpellsScript) (IsRefusedAt SpellsEvents) AddsNothing
-IsBesideTwo (two.Explain explains) = TellsBeside (IsRefusedAt SpellsSession) (IsRefusedAt SpellsTable) AddsNothing
+-- what is told beside the answer of a command on two texts: why one is refused, of `check` what of the certificate does not fit
+-- the session, and that a session that is judged tells of no use
+abbrev pub IsBesideTwo : TwoTexts → List ℕ → List ℕ → List ℕ × List ℕ → ℕ → Option (List ℕ) → Option (List ℕ) → Type 0
+IsBesideTwo (Check asking) = TellsBeside (IsRefusedAt SpellsSession) (IsRefusedAt SpellsCert) AddsMisfitOf NotesFirst
+IsBesideTwo Replay = TellsBeside (IsRefusedAt SpellsSession) (IsRefusedAt SpellsOrder) AddsNothing NoNote
+IsBesideTwo Steps = TellsBeside (IsRefusedAt SpellsScript) (IsRefusedAt SpellsEvents) AddsNothing NoNote
+IsBesideTwo (two.Explain explains) = TellsBeside (IsRefusedAt SpellsSession) (IsRefusedAt SpellsTable) AddsNothing NotesFirst
 
 -- the faults of a command on the text under a name, and on the texts under two
 abbrev pub IsFaultOf : List ℕ → Fault → Type 0
@@ -195,11 +204,11 @@ EndsAsked (One task name) files input =
 EndsAsked (Two task first second) files input =
     Ends (IsFaultOfTwo first second) (AreNamed first second files input) (IsTwoAnswer task) (IsBesideTwo task first second)
 EndsAsked (Migrate carrier name) files input =
-    Ends (IsHostFault (λ n. n ≡ name)) (IsNamed name files input) IsMigrateAnswer (TellsWhyOf (IsRefusedAt SpellsScript) Short name)
+    Ends (IsHostFault (λ n. n ≡ name)) (IsNamed name files input) IsMigrateAnswer (TellsWhyOf (IsRefusedAt SpellsScript) NoNote Short name)
 EndsAsked (Draw topic name None) files input =
-    Ends (IsFaultOf name) (IsNamed name files input) (IsDrawAnswer (told_topic topic)) (TellsWhyOf (IsRefusedAt SpellsSession) Short name)
+    Ends (IsFaultOf name) (IsNamed name files input) (IsDrawAnswer (told_topic topic)) (TellsWhyOf (IsRefusedAt SpellsSession) NoNote Short name)
 EndsAsked (Draw topic first (Some second)) files input =
-    Ends (IsFaultOfTwo first second) (AreNamed first second files input) (IsDrawAlongAnswer (told_topic topic)) (TellsBeside (IsRefusedAt SpellsSession) (IsRefusedAt SpellsOrder) AddsNothing first second)
+    Ends (IsFaultOfTwo first second) (AreNamed first second files input) (IsDrawAlongAnswer (told_topic topic)) (TellsBeside (IsRefusedAt SpellsSession) (IsRefusedAt SpellsOrder) AddsNothing NoNote first second)
 EndsAsked (Window pages name lines) files input = EndsWindow (window_of pages) (is_some lines) name files
 
 -- something came to a fault, which the errors tell then, with its status
@@ -252,7 +261,7 @@ IsAskedOfEach asking faults = IsAsked (record asking { form = in_list asking.for
 
 -- the audits of the sessions under these names were told, as this is asked
 abbrev pub TellsSeveralAsked : Audits × List (List ℕ) → (List ℕ → Option (List ℕ)) → Streams → Streams → ℕ → Type 0
-TellsSeveralAsked several files = TellsSeveral files (IsAskedOfEach several.0.asking several.0.faults) (IsRefusedAt SpellsSession) (list_style several.0.asking.form) several.1
+TellsSeveralAsked several files = TellsSeveral files (IsAskedOfEach several.0.asking several.0.faults) (IsRefusedAt SpellsSession) TellsNoUse (list_style several.0.asking.form) several.1
 
 -- or it came to a fault, and the errors may tell why texts before it are refused
 pub record FailsSeveral (names : List (List ℕ)) (old new : Streams) (fault : Fault) : Type 0 where

@@ -133,7 +133,7 @@ fn asked_migrate<
     errors: &mut E,
 ) -> Result<u8, Fault<'a>>
     ensures few { IfOk result (λ status. status < 2) }
-    ensures told { Ends (IsHostFault (λ n. n ≡ name.entry.now)) (IsNamed name.entry.now (S.bytes_of texts.now) (I.remaining input.old)) IsMigrateAnswer (TellsWhyOf (IsRefusedAt SpellsScript) Short name.entry.now) (O.contents output.old, E.contents errors.old) (O.contents output.new, E.contents errors.new) result }
+    ensures told { Ends (IsHostFault (λ n. n ≡ name.entry.now)) (IsNamed name.entry.now (S.bytes_of texts.now) (I.remaining input.old)) IsMigrateAnswer (TellsWhyOf (IsRefusedAt SpellsScript) NoNote Short name.entry.now) (O.contents output.old, E.contents errors.old) (O.contents output.new, E.contents errors.new) result }
     ensures gains { BothGain (O.contents output.old, E.contents errors.old) (O.contents output.new, E.contents errors.new) }
 {
     let (script, why) = read_named::<Gathered<ScriptParts>, R, S, I>(

@@ -126,12 +126,18 @@ impl<R: Threads + Sync> OnOne for DrawCommand<'_, R> {
 
     ghost how_much = { λ _. Short };
 
+    ghost has_note = { λ _ _. ⊥ };
+
     fn telling(&self) -> Telling {
         Telling::Short
     }
 
     fn answer(&self, alloc: Global, session: &Result<Session, u32>) -> Given {
         given(draw_read(self.rt, alloc, self.topic, session))
+    }
+
+    fn note(&self, _session: &Result<Session, u32>) -> Option<&'static str> {
+        None
     }
 }
 
@@ -158,6 +164,8 @@ impl<R: Threads + Sync> OnTwo for DrawAlongCommand<'_, R> {
 
     ghost adds_more = { λ _ _ _ before after. after ≡ before };
 
+    ghost has_note = { λ _ _. ⊥ };
+
     fn answer(
         &self,
         alloc: Global,
@@ -176,5 +184,13 @@ impl<R: Threads + Sync> OnTwo for DrawAlongCommand<'_, R> {
         _said: (),
     ) -> Result<(), AllocError> {
         Ok(())
+    }
+
+    fn note(
+        &self,
+        _first: &Result<Session, u32>,
+        _second: &Result<Seq<Run>, u32>,
+    ) -> Option<&'static str> {
+        None
     }
 }

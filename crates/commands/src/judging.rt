@@ -9,7 +9,8 @@ ghost use Rattle.command_texts.specs.Reasons.{IsRefusedAt, TellsBeside, TellsWhy
 ghost use Rattle.command_texts.specs.Told.{AreNamed, Ends, IsNamed};
 ghost use Rattle.command_texts.specs.Written.{BothGain};
 ghost use Rattle.judge_commands.specs.Answers.{AddsMisfitOf};
-ghost use Rattle.commands.specs.Told.{answered, chosen, IsAsked, IsChecked, IsExplained, extent_of, how_much_in, told_topic};
+ghost use Rattle.judge_commands.specs.Noted.{TellsNoUse};
+ghost use Rattle.commands.specs.Told.{answered, chosen, IsAsked, IsChecked, IsExplained, NotesFirst, extent_of, how_much_in, told_topic};
 
 use crate::topics::told_topic;
 use command_texts::{Fault, OnOne, OnTwo, TextSource, perform_one, perform_two};
@@ -59,7 +60,7 @@ fn demanded_one<
     requires ready_plain { A.ready }
     requires ready_whole { B.ready }
     ensures few { IfOk result (λ status. status < 2) }
-    ensures told { Ends (IsTextFault (λ n. n ≡ name.entry.now)) (IsNamed name.entry.now (S.bytes_of texts.now) (I.remaining input.old)) (λ text. answered demand (A.is_answer plain.now text) (B.is_answer whole.now text)) (λ text old new. chosen demand (TellsWhyOf A.Text.is_refused (A.how_much plain.now) name.entry.now text old new) (TellsWhyOf B.Text.is_refused (B.how_much whole.now) name.entry.now text old new)) (O.contents output.old, E.contents errors.old) (O.contents output.new, E.contents errors.new) result }
+    ensures told { Ends (IsTextFault (λ n. n ≡ name.entry.now)) (IsNamed name.entry.now (S.bytes_of texts.now) (I.remaining input.old)) (λ text. answered demand (A.is_answer plain.now text) (B.is_answer whole.now text)) (λ text status old new. chosen demand (TellsWhyOf A.Text.is_refused (A.has_note plain.now) (A.how_much plain.now) name.entry.now text status old new) (TellsWhyOf B.Text.is_refused (B.has_note whole.now) (B.how_much whole.now) name.entry.now text status old new)) (O.contents output.old, E.contents errors.old) (O.contents output.new, E.contents errors.new) result }
     ensures gains { BothGain (O.contents output.old, E.contents errors.old) (O.contents output.new, E.contents errors.new) }
 {
     match demand {
@@ -95,7 +96,7 @@ pub(crate) fn demanded_two<
     requires ready_plain { A.ready }
     requires ready_whole { B.ready }
     ensures few { IfOk result (λ status. status < 2) }
-    ensures told { Ends (IsTextFault (λ n. (n ≡ first.entry.now) ⊎ (n ≡ second.entry.now))) (AreNamed first.entry.now second.entry.now (S.bytes_of texts.now) (I.remaining input.old)) (λ read. answered demand (A.is_answer plain.now read) (B.is_answer whole.now read)) (λ read old new. chosen demand (TellsBeside A.First.is_refused A.Second.is_refused (A.adds_more plain.now) first.entry.now second.entry.now read old new) (TellsBeside B.First.is_refused B.Second.is_refused (B.adds_more whole.now) first.entry.now second.entry.now read old new)) (O.contents output.old, E.contents errors.old) (O.contents output.new, E.contents errors.new) result }
+    ensures told { Ends (IsTextFault (λ n. (n ≡ first.entry.now) ⊎ (n ≡ second.entry.now))) (AreNamed first.entry.now second.entry.now (S.bytes_of texts.now) (I.remaining input.old)) (λ read. answered demand (A.is_answer plain.now read) (B.is_answer whole.now read)) (λ read status old new. chosen demand (TellsBeside A.First.is_refused A.Second.is_refused (A.adds_more plain.now) (A.has_note plain.now) first.entry.now second.entry.now read status old new) (TellsBeside B.First.is_refused B.Second.is_refused (B.adds_more whole.now) (B.has_note whole.now) first.entry.now second.entry.now read status old new)) (O.contents output.old, E.contents errors.old) (O.contents output.new, E.contents errors.new) result }
     ensures gains { BothGain (O.contents output.old, E.contents errors.old) (O.contents output.new, E.contents errors.new) }
 {
     match demand {
@@ -123,7 +124,7 @@ pub(crate) fn asked_audit<'a, R: Threads + Sync, S: TextSource, I: Read + Send, 
     errors: &mut E,
 ) -> Result<u8, Fault<'a>>
     ensures few { IfOk result (λ status. status < 2) }
-    ensures told { Ends (IsTextFault (λ n. n ≡ name.entry.now)) (IsNamed name.entry.now (S.bytes_of texts.now) (I.remaining input.old)) (IsAsked audits.asking audits.faults) (TellsWhyOf (IsRefusedAt SpellsSession) Short name.entry.now) (O.contents output.old, E.contents errors.old) (O.contents output.new, E.contents errors.new) result }
+    ensures told { Ends (IsTextFault (λ n. n ≡ name.entry.now)) (IsNamed name.entry.now (S.bytes_of texts.now) (I.remaining input.old)) (IsAsked audits.asking audits.faults) (TellsWhyOf (IsRefusedAt SpellsSession) TellsNoUse Short name.entry.now) (O.contents output.old, E.contents errors.old) (O.contents output.new, E.contents errors.new) result }
     ensures gains { BothGain (O.contents output.old, E.contents errors.old) (O.contents output.new, E.contents errors.new) }
 {
     let demand = audits.asking.demand;
@@ -256,7 +257,7 @@ fn words_of<'a, R: Threads + Sync, S: TextSource, I: Read + Send, O: Write, E: W
     errors: &mut E,
 ) -> Result<u8, Fault<'a>>
     ensures few { IfOk result (λ status. status < 2) }
-    ensures told { Ends (IsTextFault (λ n. n ≡ name.entry.now)) (IsNamed name.entry.now (S.bytes_of texts.now) (I.remaining input.old)) (IsExplained demand Form.Text (told_topic topic)) (TellsWhyOf (IsRefusedAt SpellsSession) Full name.entry.now) (O.contents output.old, E.contents errors.old) (O.contents output.new, E.contents errors.new) result }
+    ensures told { Ends (IsTextFault (λ n. n ≡ name.entry.now)) (IsNamed name.entry.now (S.bytes_of texts.now) (I.remaining input.old)) (IsExplained demand Form.Text (told_topic topic)) (TellsWhyOf (IsRefusedAt SpellsSession) TellsNoUse Full name.entry.now) (O.contents output.old, E.contents errors.old) (O.contents output.new, E.contents errors.new) result }
     ensures gains { BothGain (O.contents output.old, E.contents errors.old) (O.contents output.new, E.contents errors.new) }
 {
     let extent = extent_of(demand);
@@ -301,7 +302,7 @@ pub(crate) fn asked_explain<
     errors: &mut E,
 ) -> Result<u8, Fault<'a>>
     ensures few { IfOk result (λ status. status < 2) }
-    ensures told { Ends (IsTextFault (λ n. n ≡ name.entry.now)) (IsNamed name.entry.now (S.bytes_of texts.now) (I.remaining input.old)) (IsExplained explains.asking.demand explains.asking.form (told_topic explains.topic)) (TellsWhyOf (IsRefusedAt SpellsSession) (how_much_in explains.asking.form) name.entry.now) (O.contents output.old, E.contents errors.old) (O.contents output.new, E.contents errors.new) result }
+    ensures told { Ends (IsTextFault (λ n. n ≡ name.entry.now)) (IsNamed name.entry.now (S.bytes_of texts.now) (I.remaining input.old)) (IsExplained explains.asking.demand explains.asking.form (told_topic explains.topic)) (TellsWhyOf (IsRefusedAt SpellsSession) TellsNoUse (how_much_in explains.asking.form) name.entry.now) (O.contents output.old, E.contents errors.old) (O.contents output.new, E.contents errors.new) result }
     ensures gains { BothGain (O.contents output.old, E.contents errors.old) (O.contents output.new, E.contents errors.new) }
 {
     let demand = explains.asking.demand;
@@ -366,7 +367,7 @@ pub(crate) fn asked_check<'a, R: Threads + Sync, S: TextSource, I: Read + Send, 
     errors: &mut E,
 ) -> Result<u8, Fault<'a>>
     ensures few { IfOk result (λ status. status < 2) }
-    ensures told { Ends (IsTextFault (λ n. (n ≡ first.entry.now) ⊎ (n ≡ second.entry.now))) (AreNamed first.entry.now second.entry.now (S.bytes_of texts.now) (I.remaining input.old)) (IsChecked asking) (TellsBeside (IsRefusedAt SpellsSession) (IsRefusedAt SpellsCert) AddsMisfitOf first.entry.now second.entry.now) (O.contents output.old, E.contents errors.old) (O.contents output.new, E.contents errors.new) result }
+    ensures told { Ends (IsTextFault (λ n. (n ≡ first.entry.now) ⊎ (n ≡ second.entry.now))) (AreNamed first.entry.now second.entry.now (S.bytes_of texts.now) (I.remaining input.old)) (IsChecked asking) (TellsBeside (IsRefusedAt SpellsSession) (IsRefusedAt SpellsCert) AddsMisfitOf NotesFirst first.entry.now second.entry.now) (O.contents output.old, E.contents errors.old) (O.contents output.new, E.contents errors.new) result }
     ensures gains { BothGain (O.contents output.old, E.contents errors.old) (O.contents output.new, E.contents errors.new) }
 {
     let demand = asking.demand;

@@ -7,7 +7,7 @@ ghost use Rattle.command_texts.specs.Answers.{IsTextFault};
 ghost use Rattle.command_texts.specs.Reasons.{IsRefusedAt, TellsBeside};
 ghost use Rattle.command_texts.specs.Told.{AreNamed, Ends};
 ghost use Rattle.command_texts.specs.Written.{BothGain};
-ghost use Rattle.commands.specs.Told.{AddsNothing, IsRetold, told_topic};
+ghost use Rattle.commands.specs.Told.{AddsNothing, IsRetold, NotesFirst, told_topic};
 
 use crate::judging::{demanded_two, extent_of};
 use crate::topics::told_topic;
@@ -33,7 +33,7 @@ fn words_retold<'a, R: Threads + Sync, S: TextSource, I: Read + Send, O: Write, 
     errors: &mut E,
 ) -> Result<u8, Fault<'a>>
     ensures few { IfOk result (λ status. status < 2) }
-    ensures told { Ends (IsTextFault (λ n. (n ≡ first.entry.now) ⊎ (n ≡ second.entry.now))) (AreNamed first.entry.now second.entry.now (S.bytes_of texts.now) (I.remaining input.old)) (IsRetold demand Form.Text (told_topic topic)) (TellsBeside (IsRefusedAt SpellsSession) (IsRefusedAt SpellsTable) AddsNothing first.entry.now second.entry.now) (O.contents output.old, E.contents errors.old) (O.contents output.new, E.contents errors.new) result }
+    ensures told { Ends (IsTextFault (λ n. (n ≡ first.entry.now) ⊎ (n ≡ second.entry.now))) (AreNamed first.entry.now second.entry.now (S.bytes_of texts.now) (I.remaining input.old)) (IsRetold demand Form.Text (told_topic topic)) (TellsBeside (IsRefusedAt SpellsSession) (IsRefusedAt SpellsTable) AddsNothing NotesFirst first.entry.now second.entry.now) (O.contents output.old, E.contents errors.old) (O.contents output.new, E.contents errors.new) result }
     ensures gains { BothGain (O.contents output.old, E.contents errors.old) (O.contents output.new, E.contents errors.new) }
 {
     let form = told_topic(topic);
@@ -68,7 +68,7 @@ fn object_retold<'a, R: Threads + Sync, S: TextSource, I: Read + Send, O: Write,
     errors: &mut E,
 ) -> Result<u8, Fault<'a>>
     ensures few { IfOk result (λ status. status < 2) }
-    ensures told { Ends (IsTextFault (λ n. (n ≡ first.entry.now) ⊎ (n ≡ second.entry.now))) (AreNamed first.entry.now second.entry.now (S.bytes_of texts.now) (I.remaining input.old)) (IsRetold demand Form.Json (told_topic topic)) (TellsBeside (IsRefusedAt SpellsSession) (IsRefusedAt SpellsTable) AddsNothing first.entry.now second.entry.now) (O.contents output.old, E.contents errors.old) (O.contents output.new, E.contents errors.new) result }
+    ensures told { Ends (IsTextFault (λ n. (n ≡ first.entry.now) ⊎ (n ≡ second.entry.now))) (AreNamed first.entry.now second.entry.now (S.bytes_of texts.now) (I.remaining input.old)) (IsRetold demand Form.Json (told_topic topic)) (TellsBeside (IsRefusedAt SpellsSession) (IsRefusedAt SpellsTable) AddsNothing NotesFirst first.entry.now second.entry.now) (O.contents output.old, E.contents errors.old) (O.contents output.new, E.contents errors.new) result }
     ensures gains { BothGain (O.contents output.old, E.contents errors.old) (O.contents output.new, E.contents errors.new) }
 {
     let _ = topic;
@@ -116,7 +116,7 @@ pub(crate) fn asked_retold<
     errors: &mut E,
 ) -> Result<u8, Fault<'a>>
     ensures few { IfOk result (λ status. status < 2) }
-    ensures told { Ends (IsTextFault (λ n. (n ≡ first.entry.now) ⊎ (n ≡ second.entry.now))) (AreNamed first.entry.now second.entry.now (S.bytes_of texts.now) (I.remaining input.old)) (IsRetold explains.asking.demand explains.asking.form (told_topic explains.topic)) (TellsBeside (IsRefusedAt SpellsSession) (IsRefusedAt SpellsTable) AddsNothing first.entry.now second.entry.now) (O.contents output.old, E.contents errors.old) (O.contents output.new, E.contents errors.new) result }
+    ensures told { Ends (IsTextFault (λ n. (n ≡ first.entry.now) ⊎ (n ≡ second.entry.now))) (AreNamed first.entry.now second.entry.now (S.bytes_of texts.now) (I.remaining input.old)) (IsRetold explains.asking.demand explains.asking.form (told_topic explains.topic)) (TellsBeside (IsRefusedAt SpellsSession) (IsRefusedAt SpellsTable) AddsNothing NotesFirst first.entry.now second.entry.now) (O.contents output.old, E.contents errors.old) (O.contents output.new, E.contents errors.new) result }
     ensures gains { BothGain (O.contents output.old, E.contents errors.old) (O.contents output.new, E.contents errors.new) }
 {
     let demand = explains.asking.demand;

@@ -7,6 +7,7 @@ ghost use Rattle.command_texts.specs.Reasons.{IsRefusedAt};
 ghost use Rattle.command_texts.specs.Several.{IsOneOf, TellsSeveral, names_of, style_of};
 ghost use Rattle.command_texts.specs.Written.{BothGain};
 ghost use Rattle.command_words.specs.Table.{several_names};
+ghost use Rattle.judge_commands.specs.Noted.{TellsNoUse};
 ghost use Rattle.commands.specs.Told.{answered, chosen, IsAsked, TellsSeveralAsked, lines_asked, lines_style};
 
 use crate::judging::extent_of;
@@ -47,7 +48,7 @@ fn demanded_several<
     requires ready_plain { A.ready }
     requires ready_whole { B.ready }
     ensures few { IfOk result (λ status. status < 2) }
-    ensures told { IfOk result (TellsSeveral (S.bytes_of texts.now) (λ text. answered demand (A.is_answer plain.now text) (B.is_answer whole.now text)) (λ text line. chosen demand (A.Text.is_refused text line) (B.Text.is_refused text line)) (style_of listing.entry) (names_of names.now) (O.contents output.old, E.contents errors.old) (O.contents output.new, E.contents errors.new)) }
+    ensures told { IfOk result (TellsSeveral (S.bytes_of texts.now) (λ text. answered demand (A.is_answer plain.now text) (B.is_answer whole.now text)) (λ text line. chosen demand (A.Text.is_refused text line) (B.Text.is_refused text line)) (λ text. chosen demand (A.has_note plain.now text) (B.has_note whole.now text)) (style_of listing.entry) (names_of names.now) (O.contents output.old, E.contents errors.old) (O.contents output.new, E.contents errors.new)) }
     ensures fault { IfErr result (IsTextFault (IsOneOf (names_of names.now))) }
     ensures gains { BothGain (O.contents output.old, E.contents errors.old) (O.contents output.new, E.contents errors.new) }
 {
@@ -76,7 +77,7 @@ fn line_each<'a, R: Threads + Sync, S: TextSource, I: Read + Send, O: Write, E: 
     errors: &mut E,
 ) -> Result<u8, Fault<'a>>
     ensures few { IfOk result (λ status. status < 2) }
-    ensures told { IfOk result (TellsSeveral (S.bytes_of texts.now) (IsAsked (lines_asked demand) Faults.First) (IsRefusedAt SpellsSession) lines_style (names_of names.now) (O.contents output.old, E.contents errors.old) (O.contents output.new, E.contents errors.new)) }
+    ensures told { IfOk result (TellsSeveral (S.bytes_of texts.now) (IsAsked (lines_asked demand) Faults.First) (IsRefusedAt SpellsSession) TellsNoUse lines_style (names_of names.now) (O.contents output.old, E.contents errors.old) (O.contents output.new, E.contents errors.new)) }
     ensures fault { IfErr result (IsTextFault (IsOneOf (names_of names.now))) }
     ensures gains { BothGain (O.contents output.old, E.contents errors.old) (O.contents output.new, E.contents errors.new) }
 {

@@ -1,2 +1,3 @@
 pub mod Complete
+pub mod Uses
 pub mod inner

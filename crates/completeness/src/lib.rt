@@ -11,6 +11,8 @@ mod missing;
 mod pages;
 mod searching;
 mod taken;
+mod uses;
 
 pub use missing::{Extent, Missing};
 pub use searching::first_missing;
+pub use uses::tells_use;

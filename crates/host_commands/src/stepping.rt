@@ -85,6 +85,8 @@ impl OnTwo for StepsCommand {
 
     ghost adds_more = { λ _ _ _ before after. after ≡ before };
 
+    ghost has_note = { λ _ _. ⊥ };
+
     fn answer(
         &self,
         alloc: Global,
@@ -103,5 +105,13 @@ impl OnTwo for StepsCommand {
         _said: (),
     ) -> Result<(), AllocError> {
         Ok(())
+    }
+
+    fn note(
+        &self,
+        _first: &Result<Script, u32>,
+        _second: &Result<Seq<Event>, u32>,
+    ) -> Option<&'static str> {
+        None
     }
 }

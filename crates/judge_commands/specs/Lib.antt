@@ -3,4 +3,5 @@ pub mod Judged
 pub mod Forms
 pub mod Replayed
 pub mod Completed
+pub mod Noted
 pub mod inner

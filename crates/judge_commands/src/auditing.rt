@@ -5,8 +5,10 @@ ghost use Rattle.std.specs.Thread.{IsSync};
 ghost use Rattle.text_lines.specs.Answer.{IsRead};
 ghost use Rattle.session_text.specs.Grammar.{SpellsSession};
 ghost use Rattle.judge_commands.specs.Judged.{IsJudgedTold, report_status};
+ghost use Rattle.judge_commands.specs.Noted.{TellsNoUse};
 ghost use Rattle.judge_commands.specs.inner.Reported.{SaysRefusal, SaysReport};
 
+use crate::noting::note_on;
 use crate::reports::TellsReport;
 use audit_report::{Report, audit};
 use command_texts::{Answer, Given, OnOne, REFUSED, Telling, given, status_where};
@@ -79,11 +81,17 @@ impl<R: Threads + Sync, T: TellsReport> OnOne for AuditCommand<'_, R, T> {
 
     ghost how_much = { λ command. T.how_much command.form };
 
+    ghost has_note = { λ _. TellsNoUse };
+
     fn telling(&self) -> Telling {
         self.form.telling()
     }
 
     fn answer(&self, alloc: Global, session: &Result<Session, u32>) -> Given {
         given(audit_read(self.rt, &self.form, alloc, session))
+    }
+
+    fn note(&self, session: &Result<Session, u32>) -> Option<&'static str> {
+        note_on(session)
     }
 }

@@ -8,8 +8,10 @@ ghost use Rattle.cert_text.specs.Grammar.{SpellsCert};
 ghost use Rattle.judged_texts.specs.Checked.{IsTextVerdict};
 ghost use Rattle.command_texts.specs.Answers.{Says};
 ghost use Rattle.judge_commands.specs.Answers.{AddsMisfitOf, IsVerdictTold, verdict_line, verdict_status};
+ghost use Rattle.judge_commands.specs.Noted.{TellsNoUse};
 
 use crate::forms::TellsVerdict;
+use crate::noting::note_on;
 use cert_check::Verdict;
 use cert_text::CertReader;
 use command_texts::{Answer, Fault, OnTwo, given, status_where};
@@ -87,6 +89,8 @@ impl<R: Threads + Sync, T: TellsVerdict> OnTwo for CheckCommand<'_, R, T> {
 
     ghost adds_more = { λ _. AddsMisfitOf };
 
+    ghost has_note = { λ _ texts. TellsNoUse texts.0 };
+
     fn answer(
         &self,
         alloc: Global,
@@ -111,5 +115,13 @@ impl<R: Threads + Sync, T: TellsVerdict> OnTwo for CheckCommand<'_, R, T> {
             },
             Err(_) => Ok(()),
         }
+    }
+
+    fn note(
+        &self,
+        session: &Result<Session, u32>,
+        _cert: &Result<Cert, u32>,
+    ) -> Option<&'static str> {
+        note_on(session)
     }
 }

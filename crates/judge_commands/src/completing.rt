@@ -102,6 +102,8 @@ impl<C: OnOne<Text = SessionReader>, L: TellsLack> OnOne for Complete<C, L> {
 
     ghost how_much = { λ complete. C.how_much complete.command };
 
+    ghost has_note = { λ complete. C.has_note complete.command };
+
     fn telling(&self) -> Telling {
         self.command.telling()
     }
@@ -110,6 +112,10 @@ impl<C: OnOne<Text = SessionReader>, L: TellsLack> OnOne for Complete<C, L> {
         session_texts_are_unambiguous();
         let answer = self.command.answer(alloc, session)?;
         given(held(&self.form, self.extent, alloc, session, answer))
+    }
+
+    fn note(&self, session: &Result<Session, u32>) -> Option<&'static str> {
+        self.command.note(session)
     }
 }
 
@@ -127,6 +133,8 @@ impl<C: OnTwo<First = SessionReader>, L: TellsLack> OnTwo for Complete<C, L> {
     ghost is_said = { λ complete. C.is_said complete.command };
 
     ghost adds_more = { λ complete. C.adds_more complete.command };
+
+    ghost has_note = { λ complete. C.has_note complete.command };
 
     fn answer(
         &self,
@@ -149,5 +157,13 @@ impl<C: OnTwo<First = SessionReader>, L: TellsLack> OnTwo for Complete<C, L> {
         said: C::Said,
     ) -> Result<(), AllocError> {
         self.command.push_more(out, name, session, second, said)
+    }
+
+    fn note(
+        &self,
+        session: &Result<Session, u32>,
+        second: &<C::Second as Taker>::Found,
+    ) -> Option<&'static str> {
+        self.command.note(session, second)
     }
 }

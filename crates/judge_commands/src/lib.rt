@@ -5,6 +5,7 @@ mod auditing;
 mod checking;
 mod completing;
 mod forms;
+mod noting;
 mod replaying;
 mod reports;
 

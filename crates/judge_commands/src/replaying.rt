@@ -70,6 +70,8 @@ impl OnTwo for ReplayCommand {
 
     ghost adds_more = { λ _ _ _ before after. after ≡ before };
 
+    ghost has_note = { λ _ _. ⊥ };
+
     fn answer(
         &self,
         alloc: Global,
@@ -88,5 +90,13 @@ impl OnTwo for ReplayCommand {
         _said: (),
     ) -> Result<(), AllocError> {
         Ok(())
+    }
+
+    fn note(
+        &self,
+        _first: &Result<Session, u32>,
+        _second: &Result<Seq<Run>, u32>,
+    ) -> Option<&'static str> {
+        None
     }
 }

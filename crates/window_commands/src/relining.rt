@@ -105,6 +105,8 @@ impl<C: OnOne> OnTwo for Relined<C> {
 
     ghost adds_more = { λ _ _ _ before after. after ≡ before };
 
+    ghost has_note = { λ relined texts. C.has_note relined.command texts.0 };
+
     fn answer(
         &self,
         alloc: Global,
@@ -131,5 +133,13 @@ impl<C: OnOne> OnTwo for Relined<C> {
         _said: (),
     ) -> Result<(), AllocError> {
         Ok(())
+    }
+
+    fn note(
+        &self,
+        found: &<C::Text as Taker>::Found,
+        _table: &Result<Seq<u64>, u32>,
+    ) -> Option<&'static str> {
+        self.command.note(found)
     }
 }

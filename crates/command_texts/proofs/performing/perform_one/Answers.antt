@@ -3,7 +3,7 @@ use Rattle.std.proofs.lemmas.Result.{err_from_is_err_and}
 use Rattle.command_texts.specs.declared.why.Telling.{Telling}
 use Rattle.command_texts.specs.Reasons.{Place, TellsWhy, place_of}
 use Rattle.command_texts.proofs.Endings.{no_memory, not_read, not_written, text_fault, written_whole}
-use Rattle.command_texts.proofs.Fronts.{front_gains, same_gains, why_gains}
+use Rattle.command_texts.proofs.Fronts.{both_gain, front_gains, note_told, same_gains, told_gains, why_gains}
 use Rattle.command_texts.proofs.performing.perform_one.Goals as goal
 
 pub returns-in_err-found-clause-told : goal.returns-in_err-found-clause-told
@@ -46,8 +46,10 @@ returns-clause-told g c =
     (record {
       line = n.3.0;
       is_line = n.3.1;
+      between = new;
       told = subst (λ (t : Telling). TellsWhy t (place_of c.args.name.now n.3.0) old new) c.telling.ensures (subst (λ (place : Option Place). TellsWhy c.telling.result place old new) n.3.2 c.tell_why.ensures);
+      noted = note_told (g.C.OnOne.has_note c.args.command.now n.0) c.note-note.result c.args.name.now c.in_ok-status.status new (g.E.Write.contents c.tell_note.new.errors) (c.note-note.ensures n.0 n.2) c.tell_note.ensures;
     })
 
 pub returns-clause-gains : goal.returns-clause-gains
-returns-clause-gains g c = (front_gains _ _ _ c.in_ok-status.ensures.front, why_gains c.telling.result _ _ _ c.tell_why.ensures)
+returns-clause-gains g c = (front_gains _ _ _ c.in_ok-status.ensures.front, both_gain _ _ _ (why_gains c.telling.result _ _ _ c.tell_why.ensures) (told_gains _ _ _ c.tell_note.ensures))

@@ -3,7 +3,7 @@ use Rattle.std.proofs.lemmas.Result.{err_from_is_err_and}
 use Rattle.command_texts.specs.declared.why.Telling.TheVariants.{Short}
 use Rattle.command_texts.specs.Reasons.{Place, TellsWhy}
 use Rattle.command_texts.proofs.Endings.{no_memory, not_read, not_written, text_fault, written_whole}
-use Rattle.command_texts.proofs.Fronts.{both_gain, front_gains, same_gains, told_gains, why_gains}
+use Rattle.command_texts.proofs.Fronts.{both_gain, front_gains, note_told, same_gains, told_gains, why_gains}
 use Rattle.command_texts.proofs.performing.perform_two.Goals as goal
 
 pub returns-in_err-found-clause-told : goal.returns-in_err-found-clause-told
@@ -51,11 +51,13 @@ returns-clause-told g c =
       is_other = w.3;
       between = g.E.Write.contents c.tell_why.new.errors;
       why = subst (λ (place : Option Place). TellsWhy Short place (g.E.Write.contents c.args.errors.now) (g.E.Write.contents c.tell_why.new.errors)) w.4 c.tell_why.ensures;
+      behind = g.E.Write.contents c.tell_more.new.errors;
       more = told;
+      noted = note_told (g.C.OnTwo.has_note c.args.command.now n.0) c.note-note.result c.args.first.now c.in_ok-status.status (g.E.Write.contents c.tell_more.new.errors) (g.E.Write.contents c.tell_note.new.errors) (c.note-note.ensures n.0 n.2 n.3) c.tell_note.ensures;
     })
 
 pub returns-clause-gains : goal.returns-clause-gains
 returns-clause-gains g c =
     let n = c.in_ok-found.ensures.named in
     let told = c.tell_more.ensures n.0 n.2 n.3 (c.in_ok-answer.ensures.said n.0 n.2 n.3) in
-    (front_gains _ _ _ c.in_ok-status.ensures.front, both_gain _ _ _ (why_gains Short _ _ _ c.tell_why.ensures) (told_gains _ _ _ told))
+    (front_gains _ _ _ c.in_ok-status.ensures.front, both_gain _ _ _ (both_gain _ _ _ (why_gains Short _ _ _ c.tell_why.ensures) (told_gains _ _ _ told)) (told_gains _ _ _ c.tell_note.ensures))

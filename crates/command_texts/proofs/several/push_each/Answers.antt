@@ -13,7 +13,7 @@ abbrev no_name : Bor (List ℕ)
 no_name = record { ref_ptr = (0, 0); now = [] }
 
 pub loop-name-init : goal.loop-name-init
-loop-name-init g c = record { few = omega arith; gathered = none_gathered _ _ _ _ _; gains = same_gains _ }
+loop-name-init g c = record { few = omega arith; gathered = none_gathered _ _ _ _ _ _; gains = same_gains _ }
 
 pub loop-name-preserved : goal.loop-name-preserved
 loop-name-preserved g c =
@@ -23,14 +23,14 @@ loop-name-preserved g c =
     let new : Listed = (c.push_one.new.out.items, g.E.Write.contents c.push_one.new.errors) in
     let mid : Listed = (c.loop-name.out.items, g.E.Write.contents c.loop-name.errors) in
     let gains = both_gain _ _ _ c.loop-name.invariant.gains c.in_ok-push_one.ensures.gains in
-    let more = next_gathered _ _ _ (style_of c.args.listing) c.args.names.now c.loop-name.name-index no_name old mid new c.loop-name.well c.in_ok-push_one.field-0 lt c.loop-name.invariant.gathered c.in_ok-push_one.ensures.gathered in
+    let more = next_gathered _ _ _ _ (style_of c.args.listing) c.args.names.now c.loop-name.name-index no_name old mid new c.loop-name.well c.in_ok-push_one.field-0 lt c.loop-name.invariant.gathered c.in_ok-push_one.ensures.gathered in
     elim c.if-branch.branch [
-      | then-branch w ↦ record { few = omega (arith, w.well-is); gathered = subst (AreGathered _ _ _ (style_of c.args.listing) _ old new) (ap (λ (b : Bool). c.loop-name.well + cond b 1 0) w.if-branch.true ∙ sym w.well-is) more; gains = gains }
-      | else-branch w ↦ record { few = omega (arith, w.well-is); gathered = subst (AreGathered _ _ _ (style_of c.args.listing) _ old new) (ap (λ (b : Bool). c.loop-name.well + cond b 1 0) w.if-branch.false ∙ omega (arith, w.well-is)) more; gains = gains }
+      | then-branch w ↦ record { few = omega (arith, w.well-is); gathered = subst (AreGathered _ _ _ _ (style_of c.args.listing) _ old new) (ap (λ (b : Bool). c.loop-name.well + cond b 1 0) w.if-branch.true ∙ sym w.well-is) more; gains = gains }
+      | else-branch w ↦ record { few = omega (arith, w.well-is); gathered = subst (AreGathered _ _ _ _ (style_of c.args.listing) _ old new) (ap (λ (b : Bool). c.loop-name.well + cond b 1 0) w.if-branch.false ∙ omega (arith, w.well-is)) more; gains = gains }
     ]
 
 pub returns-clause-gathered : goal.returns-clause-gathered
-returns-clause-gathered g c = all_gathered _ _ _ (style_of c.args.listing) c.args.names.now c.loop-name.name-index (c.args.out.now.items, g.E.Write.contents c.args.errors.now) (c.loop-name.out.items, g.E.Write.contents c.loop-name.errors) c.loop-name.well c.loop-name-test.false c.loop-name.invariant.gathered
+returns-clause-gathered g c = all_gathered _ _ _ _ (style_of c.args.listing) c.args.names.now c.loop-name.name-index (c.args.out.now.items, g.E.Write.contents c.args.errors.now) (c.loop-name.out.items, g.E.Write.contents c.loop-name.errors) c.loop-name.well c.loop-name-test.false c.loop-name.invariant.gathered
 
 pub returns-clause-gains : goal.returns-clause-gains
 returns-clause-gains g c = c.loop-name.invariant.gains

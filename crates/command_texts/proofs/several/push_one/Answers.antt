@@ -2,7 +2,7 @@ use Rattle.std.proofs.Common.{refl, subst, Option}
 use Rattle.std.proofs.lemmas.Result.{err_from_is_err_and}
 use Rattle.command_texts.specs.declared.why.Telling.TheVariants.{Short}
 use Rattle.command_texts.specs.Reasons.{Place, TellsWhy}
-use Rattle.command_texts.proofs.Fronts.{same_gains, why_gains}
+use Rattle.command_texts.proofs.Fronts.{both_gain, note_told, same_gains, told_gains, why_gains}
 use Rattle.command_texts.proofs.Listed.{named_anyhow}
 use Rattle.command_texts.proofs.several.push_one.Goals as goal
 
@@ -15,15 +15,19 @@ returns-in-Ok-clause-gathered g c =
       is_name = refl;
       is_right = record { is_named = named_anyhow c.args.name.now (g.S.TextSource.bytes_of c.args.texts.now) _ n.0 n.1; is_answer = c.in_ok-answer.ensures.told n.0 n.2; is_line = n.3.1 };
       added = c.in-Ok.ensures;
-      told = subst (λ (place : Option Place). TellsWhy Short place (g.E.Write.contents c.args.errors.now) (g.E.Write.contents c.tell_why.new.errors)) n.3.2 c.tell_why.ensures;
+      told = record {
+        between = g.E.Write.contents c.tell_why.new.errors;
+        why = subst (λ (place : Option Place). TellsWhy Short place (g.E.Write.contents c.args.errors.now) (g.E.Write.contents c.tell_why.new.errors)) n.3.2 c.tell_why.ensures;
+        noted = note_told (g.C.OnOne.has_note c.args.command.now n.0) c.note-note.result c.args.name.now answer.status (g.E.Write.contents c.tell_why.new.errors) (g.E.Write.contents c.tell_note.new.errors) (c.note-note.ensures n.0 n.2) c.tell_note.ensures;
+      };
       tells = refl;
     }
 
 pub returns-in-Ok-clause-gains : goal.returns-in-Ok-clause-gains
-returns-in-Ok-clause-gains g c = why_gains Short _ _ _ c.tell_why.ensures
+returns-in-Ok-clause-gains g c = both_gain _ _ _ (why_gains Short _ _ _ c.tell_why.ensures) (told_gains _ _ _ c.tell_note.ensures)
 
 pub returns-clause-gains : goal.returns-clause-gains
-returns-clause-gains g c = why_gains Short _ _ _ c.tell_why.ensures
+returns-clause-gains g c = both_gain _ _ _ (why_gains Short _ _ _ c.tell_why.ensures) (told_gains _ _ _ c.tell_note.ensures)
 
 pub returns-in_err-found-clause-gains : goal.returns-in_err-found-clause-gains
 returns-in_err-found-clause-gains g c = same_gains _

@@ -1,5 +1,6 @@
 use Rattle.std.proofs.Common.{◌≡◌, ◌⊎◌, List, ℕ, Option, subst, inl, inr}
 use Rattle.std.proofs.lemmas.Result.{err_from_is_err_and}
+use Rattle.std.proofs.KnownBytes.{Keeps-refl}
 use Rattle.command_texts.specs.declared.why.Telling.TheVariants.{Short}
 use Rattle.command_texts.specs.Reasons.{Place, TellsWhy}
 use Rattle.command_texts.proofs.Endings.{host_fault, no_answer, not_read, not_written, stop_fault, written_whole}
@@ -45,7 +46,9 @@ returns-clause-told g c =
     (record {
       line = n.3.0;
       is_line = n.3.1;
+      between = g.E.Write.contents c.tell_why.new.errors;
       told = subst (λ (place : Option Place). TellsWhy Short place (g.E.Write.contents c.args.errors.now) (g.E.Write.contents c.tell_why.new.errors)) n.3.2 c.tell_why.ensures;
+      noted = inl (Keeps-refl (g.E.Write.contents c.tell_why.new.errors));
     })
 
 pub returns-clause-gains : goal.returns-clause-gains

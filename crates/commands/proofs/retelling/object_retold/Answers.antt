@@ -2,9 +2,9 @@ use Rattle.session_text.specs.Grammar.{SpellsSession}
 use Rattle.line_table.specs.Tables.{SpellsTable}
 use Rattle.command_texts.specs.Reasons.{IsRefusedAt, TellsBeside}
 use Rattle.window_commands.specs.declared.relining.LinesIn.TheVariants.{Object}
-use Rattle.commands.specs.Told.{AddsNothing}
+use Rattle.commands.specs.Told.{AddsNothing, NotesFirst}
 use Rattle.commands.proofs.Beside.{same_retold}
 use Rattle.commands.proofs.retelling.object_retold.Goals as goal
 
 pub returns-clause-told : goal.returns-clause-told
-returns-clause-told g c = same_retold (TellsBeside (IsRefusedAt SpellsSession) (IsRefusedAt SpellsTable) AddsNothing c.args.first.now c.args.second.now) c.args.demand Object _ _ _ _ _ _ _ (rw c.extent_of.ensures at c.demanded_two.ensures.told)
+returns-clause-told g c = same_retold (TellsBeside (IsRefusedAt SpellsSession) (IsRefusedAt SpellsTable) AddsNothing NotesFirst c.args.first.now c.args.second.now) c.args.demand Object _ _ _ _ _ _ _ (rw c.extent_of.ensures at c.demanded_two.ensures.told)
