@@ -45,8 +45,8 @@ abbrev pub IsWindowAnswer : Window → Bool → List ℕ → List ℕ → ℕ �
 IsWindowAnswer w lined recording = IsAnswer (IsWindowed w recording) (windowed_text lined) windowed_status
 
 -- nothing is told beside it
-abbrev pub TellsNothing : List ℕ → Option (List ℕ) → Option (List ℕ) → Type 0
-TellsNothing recording old new = Keeps old new
+abbrev pub TellsNothing : List ℕ → ℕ → Option (List ℕ) → Option (List ℕ) → Type 0
+TellsNothing recording status old new = Keeps old new
 
 -- a text that was read under a name, of any length: where it is known what stands there, it is that
 abbrev pub IsReadUnder : List ℕ → (List ℕ → Option (List ℕ)) → List ℕ → Type 0
