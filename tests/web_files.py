@@ -46,7 +46,7 @@ def tests_of_reading(browser, room):
 
 def tests_of_folder(browser, room):
     folder = f"{room}/a folder"
-    os.mkdir(folder)
+    os.makedirs(folder, exist_ok=True)
     write(f"{folder}/session", read(example("stale-page")[0]))
     is_shown(browser, "a session, before a folder", example("handover"), "good", "Safe.")
     browser.drop_folder(folder)
