@@ -123,18 +123,6 @@ fn is_outcome(found: &Outcome, status: u8, output: &[u8], errors: &[u8]) -> bool
     found.status == status && found.output.as_slice() == output && found.errors.as_slice() == errors
 }
 
-// What is told beside an answer where the session tells of no use of a page at the target, after the session's name.
-static NOTE: &[u8] =
-    b": note: the guest neither reads nor writes a page after a resume, so no use of one was judged\n";
-
-// Whether a run ended with this status, and wrote this; where no errors are wanted there may be a note.
-fn is_noted_outcome(found: &Outcome, status: u8, output: &[u8], errors: &[u8]) -> bool {
-    if errors.len() == 0 && found.errors.as_slice().ends_with(NOTE) {
-        return found.status == status && found.output.as_slice() == output;
-    }
-    is_outcome(found, status, output, errors)
-}
-
 // Fails the test where a run on some words is wrong, and names them.
 fn none_is_wrong(rt: &impl Abort, wrong: Option<&[&str]>) {
     if let Some(words) = wrong {
@@ -162,7 +150,7 @@ fn is_right<
         Some(asked) => found.asked == asked,
         None => true,
     };
-    is_asked_so && is_noted_outcome(&found, case.2, case.3, case.4)
+    is_asked_so && is_outcome(&found, case.2, case.3, case.4)
 }
 
 // The words of a case that is wrong.
@@ -191,6 +179,18 @@ const EMPTY_LINE: &[u8] = b"-:1:1: found an empty line; expected \"postcopy-sess
 
 const CERT_FOR_SESSION: &[u8] = b"cert:1:1: this is a certificate; expected a session: are the two files swapped?\n";
 
+// What is told beside a clean session whose guest uses no page at the target, as a file, on the input, of three, behind why a
+// certificate is no session, and before a text that is not there.
+const SESSION_NOTE: &[u8] = b"session: note: the guest neither reads nor writes a page after a resume, so no use of one was judged\n";
+
+const INPUT_NOTE: &[u8] = b"-: note: the guest neither reads nor writes a page after a resume, so no use of one was judged\n";
+
+const THREE_NOTES: &[u8] = b"session: note: the guest neither reads nor writes a page after a resume, so no use of one was judged\n-: note: the guest neither reads nor writes a page after a resume, so no use of one was judged\nsession: note: the guest neither reads nor writes a page after a resume, so no use of one was judged\n";
+
+const CERT_FOR_SESSION_AND_NOTE: &[u8] = b"cert:1:1: this is a certificate; expected a session: are the two files swapped?\nsession: note: the guest neither reads nor writes a page after a resume, so no use of one was judged\n";
+
+const NOTE_AND_NONE: &[u8] = b"session: note: the guest neither reads nor writes a page after a resume, so no use of one was judged\nfile none\n";
+
 const SESSION_FOR_RUNS: &[u8] = b"session:1:1: this is a session; expected a text of runs: are the two files swapped?\n";
 
 // Each pair of texts, of which one or both may be the input.
@@ -200,7 +200,7 @@ static VERDICTS: [Case; 10] = [
         b"",
         0,
         ACCEPTED_LINE,
-        b"",
+        SESSION_NOTE,
         None,
     ),
     Case(
@@ -208,7 +208,7 @@ static VERDICTS: [Case; 10] = [
         SESSION,
         0,
         ACCEPTED_LINE,
-        b"",
+        INPUT_NOTE,
         None,
     ),
     Case(
@@ -224,7 +224,7 @@ static VERDICTS: [Case; 10] = [
         CERT,
         0,
         ACCEPTED_LINE,
-        b"",
+        SESSION_NOTE,
         None,
     ),
     Case(
@@ -240,7 +240,7 @@ static VERDICTS: [Case; 10] = [
         BOTH,
         0,
         ACCEPTED_LINE,
-        b"",
+        INPUT_NOTE,
         None,
     ),
     Case(
@@ -251,9 +251,9 @@ static VERDICTS: [Case; 10] = [
         EMPTY_CERT,
         None,
     ),
-    Case(&["postcopy"], BOTH, 0, ACCEPTED_LINE, b"", None),
+    Case(&["postcopy"], BOTH, 0, ACCEPTED_LINE, INPUT_NOTE, None),
     Case(&["postcopy"], SESSION, 1, EMPTY_CERT_LINE, EMPTY_CERT, None),
-    Case(&[], BOTH, 0, ACCEPTED_LINE, b"", None),
+    Case(&[], BOTH, 0, ACCEPTED_LINE, INPUT_NOTE, None),
 ];
 
 #[test]
@@ -268,7 +268,7 @@ static SEVERAL: [Case; 5] = [
         b"",
         1,
         b"session: clean\nhandover: faulty line 13 early\n1 of 2 sessions are clean\n",
-        b"",
+        SESSION_NOTE,
         Some(2),
     ),
     Case(
@@ -276,7 +276,7 @@ static SEVERAL: [Case; 5] = [
         SESSION,
         0,
         b"session: clean\n-: clean\nsession: clean\n3 of 3 sessions are clean\n",
-        b"",
+        THREE_NOTES,
         Some(2),
     ),
     Case(
@@ -284,7 +284,7 @@ static SEVERAL: [Case; 5] = [
         b"",
         1,
         b"cert: session-text line 1\nsession: clean\n1 of 2 sessions are clean\n",
-        CERT_FOR_SESSION,
+        CERT_FOR_SESSION_AND_NOTE,
         Some(2),
     ),
     Case(
@@ -292,7 +292,7 @@ static SEVERAL: [Case; 5] = [
         b"",
         3,
         b"session: clean\n",
-        b"file none\n",
+        NOTE_AND_NONE,
         Some(2),
     ),
     Case(
@@ -547,13 +547,13 @@ fn missing_files(rt: HostRuntime) {
 
 // Sessions and what is no session.
 static AUDITS: [Case; 5] = [
-    Case(&["postcopy", "certify", "session"], b"", 0, CERT, b"", None),
+    Case(&["postcopy", "certify", "session"], b"", 0, CERT, SESSION_NOTE, None),
     Case(
         &["postcopy", "audit", "session"],
         b"",
         0,
         CLEAN_REPORT,
-        b"",
+        SESSION_NOTE,
         None,
     ),
     Case(
