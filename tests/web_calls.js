@@ -12,7 +12,7 @@ if (WebAssembly.Module.imports(compiled).length) throw new Error("the module tak
 function answered([call, names, topic]) {
   const it = new Postcopy(compiled);
   const [session, certificate] = names.map((name) => it.put(fs.readFileSync(name)));
-  const { bytes, ...answer } = certificate ? it.check(session, certificate) : it.text(call, session, topic ?? undefined, 0);
+  const { bytes, ...answer } = certificate ? it.both("check", session, certificate) : it.text(call, session, topic ?? undefined, 0);
   const refused = { SESSION_TEXT: session, CERT_TEXT: certificate }[answer.kind];
   return { ...answer, ...(refused && it.why(answer.kind, refused, 0)), text: Buffer.from(bytes ?? []).toString("base64") };
 }

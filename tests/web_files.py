@@ -4,7 +4,7 @@ import re
 
 from web_checks import count, example, is_shown, read, rows_drawn, rows_shown, same, says, squeezed, words_of, write
 
-IS_LISTED = "return document.getElementById('sessions').hidden ? null : [...document.querySelectorAll('#list li')].map((it) => [it.className, it.textContent])"
+IS_LISTED = "return document.getElementById('sessions').hidden ? null : [...document.querySelectorAll('#list tr')].map((it) => [it.className, [...it.cells].map((cell) => cell.textContent).join(': ')])"
 WATCH = "addEventListener('unhandledrejection', () => { document.body.dataset.rejected = 'yes' })"
 
 
@@ -39,7 +39,7 @@ def tests_of_reading(browser, room):
     os.remove(left)
     browser.run("delete document.body.dataset.done; const it = document.getElementById('page'); it.value = 1; it.onchange()")
     browser.settle()
-    count("could not be told" in browser.text("#topic"), f"a page of a session that is gone: {browser.text('#topic')}")
+    same("a page of a session that is gone since it was judged", browser.text("#topic"), "page 1")
     browser.fill("#line", 1)
     browser.wait_for(lambda: "left could not be read: " in browser.text("#extent"), "nothing is said of a text that is gone")
 

@@ -38,7 +38,7 @@ def tests_of_verdicts(browser, room):
     is_shown(browser, "a file that is none", [write(f"{room}/picture.png", bytes(range(256)) * 40)], "odd", "not a session")
     is_shown(browser, "an empty file", [write(f"{room}/empty", b"")], "odd", "not a session", "line 1")
     is_shown(browser, "a certificate alone", example("handover", "certificate"), "odd", "There is no session")
-    is_shown(browser, "a session with runs", example("replayed", "session", "runs"), "bad", "Not safe.", "postcopy replay")
+    is_shown(browser, "a session with runs", example("replayed", "session", "runs"), "bad", "Not safe.", "In the order of runs ")
 
 
 def tests_of_lacks(browser, room):

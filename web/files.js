@@ -9,7 +9,7 @@ const BEGINNINGS = {
   runs: /^postcopy-runs /,
   report: /^(clean\n|(faulty|knot|shape|session-text) line \d)/,
 };
-const LONGEST_BEGINNING = 24, LONGEST_FIRST_LINE = 80;
+const LONGEST_BEGINNING = 64, LONGEST_FIRST_LINE = 80;
 
 // What goes with a session, by its kind.
 const BESIDE = { certificate: "a certificate", runs: "a file of runs", report: "a report" };
@@ -20,13 +20,14 @@ let handed = [], shown;
 const unreadWords = (name, error) => `${name} could not be read: ${error.message}`;
 
 // A file by its name and its kind, or words on one that cannot be read.
-async function handedOver({ file, name = file?.name ?? "What was dropped", isFolder }) {
+async function handedOver({ file, name = file?.name ?? "What was dropped", isFolder, word }) {
   if (!file && !isFolder) return { name, unread: unreadWords(name, { message: "the browser gives the page no file" }) };
   if (isFolder) return { name, unread: `${name} is a folder, and is not read: choose the files in it.` };
   try {
     // (a browser may take a file that is gone for an empty one, and notice only where the whole is read)
     const head = await (file.size > LONGEST_BEGINNING ? file.slice(0, LONGEST_BEGINNING) : file).text();
-    return { name, file, kind: Object.keys(BEGINNINGS).find((it) => BEGINNINGS[it].test(head)) ?? "other" };
+    const kind = Object.keys(BEGINNINGS).find((it) => BEGINNINGS[it].test(head)) ?? "other";
+    return { name, file, kind, word, pages: +(head.match(/^postcopy-session .*\npages (\d+)\n/)?.[1] ?? 0) };
   } catch (error) {
     return { name, unread: unreadWords(name, error) };
   }
@@ -35,6 +36,9 @@ async function handedOver({ file, name = file?.name ?? "What was dropped", isFol
 const filesOf = (kind) => handed.filter((it) => it.kind === kind);
 const sessions = () => handed.filter(({ kind }) => kind === "session" || kind === "other");
 const unread = () => handed.flatMap((it) => it.unread ?? []);
+
+// What is said beside the verdict on a session: that it is a part of another one, and which files cannot be read.
+const asideOf = ({ word }) => [...(word ? [word] : []), ...unread()];
 
 // What is said where no session is among the files.
 function noSession() {
@@ -52,10 +56,11 @@ function firstToShow() {
 function listSessions() {
   const all = sessions();
   at("sessions").hidden = all.length < 2;
+  at("left").hidden = at("faults").hidden && at("sessions").hidden;
   at("list").replaceChildren(...all.map((it) => {
     it.way = made("button", { type: "button", className: "link", textContent: it.name, onclick: () => work(it) });
-    it.said = made("span", { textContent: "not judged yet" });
-    it.row = made("li", {}, it.way, ": ", it.said);
+    it.said = made("td", { className: "said", textContent: "not judged yet" });
+    it.row = made("tr", {}, made("td", {}, it.way), it.said);
     return it.row;
   }));
 }
@@ -71,6 +76,14 @@ function showInList() {
   for (const it of sessions()) it.way.setAttribute("aria-current", it === shown);
 }
 
+// What judging a session takes, where that is much: it is told before it is taken. The numbers are those of docs/WEB.md.
+const MUCH = 512 << 20, OF_PAGE = 74, OF_BYTE = 5, PAGES_A_SECOND = 1.3e6;
+function costWords({ name, file, pages }) {
+  const bytes = pages * OF_PAGE + file.size * OF_BYTE, seconds = Math.ceil(pages / PAGES_A_SECOND + file.size / (40 << 20));
+  if (bytes < MUCH) return undefined;
+  return `${name} has ${mib(file.size)} and names ${pages.toLocaleString("en")} pages: to judge it takes up to ${mib(bytes)} of memory and some ${seconds} seconds.`;
+}
+
 // What a report says first, beside what the report on the session says first.
 async function reportWords({ name, file }, { answer: { firstLine } }) {
   try {
@@ -82,7 +95,7 @@ async function reportWords({ name, file }, { answer: { firstLine } }) {
 }
 
 async function certificateWords({ name, file }, session) {
-  const answer = await ask("check", session.file, { certificate: file });
+  const answer = await ask("check", session.file, { beside: file });
   const which = filesOf("certificate").length > 1 || sessions().length > 1 ? `${name}, tried with this session: ` : "";
   if (answer.failure) return `The certificate ${name} could not be judged: ${answer.failure.words}.`;
   const kind = answer.kind === "YES" && session.answer.lack ? "RIGHT" : answer.kind;
@@ -96,6 +109,14 @@ async function besideWords(session) {
   const found = [];
   for (const it of filesOf("certificate")) found.push(await certificateWords(it, session));
   for (const it of filesOf("report")) found.push(await reportWords(it, session));
-  if (filesOf("runs").length) found.push("The runs are not read here: the program replays them, with postcopy replay.");
+  for (const it of filesOf("runs")) found.push(await runsWords(it, session));
   return found;
+}
+
+// What becomes of a session in the order of a file of runs.
+async function runsWords({ name, file }, session) {
+  const answer = await ask("replay", session.file, { beside: file });
+  if (answer.failure) return `The runs ${name} could not be replayed: ${answer.failure.words}.`;
+  const words = ORDERS[answer.kind]?.replace("@", () => `line ${answer.line}`).replace("$", () => name);
+  return (words ?? `The runs ${name} are not replayed: that takes a session of the right shape.`) + (answer.why ? ` ${whyRefused(answer)}` : "");
 }

@@ -3,17 +3,11 @@
 
 const MOST_LINES = 400;
 const AT = /\bline (\d+)\b(?: \(\w+ \d+\))?/g;
-const at = (name) => document.getElementById(name);
-const made = (tag, given, ...children) => {
-  const it = Object.assign(document.createElement(tag), given);
-  it.append(...children);
-  return it;
-};
 
 // The worker and its questions.
 
 const bytes = Uint8Array.from(atob(at("module").textContent), (it) => it.charCodeAt(0));
-let worker, asked = 0;
+let worker, asking = 0;
 const waiting = new Map();
 
 function started() {
@@ -34,13 +28,21 @@ function started() {
   return it;
 }
 
-// The answer of a call, or `failure` in its place. `topic` is the page that it is about, where the call takes one, and `say` is told
-// how many bytes of how many were read.
-function ask(call, session, { certificate, topic, say } = {}) {
+// The number that the worker knows a file by.
+const numbers = new WeakMap();
+let numbered = 0;
+function numberOf(file) {
+  if (!numbers.has(file)) numbers.set(file, ++numbered);
+  return numbers.get(file);
+}
+
+// The answer of a call on a session, or `failure` in its place. `given` is what the call takes besides: `topic`, the page or the line
+// that it is about, `beside`, another text, and what is asked of records. `say` is told how many bytes of how many were read.
+function ask(call, file, { say, ...given } = {}) {
   worker ??= started();
   return new Promise((done) => {
-    waiting.set(++asked, { say, done });
-    worker.postMessage({ number: asked, call, session, certificate, topic, bytes });
+    waiting.set(++asking, { say, done });
+    worker.postMessage({ number: asking, call, session: { number: numberOf(file), file }, given, bytes });
   });
 }
 
@@ -56,10 +58,12 @@ function stop() {
   waiting.clear();
 }
 
-// How far it is.
-
+// How far it is. Screen readers are told where something new is done, and at each quarter of it.
+let toldLast = "";
 function busy(what, done, total) {
   at("busy").hidden = !what;
+  const quarter = total ? `${what.split(":")[0]}: ${Math.floor((4 * done) / total) * 25} of 100` : (what ?? "");
+  if (quarter !== toldLast) at("progress-words").textContent = toldLast = quarter;
   if (!what) return;
   at("doing").textContent = what;
   if (total) Object.assign(at("progress"), { max: total, value: done });
@@ -70,25 +74,31 @@ function busy(what, done, total) {
 function show({ colour, head, sentences }, name, more = []) {
   at("verdict").className = colour;
   const of = name ? [made("p", { className: "soft", textContent: name })] : [];
-  at("verdict").replaceChildren(made("h2", {}, head), ...of, ...[...sentences, ...more].map((it) => made("p", {}, it)));
+  at("verdict").replaceChildren(made("h2", { className: colour }, head), ...of, ...[...sentences, ...more].map((it) => made("p", {}, it)));
 }
 
 // The record that is marked, in the words, the picture and the text.
 
-let marked = 0, picture, text;
+let marked = 0, text;
 const wordsOf = (line) => [...at("words").querySelectorAll(`[data-line="${line}"]`)];
-const rowOf = (line) => picture?.querySelector(`[data-line="${line}"]`);
 
 function go(it) {
   it?.scrollIntoView({ block: "center", inline: "nearest" });
   it?.focus({ preventScroll: true });
 }
 
+function goToPicture() {
+  showPane("drawn");
+  goToRow(rowOf(marked));
+}
+
 function goToText() {
+  showPane("texts");
+  scrollToLine(marked || +at("line").value);
   go(at("lines").querySelector(".marked .link") ?? at("lines"));
 }
 
-// Marks a record by the line of the session that it is; 0 marks none.
+// Marks a record by the line of the session that it is, and tells its story; 0 marks none.
 async function mark(line) {
   for (const it of at("words").querySelectorAll(".marked")) it.classList.remove("marked");
   for (const it of picture?.querySelectorAll(".marked") ?? []) it.classList.remove("marked");
@@ -96,19 +106,22 @@ async function mark(line) {
   for (const it of wordsOf(line)) it.classList.add("marked");
   rowOf(line)?.classList.add("marked");
   at("bar").hidden = !line;
-  at("name").textContent = wordsOf(line)[0]?.textContent ?? rowOf(line)?.querySelector("title")?.textContent.split(":")[0] ?? `line ${line}`;
+  at("name").textContent = rowOf(line)?.dataset.title ?? wordsOf(line)[0]?.textContent ?? `line ${line}`;
   at("to-words").disabled = !wordsOf(line).length;
   at("to-picture").disabled = !rowOf(line);
-  if (line) await showText(texts[0], line);
-  else await showLines(first);
+  if (!line) return showLines(first);
+  const told = tellRecord(line);
+  await showText(texts[0], line);
+  return told;
 }
 
-// Unmarks the record. Where what had the focus is gone, its line in the text has it, or the text.
+// Unmarks the record. Where what had the focus is gone, its row in the picture has it, or its line in the text, or the text.
 async function unmark() {
   const line = marked;
   await mark(0);
-  if (document.activeElement !== document.body) return;
-  (at("lines").children[line - first]?.querySelector(".link") ?? at("lines")).focus({ preventScroll: true });
+  if (document.activeElement !== document.body && !at("bar").contains(document.activeElement)) return;
+  if (!at("drawn").hidden && rowOf(line)) goToRow(rowOf(line));
+  else (at("lines").children[line - first]?.querySelector(".link") ?? at("lines")).focus({ preventScroll: true });
 }
 
 // The words.
@@ -120,7 +133,7 @@ function withMarks(sentence) {
     const line = +found[1];
     const it = made("button", { type: "button", className: "link", textContent: found[0] });
     it.dataset.line = line;
-    it.onclick = () => mark(line).then(() => (rowOf(line) ? go(rowOf(line)) : goToText()));
+    it.onclick = () => mark(line).then(() => (rowOf(line) ? goToPicture() : goToText()));
     parts.push(sentence.slice(end, found.index), it);
     end = found.index + found[0].length;
   }
@@ -136,42 +149,6 @@ function showWords(words) {
     else if (line) to.append(made("p", {}, ...withMarks(line)));
   }
   at("story").hidden = false;
-}
-
-// The picture, in a tree of its own, so that its styles are its own.
-
-const OF_ROWS = `.record { cursor: pointer } .record:focus { outline: none }
-.record.marked > rect, .record:focus > rect { stroke: Highlight; stroke-width: 4; stroke-dasharray: none } svg { display: block; margin: auto }
-@media print { svg { max-width: 100%; height: auto } }`;
-
-function goAmongRows(event, rows, place) {
-  const to = { ArrowDown: place + 1, ArrowUp: place - 1, Home: 0, End: rows.length - 1 }[event.key];
-  if (event.key === "Enter" || event.key === " ") rows[place].onclick();
-  else if (rows[to]) go(rows[to]);
-  else return;
-  event.preventDefault();
-}
-
-function showPicture(svg) {
-  const host = at("picture");
-  picture = host.shadowRoot ?? host.attachShadow({ mode: "open" });
-  const drawn = document.importNode(new DOMParser().parseFromString(svg, "image/svg+xml").documentElement, true);
-  picture.replaceChildren(made("style", { textContent: OF_ROWS }), drawn);
-  drawn.setAttribute("role", "group");
-  drawn.setAttribute("aria-label", "The records in an order");
-  const rows = [...drawn.querySelectorAll(".record")];
-  const current = rows.find((it) => it.classList.contains("faulty")) ?? rows[0];
-  rows.forEach((row, place) => {
-    const title = row.querySelector("title")?.textContent ?? "";
-    const line = +(title.match(/^line (\d+)/)?.[1] ?? 0);
-    row.dataset.line = line;
-    row.setAttribute("role", "button");
-    row.setAttribute("aria-label", row.classList.contains("faulty") ? `${title}, faulty` : title);
-    row.setAttribute("tabindex", row === current ? 0 : -1);
-    row.onclick = () => mark(line).then(goToText);
-    row.onkeydown = (event) => goAmongRows(event, rows, place);
-  });
-  at("drawn").hidden = false;
 }
 
 // The texts: the session, and what was written of it. A part of the lines is shown at a time.
@@ -214,7 +191,7 @@ function fillLines(it, lines, from, found) {
     const line = from + place, isMarked = isSession && line === marked;
     if (!isSession || (!isMarked && !wordsOf(line).length && !rowOf(line))) return made("li", {}, words);
     const it = made("button", { type: "button", className: "link", textContent: words || " " });
-    it.onclick = () => mark(line).then(() => go(wordsOf(line)[0] ?? rowOf(line)));
+    it.onclick = () => mark(line).then(() => (wordsOf(line).length ? go(wordsOf(line)[0]) : goToPicture()));
     return made("li", { className: isMarked ? "marked" : "" }, it);
   }));
   at("earlier").disabled = from === 1;
@@ -231,8 +208,12 @@ async function showText(it, line = 1) {
   URL.revokeObjectURL(at("save").href);
   Object.assign(at("save"), { href: URL.createObjectURL(it.file), download: it.file.name ?? it.name });
   await showLines(line - MOST_LINES / 2);
+  scrollToLine(line);
+}
+
+function scrollToLine(line) {
   const list = at("lines"), shown = list.children[line - first];
-  if (shown) list.scrollTop = shown.offsetTop - list.offsetTop - list.clientHeight / 2;
+  if (shown) list.scrollTop = shown.offsetTop - list.clientHeight / 2;
 }
 
 function addText(name, file, index) {
@@ -259,9 +240,12 @@ function cleared() {
   texts = [];
   about = shown = undefined;
   picture?.replaceChildren();
+  drawing = life = undefined;
+  around = new Map();
   delete document.body.dataset.done;
-  for (const it of ["story", "about", "drawn", "texts", "bar"]) at(it).hidden = true;
+  for (const it of ["story", "about", "drawn", "texts", "bar", "seek", "finds", "orders", "orders-beside", "life", "question"]) at(it).hidden = true;
   for (const it of ["words", "which", "lines"]) at(it).replaceChildren();
+  listFaults([]);
   at("numbers").textContent = "";
 }
 
@@ -275,10 +259,13 @@ async function judged(files) {
   const found = await Promise.all(files.map(handedOver));
   if (mine !== judging) return;
   handed = found;
+  document.body.classList.toggle("shown", sessions().length > 0);
   listSessions();
-  if (sessions().length) return work();
+  const dear = sessions().flatMap((it) => costWords(it) ?? []);
+  if (sessions().length && !dear.length) return work();
   busy();
-  show(noSession());
+  show(dear.length ? worded("odd", "This takes much memory.", ...dear) : noSession());
+  at("question").hidden = !dear.length;
   document.body.dataset.done = judging;
 }
 
@@ -326,11 +313,11 @@ async function tell(it, current) {
   if (!current()) return;
   shown = it;
   showInList();
-  show(it.verdict, it.name, unread());
+  show(it.verdict, it.name, asideOf(it));
   const { answer } = it;
   if (!answer) return;
   at("numbers").textContent = `${it.name}, ${mib(it.file.size)}: judged in ${answer.ms.toFixed(0)} ms, with ${mib(answer.memory)} of memory`;
-  it.beside = [...unread(), ...(await besideWords(it))];
+  it.beside = [...asideOf(it), ...(await besideWords(it))];
   if (!current()) return;
   show(it.verdict, it.name, it.beside);
   const question = async (call, what) => {
@@ -345,7 +332,9 @@ async function tell(it, current) {
   addText("Report", answer.report);
   await showText(texts[0], answer.line || 1);
   if (!current()) return;
-  at("texts").hidden = false;
+  showPane("texts");
+  at("seek").hidden = false;
+  listFaults(faultsOf(answer.firstLine, []));
   const drawn = answer.kind !== "SESSION_TEXT" && (await question("draw", "Drawing"));
   if (drawn) {
     showPicture(new TextDecoder().decode(drawn.bytes));
@@ -355,8 +344,13 @@ async function tell(it, current) {
   if (current() && answer.kind === "CLEAN") addText("Certificate", new File([answer.report.slice(answer.firstLine.length + 1)], "certificate"));
   const all = current() && answer.kind === "FAULTY" && (await question("audit_all", "Looking for all faults"));
   if (!current()) return;
+  const faults = all && !all.failure ? faultsIn(all.bytes) : [];
   await showText(texts[0], answer.line || 1);
-  if (drawn) showTopics(it, answer.line, all ? faultsIn(all.bytes) : []);
+  if (!drawn || !current()) return;
+  listFaults(faultsOf(answer.firstLine, faults));
+  showTopics(it, answer.line, faults);
+  const fault = faults[placeOf()];
+  await showMore(it, fault?.page, answer.line, fault?.reason, current);
 }
 
 // The examples, and what the reader does.
@@ -390,11 +384,19 @@ function endWork() {
   stop();
   busy();
   if (about) stayAtTopic();
-  else if (shown) show(shown.verdict, shown.name, [...(shown.beside ?? unread()), "It was stopped: no more is told."]);
+  else if (shown) show(shown.verdict, shown.name, [...(shown.beside ?? asideOf(shown)), "It was stopped: no more is told."]);
   else show(worded("odd", "Stopped.", "Nothing is said of what is not judged yet."));
   at("verdict").focus({ preventScroll: true });
   document.body.dataset.done = judging;
 }
+
+// What single keys do, where they are on.
+const goIfSeveral = (step) => (about?.faults.length > 1 ? void goToFault(step) : false);
+const KEYS = {
+  n: () => goIfSeveral(1), p: () => goIfSeveral(-1),
+  "+": () => setZoom(zoom * ZOOM), "-": () => setZoom(zoom / ZOOM), 0: () => setZoom(FIRST_ZOOM),
+  "/": () => (at("seek").hidden ? false : at("sought").focus()),
+};
 
 function listen() {
   addEventListener("dragover", (event) => {
@@ -414,9 +416,29 @@ function listen() {
   at("stop").onclick = endWork;
   at("next-fault").onclick = () => goToFault(1);
   at("previous-fault").onclick = () => goToFault(-1);
+  at("agree").onclick = () => work();
+  at("seek").onsubmit = (event) => {
+    event.preventDefault();
+    seek();
+  };
+  at("save-report").onclick = saveReport;
+  at("filter").oninput = showFaults;
+  at("smaller").onclick = () => setZoom(zoom / ZOOM);
+  at("larger").onclick = () => setZoom(zoom * ZOOM);
+  at("fit").onclick = () => setZoom(FIRST_ZOOM);
+  at("show-texts").onclick = () => {
+    showPane("texts");
+    scrollToLine(+at("line").value);
+    at("show-picture").focus();
+  };
+  at("show-picture").onclick = () => {
+    showPane("drawn");
+    at("show-texts").focus();
+  };
+  for (const [id, to] of [["first-step", () => 0], ["previous-step", () => life.at - 1], ["next-step", () => life.at + 1], ["last-step", () => life.steps.length - 1]]) at(id).onclick = () => goToStep(to());
   at("page").onchange = () => at("page").validity.valid && tellOf(at("page").value === "" ? undefined : +at("page").value);
   at("to-words").onclick = () => go(wordsOf(marked)[0]);
-  at("to-picture").onclick = () => go(rowOf(marked));
+  at("to-picture").onclick = goToPicture;
   at("to-text").onclick = () => showText(texts[0], marked).then(goToText);
   at("unmark").onclick = unmark;
   at("earlier").onclick = () => showLines(first - MOST_LINES);
@@ -424,9 +446,8 @@ function listen() {
   at("line").onchange = () => showText(text, Math.max(1, Math.min(+at("line").value || 1, +at("line").max)));
   addEventListener("keydown", (event) => {
     if (event.key === "Escape" && marked) unmark();
-    const step = { n: 1, p: -1 }[event.key];
-    const isForPage = !event.ctrlKey && !event.altKey && !event.metaKey && event.target.tagName !== "INPUT";
-    if (step && isForPage && about?.faults.length > 1) goToFault(step);
+    const isForPage = at("keys").checked && !event.ctrlKey && !event.altKey && !event.metaKey && !/^(INPUT|SELECT)$/.test(event.target.tagName);
+    if (isForPage && Object.hasOwn(KEYS, event.key) && KEYS[event.key]() !== false) event.preventDefault();
   });
   addEventListener("hashchange", judgeExample);
 }
@@ -444,7 +465,11 @@ function canJudge() {
 at("examples").append(...examples.map(({ name, what }) => made("li", {}, made("a", { href: "#" + name, textContent: name }), ": " + what)));
 if (canJudge()) {
   listen();
-  judgeExample();
+  keptSessions().then((kept) => {
+    if (!kept.length) return judgeExample();
+    document.title = `postcopy: ${kept.length === 1 ? kept[0].name : `${kept.length} sessions`}`;
+    return judged(kept);
+  }, (error) => show(worded("odd", "This report is not whole.", `Its sessions cannot be read: ${error.message}.`)));
 } else {
   show(worded("odd", "This browser cannot judge.", "It has no WebAssembly with 64-bit addresses. Chromium has it from 133 on, and Firefox from 134 on."));
   at("files").disabled = true;

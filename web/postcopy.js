@@ -7,7 +7,7 @@ const KINDS = ["", "YES", "CLEAN", "SESSION_TEXT", "CERT_TEXT", "SHAPE", "PAGES"
 // There was no memory for a question.
 class OutOfMemory extends Error {}
 
-// One question's module. Its memory never shrinks, so each question has an instance of its own.
+// One session's module. Its memory never shrinks, so each session has an instance of its own.
 class Postcopy {
   constructor(module) {
     this.calls = new WebAssembly.Instance(module).exports;
@@ -31,44 +31,51 @@ class Postcopy {
     return room;
   }
 
+  free({ at }) {
+    this.calls.free(at);
+  }
+
   // The answer of a call, which is written where its first word says.
   answer(call, ...words) {
-    const { at } = this.room(24);
-    this.calls["postcopy_" + call](at, ...words);
-    const view = new DataView(this.calls.memory.buffer, Number(at), 24);
+    const room = this.room(24);
+    this.calls["postcopy_" + call](room.at, ...words);
+    const view = new DataView(this.calls.memory.buffer, Number(room.at), 24);
     const [kind, line, reason] = [0, 4, 8].map((offset) => view.getUint32(offset, true));
+    const length = Number(view.getBigUint64(16, true));
+    this.free(room);
     if (KINDS[kind] === "NO_MEMORY") throw new OutOfMemory("the session needs more memory than the browser gives the page");
-    return { kind: KINDS[kind], line, reason, length: Number(view.getBigUint64(16, true)) };
+    return { kind: KINDS[kind], line, reason, length };
+  }
+
+  // What a call says that writes a text into a room, with this text. A room of the length `first` is tried, and then one that fits.
+  written(ask, first) {
+    for (let length = first; ; ) {
+      const room = this.room(length), answer = ask(room);
+      const bytes = answer.length <= length ? this.view({ at: room.at, length: answer.length }).slice() : undefined;
+      this.free(room);
+      if (bytes) return { ...answer, bytes };
+      length = answer.length;
+    }
   }
 
   // The answer of a call that writes a text, with this text. `topic` is the page or the line that it is about, where the call
-  // takes one. A room of the length `first` is tried, and then one that fits.
+  // takes one.
   text(call, session, topic, first = session.length + 4096) {
     const numbers = topic === undefined ? [] : [topic];
-    for (let length = first; ; ) {
-      const room = this.room(length);
-      const answer = this.answer(call, session.at, BigInt(session.length), ...numbers, room.at, BigInt(length));
-      if (answer.length <= length) return { ...answer, bytes: this.view({ at: room.at, length: answer.length }).slice() };
-      this.calls.free(room.at);
-      length = answer.length;
-    }
+    return this.written((room) => this.answer(call, session.at, BigInt(session.length), ...numbers, room.at, BigInt(room.length)), first);
   }
 
   // Why a text is refused, where the answer of this kind refuses it: the column in its line, and words on it.
   why(kind, text, first = 4096) {
-    for (let length = first; ; ) {
-      const room = this.room(length);
-      const answer = this.answer("why", text.at, BigInt(text.length), KINDS.indexOf(kind), room.at, BigInt(length));
-      const bytes = { at: room.at, length: answer.length };
-      // (where an answer has its reason, a refusal has its column)
-      if (answer.length <= length) return { line: answer.line, column: answer.reason, why: new TextDecoder().decode(this.view(bytes).slice()) };
-      this.calls.free(room.at);
-      length = answer.length;
-    }
+    const ask = (room) => this.answer("why", text.at, BigInt(text.length), KINDS.indexOf(kind), room.at, BigInt(room.length));
+    // (where an answer has its reason, a refusal has its column)
+    const { line, reason, bytes } = this.written(ask, first);
+    return { line, column: reason, why: new TextDecoder().decode(bytes) };
   }
 
-  check(session, certificate) {
-    return this.answer("check", session.at, BigInt(session.length), certificate.at, BigInt(certificate.length));
+  // The answer of a call on a session and a text beside it, a certificate or an order.
+  both(call, session, beside) {
+    return this.answer(call, session.at, BigInt(session.length), beside.at, BigInt(beside.length));
   }
 
   memory() {

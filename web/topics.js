@@ -6,9 +6,9 @@
 
 let about;
 
-// The pages that have a fault, each with the line of its first, as `audit --all` lists them.
+// The pages that have a fault, each with the line and the reason of its first, as `audit --all` lists them.
 const faultsIn = (bytes) =>
-  [...new TextDecoder().decode(bytes).matchAll(/^page (\d+) line (\d+) /gm)].map(([, page, line]) => ({ page: +page, line: +line }));
+  [...new TextDecoder().decode(bytes).matchAll(/^page (\d+) line (\d+) (\S+)$/gm)].map(([, page, line, reason]) => ({ page: +page, line: +line, reason }));
 
 // Which of the faults is that of the page, or that which the report names; -1 where none is.
 const placeOf = (page) => about.faults.findIndex((it) => (page === undefined ? it.line === about.line : it.page === page));
@@ -17,6 +17,7 @@ function nameTopic() {
   const { faults, page } = about, place = placeOf(page), named = page === undefined ? "" : `page ${page}`;
   at("topic").textContent = place >= 0 && faults.length > 1 ? `fault ${place + 1} of ${faults.length}: page ${faults[place].page}` : named;
   at("page").value = page ?? "";
+  showCurrentFault();
 }
 
 function showTopics(session, line, faults) {
@@ -40,7 +41,9 @@ async function tellOf(page) {
   };
   const told = await question("explain", "Finding out what happened");
   const drawn = told && (await question("draw", "Drawing"));
-  if (drawn) await showTold(page, told, drawn, faults[found]?.line ?? (page === undefined ? about.line : 0));
+  const line = faults[found]?.line ?? (page === undefined ? about.line : 0);
+  if (drawn) await showTold(page, told, drawn, line);
+  if (drawn) await showMore(session, page ?? faults[found]?.page, line, faults[found]?.reason, current);
   await judgeOthers(current);
   finish(current);
 }

@@ -1,6 +1,13 @@
 // What the page says of an answer, in words. It is a part of the script of page.js, and stands before it.
 "use strict";
 
+const at = (name) => document.getElementById(name);
+const made = (tag, given, ...children) => {
+  const it = Object.assign(document.createElement(tag), given);
+  it.append(...children);
+  return it;
+};
+
 // What each verdict says first, and whether it is good, bad or neither.
 const VERDICTS = {
   CLEAN: ["good", "Safe."],
@@ -30,6 +37,14 @@ const CERTIFICATES = {
   PAGES: "The certificate is of a machine of another size than the session's.",
   RUNS: "The certificate is not right: its run at @ cannot be taken.",
   PAGE: "The certificate is not right: its entry at @ is wrong.",
+};
+
+// What becomes of a session in the order of the runs in a file, $, where @ is the line that is named.
+const ORDERS = {
+  SAFE: "In the order of $ each record finds what it demands; other orders may go wrong.",
+  BROKEN: "In the order of $ it goes wrong first at @.",
+  NO_MERGING: "The runs in $ are no order of this session.",
+  RUNS_TEXT: "The file $ has no runs: it is refused at @.",
 };
 
 const REASONS = {

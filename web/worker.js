@@ -1,4 +1,5 @@
-// The worker, which holds the module: it answers one question after another, and says how far it has read.
+// The worker, which holds the module: it answers one question after another, and says how far it has read. The session that it was
+// asked of last stays in the module's memory, with what was found of its records.
 
 const PER_MARK = 256;
 let compiled;
@@ -49,22 +50,57 @@ function tellsOfUse(bytes) {
   return false;
 }
 
-async function answered({ call, session, certificate, topic, bytes }, say) {
-  if (call === "lines") return linesOf(session, say);
+let held = {};
+
+// The session of a question, in a module of its own.
+async function holding({ number, file }, bytes, say) {
+  if (held.number === number) return held;
+  held = {};
   compiled ??= WebAssembly.compile(bytes);
   const it = new Postcopy(await compiled);
-  const first = await readInto(it, session, say);
-  const second = certificate && (await readInto(it, certificate, say));
-  say(1, 0);
-  const began = performance.now();
-  const answer = second ? it.check(first, second) : it.text(call, first, topic);
-  const ms = performance.now() - began;
-  const refused = { SESSION_TEXT: first, CERT_TEXT: second }[answer.kind];
-  const isUsed = call === "audit" && answer.kind === "CLEAN" && tellsOfUse(answer.bytes);
-  return { ...answer, ...(refused && it.why(answer.kind, refused)), isUsed, ms, memory: it.memory() };
+  const room = await readInto(it, file, say);
+  return (held = { number, it, room });
 }
 
-onmessage = async ({ data }) => {
+// An answer of the module. Where a text is refused, it has why.
+async function judgement({ it, room }, { call, beside, topic }, say) {
+  const second = beside && (await readInto(it, beside, say));
+  say(1, 0);
+  const began = performance.now();
+  const answer = second ? it.both(call, room, second) : it.text(call, room, topic);
+  const ms = performance.now() - began;
+  const refused = { SESSION_TEXT: room, CERT_TEXT: second, RUNS_TEXT: second }[answer.kind];
+  const why = refused && it.why(answer.kind, refused);
+  if (second) it.free(second);
+  const isUsed = call === "audit" && answer.kind === "CLEAN" && tellsOfUse(answer.bytes);
+  return { ...answer, ...why, isUsed, ms, memory: it.memory() };
+}
+
+// What is asked of the records, by the name of the question. An order is that of a text with runs, or that which delays the placement
+// of a page or the record at a line, or else the found one.
+const OF_RECORDS = {
+  around: (records, { lines }) => ({ records: records.aroundLines(lines) }),
+  vcpu: (records, { vcpu }) => records.ofVcpu(vcpu),
+  place: (records, { log, number }) => ({ line: records.lineOfPlace(LOGS.indexOf(log), number) }),
+  life: (records, { page, order }) => records.life(page, orderOf(records, order)),
+  order: (records, { lines, order }) => records.inOrder(lines, orderOf(records, order)),
+};
+
+function orderOf(records, { runs, page, line } = {}) {
+  const delayed = page !== undefined ? records.placementOf(page) : line !== undefined ? records.atLine(line) : undefined;
+  return (runs && records.orderOf(runs)) ?? records.foundOrder(delayed);
+}
+
+async function answered({ call, session, given, bytes }, say) {
+  if (call === "lines") return linesOf(session.file, say);
+  const it = await holding(session, bytes, say);
+  if (!(call in OF_RECORDS)) return judgement(it, { call, ...given }, say);
+  it.records ??= new Records(() => it.it.view(it.room));
+  const runs = await given.order?.file?.text();
+  return OF_RECORDS[call](it.records, { ...given, order: { ...given.order, runs } });
+}
+
+async function answer(data) {
   let last = 0;
   const say = (done, total) => {
     const now = performance.now();
@@ -73,10 +109,15 @@ onmessage = async ({ data }) => {
     postMessage({ number: data.number, done, total });
   };
   try {
-    const answer = await answered(data, say);
-    postMessage({ number: data.number, answer }, answer.bytes ? [answer.bytes.buffer] : []);
+    const found = await answered(data, say);
+    postMessage({ number: data.number, answer: found }, found.bytes ? [found.bytes.buffer] : []);
   } catch (error) {
+    // (a module that was stopped in a call is not asked again)
+    held = {};
     const isMemory = error instanceof OutOfMemory || error instanceof RangeError;
     postMessage({ number: data.number, failure: { isMemory, words: String(error.message ?? error) } });
   }
-};
+}
+
+let answering = Promise.resolve();
+onmessage = ({ data }) => (answering = answering.then(() => answer(data)));
