@@ -20,7 +20,8 @@ let handed = [], shown;
 const unreadWords = (name, error) => `${name} could not be read: ${error.message}`;
 
 // A file by its name and its kind, or words on one that cannot be read.
-async function handedOver({ file, name = file?.name ?? "What was dropped", isFolder, word }) {
+async function handedOver({ file, name = file?.name ?? "What was dropped", isFolder, word, left }) {
+  if (left) return { name, left, unread: left };
   if (!file && !isFolder) return { name, unread: unreadWords(name, { message: "the browser gives the page no file" }) };
   if (isFolder) return { name, unread: `${name} is a folder, and is not read: choose the files in it.` };
   try {
@@ -59,7 +60,7 @@ function listSessions() {
   at("left").hidden = at("faults").hidden && at("sessions").hidden;
   at("list").replaceChildren(...all.map((it) => {
     it.way = made("button", { type: "button", className: "link", textContent: it.name, onclick: () => work(it) });
-    it.said = made("td", { className: "said", textContent: "not judged yet" });
+    it.said = made("td", { textContent: "not judged yet" });
     it.row = made("tr", {}, made("td", {}, it.way), it.said);
     return it.row;
   }));
@@ -67,9 +68,10 @@ function listSessions() {
 
 // Has in the list what the verdict on a session is, and which session is shown.
 function sayInList(it) {
-  const { colour, head, sentences } = it.verdict;
-  it.row.className = colour;
-  it.said.textContent = colour === "good" || !sentences.length ? head : `${head} ${sentences.at(-1)}`;
+  const { colour, head, sentences } = it.verdict, why = colour === "good" ? "" : (sentences.at(-1) ?? "");
+  Object.assign(it.row, { className: colour, title: why });
+  it.said.replaceChildren(head, ...(why ? [made("span", { className: "meaning" }, ` ${why}`)] : []));
+  it.said.dataset.line = it.answer?.line || "";
 }
 
 function showInList() {

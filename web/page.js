@@ -465,9 +465,9 @@ function canJudge() {
 at("examples").append(...examples.map(({ name, what }) => made("li", {}, made("a", { href: "#" + name, textContent: name }), ": " + what)));
 if (canJudge()) {
   listen();
-  keptSessions().then((kept) => {
+  keptFiles().then((kept) => {
     if (!kept.length) return judgeExample();
-    document.title = `postcopy: ${kept.length === 1 ? kept[0].name : `${kept.length} sessions`}`;
+    document.title = `postcopy: ${kept.length === 1 ? kept[0].name : `${kept.length} files`}`;
     return judged(kept);
   }, (error) => show(worded("odd", "This report is not whole.", `Its sessions cannot be read: ${error.message}.`)));
 } else {

@@ -20,34 +20,34 @@ function spelled(bytes) {
 }
 const unspelled = (text) => Uint8Array.from(atob(text), (it) => it.charCodeAt(0));
 
-// The sessions that are in this page, as files. `word` is what is said of one that is only a part of another.
-async function keptSessions() {
+// The files that are in this page. `word` is what is said of one that is only a part of another, and `left` of one that is not here.
+async function keptFiles() {
   const kept = JSON.parse(at("kept").textContent);
-  return Promise.all(kept.map(async ({ name, packed, word }) => {
+  return Promise.all(kept.map(async ({ name, packed, word, left }) => {
+    if (left) return { name, left };
     const file = await through(new Blob([unspelled(packed)]), new DecompressionStream("gzip")).blob();
     return { file: new File([file], name), name, word };
   }));
 }
 
-async function packed({ name, file, word }) {
+async function packed({ name, file, word, left }) {
+  if (left) return { name, left };
+  if (file.size > MOST_WHOLE) return { name, left: `${name} has ${mib(file.size)}, and is not in this report.` };
   const bytes = await through(file, new CompressionStream("gzip")).arrayBuffer();
   return { name, packed: spelled(new Uint8Array(bytes)), ...(word ? { word } : {}) };
 }
 
-// The page with sessions in it. Nothing that a session or its name has can end the element that they stand in.
-async function reportOf(sessions) {
-  const kept = JSON.stringify(await Promise.all(sessions.map(packed))).replace(/</g, "\\u003c");
+// The page with files in it. Nothing that a file or its name has can end the element that they stand in.
+async function reportOf(files) {
+  const kept = JSON.stringify(await Promise.all(files.map(packed))).replace(/</g, "\\u003c");
   return PAGE_TEXT.replace(NO_SESSIONS, () => NO_SESSIONS.replace("[]", () => kept));
 }
 
 async function saveReport() {
-  const whole = sessions().filter(({ file }) => file.size <= MOST_WHOLE), left = sessions().length - whole.length;
-  const words = left ? `${left} of ${sessions().length} sessions have more than ${mib(MOST_WHOLE)}, and are not in the report: postcopy-report puts in windows of them.` : "";
-  if (words) show(shown.verdict, shown.name, [...(shown.beside ?? []), words]);
-  if (!whole.length) return undefined;
-  const file = new File([await reportOf(whole)], "report.html", { type: "text/html" });
+  const large = handed.filter(({ file }) => file?.size > MOST_WHOLE).length;
+  if (large) show(shown.verdict, shown.name, [...(shown.beside ?? []), `${large} of these files ${large === 1 ? "has" : "have"} more than ${mib(MOST_WHOLE)}, and the report has none of it: postcopy-report puts in windows.`]);
+  const file = new File([await reportOf(handed.filter(({ file, left }) => file || left))], "report.html", { type: "text/html" });
   const place = URL.createObjectURL(file);
   made("a", { href: place, download: "report.html" }).click();
   setTimeout(() => URL.revokeObjectURL(place), 60_000);
-  return file;
 }
