@@ -150,6 +150,14 @@ class Chromium(Browser):
             self.cdp("Input.dispatchDragEvent", type=kind, x=400, y=200, data=data)
         self.settle()
 
+    def resize(self, width, height):
+        """Has the page in a window of this size."""
+        self.cdp("Emulation.setDeviceMetricsOverride", width=width, height=height, deviceScaleFactor=1, mobile=False)
+
+    def has_look(self, **features):
+        """Has the page in a look: of a colour scheme, or with colours that are forced."""
+        self.cdp("Emulation.setEmulatedMedia", features=[{"name": name.replace("_", "-"), "value": value} for name, value in features.items()])
+
     def requests(self):
         """The places that were asked for, since the last call."""
         found = [json.loads(it["message"])["message"] for it in self.log("performance")]
@@ -241,6 +249,18 @@ class Firefox(Browser):
 
     def shot(self):
         return self.call("WebDriver:TakeScreenshot", full=False)["value"]
+
+    def resize(self, width, height):
+        """Has the page in a window of this size."""
+        for _ in range(2):
+            inner, outer = self.run("return [[innerWidth, innerHeight], [outerWidth, outerHeight]]")
+            self.call("WebDriver:SetWindowRect", width=width + outer[0] - inner[0], height=height + outer[1] - inner[1])
+
+    def has_look(self, prefers_color_scheme="light"):
+        """Has the page in a look: of a colour scheme."""
+        self.call("Marionette:SetContext", value="chrome")
+        self.run("Services.prefs.setIntPref('layout.css.prefers-color-scheme.content-override', arguments[0])", ["dark", "light"].index(prefers_color_scheme))
+        self.call("Marionette:SetContext", value="content")
 
     def drop_folder(self, folder):
         """Drops a folder, by a script of the browser's own, which may make a file of a folder."""

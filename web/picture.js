@@ -48,7 +48,7 @@ const rowOf = (line) => picture?.querySelector(`[data-line="${line}"]`);
 const rowsOfRecords = () => [...(picture?.querySelectorAll(".record") ?? [])];
 
 // Numbers of ten digits and more, and contents, with the middle left out.
-const shortened = (words) => words.replace(/\b[\da-f]{16,}\b|\d{10,}/g, (it) => `${it.slice(0, 4)}…${it.slice(-4)}`);
+const shortened = (words) => words.replace(/\b[\da-f]{16,}\b|\d{10,}/g, (it) => `${it.slice(0, 3)}…${it.slice(-3)}`);
 
 // What `draw` wrote: the columns, the rows from above to below, the arrows between them, and the legend.
 function readDrawing(svg) {

@@ -1,0 +1,155 @@
+"""Tests of postcopy-report, and of what it makes: the page with sessions in it."""
+import base64
+import gzip
+import json
+import os
+import re
+import subprocess
+
+from web_checks import TOP, count, example, read, same, says, words_of, write
+from web_viewing import line_in_view
+
+SCRIPT = f"{TOP}/share/bin/postcopy-report"
+PAGE = f"{TOP}/crates/postcopy_c/out/postcopy.html"
+KEPT = re.compile(r'<script type="application/json" id="kept">(.*?)</script>', re.S)
+
+# Names and contents that would end an element, begin a script or another text, or reach into a terminal.
+HOSTILE = ("</script><script>document.body.dataset.foreign = 1</script>", "<img src=x onerror=\"document.body.dataset.foreign = 1\">", "<svg onload=document.body.dataset.foreign=1>",
+           "<!--<script>", "a\nb: clean", "'\"&lt;\\u003c", "\x1b[31m", "\u2028", "${name}$&$1", "__proto__", os.fsdecode(b"not-utf-8-\xff"))
+
+
+def made(room, *words, program="false"):
+    """What the script says of these words, and the report: its entries, and the page without them."""
+    report = f"{room}/report.html"
+    if os.path.exists(report):
+        os.remove(report)
+    ran = subprocess.run([SCRIPT, "--page", PAGE, "--program", program, "-o", report, *words], cwd=room, stdin=subprocess.DEVNULL, capture_output=True)
+    text = read(report, "r") if os.path.exists(report) else None
+    entries = [] if text is None else [(it["name"], gzip.decompress(base64.b64decode(it["packed"])) if "packed" in it else None, it.get("word") or it.get("left")) for it in json.loads(KEPT.search(text)[1])]
+    return ran.returncode, ran.stderr.decode(), entries, text
+
+
+def put(room, name, content):
+    """Writes a file of such a name, in the folders that its slashes ask for."""
+    os.makedirs(os.path.dirname(f"{room}/{name}"), exist_ok=True)
+    write(f"{room}/{name}", content)
+    return name
+
+
+def tests_of_script(room, program):
+    """What the script puts into the page, and when it makes none."""
+    page, session = read(PAGE, "r"), example("qemu-lost-write")[0]
+    status, said, entries, text = made(room, session)
+    same("a report of a session", (status, said, entries), (0, "", [(session, read(session), None)]))
+    same("the page of a report", KEPT.sub("", text, count=1), KEPT.sub("", page, count=1))
+    same("the same report again", made(room, session)[3], text)
+    for at, name in enumerate(HOSTILE):
+        content = f"{name}\n".encode(errors="surrogateescape") * 3
+        write(f"{room}/content-{at}", content)
+        same(f"a report of hostile contents {at}", made(room, f"content-{at}")[:3], (0, "", [(f"content-{at}", content, None)]))
+        status, said, entries, text = made(room, "--", put(room, name, content))
+        same(f"a report of a hostile name {at}", (status, said, entries), (0, "", [(name, content, None)]))
+        same(f"what it could end {at}", ("<" in KEPT.search(text)[1], text.count("<script"), text.count("</script")), (False, page.count("<script"), page.count("</script")))
+
+
+def large_of(name, more):
+    """The text of an example whose guest says once more what it said last, so many times."""
+    text = read(example(name)[0], "r")
+    counted, last = re.search(r"^guest (\d+)\n", text, re.M), re.findall(r"^r .*\n", text.partition("\nsource ")[0] + "\n", re.M)[-1]
+    front, back = text.split("\nsource ", 1)
+    return front.replace(counted[0], f"guest {int(counted[1]) + more}\n", 1) + "\n" + last * more + "source " + back
+
+
+def tests_of_windows(room, program):
+    """Of a large session, windows of its faulty pages are put in, with a word."""
+    large, clean, knot = write(f"{room}/large", large_of("qemu-lost-write", 40_000)), write(f"{room}/clean", large_of("handover", 110_000)), write(f"{room}/knot", large_of("circle-of-receipts", 110_000))
+    status, said, entries, _ = made(room, "--most", "1", "--windows", "2", "large", example("handover")[0], program=program)
+    same("the status of a report with windows", status, 1)
+    same("what is said of it", said, f"postcopy-report: large has {os.path.getsize(large) / (1 << 20):.1f} MiB, and is not in the report whole\n")
+    faults = re.findall(r"^page (\d+) line (\d+) (\S+)$", words_of(program, "audit", "--all", large), re.M)
+    first, second = sorted(((int(line), page, reason) for page, line, reason in faults))[:2]
+    same("the entries of it", [it[0] for it in entries], [f"large, page {first[1]}", f"large, page {second[1]}", "large", example("handover")[0]])
+    for (name, data, word), (line, page, reason) in zip(entries, (first, second)):
+        same(f"the window {name}", data, words_of(program, "window", large, page, "1").encode())
+        here = re.fullmatch(r"faulty line (\d+) (\S+)\n(?s:.*)", words_of(program, "audit", write(f"{room}/seen", data)))
+        count(f"page {page} of large alone, as page 0" in word and f"There the fault is line {line} {reason}, which is line {here[1]} here." in word and here[2] == reason, f"what is said of the window {name}: {word}")
+    same("what is said of the other pages", entries[2][1:], (None, f"{len(faults) - 2} more pages of large have a fault, and are not in this report."))
+    for name, first in ((clean, "clean"), (knot, "knot line 10")):
+        status, _, entries, _ = made(room, "--most", "1", os.path.basename(name), program=program)
+        wanted = f"{os.path.basename(name)} has {os.path.getsize(name) / (1 << 20):.1f} MiB, and is not in this report. The audit says of it: {first}."
+        same(f"a large session that is {first}", (status, entries), (1, [(os.path.basename(name), None, wanted)]))
+
+
+def tests_of_refusals(room):
+    """When there is no report: nothing is written then, and what was there stays."""
+    session = example("handover")[0]
+    for what, words, wanted, part in (
+        ("no session", ["-o", "out.html"], 2, "required"),
+        ("no report", [session], 2, "required"),
+        ("a size that is none", ["--most", "0", session, "-o", "out.html"], 2, "1 or more"),
+        ("a file that is not there", [session, "no\nthing", "-o", "out.html"], 3, '"no\\nthing": No such file'),
+        ("a folder", [room, "-o", "out.html"], 3, "Is a directory"),
+        ("a page that is none", ["--page", session, session, "-o", "out.html"], 3, "is no page that takes sessions"),
+        ("a place that is not there", [session, "-o", "no/out.html"], 3, "No such file"),
+    ):
+        write(f"{room}/out.html", "as it was")
+        ran = subprocess.run([SCRIPT, "--page", PAGE, *words], cwd=room, stdin=subprocess.DEVNULL, capture_output=True)
+        same(f"{what}: {ran.stderr.decode()}", (ran.returncode, part in ran.stderr.decode(), ran.stdout), (wanted, True, b""))
+        same(f"the report that was there, with {what}", (read(f"{room}/out.html"), [it for it in os.listdir(room) if it.startswith("out.html.")]), (b"as it was", []))
+
+
+# What it makes, in a browser.
+
+
+def open_report(browser, room, *words, program="false", name="opened.html"):
+    _, _, entries, text = made(room, *words, program=program)
+    place = write(f"{room}/{name}", text)
+    browser.open("about:blank")
+    browser.open(f"file://{place}")
+    browser.settle()
+    return entries
+
+
+def tests_of_reports(browser, room, program):
+    """A report opens by itself, shows what went wrong, and runs nothing that is in its sessions."""
+    browser.resize(1366, 768)
+    open_report(browser, room, *example("qemu-lost-write"))
+    says(browser, "a report", "bad", "Not safe.", "line 2566", "examples/qemu-lost-write/session")
+    same("whether a report has to be scrolled sideways", browser.run("return document.documentElement.scrollWidth <= innerWidth"), True)
+    same("whether the wrong record and the lost write are in view", [line_in_view(browser, it) for it in (2566, 2472)], [True, True])
+    told = "return [...document.querySelectorAll('#words [data-line]')].filter((it) => { const { top, bottom, right } = it.getBoundingClientRect(); return top >= 0 && bottom <= innerHeight && right <= innerWidth }).map((it) => it.dataset.line)"
+    same("the records that are told in view", [it in browser.run(told) for it in ("3004", "2472", "2566")], [True, True, True])
+    names = HOSTILE[:-1]
+    for at, name in enumerate(names):
+        put(room, name, read(example("early-access")[0]) if at % 2 else f"postcopy-session 1\n{name}\n".encode())
+    open_report(browser, room, "--", *names)
+    same("the sessions of a hostile report", browser.run("return [...document.querySelectorAll('#list tr')].map((it) => it.cells[0].textContent)"), list(names))
+    same("whether a foreign script ran", browser.run("return [document.body.dataset.foreign ?? 'no', document.images.length, document.querySelectorAll('body svg').length]"), ["no", 0, 0])
+    for place in range(len(names)):
+        browser.run("delete document.body.dataset.done; document.querySelectorAll('#list button')[arguments[0]].click()", place)
+        browser.settle()
+    same("whether a foreign script ran, each being shown", browser.run("return [document.body.dataset.foreign ?? 'no', document.images.length]"), ["no", 0])
+    write(f"{room}/large", large_of("qemu-lost-write", 40_000))
+    open_report(browser, room, "--most", "1", "--windows", "2", "large", program=program)
+    says(browser, "a window in a report", "bad", "Not safe.", "large, page 7", "This is a window: page 7 of large alone", "5 more pages of large have a fault")
+    write(f"{room}/broken.html", KEPT.sub('<script type="application/json" id="kept">[{"name": "x", "packed": "AAAA"}]</script>', read(PAGE, "r"), count=1))
+    browser.open(f"file://{room}/broken.html")
+    browser.wait_for(lambda: "This report is not whole." in browser.text("#verdict"), "a report that is cut is not told")
+
+
+def tests_of_button(browser, room, url):
+    """The page saves itself with its sessions: the report has what postcopy-report puts in."""
+    browser.open("about:blank")
+    browser.open(url)
+    files = [write(f"{room}/<!--<script>", read(example("early-access")[0])), *example("handover", "session", "certificate")]
+    browser.choose(*files)
+    browser.run("window.saved = undefined; const create = URL.createObjectURL; URL.createObjectURL = (it) => { if (it.name === 'report.html') it.text().then((text) => { window.saved = text }); return create.call(URL, it) }; document.getElementById('save-report').click()")
+    browser.wait_for(lambda: browser.run("return window.saved !== undefined"), "no report is saved")
+    saved = browser.run("return window.saved")
+    entries = [(it["name"], gzip.decompress(base64.b64decode(it["packed"]))) for it in json.loads(KEPT.search(saved)[1])]
+    same("what a saved report has", entries, [(os.path.basename(it), read(it)) for it in files])
+    write(f"{room}/saved.html", saved)
+    browser.open(f"file://{room}/saved.html")
+    browser.settle()
+    says(browser, "a saved report", "bad", "Not safe.", "line 13", "certificate, tried with this session")
+    same("what a saved report complains of", browser.complaints(), [])
