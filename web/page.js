@@ -316,13 +316,15 @@ async function tell(it, current) {
   show(it.verdict, it.name, asideOf(it));
   const { answer } = it;
   if (!answer) return;
-  at("numbers").textContent = `${it.name}, ${mib(it.file.size)}: judged in ${answer.ms.toFixed(0)} ms, with ${mib(answer.memory)} of memory`;
+  const say = (memory) => `${it.name}, ${mib(it.file.size)}: judged in ${answer.ms.toFixed(0)} ms, with ${mib(answer.memory)} of memory${memory > answer.memory ? `; told with ${mib(memory)}` : ""}`;
+  at("numbers").textContent = say(0);
   it.beside = [...asideOf(it), ...(await besideWords(it))];
   if (!current()) return;
   show(it.verdict, it.name, it.beside);
   const question = async (call, what) => {
     const found = await ask(call, it.file, { say: sayingOf(it, what, current) });
     if (found.failure && current()) show(it.verdict, it.name, [...it.beside, `No more could be told: ${found.failure.words}.`]);
+    if (!found.failure && current()) at("numbers").textContent = say(found.memory);
     return current() && !found.failure ? found : undefined;
   };
   const told = await question("explain", "Finding out what happened");
