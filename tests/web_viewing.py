@@ -1,8 +1,8 @@
 """Tests of the page as a place to look: what stands where, and the ways from anything to everything."""
-import json
 import re
 
-from web_checks import TOP, count, example, read, same, words_of, write
+from session_text import SessionText
+from web_checks import count, example, read, same, words_of, write
 
 FLAGSHIP = "qemu-lost-write"
 SIZES = ((400, 800), (1000, 800), (1366, 768), (1600, 900))
@@ -16,6 +16,14 @@ return { page: [document.documentElement.scrollWidth, innerWidth, innerHeight], 
   boxes: [...root.querySelectorAll('.row .box')].map((it) => ({ ...place(it), line: it.parentElement.dataset.line, ink: colour(it.querySelector('.words'), 'color'), paper: colour(it, 'backgroundColor') })),
   heads: [...root.querySelectorAll('.head')].map((it) => ({ ...place(it), name: it.textContent })),
   columns: ['left', 'middle', 'right'].map((it) => place(document.getElementById(it))), paper: colour(document.body, 'backgroundColor') }"""
+
+
+# The arrows, each by the lines of the boxes that its ends touch, and the rows whose arrow comes from no row.
+ARROWS = """const root = document.getElementById('picture').shadowRoot, svg = root.querySelector('.arrows'), { left, top, width, height } = svg.getBoundingClientRect(), count = svg.viewBox.baseVal.height;
+const boxes = [...root.querySelectorAll('.record .box, .stuck .box')].map((it) => ({ line: it.parentElement.dataset.line, rect: it.getBoundingClientRect() }));
+const touched = (x, y) => boxes.find(({ rect }) => Math.abs(y - (rect.top + rect.bottom) / 2) < rect.height / 2 && Math.min(Math.abs(x - rect.left), Math.abs(x - rect.right)) < 3)?.line;
+const end = (it, which) => touched(left + it.getAttribute('x' + which) / 100 * width, top + it.getAttribute('y' + which) / count * height);
+return [[...svg.querySelectorAll('line')].map((it) => [+end(it, 1), +end(it, 2)]), [...root.querySelectorAll('.stub')].map((it) => +it.closest('.row').dataset.line)]"""
 
 
 def is_within(it, frame, sides=("left", "right", "top", "bottom")):
@@ -61,6 +69,8 @@ def tests_of_places(browser, url, look):
             same(f"the boxes that are hard to read {what}", pale, [])
             left, middle, right = found["columns"]
             columns = (left["right"] <= middle["left"] and middle["right"] <= right["left"], left["bottom"] <= middle["top"] and middle["right"] <= right["left"], left["bottom"] <= middle["top"] and middle["bottom"] <= right["top"])
+            edges = min(it["left"] for it in found["columns"]), found["page"][1] - max(it["right"] for it in found["columns"])
+            count(max(edges) <= 32, f"the columns leave room at the sides {what}: {edges}")
             same(f"how the columns stand {what}", columns.index(True), 2 if width < 720 else 1 if width < 1200 else 0)
             papers.append(tuple(found["paper"]))
         browser.resize(1366, 768)
@@ -99,6 +109,19 @@ def tests_of_picture(browser, url):
     browser.press("+", "n")
     same("keys that are switched off", (browser.run(width), browser.text("#topic")), (first, "fault 6 of 7: page 7"))
     browser.run("document.getElementById('keys').click()")
+
+
+def tests_of_arrows(browser):
+    """From each record that is received to the one that receives it, where both have a row, and else a stub."""
+    for name in (FLAGSHIP, "early-access", "handover", "stale-page", "pushed-by-the-lane"):
+        session = example(name)[0]
+        browser.choose(session)
+        text, shown = SessionText(read(session, "r")), browser.run("return [...document.getElementById('picture').shadowRoot.querySelectorAll('.record')].map((it) => +it.dataset.line)")
+        named = {text.line(log, place): text.named(log, place) for log in text.told() for place in range(len(text.logs[log]))}
+        wanted = [(text.line(*named[it]), it) for it in shown if named[it]]
+        arrows, stubs = browser.run(ARROWS)
+        same(f"the arrows of {name}", sorted(arrows), sorted([list(it) for it in wanted if it[0] in shown]))
+        same(f"the stubs of {name}", sorted(stubs), sorted(it for named_line, it in wanted if named_line not in shown))
 
 
 def tests_of_faults(browser, room, program):
@@ -237,6 +260,7 @@ def tests_of_forced_colours(browser):
 def run_all(browser, room, program, url, look):
     tests_of_places(browser, url, look)
     tests_of_picture(browser, url)
+    tests_of_arrows(browser)
     tests_of_faults(browser, room, program)
     tests_of_search(browser, program)
     tests_of_life(browser, program)
