@@ -191,7 +191,8 @@ def tests_of_life(browser, program):
     step = "return [document.getElementById('step').textContent.replace(/^step \\d+ of \\d+: /, ''), document.getElementById('contents').textContent]"
     wrong = "cell 0: never moved 301012717382643701; at the target 2870600003493473674 ✗"
     same("the step that it begins with", browser.run(step), ["line 2566 (guest 2560), wrong", wrong])
-    same("the first row of it", browser.run("return document.querySelector('#step-list tr').textContent"), "–init: zeros0not there")
+    rows = browser.run("return [...document.querySelectorAll('#step-list tr')].slice(0, 2).map((it) => [...it.cells].map((cell) => cell.textContent))")
+    same("the first rows of it", rows, [["–", "init: zeros", "0", "not there"], ["11", "guest 5: w 0 7 0 506…718", "506…718", ""]])
     for button, told in (("previous-step", ["line 2562 (guest 2556)", wrong]), ("first-step", ["line 11 (guest 5)", "cell 0: never moved 506381209866536718; at the target not there"]), ("next-step", ["line 83 (guest 77)", "cell 0: never moved 506381209866536718; at the target not there"])):
         browser.run("document.getElementById(arguments[0]).click()", button)
         same(f"the step by {button}", browser.run(step), told)

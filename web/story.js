@@ -173,7 +173,7 @@ function lifeRows() {
     const before = { flat, target };
     if (it.flat) [flat, target] = [it.flat, it.target];
     Object.assign(it, { now: { flat, target } });
-    const words = [`${it.log} ${it.number}: ${shortened(it.text.replace(/ [0-9a-f]{16,}$/, ""))}`, ...(it.wrong ? [made("br"), made("strong", { textContent: `✗ ${shortened(it.wrong)}` })] : []), it.isTaken ? "" : " (not taken)"];
+    const words = [`${it.log} ${it.number}: ${shortened(it.text)}`, ...(it.wrong ? [made("br"), made("strong", { textContent: `✗ ${shortened(it.wrong)}` })] : []), it.isTaken ? "" : " (not taken)"];
     const changed = it.flat ? [cellWords(flat, before.flat), JSON.stringify(target) === JSON.stringify(before.target) ? "" : cellWords(target, before.target)] : ["", ""];
     const row = made("tr", { className: it.wrong ? "wrong" : "" }, made("td", { className: "number" }, wayTo(it, it.line)), made("td", {}, ...words), ...changed.map((it) => made("td", {}, it)));
     row.onclick = ({ target }) => target.tagName !== "BUTTON" && goToStep(place);
