@@ -174,6 +174,8 @@ def tests_of_search(browser, program):
     for words, said in (("2", "Line 2 tells no record."), ("lane 0", "The log of the lane has no record 0."), ("vcpu 5", "Virtual processor 5 did nothing."), ("what?", "Look for a line")):
         found = sought(browser, words)[1]
         count(found.startswith(said), f"what is said of {words}: {found}")
+    browser.run("document.getElementById('show-texts').click(); const it = document.getElementById('lines'); it.children[2571 - it.start].click()")
+    browser.wait_for(lambda: browser.text("#name").startswith("line 2571 (guest 2565): "), "a line of the text leads to no story")
     uses = [line for line in lines if re.match(r"(?:[rwz]|miss) 0 ", line)]
     same("what a virtual processor did", sought(browser, "vcpu 0")[1], f"What virtual processor 0 did: the first 500 of {len(uses)}")
     items = browser.run("return [...document.querySelectorAll('#found li')].map((it) => it.textContent.split(') ')[1])")

@@ -443,6 +443,7 @@ function listen() {
   at("to-picture").onclick = goToPicture;
   at("to-text").onclick = () => showText(texts[0], marked).then(goToText);
   at("unmark").onclick = unmark;
+  at("lines").onclick = ({ target }) => target.tagName === "LI" && text === texts[0] && chooseLine(first + [...at("lines").children].indexOf(target));
   at("earlier").onclick = () => showLines(first - MOST_LINES);
   at("later").onclick = () => showLines(first + MOST_LINES);
   at("line").onchange = () => showText(text, Math.max(1, Math.min(+at("line").value || 1, +at("line").max)));

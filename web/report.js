@@ -46,8 +46,12 @@ async function reportOf(files) {
 async function saveReport() {
   const large = handed.filter(({ file }) => file?.size > MOST_WHOLE).length;
   if (large) show(shown.verdict, shown.name, [...(shown.beside ?? []), `${large} of these files ${large === 1 ? "has" : "have"} more than ${mib(MOST_WHOLE)}, and the report has none of it: postcopy-report puts in windows.`]);
-  const file = new File([await reportOf(handed.filter(({ file, left }) => file || left))], "report.html", { type: "text/html" });
-  const place = URL.createObjectURL(file);
-  made("a", { href: place, download: "report.html" }).click();
-  setTimeout(() => URL.revokeObjectURL(place), 60_000);
+  try {
+    const file = new File([await reportOf(handed.filter(({ file, left }) => file || left))], "report.html", { type: "text/html" });
+    const place = URL.createObjectURL(file);
+    made("a", { href: place, download: "report.html" }).click();
+    setTimeout(() => URL.revokeObjectURL(place), 60_000);
+  } catch (error) {
+    show(shown.verdict, shown.name, [...(shown.beside ?? []), `There is no report: ${error.message}.`]);
+  }
 }

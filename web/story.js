@@ -66,6 +66,12 @@ async function choose(line) {
   else at("bar").scrollIntoView({ block: "nearest" });
 }
 
+// Tells the story of the record at a line of the session's text, where one stands there.
+async function chooseLine(line) {
+  const session = shown, found = await ask("around", session.file, { lines: [line] });
+  if (session === shown && found.records?.length) await mark(line);
+}
+
 // What the reader looks for.
 
 const SOUGHT = [
