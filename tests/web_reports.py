@@ -36,7 +36,7 @@ def put(room, name, content):
     return name
 
 
-def tests_of_script(room, program):
+def tests_of_script(room):
     """What the script puts into the page, and when it makes none."""
     page, session = read(PAGE, "r"), example("qemu-lost-write")[0]
     status, said, entries, text = made(room, session)
@@ -96,6 +96,15 @@ def tests_of_refusals(room):
         ran = subprocess.run([SCRIPT, "--page", PAGE, *words], cwd=room, stdin=subprocess.DEVNULL, capture_output=True)
         same(f"{what}: {ran.stderr.decode()}", (ran.returncode, part in ran.stderr.decode(), ran.stdout), (wanted, True, b""))
         same(f"the report that was there, with {what}", (read(f"{room}/out.html"), [it for it in os.listdir(room) if it.startswith("out.html.")]), (b"as it was", []))
+
+
+def tests_of_words():
+    """The options that the script tells of itself are on its man page, and no others."""
+    told = subprocess.run([SCRIPT, "--help"], capture_output=True, text=True).stdout
+    page = read(f"{TOP}/share/man/man1/postcopy-report.1", "r").replace("\\-", "-").partition(".SH OPTIONS")[2].partition(".SH EXIT")[0]
+    options = sorted(set(re.findall(r"(?<!\w)--?[a-z]+", told.partition("\n\n")[2].partition("\n\n")[0])))
+    same("the options of postcopy-report on its man page", sorted(re.findall(r'^\.BI "(\S+) ', page, re.M)), options)
+    same("the statuses of postcopy-report on its man page", re.findall(r"^\.B ([0-3])$", read(f"{TOP}/share/man/man1/postcopy-report.1", "r"), re.M), ["0", "1", "2", "3"])
 
 
 # What it makes, in a browser.

@@ -246,9 +246,18 @@ def tests_of_names(browser):
     """What a screen reader is told, and the colours that are forced."""
     browser.choose(*example(FLAGSHIP))
     same("the verdict's head", browser.run("return document.querySelector('#verdict h2').textContent"), "Not safe.")
-    same("what describes the picture", browser.run("return document.getElementById('picture').shadowRoot.querySelector('.sheet').ariaLabel"), "The records in an order")
     nameless = "return [...document.querySelectorAll('button, input, select, a, [tabindex]')].filter((it) => !it.textContent && !it.labels?.length && !it.ariaLabel && !it.shadowRoot).length"
     same("what has no name for a screen reader", browser.run(nameless), 0)
+
+
+def tests_of_tree(browser):
+    """What Chromium hands to a screen reader: the picture with its description, and the faulty row."""
+    browser.choose(*example(FLAGSHIP))
+    nodes = [{key: it.get(key, {}).get("value") for key in ("role", "name", "description")} for it in browser.cdp("Accessibility.getFullAXTree")["nodes"] if not it["ignored"]]
+    described = [it["description"] for it in nodes if it["name"] == "The records in an order"]
+    count(len(described) == 1 and "First the page went wrong: line 3004" in (described[0] or ""), f"what describes the picture: {described}")
+    same("the faulty row", [it["role"] for it in nodes if (it["name"] or "").startswith("line 2566 ") and it["name"].endswith(", faulty")], ["button"])
+    same("the verdict", [it["role"] for it in nodes if it["name"] == "Not safe." and it["role"] == "heading"], ["heading"])
 
 
 def tests_of_forced_colours(browser):

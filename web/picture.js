@@ -113,8 +113,7 @@ function showRows(rows) {
   });
   const all = made("div", { className: "rows" }, ...lives, arrowsOf(arrows, places, columns, rows.length), ...shown);
   all.style.setProperty("--count", rows.length);
-  const sheet = made("div", { className: "sheet", role: "group", ariaLabel: "The records in an order" }, heads, all);
-  sheet.setAttribute("aria-describedby", "words");
+  const sheet = made("div", { className: "sheet" }, heads, all);
   picture.replaceChildren(made("style", { textContent: OF_PICTURE }), made("div", { className: "frame" }, sheet, legendOf(drawing)));
   setZoom(zoom);
   listenToRows();
