@@ -218,6 +218,11 @@ def tests_of_life(browser, program):
     same("what is wrong in an order in which it goes wrong", browser.run(life), ["13", "14"])
     browser.run("const it = document.getElementById('life-order'); it.selectedIndex = 1; it.onchange()")
     browser.wait_for(lambda: browser.run(life) == [], "something is wrong in the found order")
+    for page, is_hidden in (("0", False), ("7", True)):
+        browser.fill("#page", page)
+        browser.run("delete document.body.dataset.done; const it = document.getElementById('page'); it.onchange()")
+        browser.settle()
+        same(f"whether no life of page {page} of two is shown", browser.run("return document.getElementById('life').hidden"), is_hidden)
     browser.choose(*example("replayed-too-early", "session", "runs"))
     count("In the order of runs it goes wrong first at line 13." in browser.text("#verdict"), f"runs are not replayed: {browser.text('#verdict')}")
     same("the orders with runs", browser.run("return [...document.getElementById('life-order').options].map((it) => it.textContent)")[-1], "the order of runs")

@@ -152,7 +152,7 @@ async function readOrders(session, page, line, reason, current) {
 
 async function readLife(session, page, line, order, current) {
   const found = await ask("life", session.file, { page, order });
-  if (!current() || found.failure) return;
+  if (!current() || found.failure || !found.isThere) return;
   life = { ...found, at: 0, line };
   const place = found.steps.findIndex((it) => it.line === line);
   at("life-head").textContent = `The life of page ${page}`;
