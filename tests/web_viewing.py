@@ -96,6 +96,12 @@ def tests_of_picture(browser, url):
     count(re.search(r"Comes after: it names line 2922 \(link 8\) down 9; before it in its log: line 3002 .*Waits for it: it is named by line 3004 \(pager 17\)", hint), f"what is around a record is not told: {hint}")
     around = "return ['before', 'after'].map((kind) => [...document.getElementById('picture').shadowRoot.querySelectorAll(`.${kind}`)].map((it) => it.dataset.line))"
     same("the rows before and after a record", browser.run(around), [["2922"], ["3004"]])
+    browser.run(f"{row.format(3003)}.click()")
+    browser.wait_for(lambda: browser.text("#record-text") == "got 8", "a row that is chosen has no story")
+    browser.run("document.getElementById('unmark').focus()")
+    browser.press("\ue007")
+    focused = "return document.getElementById('picture').shadowRoot.activeElement?.dataset.line"
+    browser.wait_for(lambda: browser.run(focused) == "3003", "the focus is lost with the button that unmarks")
     width = "return Math.round(document.getElementById('picture').shadowRoot.querySelector('.sheet').getBoundingClientRect().width)"
     first = browser.run(width)
     sizes = []
