@@ -2,19 +2,19 @@
 
 ghost use Rattle.std.specs.Prelude.{◌≡◌, ◌≤◌, Some, length, slice_get, IsTrue, if◌then◌else◌, OnOk, OnErr, IsErrOf};
 ghost use Rattle.migration_types.specs.Limits.{most_records};
-ghost use Rattle.source_book.specs.Books.{part_of};
+ghost use Rattle.active_push.specs.Books.{part_of};
 ghost use Rattle.link_book.specs.LinkPart.{with_back, with_front, with_pushed};
 ghost use Rattle.migration_events.specs.declared.events.Event.{Event};
 ghost use Rattle.link_book.specs.declared.Arrival.{Arrival};
-ghost use Rattle.source_book.specs.SourcePart.{source_serve};
+ghost use Rattle.active_push.specs.SourcePart.{source_serve};
 ghost use Rattle.book_events.specs.Parts.{pushing, sending, ComesTo, IsFull};
 ghost use Rattle.book_events.specs.inner.Offers.{Carries, IsOffer};
 
 use crate::came::Came;
+use active_push::SourceBook;
 use link_book::LinkBook;
 use migration_events::EventFault;
 use page_stream::Packet;
-use source_book::SourceBook;
 
 /// Push: the source sends the page that bubbling chooses, over the lane, if there is one, or else down the link, where
 /// fewer packets than the window are under way. `EventFault::LogFull` exactly where the source's log has no room for the

@@ -7,7 +7,7 @@ ghost use Rattle.audit_model.specs.Flat.{at_halt, freed, home_after};
 ghost use Rattle.audit_model.specs.Shape.{is_placement_of};
 ghost use Rattle.flat_machine.specs.Machines.{ledger_after};
 ghost use Rattle.balloon_ledger.specs.Released.{released, IsWith as HasReleased};
-ghost use Rattle.page_tables.specs.Tables.{pages_of, values, IsWith};
+ghost use Rattle.page_store.specs.Tables.{pages_of, values, IsWith};
 ghost use Rattle.page_facts.specs.Moved.{PagerPage};
 ghost use Rattle.page_facts.specs.Tables.{IsTable};
 ghost use Rattle.completeness.specs.Complete.{is_page_left};
@@ -18,7 +18,7 @@ use audit_model::Home;
 use balloon_ledger::Ledger;
 use migration_types::{GuestRec, PageNo, PagerRec, Session};
 use page_facts::halt_place;
-use page_tables::Table;
+use page_store::Table;
 use std::alloc::{AllocError, Global};
 
 /// What the whole logs say of the pages.

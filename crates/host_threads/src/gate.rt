@@ -1,7 +1,7 @@
 //! Gates.
 
 use migration_types::PageNo;
-use pager_book::TargetBook;
+use target_side::TargetBook;
 
 /// What the threads of a run tell of, at some moments of it. Each call may wait, and the thread waits with it. Only
 /// `held` is called with a lock held, the target's.

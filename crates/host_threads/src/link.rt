@@ -10,9 +10,9 @@ use crate::bell::{Fault, Party};
 use crate::passage::Passage;
 use crate::relay::Relay;
 use crate::shared::{Shared, Turn, of_link};
+use guest_script::Script;
 use link_book::LinkBook;
 use migration_events::{Direction, Fate};
-use script::Script;
 use std::sync::Wait;
 
 /// The fates that are left for the packets of a line, one for each of the next. Behind the last each is delivered.

@@ -2,22 +2,21 @@
 
 ghost use Rattle.std.specs.Prelude.{◌≢◌, ℕ, take, OnOk};
 ghost use Rattle.migration_events.specs.Ops.{OpFits};
-ghost use Rattle.guest_book.specs.Books.{part_of as guest_of};
-ghost use Rattle.target_book.specs.Kept.{geometry_of, part_of as target_of};
+ghost use Rattle.target_side.specs.Guests.{part_of as guest_of};
+ghost use Rattle.target_side.specs.Kept.{geometry_of, part_of as target_of};
 ghost use Rattle.host_threads.specs.Operations.{HasDone, IsGuestStep, IsTargetStep};
 
 use crate::bell::{Fault, Party};
 use crate::gate::{Gate, most_at_once};
 use crate::shared::{Shared, of_target};
 use crate::side::TargetSide;
-use guest_book::GuestBook;
+use guest_script::Vcpu;
 use host_checks::{Answered, Transcript};
 use migration_events::Op;
 use migration_types::Seq;
-use pager_book::{Access, TargetBook};
-use script::Vcpu;
 use std::alloc::Global;
 use std::sync::Wait;
+use target_side::{Access, GuestBook, TargetBook};
 
 /// What came of an operation.
 enum Step {

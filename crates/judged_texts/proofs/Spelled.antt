@@ -4,7 +4,7 @@ use Rattle.std.specs.Prelude.{Result, Ok, Err, IfOk}
 use Rattle.std.specs.declared.alloc.AllocError.{AllocError}
 use Rattle.text_lines.specs.Text.{IsSpelling, IsUnambiguous}
 use Rattle.migration_types.specs.Sessions.{Recorded}
-use Rattle.session_text.specs.Grammar.{SpellsSession}
+use Rattle.session_log.specs.Grammar.{SpellsSession}
 use Rattle.migration_types.specs.Certs.{Certified}
 use Rattle.cert_text.specs.Grammar.{SpellsCert}
 use Rattle.audit_model.specs.Mergings.{spelled}

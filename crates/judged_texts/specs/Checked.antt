@@ -3,7 +3,7 @@ use Rattle.std.specs.Prelude.{◌≡◌, ℕ, List}
 use Rattle.text_lines.specs.Text.{IsSpelling, IsRefusalLine}
 use Rattle.migration_types.specs.Certs.{Certified}
 use Rattle.migration_types.specs.Sessions.{Recorded}
-use Rattle.session_text.specs.Grammar.{SpellsSession}
+use Rattle.session_log.specs.Grammar.{SpellsSession}
 use Rattle.cert_text.specs.Grammar.{SpellsCert}
 use Rattle.audit_model.specs.Mergings.{spelled}
 use Rattle.audit_model.specs.World.{IsSafeOrder}

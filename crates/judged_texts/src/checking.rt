@@ -2,7 +2,7 @@
 
 ghost use Rattle.std.specs.Prelude.{◌≡◌, ℕ, List, IfOk};
 ghost use Rattle.text_lines.specs.Answer.{IsRead};
-ghost use Rattle.session_text.specs.Grammar.{SpellsSession};
+ghost use Rattle.session_log.specs.Grammar.{SpellsSession};
 ghost use Rattle.cert_text.specs.Grammar.{SpellsCert};
 ghost use Rattle.audit_model.specs.Mergings.{HasMerging};
 ghost use Rattle.audit_model.specs.World.{IsSafe};
@@ -15,7 +15,7 @@ use cert_check::{EntryJudges, Verdict, check_by, check_par};
 use cert_text::{cert_texts_are_unambiguous, read_cert};
 use migration_types::{Cert, Session};
 use page_facts::{Alone, InThreads};
-use session_text::{read_session, session_texts_are_unambiguous};
+use session_log::{read_session, session_texts_are_unambiguous};
 use std::alloc::{AllocError, Global};
 use std::marker::Sync;
 use std::thread::Threads;

@@ -14,7 +14,7 @@ use crate::judges::{is_small, pages_at_once};
 use crate::looks::first_looks;
 use crate::range_judge::judge_range;
 use migration_types::{PageNo, Session};
-use page_tables::Table;
+use page_store::Table;
 use rayon::current_num_threads;
 use std::alloc::{AllocError, Global};
 use std::marker::Sync;

@@ -2,7 +2,7 @@
 use Rattle.std.proofs.Common.{◌≡◌, ◌∙◌, ℕ, Bool, List, Option, Some, None, Bor, is_some, sym, ap, subst}
 use Rattle.std.specs.Prelude.{false}
 use Rattle.std.specs.Option.{option_map}
-use Rattle.source_book.specs.SourcePart.{SourcePart}
+use Rattle.active_push.specs.SourcePart.{SourcePart}
 use Rattle.link_book.specs.LinkPart.{LinkPart}
 use Rattle.migration_events.specs.declared.events.Event.{Event}
 use Rattle.migration_events.specs.declared.events.Fate.{Fate}

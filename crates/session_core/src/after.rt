@@ -9,17 +9,17 @@ ghost use Rattle.session_core.specs.States.{away_of, IsAfter};
 
 use crate::CoreFault;
 use crate::left::Left;
-use book_events::logs::{LentLogs, logs_of};
+use active_push::SourceBook;
 use book_events::{Came, paging, sending};
+use book_events::logs::{LentLogs, logs_of};
+use guest_script::Script;
 use link_book::LinkBook;
 use migration_events::Event;
 use migration_types::{InitPage, Seq, Session};
-use pager_book::{Access, PagerBook, TargetBook};
-use script::Script;
-use source_book::SourceBook;
 use std::alloc::{AllocError, Global};
 use std::marker::Model;
 use std::mem::drop;
+use target_side::{Access, PagerBook, TargetBook};
 
 /// A migration from its halt on: the books of the source, the link, the pager and the target, and what each virtual
 /// processor has left to do of a script. Contracts see the script, what is left, and the books.

@@ -12,9 +12,9 @@ use crate::CoreFault;
 use crate::before::BeforeHalt;
 use crate::state::State;
 use crate::stepping::step_books;
+use guest_script::Script;
 use migration_events::Event;
 use migration_types::{LogName, Session};
-use script::Script;
 use std::alloc::{AllocError, Global};
 use std::marker::Model;
 

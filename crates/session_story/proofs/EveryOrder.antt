@@ -41,7 +41,7 @@ use Rattle.page_facts.specs.PageFaults.{page_at}
 use Rattle.page_facts.specs.Tables.{first_before}
 use Rattle.page_facts.proofs.Before.{first_none, first_some, IsFirstAt}
 use Rattle.page_facts.proofs.RightEntry.{late_first}
-use Rattle.paged.specs.Paged.{guest_page, pager_page}
+use Rattle.migration_types.specs.Paged.{guest_page, pager_page}
 use Rattle.migration_types.specs.declared.cert.Run.{Run}
 use Rattle.page_facts.specs.declared.page_fault.PageFault.{PageFault}
 use Rattle.audit_report.specs.declared.report.Report.{Report}

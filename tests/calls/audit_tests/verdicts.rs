@@ -6,7 +6,7 @@ use cert_check::{ShapeFault, Verdict, check, check_par, shape};
 use cert_text::read_cert;
 use judged_texts::{check_texts, check_texts_alone};
 use migration_types::{Cert, LogName, Session};
-use session_text::read_session;
+use session_log::read_session;
 use std::alloc::Global;
 use std::marker::Sync;
 use std::thread::Threads;

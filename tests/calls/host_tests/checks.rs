@@ -1,12 +1,11 @@
 //! What a run of a script could leave, whole or with something wrong, and what is told of it.
 
+use audit_report::print_first_line;
+use guest_script::{Script, read_script};
 use host_checks::{Answered, RunFault, Transcript, session_of, settle};
 use migration_events::Op;
 use migration_types::{Contents, GuestRec, LinkRec, Logs, PageNo, PagerRec, Seq, SourceRec};
 use page_store::Store;
-use report_text::print_first_line;
-use script::Script;
-use script_text::read_script;
 use std::alloc::{AllocError, Global};
 use std::thread::Threads;
 
