@@ -19,7 +19,7 @@ fn page(number: u32) -> Packet {
     Packet::Page {
         number,
         page: PageNo::new(1),
-        contents: Contents::one(7),
+        cells: Contents::one(7),
     }
 }
 
@@ -113,9 +113,9 @@ fn pushes_within_the_window_of_the_line_that_it_takes(rt: HostRuntime) -> Result
 fn is_of(geometry: Geometry, packet: &Packet) -> bool {
     match packet {
         Packet::State { released, .. } => released.as_slice().is_empty(),
-        Packet::Page { page, contents, .. } => {
+        Packet::Page { page, cells, .. } => {
             page.number() < geometry.pages()
-                && contents.as_slice().len() == geometry.cells() as usize
+                && cells.as_slice().len() == geometry.cells() as usize
         }
         Packet::Want { .. } | Packet::All { .. } => true,
     }

@@ -59,7 +59,7 @@ fn is_page_written(alloc: Global, page: u32) -> bool {
     let packet = Packet::Page {
         number: 3,
         page: PageNo::new(page),
-        contents: Contents::one(5),
+        cells: Contents::one(5),
     };
     is_written(alloc, &packet, &PAGE)
 }

@@ -59,7 +59,7 @@ fn page_comes(pager: &mut PagerBook) -> Result<(), TargetFault> {
     let packet = Packet::Page {
         number: 5,
         page: PageNo::new(1),
-        contents: Contents::one(7),
+        cells: Contents::one(7),
     };
     pager.pop(3, &packet)
 }

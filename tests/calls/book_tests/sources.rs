@@ -32,8 +32,8 @@ fn is_page(packet: &Packet, given: (u32, u32, u64)) -> bool {
         Packet::Page {
             number: n,
             page: p,
-            contents,
-        } => *n == number && p.number() == page && contents.as_slice() == [cell].as_slice(),
+            cells,
+        } => *n == number && p.number() == page && cells.as_slice() == [cell].as_slice(),
         _ => false,
     }
 }
