@@ -1,7 +1,7 @@
 use Rattle.std.proofs.Common.{◌≡◌, None, sym, ◌∙◌}
 use Rattle.page_store.specs.Tables.{values}
 use Rattle.page_store.proofs.Noting.{none_is, noted_is}
-use Rattle.page_store.proofs.Table+Option+u32.note.Goals as goal
+use Rattle.page_store.proofs.tables.Table+Option+u32.note.Goals as goal
 
 pub returns-then-is_none : goal.returns-then-is_none
 returns-then-is_none c =

@@ -1,7 +1,7 @@
 use Rattle.std.proofs.Common.{refl, ap, sym, ◌∙◌}
 use Rattle.page_store.specs.Tables.{marked_if, values}
 use Rattle.page_store.proofs.Noting.{marked_is, unmarked_is}
-use Rattle.page_store.proofs.Table+bool.mark_if.Goals as goal
+use Rattle.page_store.proofs.tables.Table+bool.mark_if.Goals as goal
 
 pub returns-then-test : goal.returns-then-test
 returns-then-test c =
