@@ -11,8 +11,8 @@ returns-in_default c =
     let d = draft_of c.args.self in
     record { found = tt; none = not_whole c.args.stage d (held_onto c.args.stage d []) refl c.requires c.in_default.not-Done }
 
-pub new-requires-in-Ok : goal.new-requires-in-Ok
-new-requires-in-Ok c =
+pub new-requires : goal.new-requires
+new-requires c =
     let d = draft_of c.args.self in
     let whole = whole_fits d (live_at c.args.stage Done d c.in-Done.is c.requires).0 in
     let lists = c.into_lists-init.ensures in
