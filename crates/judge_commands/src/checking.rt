@@ -11,7 +11,7 @@ ghost use Rattle.judge_commands.specs.Answers.{AddsMisfitOf, IsVerdictTold, verd
 ghost use Rattle.judge_commands.specs.Noted.{TellsNoUse};
 
 use crate::forms::TellsVerdict;
-use crate::misfits::push_misfit;
+use crate::misfit_words::push_misfit;
 use crate::noting::note_on;
 use audit_report::{push_refused_certificate, push_refused_session, push_shape};
 use cert_check::Verdict;

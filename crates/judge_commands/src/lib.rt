@@ -7,7 +7,7 @@ mod completing;
 mod forms;
 mod misfit_entries;
 mod misfit_runs;
-mod misfits;
+mod misfit_words;
 mod noting;
 mod replaying;
 mod reports;

@@ -30,7 +30,7 @@ use Rattle.session_log.proofs.ByVersion.{one_version, lane_is, lane_whole, lane_
 use Rattle.session_log.proofs.Goes.{pages_from, pages_fit, pages_count, pages_rise, rise_append, no_rest}
 use Rattle.session_log.proofs.Laws.{held_append, extent, guest_part, source_part, link_part, lane_part, pager_part, pager_lines, lane_lines, link_lines, source_lines, guest_lines}
 use Rattle.recordings.specs.inner.Held.{SessionDraft, Part, IsWhole, held_onto, recorded_of, most_count, StartFits, InitFits, LogFits, GuestFits, SourceFits, LinkFits, LaneFits, PagerFits, Live}
-use Rattle.recordings.proofs.Laws.{init_agrees, guest_agrees, source_agrees, link_agrees, lane_agrees, pager_agrees}
+use Rattle.recordings.proofs.TextLaws.{init_agrees, guest_agrees, source_agrees, link_agrees, lane_agrees, pager_agrees}
 
 -- all items of a list came
 pub all_came : {Y : Type 0} (part : Part Y) (came left : ℕ) → left ≡ 0 → came ≡ length part.items → came + left ≡ part.count → IsWhole part

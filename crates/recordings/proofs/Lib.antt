@@ -2,7 +2,7 @@ pub mod Fitting
 pub mod Lines
 pub mod Small
 pub mod Tells
-pub mod Laws
+pub mod TextLaws
 pub mod Goes
 pub mod Refusing
 pub mod Taking

@@ -26,7 +26,7 @@ use Rattle.recordings.specs.declared.place.Stage.{Stage}
 use Rattle.recordings.specs.declared.place.Stage.TheVariants.{InitCount, Init, Guest, Source, Link, Lane, Pager, Done}
 use Rattle.recordings.specs.inner.Held.{Part, most_count, StartFits, GuestFits, SourceFits, LinkFits, LaneFits, recorded_of}
 use Rattle.recordings.specs.inner.Stands.{Taken, Refuses, Steps, draft_of, announcing, behind_one}
-use Rattle.recordings.proofs.Laws.{page_push, up_to}
+use Rattle.recordings.proofs.TextLaws.{page_push, up_to}
 use Rattle.recordings.proofs.Goes.{all_came}
 use Rattle.recordings.proofs.Refusing.{init_count_refuses, closing_refuses}
 

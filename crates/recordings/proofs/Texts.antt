@@ -19,7 +19,7 @@ use Rattle.recordings.proofs.Lines.{IsText, init_text, guest_text, source_text, 
 use Rattle.session_log.specs.Records.{guest_line, source_line, link_line, lane_line, pager_line}
 use Rattle.session_log.specs.Grammar.{header, pages_key, cells_key, init_key, guest_key, source_key, link_key, lane_key, pager_key, page_line, with_lane, closing, counted}
 use Rattle.session_log.proofs.Laws.{pager_lines, lane_lines, link_lines, source_lines, guest_lines}
-use Rattle.recordings.proofs.Laws.{few_init}
+use Rattle.recordings.proofs.TextLaws.{few_init}
 
 abbrev IsShort : List ℕ → Type 0
 IsShort line = IsText longest_line line

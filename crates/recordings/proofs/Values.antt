@@ -23,7 +23,7 @@ use Rattle.session_log.specs.Grammar.{page_line, closing, session_lines}
 use Rattle.session_log.proofs.Values.{drafted, whole_log, same_list, recorded_same}
 use Rattle.session_log.proofs.Laws.{held_append, guest_part, source_part, link_part, lane_part, pager_part, guest_lines, source_lines, link_lines, lane_lines, pager_lines}
 use Rattle.recordings.specs.inner.Held.{most_count, StartFits, GuestFits, SourceFits, LinkFits, LaneFits, PagerFits}
-use Rattle.recordings.proofs.Laws.{up_to, init_agrees, guest_agrees, source_agrees, link_agrees, lane_agrees, pager_agrees}
+use Rattle.recordings.proofs.TextLaws.{up_to, init_agrees, guest_agrees, source_agrees, link_agrees, lane_agrees, pager_agrees}
 use Rattle.recordings.proofs.Goes.{done_spells}
 use Rattle.recordings.proofs.Texts.{plain_recording}
 

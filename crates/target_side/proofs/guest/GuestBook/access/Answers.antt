@@ -3,7 +3,7 @@ use Rattle.migration_types.specs.declared.records.GuestRec.{GuestRec}
 use Rattle.migration_events.specs.Ops.{OpFits}
 use Rattle.target_side.specs.GuestPart.{guest_access}
 use Rattle.target_side.specs.Guests.{GuestKept, part_of}
-use Rattle.target_side.specs.contracts.book.GuestBook.{the_view}
+use Rattle.target_side.specs.contracts.guest.GuestBook.{the_view}
 use Rattle.target_side.proofs.GuestKeeping.{access_part, access_keeps}
 use Rattle.target_side.proofs.guest.GuestBook.access.Goals as goal
 
