@@ -98,6 +98,17 @@ impl TargetBook {
         self.state.access(vcpu, &op)
     }
 
+    /// Whether the log has room for what an operation of a virtual processor appends. Takes no memory.
+    pub fn look_to_access(&self, vcpu: u8, op: &Op) -> Result<(), TargetFault>
+        requires { OpFits (geometry_of self.now) op.now }
+        ensures room { OnOk result (length (target_access vcpu op.now (part_of self.now)).book.log ≤ most_records) }
+        ensures full { OnErr result (most_records < length (target_access vcpu op.now (part_of self.now)).book.log) }
+        ensures memory { IsErrOf result TargetFault.Memory → ⊥ }
+    {
+        let more = self.state.records_of_access(vcpu, op);
+        look_for_room(&self.state.log, more)
+    }
+
     /// The guest resumes at the target, which is recorded. `TargetFault::LogFull` exactly where the log has no room for
     /// the record, `TargetFault::Memory` where it has, and there is no memory for it. On an error nothing changes.
     pub fn resume(&mut self) -> Result<(), TargetFault>

@@ -49,6 +49,15 @@ impl PagerBook {
         }
     }
 
+    /// Whether the log that gains a record of a delivery has room for it. Takes no memory.
+    pub fn look_to_deliver(&self, target: &TargetBook) -> Result<(), TargetFault>
+        ensures room { OnOk result (let after = deliver (part_of self.now) (target_of target.now) in (length after.pager.log ≤ most_records) × (length after.target.log ≤ most_records)) }
+        ensures full { OnErr result (let after = deliver (part_of self.now) (target_of target.now) in (most_records < length after.pager.log) ⊎ (most_records < length after.target.log)) }
+        ensures memory { IsErrOf result TargetFault.Memory → ⊥ }
+    {
+        self.look_to_bring(target)
+    }
+
     /// Whether the log that gains a record has room for it, where the guest resumes or a page has come. Takes no memory.
     fn look_to_bring(&self, target: &TargetBook) -> Result<(), TargetFault>
         ensures room { OnOk result (let after = delivers_by self.now.released (part_of self.now) (target_of target.now) in (length after.pager.log ≤ most_records) × (length after.target.log ≤ most_records)) }

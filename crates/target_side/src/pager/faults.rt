@@ -46,7 +46,7 @@ impl PagerBook {
     }
 
     /// Whether the log has room for what a miss appends once the pages are settled. Takes no memory.
-    fn look_to_fault(&self, target: &TargetBook) -> Result<(), TargetFault>
+    pub fn look_to_fault(&self, target: &TargetBook) -> Result<(), TargetFault>
         requires { geometry_of target.now ≡ self.now.geometry }
         ensures room { OnOk result (length (next_fault (part_of self.now) (target_of target.now)).pager.log ≤ most_records) }
         ensures full { OnErr result (most_records < length (next_fault (part_of self.now) (target_of target.now)).pager.log) }
