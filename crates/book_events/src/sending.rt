@@ -57,7 +57,11 @@ pub fn look_to_push(
 fn under_way(link: &LinkBook, has_lane: bool) -> usize
     ensures { result ≡ length (pushed_line has_lane link.now.part) }
 {
-    if has_lane { link.lane_len() } else { link.down_len() }
+    if has_lane {
+        link.lane_len()
+    } else {
+        link.down_len()
+    }
 }
 
 /// Offers a packet behind the others of the lane, or behind those that are under way down.

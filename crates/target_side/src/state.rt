@@ -132,7 +132,11 @@ impl State {
         ensures few { result ≤ 1 }
         ensures count { (page : ℕ) → length (misses_page vcpu page (part_held (held self.now))).book.log ≡ length self.now.log.items + result }
     {
-        if self.standing[usize::from(vcpu)] { 0 } else { 1 }
+        if self.standing[usize::from(vcpu)] {
+            0
+        } else {
+            1
+        }
     }
 
     /// An operation on a page that was absent when the guest released it.

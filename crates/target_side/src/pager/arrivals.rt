@@ -7,13 +7,13 @@ ghost use Rattle.audit_model.specs.Shape.{is_taking};
 ghost use Rattle.target_side.specs.PagerPart.{pager_pop, pager_pull, pops_first, takes};
 ghost use Rattle.target_side.specs.PagerLists.{part_of, IsPacketOf};
 
-use crate::{Incoming, TargetFault};
+use super::PagerBook;
 use crate::log::append;
 use crate::marks::mark_all;
+use crate::{Incoming, TargetFault};
 use migration_events::{look_for_room, make_room};
 use migration_types::{Contents, PageNo, PagerRec, Shared};
 use page_stream::Packet;
-use super::PagerBook;
 
 impl PagerBook {
     /// Takes what the link's record of this number delivered down: the state, the first time, which makes the pager

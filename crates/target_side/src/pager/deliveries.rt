@@ -10,12 +10,12 @@ ghost use Rattle.target_side.specs.PagerPart.{deliver, delivers_by};
 ghost use Rattle.target_side.specs.PagerLists.{part_of};
 ghost use Rattle.target_side.specs.inner.Steps.{skips, places_next};
 
-use crate::{TargetBook, TargetFault};
+use super::PagerBook;
 use crate::log::append;
+use crate::{TargetBook, TargetFault};
 use migration_events::{look_for_room, make_room};
 use migration_types::{PagerRec, Seq};
 use std::alloc::Global;
-use super::PagerBook;
 
 impl PagerBook {
     /// Settles the pages that the guest released at the target before they came: nobody waits for them any more, and

@@ -9,13 +9,13 @@ ghost use Rattle.target_side.specs.PagerPart.{next_fault, faults_by, fault_at, z
 ghost use Rattle.target_side.specs.PagerLists.{part_of};
 ghost use Rattle.target_side.specs.inner.Steps.{learned, asks};
 
-use crate::{Missing, TargetBook, TargetFault};
+use super::{PagerBook, want_page};
 use crate::log::append;
+use crate::{Missing, TargetBook, TargetFault};
 use fault_queue::Asked;
 use migration_events::{look_for_room, make_room};
 use migration_types::PagerRec;
 use page_stream::Packet;
-use super::{PagerBook, want_page};
 
 impl PagerBook {
     /// Settles the pages that the guest released at the target before they came: nobody waits for them any more. Then

@@ -18,8 +18,8 @@ returns-clause-room c =
     let at = read_at c.self.inside.vcpus.items c.deref.result.now c.from.result c.args.vcpu c.in-Some.left.now c.deref.ensures.value c.from.ensures c.in-Some.ensures.lookup.3.0 c.in-Some.ensures.lookup.1 in
     let goes = late_goes c.args.vcpu c.in-Some.left.now (next c.in-Some-late.op c.in-Some-late.field-0-1) a r at (sym c.in-Some-late.ensures) refl in
     if_ok c.look_to_access.result (λ few.
-        subst (λ (v : AfterLists). has_room (session_after (away_step c.args.vcpu (slice_get v.vcpus c.args.vcpu) (away_of v))) ≡ true) c.self.view_is
-        (subst (λ (b : BooksAfter). has_room (session_after b) ≡ true) goes (step_fits c.args.vcpu c.in-Some-late.field-0-1 r a few room)))
+    subst (λ (v : AfterLists). has_room (session_after (away_step c.args.vcpu (slice_get v.vcpus c.args.vcpu) (away_of v))) ≡ true) c.self.view_is
+    (subst (λ (b : BooksAfter). has_room (session_after b) ≡ true) goes (step_fits c.args.vcpu c.in-Some-late.field-0-1 r a few room)))
     c.look_to_access.ensures.room
 
 pub returns-clause-full : goal.returns-clause-full
@@ -30,6 +30,6 @@ returns-clause-full c =
     let at = read_at c.self.inside.vcpus.items c.deref.result.now c.from.result c.args.vcpu c.in-Some.left.now c.deref.ensures.value c.from.ensures c.in-Some.ensures.lookup.3.0 c.in-Some.ensures.lookup.1 in
     let goes = late_goes c.args.vcpu c.in-Some.left.now (next c.in-Some-late.op c.in-Some-late.field-0-1) a r at (sym c.in-Some-late.ensures) refl in
     if_err c.look_to_access.result (λ long.
-        subst (λ (v : AfterLists). has_room (session_after (away_step c.args.vcpu (slice_get v.vcpus c.args.vcpu) (away_of v))) ≡ false) c.self.view_is
-        (subst (λ (b : BooksAfter). has_room (session_after b) ≡ false) goes (step_full c.args.vcpu c.in-Some-late.field-0-1 r a long)))
+    subst (λ (v : AfterLists). has_room (session_after (away_step c.args.vcpu (slice_get v.vcpus c.args.vcpu) (away_of v))) ≡ false) c.self.view_is
+    (subst (λ (b : BooksAfter). has_room (session_after b) ≡ false) goes (step_full c.args.vcpu c.in-Some-late.field-0-1 r a long)))
     c.look_to_access.ensures.full
