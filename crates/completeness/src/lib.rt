@@ -7,6 +7,7 @@
 //! of these that is missing.
 #![tactic(auto)]
 
+mod ending;
 mod missing;
 mod pages;
 mod searching;
