@@ -24,13 +24,25 @@ struct Done {
 /// The next operation of a virtual processor at the source, if there is one.
 fn next_before(script: &Script, done: &Done, vcpu: u8) -> Option<Op> {
     let vcpu = usize::from(vcpu);
-    script.vcpus().get(vcpu)?.before_move.as_slice().get(done.before[vcpu]).copied()
+    script
+        .vcpus()
+        .get(vcpu)?
+        .before_move
+        .as_slice()
+        .get(done.before[vcpu])
+        .copied()
 }
 
 /// The next operation of a virtual processor at the target, if there is one.
 fn next_after(script: &Script, done: &Done, vcpu: u8) -> Option<Op> {
     let vcpu = usize::from(vcpu);
-    script.vcpus().get(vcpu)?.after_move.as_slice().get(done.after[vcpu]).copied()
+    script
+        .vcpus()
+        .get(vcpu)?
+        .after_move
+        .as_slice()
+        .get(done.after[vcpu])
+        .copied()
 }
 
 /// The books at the target.
@@ -146,7 +158,10 @@ fn room(refuser: Refuser, link: &mut LinkBook) -> Option<()> {
 fn offer_down(refuser: Refuser, link: &mut LinkBook, packet: Packet, front: bool) -> Option<()> {
     room(refuser, link)?;
     let len = link.down_len();
-    refuser.none("link_book::LinkBook::offer_down", || link.offer_down(packet, front));
+    refuser.none(
+        "link_book::LinkBook::offer_down",
+        || link.offer_down(packet, front),
+    );
     let after = refuser.none("link_book::LinkBook::down_len", || link.down_len());
     refuser.right(after == len + 1);
     Some(())
@@ -165,7 +180,10 @@ fn turn(refuser: Refuser, link: &mut LinkBook, event: Event) -> Option<()> {
     let Event::LinkTurn { direction, fate } = event else {
         return None;
     };
-    refuser.none("link_book::LinkBook::head", || link.head(direction).is_some());
+    refuser.none(
+        "link_book::LinkBook::head",
+        || link.head(direction).is_some(),
+    );
     let seen = seen_on_link(link);
     refuser.each_on(
         "link_book::LinkBook::turn",
@@ -224,7 +242,10 @@ impl<'a> Migration<'a> {
             || GuestBook::new(alloc, geometry, script.init()),
             |guest: &GuestBook| guest.geometry() == geometry,
         )?;
-        let len = refuser.none("target_side::GuestBook::guest_log", || guest.guest_log().len());
+        let len = refuser.none(
+            "target_side::GuestBook::guest_log",
+            || guest.guest_log().len(),
+        );
         refuser.right(len == 0);
         let pager = refuser.each(
             "target_side::PagerBook::new",
@@ -300,6 +321,7 @@ impl<'a> Migration<'a> {
                         self.refuser.refused(&fault, back.guest_log().len() == len);
                         guest = back;
                     }
+                    Outcome::GaveUp(_) => return None,
                 }
             }
         }
@@ -311,7 +333,12 @@ impl<'a> Migration<'a> {
             return Some(());
         }
         let name = "active_push::SourceBook::push";
-        match offered(self.refuser, name, source, |source: &mut SourceBook| source.push())? {
+        match offered(
+            self.refuser,
+            name,
+            source,
+            |source: &mut SourceBook| source.push(),
+        )? {
             Some(packet) => offer_down(self.refuser, &mut self.link, packet, false),
             None => Some(()),
         }
@@ -319,7 +346,12 @@ impl<'a> Migration<'a> {
 
     fn source_tick(&mut self, source: &mut SourceBook) -> Option<()> {
         let name = "active_push::SourceBook::tick";
-        match offered(self.refuser, name, source, |source: &mut SourceBook| source.tick())? {
+        match offered(
+            self.refuser,
+            name,
+            source,
+            |source: &mut SourceBook| source.tick(),
+        )? {
             Some(packet) => offer_down(self.refuser, &mut self.link, packet, false),
             None => Some(()),
         }
@@ -336,7 +368,10 @@ impl<'a> Migration<'a> {
         let answer = offered(refuser, name, source, |source: &mut SourceBook| {
             source.serve(number, packet)
         })?;
-        refuser.none("link_book::LinkBook::pop_up", || self.link.pop_up().is_some());
+        refuser.none(
+            "link_book::LinkBook::pop_up",
+            || self.link.pop_up().is_some(),
+        );
         match answer {
             Some(packet) => offer_down(refuser, &mut self.link, packet, true),
             None => Some(()),
@@ -358,7 +393,10 @@ impl<'a> Migration<'a> {
             |there: &AtTarget| there.seen() == seen,
         )?;
         refuser.right(true);
-        refuser.none("link_book::LinkBook::pop_down", || self.link.pop_down().is_some());
+        refuser.none(
+            "link_book::LinkBook::pop_down",
+            || self.link.pop_down().is_some(),
+        );
         Some(())
     }
 
@@ -385,7 +423,8 @@ impl<'a> Migration<'a> {
             |there: &mut AtTarget| there.pager.deliver(&mut there.target),
             |there: &AtTarget| there.seen() == seen,
         )?;
-        self.refuser.right(page.is_some() || woken.as_slice().is_empty());
+        self.refuser
+            .right(page.is_some() || woken.as_slice().is_empty());
         Some(())
     }
 
@@ -446,8 +485,14 @@ impl<'a> Migration<'a> {
 /// The books' logs are looked at without memory. Their lengths.
 fn looked_at(refuser: Refuser, after: &After, link: &LinkBook) -> [usize; 4] {
     let AtTarget { pager, target } = &after.there;
-    let guest = refuser.none("target_side::TargetBook::guest_log", || target.guest_log().len());
-    let pager = refuser.none("target_side::PagerBook::pager_log", || pager.pager_log().len());
+    let guest = refuser.none(
+        "target_side::TargetBook::guest_log",
+        || target.guest_log().len(),
+    );
+    let pager = refuser.none(
+        "target_side::PagerBook::pager_log",
+        || pager.pager_log().len(),
+    );
     let source = refuser.none("active_push::SourceBook::source_log", || {
         after.source.source_log().len()
     });
@@ -478,7 +523,14 @@ fn session_of(refuser: Refuser, script: &Script, after: After, link: LinkBook) -
         target.into_parts()
     });
     let (link, lane) = link.into_logs();
-    refuser.right(lens == [guest.len(), source.source_log().len(), link.len(), pager.pager_log().len()]);
+    refuser.right(
+        lens == [
+            guest.len(),
+            source.source_log().len(),
+            link.len(),
+            pager.pager_log().len(),
+        ],
+    );
     let logs = Logs {
         guest: Seq::from_vec(guest),
         source: Seq::from_vec(source.into_log()),
@@ -535,7 +587,12 @@ fn halted(refuser: Refuser, script: &Script) -> Option<()> {
     let name = "active_push::SourceBook::halted";
     for n in 1..MOST {
         for which in WHICH {
-            match refuser.once(name, n, which, || SourceBook::halted(alloc, store, ledger, 7, 2)) {
+            match refuser.once(
+                name,
+                n,
+                which,
+                || SourceBook::halted(alloc, store, ledger, 7, 2),
+            ) {
                 Outcome::Answered((book, packet)) | Outcome::WentOn((book, packet)) => {
                     refuser.right(is_state(&packet, last) && book.source_log().len() == 2);
                     return Some(());
@@ -546,6 +603,7 @@ fn halted(refuser: Refuser, script: &Script) -> Option<()> {
                     store = frames;
                     ledger = released;
                 }
+                Outcome::GaveUp(_) => return None,
             }
         }
     }
@@ -565,7 +623,11 @@ fn is_state(packet: &Packet, page: PageNo) -> bool {
 /// Makes the calls.
 pub fn make(refuser: Refuser, examples: &Examples) -> Option<()> {
     ticked(refuser, &examples.script("two-wait-for-a-page/script")?)?;
-    for folder in ["two-wait-for-a-page", "released-and-pushed", "lost-and-repeated"] {
+    for folder in [
+        "two-wait-for-a-page",
+        "released-and-pushed",
+        "lost-and-repeated",
+    ] {
         let alloc = refuser.alloc();
         let script = examples.script(format!(in alloc; "{folder}/script").ok()?.as_str())?;
         let events = examples.events(format!(in alloc; "{folder}/events").ok()?.as_str())?;

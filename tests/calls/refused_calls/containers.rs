@@ -1,6 +1,6 @@
 //! The calls of geometries and of the containers.
 
-use crate::refusing::Refuser;
+use crate::refusing::{Refuser, all};
 use balloon_ledger::Ledger;
 use bubbling::Bubbles;
 use fault_queue::{Asked, FaultQueue, QueueFault};
@@ -78,7 +78,10 @@ fn placed(refuser: Refuser, geometry: Geometry) -> Option<()> {
     refuser.none("residency::Residency::mark", || pages.mark(second, 5));
     let is_resident = refuser.none("residency::Residency::resident", || pages.resident(second));
     refuser.right(is_resident && !pages.resident(first));
-    let at = refuser.none("residency::Residency::placed_at", || pages.placed_at(second));
+    let at = refuser.none(
+        "residency::Residency::placed_at",
+        || pages.placed_at(second),
+    );
     refuser.right(at == Some(5));
     refuser.none("residency::Residency::saw", || pages.saw(6));
     let frontier = refuser.none("residency::Residency::frontier", || pages.frontier());
@@ -103,7 +106,10 @@ fn pushed(refuser: Refuser) -> Option<()> {
         bubbles.mark_sent(PageNo::new(5))
     });
     refuser.right(was_unsent);
-    refuser.none("bubbling::Bubbles::fault_at", || bubbles.fault_at(PageNo::new(5)));
+    refuser.none(
+        "bubbling::Bubbles::fault_at",
+        || bubbles.fault_at(PageNo::new(5)),
+    );
     let left = refuser.none("bubbling::Bubbles::left", || bubbles.left());
     refuser.right(left == 6);
     for wanted in [6, 1, 4, 2, 7, 3] {
@@ -157,9 +163,11 @@ pub fn make(refuser: Refuser) -> Option<()> {
     let made = refuser.none("migration_types::Geometry::new", || Geometry::new(2, 1));
     refuser.right(made.is_ok());
     let geometry = made.ok()?;
-    frames(refuser, geometry)?;
-    released(refuser, geometry)?;
-    placed(refuser, geometry)?;
-    pushed(refuser)?;
-    waiting(refuser)
+    all(&[
+        frames(refuser, geometry),
+        released(refuser, geometry),
+        placed(refuser, geometry),
+        pushed(refuser),
+        waiting(refuser),
+    ])
 }

@@ -59,7 +59,11 @@ fn stepped(refuser: Refuser, script: &Script, events: &[Event], text: &[u8]) -> 
 
 /// Makes the calls.
 pub fn make(refuser: Refuser, examples: &Examples) -> Option<()> {
-    for folder in ["two-wait-for-a-page", "released-and-pushed", "lost-and-repeated"] {
+    for folder in [
+        "two-wait-for-a-page",
+        "released-and-pushed",
+        "lost-and-repeated",
+    ] {
         let alloc = refuser.alloc();
         let script = examples.script(format!(in alloc; "{folder}/script").ok()?.as_str())?;
         let events = examples.events(format!(in alloc; "{folder}/events").ok()?.as_str())?;

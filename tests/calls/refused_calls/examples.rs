@@ -1,10 +1,10 @@
 //! The texts of the examples.
 
+use cert_text::read_cert;
 use guest_script::{Script, read_events, read_script};
 use migration_events::Event;
 use migration_types::{Cert, Seq, Session};
 use session_log::read_session;
-use cert_text::read_cert;
 use std::alloc::Global;
 use std::fs;
 

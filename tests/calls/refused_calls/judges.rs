@@ -1,7 +1,7 @@
 //! The calls that judge a session.
 
 use crate::examples::Examples;
-use crate::refusing::{MOST, Outcome, Refuser, WHICH};
+use crate::refusing::{MOST, Outcome, Refuser, WHICH, Which};
 use audit_report::{Report, audit, print_report};
 use cert_check::{ShapeFault, Verdict, check, check_par, shape};
 use cert_maker::{Order, find_order, make as make_cert};
@@ -96,12 +96,18 @@ fn certified(refuser: Refuser, session: &Session, cert: &Cert) -> Option<()> {
     for n in 1..MOST {
         for which in WHICH {
             let runs = Seq::from_vec(Vec::from_slice(alloc, cert.runs()).ok()?);
-            match refuser.once("cert_maker::make", n, which, || make_cert(alloc, session, runs)) {
+            match refuser.once(
+                "cert_maker::make",
+                n,
+                which,
+                || make_cert(alloc, session, runs),
+            ) {
                 Outcome::Answered(made) | Outcome::WentOn(made) => {
                     refuser.right(are_same(&made, cert));
                     return Some(());
                 }
                 Outcome::Refused(fault) => refuser.refused(&fault, true),
+                Outcome::GaveUp(_) => return None,
             }
         }
     }
@@ -178,13 +184,16 @@ fn wide<R: Threads + Sync>(rt: &R, refuser: Refuser) -> Option<()> {
     let alloc = refuser.alloc();
     let session = read_session(alloc, WIDE).ok()?;
     let cert = plain_cert(alloc, &session)?;
-    refuser.each(
+    let alone = [Which::Alone];
+    refuser.each_of(
         "cert_check::check_par",
+        &alone,
         || check_par(rt, alloc, &session, &cert),
         |verdict: &Verdict| *verdict == Verdict::Yes,
     )?;
-    refuser.each(
+    refuser.each_of(
         "audit_report::audit",
+        &alone,
         || audit(rt, alloc, &session),
         |report: &Report| is_clean(report, &cert),
     )?;
@@ -212,11 +221,24 @@ pub fn make<R: Threads + Sync>(rt: &R, refuser: Refuser, examples: &Examples) ->
     let told = examples.text("early-access/stdout")?;
     audited(rt, refuser, &session, told.as_slice())?;
     let runs = examples.text("replayed/runs")?;
-    replayed(refuser, &examples.session("replayed/session")?, runs.as_slice(), None)?;
+    replayed(
+        refuser,
+        &examples.session("replayed/session")?,
+        runs.as_slice(),
+        None,
+    )?;
     let runs = examples.text("replayed-too-early/runs")?;
     let session = examples.session("replayed-too-early/session")?;
-    let line = refuser.none("migration_types::line_of", || line_of(&session, LogName::Guest, 6));
+    let line = refuser.none(
+        "migration_types::line_of",
+        || line_of(&session, LogName::Guest, 6),
+    );
     refuser.right(line == 13);
-    replayed(refuser, &session, runs.as_slice(), Some((LogName::Guest, 6)))?;
+    replayed(
+        refuser,
+        &session,
+        runs.as_slice(),
+        Some((LogName::Guest, 6)),
+    )?;
     wide(rt, refuser)
 }

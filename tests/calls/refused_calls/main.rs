@@ -16,7 +16,7 @@ mod refusing;
 mod texts;
 
 use crate::examples::Examples;
-use crate::refusing::Refuser;
+use crate::refusing::{Refuser, all};
 use anyhow::Result;
 use std::env;
 use std::marker::Sync;
@@ -24,19 +24,21 @@ use std::net::{Net, TcpListener, TcpStream};
 use std::sync::Wait;
 use std::thread::Threads;
 
-/// Makes all calls. None where something without which they are not made was not there.
+/// Makes all calls. None where some of them were not made, as something that they need was not there.
 fn make_all<R: Threads + Wait + Sync + Net<Listener = TcpListener, Stream = TcpStream>>(
     rt: &R,
     refuser: Refuser,
     examples: &Examples,
 ) -> Option<()> {
-    containers::make(refuser)?;
-    packets::make(refuser)?;
-    texts::make(refuser, examples)?;
-    judges::make(rt, refuser, examples)?;
-    books::make(refuser, examples)?;
-    cores::make(refuser, examples)?;
-    hosts::make(rt, refuser, examples)
+    all(&[
+        containers::make(refuser),
+        packets::make(refuser),
+        texts::make(refuser, examples),
+        judges::make(rt, refuser, examples),
+        books::make(refuser, examples),
+        cores::make(refuser, examples),
+        hosts::make(rt, refuser, examples),
+    ])
 }
 
 fn main(rt: HostRuntime) -> Result<()> {

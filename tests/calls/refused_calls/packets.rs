@@ -10,9 +10,9 @@ use std::io::{Read, Write};
 /// A state with no released page, one that releases page 1, page 0 with the value 5, a want of page 0, and that all pages are
 /// placed.
 const FIVE: [u8; 73] = [
-    0, 0, 0, 9, 1, 0, 0, 0, 1, 0, 0, 0, 0, 0, 0, 0, 13, 1, 0, 0, 0, 1, 0, 0, 0, 1, 0, 0, 0, 1, 0, 0,
-    0, 17, 2, 0, 0, 0, 3, 0, 0, 0, 0, 0, 0, 0, 0, 0, 0, 0, 5, 0, 0, 0, 9, 3, 0, 0, 0, 3, 0, 0, 0, 0,
-    0, 0, 0, 5, 4, 0, 0, 0, 9,
+    0, 0, 0, 9, 1, 0, 0, 0, 1, 0, 0, 0, 0, 0, 0, 0, 13, 1, 0, 0, 0, 1, 0, 0, 0, 1, 0, 0, 0, 1, 0,
+    0, 0, 17, 2, 0, 0, 0, 3, 0, 0, 0, 0, 0, 0, 0, 0, 0, 0, 0, 5, 0, 0, 0, 9, 3, 0, 0, 0, 3, 0, 0,
+    0, 0, 0, 0, 0, 5, 4, 0, 0, 0, 9,
 ];
 
 /// Where each of them ends.
@@ -66,7 +66,8 @@ fn written(refuser: Refuser, geometry: Geometry) -> Option<()> {
 fn bytes_of(alloc: Global, packets: &[Packet]) -> Option<Vec<u8>> {
     let mut out = Vec::new(alloc);
     for packet in packets {
-        out.extend_from_slice(encode(alloc, packet).ok()?.as_slice()).ok()?;
+        out.extend_from_slice(encode(alloc, packet).ok()?.as_slice())
+            .ok()?;
     }
     Some(out)
 }

@@ -95,6 +95,17 @@ pub enum Outcome<T, E> {
     WentOn(T),
     /// It answered a fault.
     Refused(E),
+    /// It answered a fault, and no growth of it was refused.
+    GaveUp(E),
+}
+
+/// Whether all of these were made. Where one was not, the others were all the same.
+pub fn all(made: &[Option<()>]) -> Option<()> {
+    if made.iter().all(|made| made.is_some()) {
+        Some(())
+    } else {
+        None
+    }
 }
 
 /// Has growths refused.
@@ -157,7 +168,11 @@ impl Refuser {
                 self.tell(b"went on\n");
                 Outcome::WentOn(answer)
             }
-            (Err(fault), _) => Outcome::Refused(fault),
+            (Err(fault), true) => Outcome::Refused(fault),
+            (Err(fault), false) => {
+                self.tell(b"gave up\n");
+                Outcome::GaveUp(fault)
+            }
         }
     }
 
@@ -192,6 +207,7 @@ impl Refuser {
                 match self.once(name, n, which, || call(value)) {
                     Outcome::Answered(answer) | Outcome::WentOn(answer) => return Some(answer),
                     Outcome::Refused(fault) => self.refused(&fault, stays(value)),
+                    Outcome::GaveUp(_) => return None,
                 }
             }
         }
@@ -205,15 +221,27 @@ impl Refuser {
         call: C,
         is_right: R,
     ) -> Option<T> {
+        self.each_of(name, &WHICH, call, is_right)
+    }
+
+    /// The same, where just these growths are refused.
+    pub fn each_of<T: Drop, E: Fault, C: Fn() -> Result<T, E>, R: Fn(&T) -> bool>(
+        self,
+        name: &str,
+        each: &[Which],
+        call: C,
+        is_right: R,
+    ) -> Option<T> {
         for n in 1..MOST {
-            for which in WHICH {
-                match self.once(name, n, which, || call()) {
+            for which in each {
+                match self.once(name, n, *which, || call()) {
                     Outcome::Answered(answer) => {
                         self.right(is_right(&answer));
                         return Some(answer);
                     }
                     Outcome::WentOn(answer) => self.right(is_right(&answer)),
                     Outcome::Refused(fault) => self.refused(&fault, true),
+                    Outcome::GaveUp(_) => return None,
                 }
             }
         }

@@ -123,11 +123,23 @@ fn pieces(refuser: Refuser, examples: &Examples, size: usize) -> Option<()> {
     refuser.right(is_text(write_session(alloc, &read.ok()?), text.as_slice()));
     let text = examples.text("handover/certificate")?;
     let mut reader = CertReader::new(alloc);
-    feed(refuser, "cert_text::CertReader::feed", &mut reader, text.as_slice(), size)?;
+    feed(
+        refuser,
+        "cert_text::CertReader::feed",
+        &mut reader,
+        text.as_slice(),
+        size,
+    )?;
     refuser.right(is_text(write_cert(alloc, &reader.finish().ok()?), text.as_slice()));
     let text = examples.text("replayed/runs")?;
     let mut reader = RunsReader::new(alloc);
-    feed(refuser, "cert_text::RunsReader::feed", &mut reader, text.as_slice(), size)?;
+    feed(
+        refuser,
+        "cert_text::RunsReader::feed",
+        &mut reader,
+        text.as_slice(),
+        size,
+    )?;
     let runs = reader.finish().ok()?;
     refuser.right(is_text(write_runs(alloc, runs.as_slice()), text.as_slice()));
     Some(())
@@ -136,11 +148,21 @@ fn pieces(refuser: Refuser, examples: &Examples, size: usize) -> Option<()> {
 /// Makes the calls.
 pub fn make(refuser: Refuser, examples: &Examples) -> Option<()> {
     session(refuser, examples.text("handover/session")?.as_slice())?;
-    session(refuser, examples.text("two-wait-for-a-page/stdout")?.as_slice())?;
+    session(
+        refuser,
+        examples.text("two-wait-for-a-page/stdout")?.as_slice(),
+    )?;
     cert(refuser, examples.text("handover/certificate")?.as_slice())?;
-    cert(refuser, examples.text("released-page/certificate")?.as_slice())?;
+    cert(
+        refuser,
+        examples.text("released-page/certificate")?.as_slice(),
+    )?;
     runs(refuser, examples.text("replayed/runs")?.as_slice())?;
-    for folder in ["two-wait-for-a-page", "released-and-pushed", "lost-and-repeated"] {
+    for folder in [
+        "two-wait-for-a-page",
+        "released-and-pushed",
+        "lost-and-repeated",
+    ] {
         let alloc = refuser.alloc();
         let name = format!(in alloc; "{folder}/script").ok()?;
         script(refuser, examples.text(name.as_str())?.as_slice())?;
