@@ -95,10 +95,10 @@ impl Stages for TableParts {
     }
 
     fn wanted(&self, _stage: ()) -> Wanted {
-        if self.lines.len() >= most_lines() {
-            return Wanted::one("nothing after line 687865866, the last of a table", &[]);
+        if self.lines.len() < most_lines() {
+            return Wanted::one("the number of a line", &["N"]);
         }
-        Wanted::one("the number of a line", &["N"])
+        Wanted::one("nothing after line 687865866, the last of a table", &[])
     }
 
     fn text(self, _stage: ()) -> Option<Seq<u64>> {
