@@ -9,7 +9,7 @@ ghost use Rattle.completeness.specs.inner.Walks.{AreSeen};
 
 use crate::ending::{has_done, has_end, placed_to};
 use crate::missing::{Extent, Missing};
-use crate::pages::{first_page, Seen};
+use crate::pages::{Seen, first_page};
 use crate::taken::first_taken;
 use audit_model::{is_halt, is_resume};
 use migration_types::{GuestRec, Session};

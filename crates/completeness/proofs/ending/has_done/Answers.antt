@@ -23,6 +23,7 @@ loop-n-preserved c =
     let n = c.loop-n.n in
     let rec = c.index-source-n.result in
     let is = read_at c.source-source.result.now s.source n rec c.source-source.ensures c.loop-n-test.true c.index-source-n.is in
-    let here = ap (λ b. is_done rec && b) (sym c.loop-n.invariant.0) ∙ sym c.is_done_behind.ensures ∙ c.if-is_done_behind.false in
-    (c.is_told-told.ensures ∙ ap (λ b. takes_end s rec || b) c.loop-n.invariant.0 ∙ sym (earlier_on (takes_end s) s.source n rec is),
-     some_on (is_done_behind s) s.source n rec is ∙ ap₂ (λ a b. a || b) here c.loop-n.invariant.1)
+    let here = ap (λ b. is_done rec && b) (sym c.loop-n.invariant.0) ∙ sym c.is_done_behind.ensures ∙ c.if-is_done_behind.false in (
+      c.is_told-told.ensures ∙ ap (λ b. takes_end s rec || b) c.loop-n.invariant.0 ∙ sym (earlier_on (takes_end s) s.source n rec is),
+      some_on (is_done_behind s) s.source n rec is ∙ ap₂ (λ a b. a || b) here c.loop-n.invariant.1,
+    )
