@@ -1,6 +1,5 @@
 pub mod Echoes
 pub mod Fates
-pub mod Gates
 pub mod Passages
 pub mod Tries
 pub mod Turns

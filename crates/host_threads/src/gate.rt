@@ -1,7 +1,6 @@
 //! Gates.
 
-ghost use Rattle.std.specs.Prelude.{◌≡◌, Bool, true, false};
-ghost use Rattle.host_threads.specs.Gates.{most_at_once};
+ghost use Rattle.std.specs.Prelude.{⊤, ◌≡◌, true};
 
 use migration_types::PageNo;
 use target_side::TargetBook;
@@ -9,13 +8,13 @@ use target_side::TargetBook;
 /// What the threads of a run tell of, at some moments of it. Each call may wait, and the thread waits with it. Only
 /// `held` is called with a lock held, the target's.
 pub trait Gate: Sync {
-    /// Whether no call does anything.
-    ghost stands_open: { Self → Bool } = { λ _. false };
+    /// No call does anything.
+    ghost stands_open: { Self → Type 0 } = { λ _. ⊥ };
 
     /// Whether no call does anything. The threads then do many things under one lock, and leave calls out. Under any other
     /// gate an operation or an event is the only one under its locks.
     fn is_open(&self) -> bool
-        ensures { result ≡ stands_open self.now }
+        ensures { result ≡ true → stands_open self.now }
     {
         false
     }
@@ -39,7 +38,7 @@ const MOST_AT_ONCE: usize = 256;
 
 /// How many things a thread does under one lock at most.
 pub(crate) fn most_at_once<G: Gate>(gate: &G) -> usize
-    ensures { result ≡ most_at_once (G.stands_open gate.now) }
+    ensures { (G.stands_open gate.now → ⊥) → result ≡ 1 }
 {
     if gate.is_open() { MOST_AT_ONCE } else { 1 }
 }
@@ -49,7 +48,7 @@ pub(crate) fn most_at_once<G: Gate>(gate: &G) -> usize
 pub struct Open;
 
 impl Gate for Open {
-    ghost stands_open = { λ _. true };
+    ghost stands_open = { λ _. ⊤ };
 
     fn is_open(&self) -> bool {
         true

@@ -4,7 +4,6 @@ ghost use Rattle.std.specs.Prelude.{◌≡◌, ◌≢◌, ◌≤◌, ◌++◌, �
 ghost use Rattle.migration_events.specs.Ops.{OpFits};
 ghost use Rattle.target_side.specs.Guests.{part_of as guest_of};
 ghost use Rattle.target_side.specs.Kept.{geometry_of, part_of as target_of};
-ghost use Rattle.host_threads.specs.Gates.{most_at_once};
 ghost use Rattle.host_threads.specs.Operations.{HasDone, IsGuestStep, IsTargetStep};
 
 use crate::bell::{Fault, Party};
@@ -88,7 +87,7 @@ fn work_at_source(
 
 /// Operations, at most so many as the gate lets be done at once, and those after them.
 fn first_at_once<'a, G: Gate>(gate: &G, ops: &'a [Op]) -> (&'a [Op], &'a [Op])
-    ensures few { length result.0.now ≤ most_at_once (G.stands_open gate.now) }
+    ensures few { (G.stands_open gate.now → ⊥) → length result.0.now ≤ 1 }
     ensures all { result.0.now ++ result.1.now ≡ ops.now }
 {
     ops.split_at(ops.len().min(most_at_once(gate)))
