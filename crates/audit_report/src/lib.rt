@@ -1,16 +1,27 @@
 //! The audit of a recorded session: it is clean, with a right certificate; or it has a fault, and an order of its
-//! records in which the demand at the faulty line fails.
+//! records in which the demand at the faulty line fails. And what is written of a judgement: the text of a report, with the
+//! pages that have a fault where these are wanted, the line of a text that is refused, and the line that says what a session
+//! lacks.
 #![tactic(auto)]
 
 mod auditing;
 mod cuts;
 mod dependence;
+mod faulty;
+mod lacking;
 mod orders;
 mod parts;
 mod placements;
+mod printing;
 mod report;
 
 pub use auditing::{Audited, FaultAndEntries, audit, audit_by};
 pub use dependence::depends_on;
+pub use faulty::{print_all_faults, push_faulty_pages};
+pub use lacking::{line_of_taken, push_missing};
 pub use placements::first_placement;
+pub use printing::{
+    print_first_line, print_refused_session, print_report, push_first_line,
+    push_refused_certificate, push_refused_session, push_shape,
+};
 pub use report::Report;

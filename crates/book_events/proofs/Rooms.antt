@@ -11,10 +11,10 @@ use Rattle.fault_queue.specs.Waiting.{is_asked, is_waiting}
 use Rattle.page_stream.specs.declared.Packet.{Packet}
 use Rattle.link_book.specs.LinkPart.{LinkPart, if_packet, with_back, with_front, with_up, with_pushed, pushed_line}
 use Rattle.link_book.specs.declared.Arrival.{Arrival}
-use Rattle.source_book.specs.SourcePart.{SourcePart, Offer, source_push, source_serve, source_tick}
-use Rattle.target_book.specs.TargetPart.{TargetPart, with_misses, settled as with_settled}
-use Rattle.target_book.specs.declared.Missing.{Missing}
-use Rattle.pager_book.specs.PagerPart.{PagerPart, Paged, Sent, settles, is_released, fault_new, fault_join, zeroes, faults, faults_by, next_fault, deliver, flushes, pager_pop, pager_pull, pager_flush, pager_tick}
+use Rattle.active_push.specs.SourcePart.{SourcePart, Offer, source_push, source_serve, source_tick}
+use Rattle.target_side.specs.TargetPart.{TargetPart, with_misses, settled as with_settled}
+use Rattle.target_side.specs.declared.Missing.{Missing}
+use Rattle.target_side.specs.PagerPart.{PagerPart, Paged, Sent, settles, is_released, fault_new, fault_join, zeroes, faults, faults_by, next_fault, deliver, flushes, pager_pop, pager_pull, pager_flush, pager_tick}
 use Rattle.book_events.specs.declared.came.Came.TheVariants.{Nothing}
 use Rattle.migration_events.specs.declared.events.Event.{Event}
 use Rattle.migration_events.specs.declared.events.Event.TheVariants.{Push, Serve, SourceTick, PagerPop, PagerPull, PagerFault, PagerFlush, PagerDeliver, PagerTick}
@@ -70,6 +70,13 @@ push_fits w has_lane s l few = record { fits = λ a. still _ _ (λ h. go a h (na
     go : (a : BooksAfter) → HasRoom (session_after (pushing w has_lane s l a)) → (c : Bool) → HasRoom (session_after (cond c (offered (with_pushed has_lane) (source_push s) (pushing w has_lane s l a)) (pushing w has_lane s l a)))
     go a h true = offered_fits (with_pushed has_lane) (pushed_logs has_lane) (source_push s) (pushing w has_lane s l a) few h
     go a h false = h
+
+-- nothing is pushed where the window is full
+pub no_push_fits : (w : ℕ) (has_lane : Bool) (s : SourcePart) (l : LinkPart) → w ≤ length (pushed_line has_lane l) → Fits Push (pushing w has_lane s l)
+no_push_fits w has_lane s l filled = record { fits = λ a room. subst (λ c. has_room (session_after (cond c (offered (with_pushed has_lane) (source_push s) (pushing w has_lane s l a)) (pushing w has_lane s l a))) ≡ true) (sym closed) room }
+  where
+    closed : nat_lt (length (pushed_line has_lane l)) w ≡ false
+    closed = grind (arith, nat_tests, filled)
 
 pub serve_fits : (s : SourcePart) (l : LinkPart) → ((x : Arrival) → slice_get l.up_arrivals 0 ≡ Some x → length (source_serve x.number x.packet s).book.log ≤ most_records) → Fits Serve (sending s l)
 serve_fits s l few = record { fits = λ a. still _ _ (λ h. go a h l.up_arrivals few) }

@@ -1,12 +1,12 @@
 -- An event as a change of the one or two books that it names.
 use Rattle.std.specs.Prelude.{◌≡◌, ◌≢◌, ℕ, ◌⊎◌, Bool, true, false, List, [], ◌∷◌, ◌++◌, length, Result, IfOk, OnOk, OnErr, IsErrOf}
-use Rattle.source_book.specs.SourcePart.{SourcePart, halted_source, state_packet}
-use Rattle.guest_book.specs.GuestPart.{GuestPart}
+use Rattle.active_push.specs.SourcePart.{SourcePart, halted_source, state_packet}
+use Rattle.target_side.specs.GuestPart.{GuestPart}
 use Rattle.link_book.specs.LinkPart.{LinkPart, with_back}
 use Rattle.page_stream.specs.declared.Packet.{Packet}
 use Rattle.page_stream.specs.declared.Packet.TheVariants.{Page as PagePacket}
-use Rattle.target_book.specs.TargetPart.{TargetPart, halted_target}
-use Rattle.pager_book.specs.PagerPart.{PagerPart}
+use Rattle.target_side.specs.TargetPart.{TargetPart, halted_target}
+use Rattle.target_side.specs.PagerPart.{PagerPart}
 use Rattle.migration_events.specs.declared.events.Event.{Event}
 use Rattle.migration_events.specs.declared.faults.EventFault.{EventFault}
 use Rattle.migration_events.specs.declared.faults.EventFault.TheVariants.{LogFull, Memory}
@@ -79,6 +79,13 @@ pub record ComesTo {A B : Type 0} (e : Event) (result : Result Came EventFault) 
   pub full : IsErrOf result LogFull → IsFull e (standing one other)
   pub memory : IsErrOf result Memory → Fits e (standing one other)
   pub err : OnErr result ((one' ≡ one) × (other' ≡ other))
+
+-- what a look at the room for an event comes to, of two books that stand in a migration so: it is there in each log, or a
+-- log has none
+pub record LooksFor {A B T : Type 0} (e : Event) (result : Result T EventFault) (standing : A → B → BooksAfter → BooksAfter) (one : A) (other : B) : Type 0 where
+  pub room : OnOk result (Fits e (standing one other))
+  pub full : OnErr result (IsFull e (standing one other))
+  pub memory : IsErrOf result Memory → ⊥
 
 -- Halt: the books of the source and the target that it makes of the guest's, and the state's packet is offered behind
 -- what is under way

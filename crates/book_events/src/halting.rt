@@ -3,17 +3,16 @@
 ghost use Rattle.std.specs.Prelude.{◌≡◌, ◌<◌, ◌≤◌, length, IfOk, IfErr};
 ghost use Rattle.migration_types.specs.Limits.{most_records};
 ghost use Rattle.bubbling.specs.Bubbling.{most_pivots};
-ghost use Rattle.source_book.specs.Books.{part_of as source_of};
-ghost use Rattle.guest_book.specs.Books.{part_of as guest_of};
-ghost use Rattle.target_book.specs.TargetPart.{halted_target};
-ghost use Rattle.target_book.specs.Kept.{geometry_of, part_of as target_of};
+ghost use Rattle.active_push.specs.Books.{part_of as source_of};
+ghost use Rattle.target_side.specs.Guests.{part_of as guest_of};
+ghost use Rattle.target_side.specs.TargetPart.{halted_target};
+ghost use Rattle.target_side.specs.Kept.{geometry_of, part_of as target_of};
 ghost use Rattle.book_events.specs.Parts.{IsHalt};
 
-use guest_book::GuestBook;
+use active_push::SourceBook;
 use link_book::LinkBook;
 use migration_events::EventFault;
-use pager_book::TargetBook;
-use source_book::SourceBook;
+use target_side::{GuestBook, TargetBook};
 
 /// Halt, where each virtual processor is at its move: the guest's book parts into the source's, which keeps at most so
 /// many pivots, 1 to 16, and the target's, and the packet of the state is offered. `EventFault::LogFull` exactly where the

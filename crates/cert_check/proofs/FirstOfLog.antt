@@ -14,7 +14,7 @@ use Rattle.migration_types.specs.declared.records.LinkRec.{LinkRec}
 use Rattle.migration_types.specs.declared.records.LaneRec.{LaneRec}
 use Rattle.migration_types.specs.declared.records.PagerRec.{PagerRec}
 use Rattle.audit_model.specs.Names.{log_length}
-use Rattle.page_tables.specs.Tables.{Values, values, IsWith}
+use Rattle.page_store.specs.Tables.{Values, values, IsWith}
 use Rattle.std.specs.Option.{MatchOption}
 use Rattle.cert_check.specs.declared.log_passes.Found.{Found}
 use Rattle.cert_check.specs.inner.Passes.{HaveNone, IsFirstFrom}

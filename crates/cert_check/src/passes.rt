@@ -5,7 +5,7 @@ ghost use Rattle.migration_types.specs.declared.records.LogName.TheVariants.{Gue
 ghost use Rattle.migration_types.specs.Sessions.{IsSession};
 ghost use Rattle.audit_model.specs.Names.{log_length};
 ghost use Rattle.audit_model.specs.Shape.{in_phase_by, is_halt, is_resume, guest_named, source_named, link_named, lane_named, pager_named, source_start, pager_start};
-ghost use Rattle.page_tables.specs.Tables.{pages_of, values, IsWith};
+ghost use Rattle.page_store.specs.Tables.{pages_of, values, IsWith};
 ghost use Rattle.page_facts.specs.Moved.{SourcePage};
 ghost use Rattle.cert_check.specs.inner.FirstOfLog.{first_reason, is_unmarked, marked_by, reason_at, AreSent, IsRightLog, IsFirstOfLog};
 ghost use Rattle.cert_check.specs.inner.Phases.{ArePhases, ArePhasesAfter};
@@ -16,7 +16,7 @@ use audit_model::{
     pager_start, source_named, source_start,
 };
 use migration_types::{GuestRec, LogName, PagerRec, Session, SourceRec};
-use page_tables::Table;
+use page_store::Table;
 use std::alloc::{AllocError, Global};
 
 /// Whether the guest's log had a `halt`, and a `resume`.

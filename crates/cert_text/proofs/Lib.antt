@@ -8,3 +8,6 @@ pub mod Written
 pub mod Taken
 pub mod Back
 pub mod CertRuns
+pub mod FirstLines
+pub mod Orders
+pub mod Inner

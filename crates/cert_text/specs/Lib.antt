@@ -1,3 +1,4 @@
 pub mod Runs
 pub mod Grammar
 pub mod inner
+pub mod Order

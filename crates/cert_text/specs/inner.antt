@@ -4,3 +4,6 @@ pub mod CertDraft
 pub mod Plain
 pub mod Taken
 pub mod Headed
+pub mod OrderHeld
+pub mod Parts
+pub mod OrderPlain

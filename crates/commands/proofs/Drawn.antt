@@ -11,8 +11,8 @@ use Rattle.std.specs.declared.alloc.AllocError.{AllocError}
 use Rattle.text_lines.specs.Answer.{IsRead}
 use Rattle.migration_types.specs.declared.cert.Run.{Run}
 use Rattle.migration_types.specs.Sessions.{Recorded}
-use Rattle.session_text.specs.Grammar.{SpellsSession}
-use Rattle.order_text.specs.Order.{SpellsOrder}
+use Rattle.session_log.specs.Grammar.{SpellsSession}
+use Rattle.cert_text.specs.Order.{SpellsOrder}
 use Rattle.audit_report.specs.declared.report.Report.{Report}
 use Rattle.audit_report.specs.Reports.{IsReport}
 use Rattle.session_story.specs.declared.topics.Topic.{Topic as Told}

@@ -1,6 +1,6 @@
 -- What `steps` writes is clean.
 use Rattle.std.proofs.Common.{◌≡◌, ◌∙◌, ℕ, List, refl}
-use Rattle.session_text.specs.Grammar.{session_lines}
+use Rattle.session_log.specs.Grammar.{session_lines}
 use Rattle.judged_texts.specs.declared.wanted.Wanted.{Wanted}
 use Rattle.judge_commands.specs.Answers.{IsAuditAnswer}
 use Rattle.judge_commands.specs.Judged.{IsJudged, Judged, judged_status}

@@ -19,7 +19,7 @@ use Rattle.command_words.specs.declared.asked.OneText.TheVariants.{Certify, Audi
 use Rattle.command_words.specs.declared.asked.TwoTexts.{TwoTexts}
 use Rattle.command_words.specs.declared.asked.TwoTexts.TheVariants.{Check, Replay, Steps}
 use Rattle.command_words.specs.declared.asked.TwoTexts.TheVariants as two
-use Rattle.line_table.specs.Tables.{SpellsTable}
+use Rattle.window_commands.specs.Tables.{SpellsTable}
 use Rattle.window_commands.specs.declared.relining.LinesIn.{LinesIn}
 use Rattle.window_commands.specs.declared.relining.LinesIn.TheVariants.{Words, Object}
 use Rattle.window_commands.specs.Relining.{IsRelinedAnswer}
@@ -34,11 +34,11 @@ use Rattle.migration_types.specs.Sessions.{Recorded}
 use Rattle.completeness.specs.declared.missing.Missing.{Missing}
 use Rattle.completeness.specs.declared.missing.Extent.{Extent}
 use Rattle.completeness.specs.declared.missing.Extent.TheVariants as extent
-use Rattle.session_text.specs.Grammar.{SpellsSession}
+use Rattle.session_log.specs.Grammar.{SpellsSession}
 use Rattle.cert_text.specs.Grammar.{SpellsCert}
-use Rattle.order_text.specs.Order.{SpellsOrder}
-use Rattle.script_text.specs.Events.{SpellsEvents}
-use Rattle.script_text.specs.Scripts.{SpellsScript}
+use Rattle.cert_text.specs.Order.{SpellsOrder}
+use Rattle.guest_script.specs.Events.{SpellsEvents}
+use Rattle.guest_script.specs.Scripts.{SpellsScript}
 use Rattle.command_texts.specs.declared.answer.Fault.{Fault}
 use Rattle.command_texts.specs.declared.why.Telling.{Telling}
 use Rattle.command_texts.specs.declared.why.Telling.TheVariants.{Short, Full}

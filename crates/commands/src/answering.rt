@@ -1,7 +1,7 @@
 //! Who answers to what is asked: an arm for each command.
 
 ghost use Rattle.std.specs.Prelude.{◌≡◌, ◌⊎◌, ◌<◌, IfOk, is_some};
-ghost use Rattle.script_text.specs.Scripts.{SpellsScript};
+ghost use Rattle.guest_script.specs.Scripts.{SpellsScript};
 ghost use Rattle.command_words.specs.Table.{asked_names};
 ghost use Rattle.command_texts.specs.declared.why.Telling.TheVariants.{Short};
 ghost use Rattle.command_texts.specs.Answers.{IsHostFault, IsTextFault};
@@ -20,10 +20,10 @@ use command_texts::{
     Fault, Gathered, Telling, TextSource, perform_one, perform_two, read_named, tell_why, written,
 };
 use command_words::{Asked, Carrier, Job, OneText, Pages, Topic, TwoTexts};
+use guest_script::ScriptParts;
 use host_commands::{StepsCommand, migrate_read};
 use judge_commands::{AuditCommand, ReplayCommand};
 use judged_texts::Wanted;
-use script_text::ScriptParts;
 use std::alloc::Global;
 use std::io::{Read, Write};
 use std::net::{Net, TcpListener, TcpStream};

@@ -3,23 +3,22 @@
 ghost use Rattle.std.specs.Prelude.{◌≡◌, ℕ, List, IfOk, ⊤};
 ghost use Rattle.std.specs.Thread.{IsSync};
 ghost use Rattle.text_lines.specs.Answer.{IsRead};
-ghost use Rattle.session_text.specs.Grammar.{SpellsSession};
-ghost use Rattle.order_text.specs.Order.{SpellsOrder};
-ghost use Rattle.report_text.specs.RefusalText.{refusal_text};
+ghost use Rattle.session_log.specs.Grammar.{SpellsSession};
+ghost use Rattle.cert_text.specs.Order.{SpellsOrder};
+ghost use Rattle.audit_report.specs.RefusalText.{refusal_text};
 ghost use Rattle.command_texts.specs.declared.why.Telling.TheVariants.{Short};
 ghost use Rattle.command_texts.specs.Answers.{Says};
 ghost use Rattle.commands.specs.Drawings.{IsDrawAnswer, IsDrawAlongAnswer, IsDrawn, IsDrawnAlong};
 
-use audit_report::audit;
+use audit_report::{audit, print_refused_session};
+use cert_text::OrderReader;
 use command_texts::{
     ACCEPTED, Answer, Fault, Given, OnOne, OnTwo, REFUSED, Telling, given, given_alone, refused,
 };
 use migration_types::{Run, Seq, Session};
 use order_picture::{print_picture_along, print_picture_on};
-use order_text::OrderReader;
-use report_text::print_refused_session;
+use session_log::SessionReader;
 use session_story::Topic;
-use session_text::SessionReader;
 use std::alloc::{AllocError, Global};
 use std::thread::Threads;
 

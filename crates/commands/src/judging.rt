@@ -1,7 +1,7 @@
 //! The commands that judge a session, as they are asked: how it is told, and whether the session has to be complete.
 
 ghost use Rattle.std.specs.Prelude.{◌≡◌, ◌⊎◌, ◌<◌, IfOk};
-ghost use Rattle.session_text.specs.Grammar.{SpellsSession};
+ghost use Rattle.session_log.specs.Grammar.{SpellsSession};
 ghost use Rattle.cert_text.specs.Grammar.{SpellsCert};
 ghost use Rattle.command_texts.specs.declared.why.Telling.TheVariants.{Short, Full};
 ghost use Rattle.command_texts.specs.Answers.{IsTextFault};

@@ -1,8 +1,8 @@
 //! The explanation of a session that is a window, told by the lines of its recording.
 
 ghost use Rattle.std.specs.Prelude.{◌≡◌, ◌⊎◌, ◌<◌, IfOk};
-ghost use Rattle.line_table.specs.Tables.{SpellsTable};
-ghost use Rattle.session_text.specs.Grammar.{SpellsSession};
+ghost use Rattle.window_commands.specs.Tables.{SpellsTable};
+ghost use Rattle.session_log.specs.Grammar.{SpellsSession};
 ghost use Rattle.command_texts.specs.Answers.{IsTextFault};
 ghost use Rattle.command_texts.specs.Reasons.{IsRefusedAt, TellsBeside};
 ghost use Rattle.command_texts.specs.Told.{AreNamed, Ends};

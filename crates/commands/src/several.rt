@@ -1,7 +1,7 @@
 //! The audit of several sessions: a line for each, after its name, and how many are clean; or an object for each.
 
 ghost use Rattle.std.specs.Prelude.{◌<◌, IfOk, IfErr};
-ghost use Rattle.session_text.specs.Grammar.{SpellsSession};
+ghost use Rattle.session_log.specs.Grammar.{SpellsSession};
 ghost use Rattle.command_texts.specs.Answers.{IsTextFault};
 ghost use Rattle.command_texts.specs.Reasons.{IsRefusedAt};
 ghost use Rattle.command_texts.specs.Several.{IsOneOf, TellsSeveral, names_of, style_of};

@@ -14,7 +14,7 @@ use Rattle.audit_model.specs.Shape.{earlier, passes, is_placement_of, is_taking}
 use Rattle.flat_machine.specs.Machines.{ledger_after}
 use Rattle.flat_machine.proofs.Stepping.{ledger_next}
 use Rattle.balloon_ledger.specs.Released.{Marks, released, IsWith as HasReleased}
-use Rattle.page_tables.specs.Tables.{Values, values, IsWith, with_value}
+use Rattle.page_store.specs.Tables.{Values, values, IsWith, with_value}
 use Rattle.completeness.specs.Complete.{settles, is_taken_left}
 use Rattle.completeness.specs.inner.Least.{NonePass}
 use Rattle.completeness.specs.inner.Walks.{IsLedger, AreFreed, ArePlaced, AreSettled, freed_by, placed_by}

@@ -17,8 +17,8 @@ use Rattle.audit_model.specs.World.{IsSafe}
 use Rattle.cert_check.specs.Verdicts.{IsVerdict}
 use Rattle.cert_check.specs.declared.verdict.Verdict.TheVariants.{Yes}
 use Rattle.migration_model.specs.Promise.{HasEachOwed}
-use Rattle.script.specs.Scenarios.{Scenario}
-use Rattle.script.specs.declared.vcpus.Vcpu.{Vcpu}
+use Rattle.guest_script.specs.Scenarios.{Scenario}
+use Rattle.guest_script.specs.declared.vcpus.Vcpu.{Vcpu}
 use Rattle.audit_report.specs.declared.report.Report.TheVariants.{Clean}
 use Rattle.audit_report.specs.Reports.{IsReport, IsClean}
 use Rattle.host_checks.specs.declared.transcript.Answered.{Answered}

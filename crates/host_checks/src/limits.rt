@@ -8,10 +8,10 @@ ghost use Rattle.host_checks.specs.Outcomes.{IsUnread};
 ghost use Rattle.host_checks.specs.inner.Limits.{AreShort, AreOfMachine};
 
 use crate::outcome::RunFault;
+use guest_script::Script;
 use migration_types::{
     Geometry, LogName, Logs, MOST_RECORDS, Record, Session, Version, fits, limits_follow,
 };
-use script::Script;
 use std::alloc::Global;
 
 /// Whether each record of a log may stand in a session of the version, and has numbers of the machine.

@@ -3,9 +3,9 @@
 ghost use Rattle.std.specs.Prelude.{◌≡◌, ◌≢◌, ◌++◌, map, MatchBool};
 ghost use Rattle.host_checks.specs.Outcomes.{ops_of, asked_of, AreOfScript};
 
+use guest_script::Vcpu;
 use migration_events::Op;
 use migration_types::Seq;
-use script::Vcpu;
 
 /// An operation of a virtual processor, and its answer: the value read, the value written, or 0 for a release.
 #[derive(Clone, Copy, Debug)]

@@ -4,17 +4,17 @@ use Rattle.text_lines.specs.Text.{ended, IsSpelling, IsRefusalLine}
 use Rattle.migration_types.specs.Certs.{Certified, IsCert}
 use Rattle.migration_types.specs.declared.session.Logs.{Logs}
 use Rattle.migration_types.specs.Sessions.{Recorded, recorded, IsSession}
-use Rattle.session_text.specs.Grammar.{session_lines}
+use Rattle.session_log.specs.Grammar.{session_lines}
 use Rattle.cert_text.specs.Grammar.{cert_lines}
 use Rattle.audit_model.specs.Mergings.{spelled}
 use Rattle.audit_model.specs.World.{IsSafe}
 use Rattle.cert_check.specs.Verdicts.{IsVerdict}
 use Rattle.cert_check.specs.declared.verdict.Verdict.TheVariants.{Yes}
 use Rattle.audit_report.specs.Reports.{IsReport, IsClean}
-use Rattle.report_text.specs.ReportText.{report_text}
+use Rattle.audit_report.specs.ReportText.{report_text}
 use Rattle.audit_report.specs.declared.report.Report.{Report}
-use Rattle.script.specs.Scenarios.{Scenario}
-use Rattle.script_text.specs.Scripts.{SpellsScript}
+use Rattle.guest_script.specs.Scenarios.{Scenario}
+use Rattle.guest_script.specs.Scripts.{SpellsScript}
 use Rattle.migration_model.specs.Promise.{HasEachOwed}
 use Rattle.host_checks.specs.Outcomes.{AreOfLog, AreOfScript, IsDone}
 use Rattle.host_checks.specs.declared.transcript.Answered.{Answered}

@@ -2,12 +2,12 @@
 use Rattle.std.specs.Prelude.{◌≡◌, ℕ, List, None, codes}
 use Rattle.text_lines.specs.Text.{ended, IsSpelling, IsRefusalLine}
 use Rattle.migration_types.specs.Sessions.{Recorded}
-use Rattle.session_text.specs.Grammar.{session_lines}
+use Rattle.session_log.specs.Grammar.{session_lines}
 use Rattle.migration_events.specs.declared.events.Event.{Event}
 use Rattle.migration_model.specs.Events.{run, start}
-use Rattle.script_text.specs.Events.{SpellsEvents}
-use Rattle.script.specs.Scenarios.{Scenario}
-use Rattle.script_text.specs.Scripts.{SpellsScript}
+use Rattle.guest_script.specs.Events.{SpellsEvents}
+use Rattle.guest_script.specs.Scenarios.{Scenario}
+use Rattle.guest_script.specs.Scripts.{SpellsScript}
 use Rattle.session_core.specs.States.{scripted_of}
 use Rattle.session_core.specs.Promised.{IsRecordedBy}
 use Rattle.command_texts.specs.Answers.{IsAnswer, numbered}

@@ -3,19 +3,18 @@
 ghost use Rattle.std.specs.Prelude.{◌≡◌, ℕ, List, IfOk, ⊤};
 ghost use Rattle.text_lines.specs.Answer.{IsRead};
 ghost use Rattle.text_lines.specs.Text.{ended, IsSpelling};
-ghost use Rattle.session_text.specs.Grammar.{session_lines};
-ghost use Rattle.script_text.specs.Events.{SpellsEvents};
-ghost use Rattle.script_text.specs.Scripts.{SpellsScript};
+ghost use Rattle.session_log.specs.Grammar.{session_lines};
+ghost use Rattle.guest_script.specs.Events.{SpellsEvents};
+ghost use Rattle.guest_script.specs.Scripts.{SpellsScript};
 ghost use Rattle.command_texts.specs.Answers.{Says};
 ghost use Rattle.host_commands.specs.Steps.{IsStepsAnswer};
 
 use command_texts::{ACCEPTED, Answer, Fault, Gathered, OnTwo, given_alone, refused, remark};
+use guest_script::{EventParts, Script, ScriptParts};
 use migration_events::Event;
 use migration_types::{Seq, Session};
-use script::Script;
-use script_text::{EventParts, ScriptParts};
 use session_core::{CoreFault, run};
-use session_text::write_session;
+use session_log::write_session;
 use std::alloc::{AllocError, Global};
 
 /// The answer that a session is.

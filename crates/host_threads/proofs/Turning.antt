@@ -1,6 +1,6 @@
 -- A turn with the books of the source and the link is one within any window, with a lane or without.
 use Rattle.std.proofs.Common.{ℕ, Bool}
-use Rattle.source_book.specs.SourcePart.{SourcePart}
+use Rattle.active_push.specs.SourcePart.{SourcePart}
 use Rattle.link_book.specs.LinkPart.{LinkPart}
 use Rattle.migration_events.specs.declared.events.Event.{Event}
 use Rattle.book_events.specs.Parts.{pushing, sending, IsMade, IsSame, IsOffered, IsDone}

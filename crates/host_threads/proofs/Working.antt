@@ -2,7 +2,7 @@
 use Rattle.std.proofs.Common.{◌≡◌, ℕ, List, [], ◌∷◌, ◌++◌, refl, sym, ap, ◌∙◌, append_assoc}
 use Rattle.migration_events.specs.Ops.{answer_of}
 use Rattle.migration_events.specs.declared.ops.Op.{Op}
-use Rattle.guest_book.specs.GuestPart.{GuestPart, guest_access}
+use Rattle.target_side.specs.GuestPart.{GuestPart, guest_access}
 use Rattle.host_checks.specs.declared.transcript.Answered.{Answered}
 use Rattle.host_checks.specs.Outcomes.{answered}
 use Rattle.host_threads.specs.Operations.{guest_after, answers_to, HasDone}

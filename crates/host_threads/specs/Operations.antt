@@ -4,10 +4,10 @@ use Rattle.migration_events.specs.Ops.{answer_of}
 use Rattle.migration_events.specs.declared.ops.Op.{Op}
 use Rattle.host_checks.specs.declared.transcript.Answered.{Answered as AnsweredOp}
 use Rattle.host_checks.specs.Outcomes.{answered}
-use Rattle.guest_book.specs.GuestPart.{GuestPart, guest_access}
-use Rattle.target_book.specs.TargetPart.{TargetPart, Accessed, target_access}
-use Rattle.target_book.specs.declared.Access.{Access}
-use Rattle.target_book.specs.declared.Access.TheVariants.{Done, Missed as Misses, Waiting}
+use Rattle.target_side.specs.GuestPart.{GuestPart, guest_access}
+use Rattle.target_side.specs.TargetPart.{TargetPart, Accessed, target_access}
+use Rattle.target_side.specs.declared.Access.{Access}
+use Rattle.target_side.specs.declared.Access.TheVariants.{Done, Missed as Misses, Waiting}
 use Rattle.host_threads.specs.declared.vcpu.Step.{Step}
 use Rattle.host_threads.specs.declared.vcpu.Step.TheVariants.{Answered, Missed, Waits, Stops}
 

@@ -1,11 +1,11 @@
 -- What comes of several events under one hold of the locks, one after another.
 use Rattle.std.specs.Prelude.{◌≡◌, ◌≢◌, ◌⊎◌, ℕ, zero, suc, Bool, true, false, MatchBool, is_some, List, [], ◌∷◌}
 use Rattle.migration_events.specs.declared.events.Event.{Event}
-use Rattle.script.specs.Scenarios.{Scenario}
-use Rattle.source_book.specs.Books.{SourceKept, part_of as source_of}
+use Rattle.guest_script.specs.Scenarios.{Scenario}
+use Rattle.active_push.specs.Books.{SourceKept, part_of as source_of}
 use Rattle.link_book.specs.Links.{Linked, is_quiet}
-use Rattle.pager_book.specs.PagerLists.{PagerLists, part_of as pager_of}
-use Rattle.target_book.specs.Kept.{Kept, part_of as target_of}
+use Rattle.target_side.specs.PagerLists.{PagerLists, part_of as pager_of}
+use Rattle.target_side.specs.Kept.{Kept, part_of as target_of}
 use Rattle.book_events.specs.Parts.{pushing, sending, receiving, placing}
 use Rattle.host_threads.specs.declared.shared.Turn.{Turn}
 use Rattle.host_threads.specs.declared.shared.Turn.TheVariants.{Idle, Stops}

@@ -4,9 +4,9 @@ use Rattle.migration_types.specs.declared.records.PagerRec.{PagerRec}
 use Rattle.migration_types.specs.declared.session.Logs.{Logs}
 use Rattle.migration_types.specs.Sessions.{recorded}
 use Rattle.page_store.specs.Frames.{Frames}
-use Rattle.source_book.specs.Books.{SourceKept}
+use Rattle.active_push.specs.Books.{SourceKept}
 use Rattle.link_book.specs.LinkPart.{LinkPart}
-use Rattle.script.specs.Scenarios.{Scenario}
+use Rattle.guest_script.specs.Scenarios.{Scenario}
 use Rattle.host_checks.specs.declared.transcript.Answered.{Answered}
 use Rattle.host_checks.specs.declared.outcome.Migrated.{Migrated}
 use Rattle.host_checks.specs.declared.outcome.RunFault.{RunFault}

@@ -98,14 +98,14 @@ fn is_same(one: &Packet, other: &Packet) -> bool
             Packet::Page {
                 number,
                 page,
-                contents,
+                cells,
             },
             Packet::Page {
                 number: n,
                 page: p,
-                contents: c,
+                cells: c,
             },
-        ) => number == n && page.number() == p.number() && contents.as_slice() == c.as_slice(),
+        ) => number == n && page.number() == p.number() && cells.as_slice() == c.as_slice(),
         (Packet::Want { number, page }, Packet::Want { number: n, page: p }) => {
             number == n && page.number() == p.number()
         }

@@ -1,8 +1,8 @@
 //! A run: its threads, and what is made of the books when they have ended.
 
 ghost use Rattle.std.specs.Prelude.{◌≡◌, Some, IfOk, IfErr, IfSome, IsErrOf};
-ghost use Rattle.guest_book.specs.Books.{part_of as guest_part};
-ghost use Rattle.guest_book.specs.GuestPart.{new_guest};
+ghost use Rattle.target_side.specs.Guests.{part_of as guest_part};
+ghost use Rattle.target_side.specs.GuestPart.{new_guest};
 ghost use Rattle.host_checks.specs.declared.outcome.RunFault.{RunFault as Refusal};
 ghost use Rattle.host_checks.specs.Outcomes.{HasMigrated, IsRunFault};
 ghost use Rattle.host_threads.specs.Runs.{IsLeft, told_as, told_of, IsRunOf};
@@ -19,21 +19,20 @@ use crate::shared::Shared;
 use crate::side::TargetSide;
 use crate::source::run_source;
 use crate::vcpu::run_vcpu;
+use active_push::SourceBook;
 use book_events::logs::logs_of;
-use guest_book::GuestBook;
+use guest_script::Script;
 use host_checks::{Migrated, RunFault, Transcript, session_of, settle};
 use link_book::LinkBook;
 use migration_types::{Logs, Seq};
 use page_store::Store;
-use pager_book::PagerBook;
-use script::Script;
-use source_book::SourceBook;
 use std::alloc::{AllocError, Global};
 use std::mem::drop;
 use std::net::{Net, TcpListener, TcpStream};
 use std::sync::{Mutex, Wait};
 use std::thread;
 use std::thread::{JoinHandle, Scope, Threads};
+use target_side::{GuestBook, PagerBook};
 
 /// The guest's book before the first event. An error: there is no memory for it.
 fn guest_of(alloc: Global, script: &Script) -> Result<GuestBook, AllocError>

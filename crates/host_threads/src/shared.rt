@@ -8,13 +8,13 @@ ghost use Rattle.host_threads.specs.Turns.{IsTurn, fault_by, turn_by, turn_of, t
 
 use crate::bell::{Bell, Fault, Party};
 use crate::side::TargetSide;
+use active_push::SourceBook;
 use book_events::{Came, EventFault};
 use link_book::{LinkBook, LinkFault};
 use migration_events::Direction;
 use migration_types::PageNo;
-use pager_book::{PagerBook, TargetFault};
-use source_book::SourceBook;
 use std::sync::{Mutex, Wait};
+use target_side::{PagerBook, TargetFault};
 
 /// The books, in the order in which their locks are taken, and what wakes the threads.
 #[derive(Drop)]

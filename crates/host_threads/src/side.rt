@@ -3,13 +3,12 @@
 ghost use Rattle.std.specs.Prelude.{◌≡◌, ◌≤◌, IfOk, OnErr};
 ghost use Rattle.host_threads.specs.Sides.{Halts};
 
+use active_push::SourceBook;
 use book_events::EventFault;
 use book_events::halting::halt;
-use guest_book::GuestBook;
 use link_book::LinkBook;
-use pager_book::TargetBook;
-use source_book::SourceBook;
 use std::mem::{self, drop};
+use target_side::{GuestBook, TargetBook};
 
 /// The guest's book until the halt, and the target's from then on.
 #[derive(Drop)]

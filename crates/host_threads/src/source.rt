@@ -1,7 +1,7 @@
 //! The source's thread.
 
 ghost use Rattle.std.specs.Prelude.{◌≡◌, ◌≢◌, true, false, is_some};
-ghost use Rattle.source_book.specs.Books.{part_of};
+ghost use Rattle.active_push.specs.Books.{part_of};
 ghost use Rattle.link_book.specs.Links.{is_quiet};
 ghost use Rattle.book_events.specs.Parts.{pushing, sending};
 ghost use Rattle.host_threads.specs.Tries.{source_tries, source_makes};
@@ -14,12 +14,12 @@ use crate::gate::{Gate, most_at_once};
 use crate::shared::{Shared, Turn, of_event, told};
 use crate::side::TargetSide;
 use crate::turns::{Makes, make_often};
+use active_push::SourceBook;
 use book_events::sending::{push, serve, source_tick};
+use guest_script::Script;
 use link_book::LinkBook;
 use migration_events::Event;
 use migration_types::PageNo;
-use script::Script;
-use source_book::SourceBook;
 use std::mem::{self, drop};
 use std::sync::Wait;
 

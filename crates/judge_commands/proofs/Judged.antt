@@ -4,9 +4,9 @@ use Rattle.std.specs.List.{AllByRecursion}
 use Rattle.text_lines.specs.Text.{ended, IsLine, IsSpelling, IsUnambiguous}
 use Rattle.migration_types.specs.Certs.{Certified, IsCert}
 use Rattle.migration_types.specs.Sessions.{Recorded, IsSession}
-use Rattle.session_text.specs.Grammar.{SpellsSession, session_lines}
-use Rattle.session_text.specs.inner.Plain.{plain_session}
-use Rattle.session_text.proofs.Values.{sessions_unambiguous}
+use Rattle.session_log.specs.Grammar.{SpellsSession, session_lines}
+use Rattle.session_log.specs.inner.Plain.{plain_session}
+use Rattle.session_log.proofs.Values.{sessions_unambiguous}
 use Rattle.cert_text.specs.Grammar.{SpellsCert, cert_lines}
 use Rattle.audit_model.specs.Certificates.{IsRightCertificate}
 use Rattle.audit_model.specs.Laws.{IsFaultless}

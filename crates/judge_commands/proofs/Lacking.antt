@@ -4,7 +4,7 @@ use Rattle.std.specs.declared.alloc.AllocError.{AllocError}
 use Rattle.text_lines.specs.Text.{IsUnambiguous}
 use Rattle.text_lines.specs.Answer.{IsRead}
 use Rattle.migration_types.specs.Sessions.{Recorded}
-use Rattle.session_text.specs.Grammar.{SpellsSession}
+use Rattle.session_log.specs.Grammar.{SpellsSession}
 use Rattle.completeness.specs.Complete.{IsComplete}
 use Rattle.completeness.specs.declared.missing.Extent.{Extent}
 use Rattle.completeness.specs.declared.missing.Missing.{Missing}

@@ -2,12 +2,12 @@
 use Rattle.std.proofs.Common.{◌≡◌, ℕ, List, Result, Ok, Err, refl}
 use Rattle.std.specs.Prelude.{OnOk}
 use Rattle.text_lines.specs.Text.{IsRefusalLine}
-use Rattle.session_text.specs.Grammar.{SpellsSession}
+use Rattle.session_log.specs.Grammar.{SpellsSession}
 use Rattle.cert_text.specs.Grammar.{SpellsCert}
 use Rattle.cert_check.specs.declared.verdict.Verdict.{Verdict}
 use Rattle.cert_check.specs.declared.verdict.Verdict.TheVariants.{SessionText, CertText, Shape, Pages, Runs, Page, Yes}
 use Rattle.judged_texts.specs.Checked.{IsTextVerdict}
-use Rattle.misfit_words.specs.Misfits.{AddsMisfit}
+use Rattle.judge_commands.specs.Misfits.{AddsMisfit}
 use Rattle.judge_commands.specs.Answers.{AddsMisfitOf}
 
 module _ (texts : List ℕ × List ℕ) (name out : List ℕ) (line : ℕ) where

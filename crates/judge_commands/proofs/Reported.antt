@@ -3,7 +3,7 @@ use Rattle.std.proofs.Common.{ℕ, List, IfOk, Result, Ok, Err}
 use Rattle.std.specs.declared.alloc.AllocError.{AllocError}
 use Rattle.text_lines.specs.Text.{IsSpelling, IsRefusalLine}
 use Rattle.migration_types.specs.Sessions.{Recorded}
-use Rattle.session_text.specs.Grammar.{SpellsSession}
+use Rattle.session_log.specs.Grammar.{SpellsSession}
 use Rattle.command_texts.specs.declared.answer.Answer.{Answer}
 use Rattle.judge_commands.specs.Judged.{IsJudgedTold, Judged, Refused, Reported}
 use Rattle.judge_commands.specs.inner.Reported.{SaysRefusal, SaysReport}

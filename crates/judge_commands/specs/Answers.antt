@@ -4,10 +4,10 @@ use Rattle.text_lines.specs.Text.{ended}
 use Rattle.judged_texts.specs.Checked.{IsTextVerdict}
 use Rattle.cert_check.specs.declared.verdict.Verdict.{Verdict}
 use Rattle.cert_check.specs.declared.verdict.Verdict.TheVariants.{SessionText, CertText, Shape, Pages, Runs, Page, Yes}
-use Rattle.report_text.specs.ReportText.{shape_line}
+use Rattle.audit_report.specs.ReportText.{shape_line}
 use Rattle.report_json.specs.JsonText.{verdict_object}
 use Rattle.judged_texts.specs.declared.wanted.Wanted.{Wanted}
-use Rattle.misfit_words.specs.Misfits.{AddsMisfit}
+use Rattle.judge_commands.specs.Misfits.{AddsMisfit}
 use Rattle.command_texts.specs.Answers.{IsAnswer, numbered}
 use Rattle.judge_commands.specs.Judged.{IsJudgedTold}
 use Rattle.session_story.specs.declared.topics.Topic.{Topic}

@@ -2,11 +2,11 @@
 use Rattle.std.specs.Prelude.{◌≡◌, ℕ, List, ◌++◌, ◌⊎◌}
 use Rattle.text_lines.specs.Text.{IsSpelling}
 use Rattle.migration_types.specs.Sessions.{Recorded}
-use Rattle.session_text.specs.Grammar.{SpellsSession}
+use Rattle.session_log.specs.Grammar.{SpellsSession}
 use Rattle.completeness.specs.Complete.{IsComplete, Lacks}
 use Rattle.completeness.specs.declared.missing.Extent.{Extent}
 use Rattle.completeness.specs.declared.missing.Missing.{Missing}
-use Rattle.report_text.specs.MissingText.{missing_text}
+use Rattle.audit_report.specs.MissingText.{missing_text}
 use Rattle.report_json.specs.JsonText.{missing_object}
 use Rattle.session_story.specs.Told.{lacking_text}
 use Rattle.judged_texts.specs.Checked.{OfSpelled}

@@ -4,8 +4,8 @@ use Rattle.migration_types.specs.Sessions.{Recorded}
 use Rattle.faulty_pages.specs.declared.FaultyPage.{FaultyPage}
 use Rattle.faulty_pages.specs.FaultyPages.{AreFaultyPages}
 use Rattle.audit_report.specs.declared.report.Report.{Report}
-use Rattle.report_text.specs.FaultyPagesText.{JudgesPages, all_faults_text}
-use Rattle.report_text.specs.RefusalText.{refusal_text}
+use Rattle.audit_report.specs.FaultyPagesText.{JudgesPages, all_faults_text}
+use Rattle.audit_report.specs.RefusalText.{refusal_text}
 use Rattle.report_json.specs.JsonText.{all_faults_object, at_line, report_object}
 use Rattle.judged_texts.specs.AuditedText.{wanted_text}
 use Rattle.judged_texts.specs.declared.wanted.Wanted.{Wanted}

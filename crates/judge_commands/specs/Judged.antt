@@ -2,7 +2,7 @@
 use Rattle.std.specs.Prelude.{◌≡◌, ℕ, List}
 use Rattle.text_lines.specs.Text.{IsSpelling, IsRefusalLine}
 use Rattle.migration_types.specs.Sessions.{Recorded}
-use Rattle.session_text.specs.Grammar.{SpellsSession}
+use Rattle.session_log.specs.Grammar.{SpellsSession}
 use Rattle.audit_report.specs.Reports.{IsReport}
 use Rattle.audit_report.specs.declared.report.Report.{Report}
 use Rattle.audit_report.specs.declared.report.Report.TheVariants as report

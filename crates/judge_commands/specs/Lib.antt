@@ -5,3 +5,4 @@ pub mod Replayed
 pub mod Completed
 pub mod Noted
 pub mod inner
+pub mod Misfits

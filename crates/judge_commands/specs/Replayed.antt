@@ -1,7 +1,7 @@
 -- The line and the status of what becomes of a merging of a session along its runs.
 use Rattle.std.specs.Prelude.{ℕ, List, [], ◌∷◌, codes}
 use Rattle.text_lines.specs.Text.{ended}
-use Rattle.report_text.specs.ReportText.{shape_line}
+use Rattle.audit_report.specs.ReportText.{shape_line}
 use Rattle.judged_texts.specs.declared.replaying.Outcome.{Outcome}
 use Rattle.judged_texts.specs.declared.replaying.Outcome.TheVariants.{SessionText, RunsText, Shape, NoMerging, Broken, Safe}
 use Rattle.judged_texts.specs.Replayed.{IsOutcome}

@@ -3,7 +3,7 @@
 ghost use Rattle.std.specs.Prelude.{◌≡◌, ℕ, List, IfOk};
 ghost use Rattle.std.specs.Thread.{IsSync};
 ghost use Rattle.text_lines.specs.Answer.{IsRead};
-ghost use Rattle.session_text.specs.Grammar.{SpellsSession};
+ghost use Rattle.session_log.specs.Grammar.{SpellsSession};
 ghost use Rattle.judge_commands.specs.Judged.{IsJudgedTold, report_status};
 ghost use Rattle.judge_commands.specs.Noted.{TellsNoUse};
 ghost use Rattle.judge_commands.specs.inner.Reported.{SaysRefusal, SaysReport};
@@ -13,7 +13,7 @@ use crate::reports::TellsReport;
 use audit_report::{Report, audit};
 use command_texts::{Answer, Given, OnOne, REFUSED, Telling, given, status_where};
 use migration_types::Session;
-use session_text::SessionReader;
+use session_log::SessionReader;
 use std::alloc::{AllocError, Global};
 use std::thread::Threads;
 

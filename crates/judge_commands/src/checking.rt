@@ -3,7 +3,7 @@
 ghost use Rattle.std.specs.Prelude.{◌≡◌, ◌++◌, ℕ, List, IfOk, OnOk};
 ghost use Rattle.std.specs.Thread.{IsSync};
 ghost use Rattle.text_lines.specs.Answer.{IsRead};
-ghost use Rattle.session_text.specs.Grammar.{SpellsSession};
+ghost use Rattle.session_log.specs.Grammar.{SpellsSession};
 ghost use Rattle.cert_text.specs.Grammar.{SpellsCert};
 ghost use Rattle.judged_texts.specs.Checked.{IsTextVerdict};
 ghost use Rattle.command_texts.specs.Answers.{Says};
@@ -11,15 +11,15 @@ ghost use Rattle.judge_commands.specs.Answers.{AddsMisfitOf, IsVerdictTold, verd
 ghost use Rattle.judge_commands.specs.Noted.{TellsNoUse};
 
 use crate::forms::TellsVerdict;
+use crate::misfit_words::push_misfit;
 use crate::noting::note_on;
+use audit_report::{push_refused_certificate, push_refused_session, push_shape};
 use cert_check::Verdict;
 use cert_text::CertReader;
 use command_texts::{Answer, Fault, OnTwo, given, status_where};
 use judged_texts::check_read;
 use migration_types::{Cert, Session};
-use misfit_words::push_misfit;
-use report_text::{push_refused_certificate, push_refused_session, push_shape};
-use session_text::SessionReader;
+use session_log::SessionReader;
 use std::alloc::{AllocError, Global};
 use std::thread::Threads;
 use text_lines::{push_keyed, push_line};

@@ -9,7 +9,7 @@ use crate::forms::TellsLack;
 use command_texts::{Answer, Fault, Given, OnOne, OnTwo, REFUSED, Taker, Telling, given};
 use completeness::{Extent, Missing, first_missing};
 use migration_types::Session;
-use session_text::{SessionReader, session_texts_are_unambiguous};
+use session_log::{SessionReader, session_texts_are_unambiguous};
 use std::alloc::{AllocError, Global};
 
 /// What tells that a session lacks this.

@@ -10,11 +10,11 @@ ghost use Rattle.judge_commands.specs.Answers.{verdict_line};
 ghost use Rattle.judge_commands.specs.Completed.{Adds, TellsInLine, TellsInObject, TellsInWords};
 
 use crate::checking::push_verdict;
+use audit_report::push_missing;
 use cert_check::Verdict;
 use completeness::Missing;
 use migration_types::Session;
 use report_json::{push_missing as push_missing_object, push_verdict as push_verdict_object};
-use report_text::push_missing;
 use session_story::print_missing;
 use std::alloc::{AllocError, Global};
 

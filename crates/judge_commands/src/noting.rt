@@ -2,12 +2,12 @@
 
 ghost use Rattle.std.specs.Prelude.{ℕ, List, MatchOption};
 ghost use Rattle.text_lines.specs.Answer.{IsRead};
-ghost use Rattle.session_text.specs.Grammar.{SpellsSession};
+ghost use Rattle.session_log.specs.Grammar.{SpellsSession};
 ghost use Rattle.judge_commands.specs.Noted.{TellsNoUse};
 
 use completeness::tells_use;
 use migration_types::Session;
-use session_text::session_texts_are_unambiguous;
+use session_log::session_texts_are_unambiguous;
 
 /// What is told of a session without a use.
 const NO_USE: &str =

@@ -2,16 +2,16 @@
 
 ghost use Rattle.std.specs.Prelude.{◌≡◌, ◌++◌, ℕ, List, IfOk, OnOk, ⊤};
 ghost use Rattle.text_lines.specs.Answer.{IsRead};
-ghost use Rattle.session_text.specs.Grammar.{SpellsSession};
-ghost use Rattle.order_text.specs.Order.{SpellsOrder};
+ghost use Rattle.session_log.specs.Grammar.{SpellsSession};
+ghost use Rattle.cert_text.specs.Order.{SpellsOrder};
 ghost use Rattle.judge_commands.specs.Replayed.{IsReplayAnswer, outcome_line, outcome_status};
 
+use audit_report::{push_refused_session, push_shape};
+use cert_text::OrderReader;
 use command_texts::{Answer, Fault, OnTwo, given_alone, status_where};
 use judged_texts::{Outcome, find_outcome};
 use migration_types::{Run, Seq, Session};
-use order_text::OrderReader;
-use report_text::{push_refused_session, push_shape};
-use session_text::SessionReader;
+use session_log::SessionReader;
 use std::alloc::{AllocError, Global};
 use text_lines::{push_keyed, push_line};
 

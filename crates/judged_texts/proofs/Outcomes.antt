@@ -4,9 +4,9 @@ use Rattle.std.specs.Prelude.{Result, Ok, Err, IfOk}
 use Rattle.std.specs.declared.alloc.AllocError.{AllocError}
 use Rattle.text_lines.specs.Text.{IsSpelling}
 use Rattle.migration_types.specs.Sessions.{Recorded}
-use Rattle.session_text.specs.Grammar.{SpellsSession}
+use Rattle.session_log.specs.Grammar.{SpellsSession}
 use Rattle.migration_types.specs.declared.cert.Run.{Run}
-use Rattle.order_text.specs.Order.{SpellsOrder}
+use Rattle.cert_text.specs.Order.{SpellsOrder}
 use Rattle.judged_texts.specs.declared.replaying.Outcome.{Outcome}
 use Rattle.judged_texts.specs.declared.replaying.Outcome.TheVariants.{SessionText, RunsText, Shape, NoMerging, Broken, Safe}
 use Rattle.judged_texts.specs.Replayed.{IsReplayed, IsAlong, IsOutcome}

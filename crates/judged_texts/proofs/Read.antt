@@ -6,7 +6,7 @@ use Rattle.text_lines.specs.Text.{IsSpelling, IsUnambiguous}
 use Rattle.text_lines.specs.declared.FaultKind.{FaultKind}
 use Rattle.text_lines.specs.declared.FaultKind.TheVariants.{Form, Range, Ended, Memory}
 use Rattle.migration_types.specs.Sessions.{Recorded}
-use Rattle.session_text.specs.Grammar.{SpellsSession}
+use Rattle.session_log.specs.Grammar.{SpellsSession}
 use Rattle.audit_model.specs.World.{IsSafe}
 use Rattle.judged_texts.specs.Checked.{SpellsOneSession, OfSpelled}
 use Rattle.judged_texts.proofs.Spelled.{of_spelled}

@@ -2,7 +2,7 @@
 use Rattle.std.specs.Prelude.{◌↔◌, ℕ, List}
 use Rattle.text_lines.specs.Text.{IsSpelling, IsRefusalLine}
 use Rattle.migration_types.specs.Sessions.{Recorded}
-use Rattle.session_text.specs.Grammar.{SpellsSession}
+use Rattle.session_log.specs.Grammar.{SpellsSession}
 use Rattle.audit_model.specs.Mergings.{HasMerging}
 use Rattle.audit_model.specs.World.{IsSafe}
 use Rattle.audit_model.specs.Shape.{IsRightShape}

@@ -8,8 +8,8 @@ use Rattle.judged_texts.specs.declared.auditing.Audited.{Audited}
 use Rattle.judged_texts.specs.declared.auditing.Audited.TheVariants.{Refused, Reported}
 use Rattle.judged_texts.specs.declared.wanted.Wanted.{Wanted}
 use Rattle.judged_texts.specs.declared.wanted.Wanted.TheVariants as wanted
-use Rattle.report_text.specs.ReportText.{first_line, report_text}
-use Rattle.report_text.specs.RefusalText.{refusal_text}
+use Rattle.audit_report.specs.ReportText.{first_line, report_text}
+use Rattle.audit_report.specs.RefusalText.{refusal_text}
 
 -- the certificate's spelling where the session is clean, and else the first line of the report
 abbrev pub certificate_text : Report → List ℕ

@@ -1,9 +1,9 @@
 -- A report that has an order is a text that tells it.
 use Rattle.text_lines.specs.Text.{IsSpelling}
-use Rattle.order_text.specs.Order.{SpellsOrder}
+use Rattle.cert_text.specs.Order.{SpellsOrder}
 use Rattle.audit_report.specs.declared.report.Report.{Report}
 use Rattle.audit_report.specs.declared.report.Report.TheVariants.{Faulty, Clean}
-use Rattle.report_text.specs.ReportText.{report_text}
+use Rattle.audit_report.specs.ReportText.{report_text}
 
 -- the text of a report on a session with a fault tells the order that shows it, and that of a report on a clean session the
 -- order of its certificate

@@ -4,8 +4,8 @@ use Rattle.text_lines.specs.Text.{IsSpelling, IsRefusalLine}
 use Rattle.migration_types.specs.declared.cert.Run.{Run}
 use Rattle.migration_types.specs.Receipts.{Name}
 use Rattle.migration_types.specs.Sessions.{Recorded, line_of}
-use Rattle.session_text.specs.Grammar.{SpellsSession}
-use Rattle.order_text.specs.Order.{SpellsOrder}
+use Rattle.session_log.specs.Grammar.{SpellsSession}
+use Rattle.cert_text.specs.Order.{SpellsOrder}
 use Rattle.audit_model.specs.Mergings.{IsMerging, spelled}
 use Rattle.audit_model.specs.Shape.{IsRightShape}
 use Rattle.merge_runs.specs.Replays.{IsReplay}

@@ -9,7 +9,7 @@ ghost use Rattle.judged_texts.specs.inner.Read.{IsReportOn};
 use audit_report::{Report, audit_by};
 use migration_types::Session;
 use page_facts::Alone;
-use session_text::{read_session, session_texts_are_unambiguous};
+use session_log::{read_session, session_texts_are_unambiguous};
 use std::alloc::{AllocError, Global};
 
 /// What becomes of the audit of a session's text.

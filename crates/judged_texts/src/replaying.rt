@@ -2,16 +2,16 @@
 
 ghost use Rattle.std.specs.Prelude.{ℕ, List, IfOk};
 ghost use Rattle.text_lines.specs.Answer.{IsRead};
-ghost use Rattle.session_text.specs.Grammar.{SpellsSession};
-ghost use Rattle.order_text.specs.Order.{SpellsOrder};
+ghost use Rattle.session_log.specs.Grammar.{SpellsSession};
+ghost use Rattle.cert_text.specs.Order.{SpellsOrder};
 ghost use Rattle.judged_texts.specs.Replayed.{IsAlong, IsOutcome, IsReplayed};
 ghost use Rattle.audit_model.specs.Shape.{IsRightShape};
 
 use cert_check::{ShapeFault, shape};
+use cert_text::read_order;
 use merge_runs::{MergeFault, replay};
 use migration_types::{Run, Seq, Session, line_of};
-use order_text::read_order;
-use session_text::read_session;
+use session_log::read_session;
 use std::alloc::{AllocError, Global};
 
 /// What becomes of a replay: the first that applies.

@@ -6,9 +6,8 @@ ghost use Rattle.judged_texts.specs.Audited.{AuditedFits};
 ghost use Rattle.judged_texts.specs.AuditedText.{certificate_text, wanted_text, audited_text};
 
 use crate::auditing::Audited;
-use audit_report::Report;
+use audit_report::{Report, print_first_line, print_refused_session, print_report};
 use cert_text::write_cert;
-use report_text::{print_first_line, print_refused_session, print_report};
 use std::alloc::{AllocError, Global};
 
 /// What of an audit is told.

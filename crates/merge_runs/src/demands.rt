@@ -4,7 +4,7 @@ ghost use Rattle.std.specs.Prelude.{◌≡◌, ◌<◌, not};
 ghost use Rattle.migration_types.specs.Sessions.{GuestRecFits};
 ghost use Rattle.audit_model.specs.World.{memory_at};
 ghost use Rattle.page_store.specs.Frames.{memory_of};
-ghost use Rattle.page_tables.specs.Tables.{values};
+ghost use Rattle.page_store.specs.Tables.{values};
 ghost use Rattle.merge_runs.specs.inner.Moving.{world_of, HasPage, HasCell, GuestHas, SourceHas, PagerHas};
 ghost use Rattle.merge_runs.specs.inner.Unmoved.{frames_of};
 ghost use Rattle.merge_runs.specs.inner.Demands.{finds, has_left, is_open, guest_met, source_met, pager_met};

@@ -3,11 +3,10 @@
 ghost use Rattle.std.specs.Prelude.{◌≡◌, ◌<◌, IfOk, length, if◌then◌else◌};
 ghost use Rattle.migration_types.specs.Memory.{with_cell, with_content, with_zeros};
 ghost use Rattle.page_store.specs.Frames.{memory_of, IsWith};
-ghost use Rattle.page_tables.specs.Tables.{values};
+ghost use Rattle.page_store.specs.Tables.{values};
 
 use migration_types::{Geometry, PageNo};
-use page_store::Store;
-use page_tables::Table;
+use page_store::{Store, Table};
 use std::alloc::{AllocError, Global};
 
 /// The machine at the target.

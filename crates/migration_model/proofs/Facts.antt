@@ -1,5 +1,5 @@
 -- What the books and the recording keep, from the halt on.
-use Rattle.source_book.specs.SourcePart.{SourcePart}
+use Rattle.active_push.specs.SourcePart.{SourcePart}
 use Rattle.audit_model.proofs.Consistent.{there}
 use Rattle.audit_model.specs.Faults.{IsOver}
 use Rattle.audit_model.specs.Flat.{flat, freed as was_freed, home}
@@ -44,10 +44,10 @@ use Rattle.std.proofs.Common.{Bool, List, None, Option, Some, [], ap, false, inl
 use Rattle.std.proofs.lemmas.Option.{slice_get_within}
 use Rattle.std.specs.List.{AllByRecursion}
 use Rattle.std.specs.Prelude.{is_some, slice_get}
-use Rattle.target_book.specs.TargetPart.{TargetPart}
-use Rattle.target_book.specs.declared.Missing.{Missing}
-use Rattle.pager_book.specs.PagerPart.{PagerPart}
-use Rattle.pager_book.specs.declared.Incoming.{Incoming}
+use Rattle.target_side.specs.TargetPart.{TargetPart}
+use Rattle.target_side.specs.declared.Missing.{Missing}
+use Rattle.target_side.specs.PagerPart.{PagerPart}
+use Rattle.target_side.specs.declared.Incoming.{Incoming}
 
 -- source record n is the state, or repeats it
 abbrev pub IsStateNumber : Recorded → ℕ → Type 0

@@ -1,8 +1,8 @@
 -- No event appends more than two records to a log.
-use Rattle.source_book.specs.SourcePart.{Offer, SourcePart, asks, nearest, owes, pushes, serves_all, serves_owed, serves_want, silent, source_push, source_serve, source_tick, state_packet, unsent, with_pivot}
+use Rattle.active_push.specs.SourcePart.{Offer, SourcePart, asks, nearest, owes, pushes, serves_all, serves_owed, serves_want, silent, source_push, source_serve, source_tick, state_packet, unsent, with_pivot}
 use Rattle.bubbling.specs.Bubbling.{in_turn}
 use Rattle.fault_queue.specs.Waiting.{is_asked, is_waiting}
-use Rattle.guest_book.specs.GuestPart.{GuestPart, guest_access}
+use Rattle.target_side.specs.GuestPart.{GuestPart, guest_access}
 use Rattle.link_book.specs.LinkPart.{LinkPart, goes, if_packet, pushed_line, turned, channel_turned, with_arrival, with_back, with_front, with_pushed, with_up}
 use Rattle.link_book.specs.declared.Arrival.{Arrival}
 use Rattle.migration_events.specs.Ops.{page_in}
@@ -31,11 +31,11 @@ use Rattle.residency.specs.Placements.{is_covered, is_resident}
 use Rattle.std.proofs.Common.{Bool, List, None, Option, Some, [], ap, arith, cond, false, length, subst, suc, true, ℕ, ◌+◌, ◌++◌, ◌||◌, ◌∷◌, ◌≡◌, ◌≤◌}
 use Rattle.std.specs.List.{range_with_len}
 use Rattle.std.specs.Prelude.{nat_lt, slice_get}
-use Rattle.target_book.specs.TargetPart.{Accessed, TargetPart, accesses, does, done_over, frees, lacks, looks, misses_page, resumes, settled as with_settled, target_access, with_misses}
-use Rattle.target_book.specs.declared.Access.TheVariants.{Missed, Waiting}
-use Rattle.target_book.specs.declared.Missing.{Missing}
-use Rattle.pager_book.specs.PagerPart.{Paged, PagerPart, Sent, deliver, delivers_by, delivers_next, fault_absent, fault_join, fault_new, faults, faults_by, first_absent, flushes, is_released, next_fault, pager_flush, pager_pop, pager_pull, pager_tick, places, pops_by, pulls_by, settles, takes, ticks, ticks_at, zeroes}
-use Rattle.pager_book.specs.declared.Incoming.{Incoming}
+use Rattle.target_side.specs.TargetPart.{Accessed, TargetPart, accesses, does, done_over, frees, lacks, looks, misses_page, resumes, settled as with_settled, target_access, with_misses}
+use Rattle.target_side.specs.declared.Access.TheVariants.{Missed, Waiting}
+use Rattle.target_side.specs.declared.Missing.{Missing}
+use Rattle.target_side.specs.PagerPart.{Paged, PagerPart, Sent, deliver, delivers_by, delivers_next, fault_absent, fault_join, fault_new, faults, faults_by, first_absent, flushes, is_released, next_fault, pager_flush, pager_pop, pager_pull, pager_tick, places, pops_by, pulls_by, settles, takes, ticks, ticks_at, zeroes}
+use Rattle.target_side.specs.declared.Incoming.{Incoming}
 
 -- at most two longer
 abbrev pub IsLittleMore : {A : Type 0} → List A → List A → Type 0

@@ -34,7 +34,7 @@ use Rattle.std.proofs.Common.{Bool, List, None, Option, Some, [], ap, arith, fal
 use Rattle.std.proofs.lemmas.Option.{slice_get_within}
 use Rattle.std.specs.List.{AllByRecursion, range_with_len}
 use Rattle.std.specs.Prelude.{slice_get, slice_set}
-use Rattle.guest_book.specs.GuestPart.{guest_access, new_guest}
+use Rattle.target_side.specs.GuestPart.{guest_access, new_guest}
 use Rattle.migration_events.specs.declared.ops.Op.{Op}
 use Rattle.migration_events.specs.declared.ops.Op.TheVariants.{Read as ReadCell, Release as ReleasePage, Write as WriteCell}
 

@@ -3,7 +3,7 @@ use Rattle.audit_model.proofs.History.{earlier_true, earlier_witness}
 use Rattle.audit_model.specs.Flat.{before, changed}
 use Rattle.audit_model.specs.Shape.{earlier, passes}
 use Rattle.audit_model.specs.World.{start}
-use Rattle.page_tables.specs.Tables.{with_value}
+use Rattle.page_store.specs.Tables.{with_value}
 use Rattle.std.proofs.Common.{Bool, List, None, Option, Some, [], ap, arith, cond, false, inl, inr, length, not, refl, subst, suc, sym, true, zero, ℕ, ◌&&◌, ◌++◌, ◌<◌, ◌||◌, ◌∙◌, ◌∷◌, ◌≡◌, ◌≤◌, ◌⊎◌}
 use Rattle.std.specs.List.{AllByRecursion, filter}
 use Rattle.std.specs.Prelude.{is_some, map, slice_get, slice_set, ◌==◌}

@@ -1,12 +1,12 @@
 -- The events of the source.
-use Rattle.source_book.specs.SourcePart.{SourcePart, asks, goes_before, nearer, nearest, owes, pushes, sends, serves_all, serves_owed, serves_want, silent, source_push, source_serve, source_tick, state_packet, unsent, with_pivot}
+use Rattle.active_push.specs.SourcePart.{SourcePart, asks, goes_before, nearer, nearest, owes, pushes, sends, serves_all, serves_owed, serves_want, silent, source_push, source_serve, source_tick, state_packet, unsent, with_pivot}
 use Rattle.audit_model.proofs.Consistent.{there}
 use Rattle.audit_model.specs.Shape.{is_send_of, is_sending, is_up}
 use Rattle.bubbling.specs.Bubbling.{Ring, in_turn, turned as ring_turned}
 use Rattle.link_book.specs.LinkPart.{pushed_line, with_back, with_front, with_pushed}
 use Rattle.link_book.specs.declared.Arrival.{Arrival}
 use Rattle.migration_types.specs.Memory.{Memory, page_of}
-use Rattle.page_tables.specs.Tables.{with_value}
+use Rattle.page_store.specs.Tables.{with_value}
 use Rattle.migration_types.specs.PageSets.{Pages}
 use Rattle.migration_types.specs.Receipts.{Name}
 use Rattle.migration_types.specs.declared.records.LinkRec.TheVariants.{Up}

@@ -11,13 +11,13 @@ use Rattle.migration_types.specs.Sessions.{Recorded, HasLane}
 use Rattle.migration_types.specs.declared.size.Size.TheVariants.{Small}
 use Rattle.migration_types.specs.declared.version.Version.{Version}
 use Rattle.audit_model.specs.Mergings.{run_names}
-use Rattle.source_book.specs.SourcePart.{SourcePart}
+use Rattle.active_push.specs.SourcePart.{SourcePart}
 use Rattle.link_book.specs.LinkPart.{LinkPart}
-use Rattle.guest_book.specs.GuestPart.{GuestPart}
+use Rattle.target_side.specs.GuestPart.{GuestPart}
 use Rattle.migration_events.specs.declared.ops.Op.{Op}
 use Rattle.migration_events.specs.Ops.{OpFits, LateOpFits}
-use Rattle.target_book.specs.TargetPart.{TargetPart}
-use Rattle.pager_book.specs.PagerPart.{PagerPart}
+use Rattle.target_side.specs.TargetPart.{TargetPart}
+use Rattle.target_side.specs.PagerPart.{PagerPart}
 
 -- what a virtual processor has left to do before its move, and after it
 pub record Vcpu : Type 0 where

@@ -1,7 +1,7 @@
 -- What the calls on the books ask for, and a core that is reached always has.
 use Rattle.std.specs.Prelude.{◌≡◌, Some, slice_get}
 use Rattle.link_book.specs.declared.Arrival.{Arrival}
-use Rattle.pager_book.specs.PagerLists.{IsPacketOf}
+use Rattle.target_side.specs.PagerLists.{IsPacketOf}
 use Rattle.migration_model.specs.Books.{BooksAfter, Books, Before, After}
 
 -- from the halt on: what the pager takes next, from the link and from the lane, is a packet of its machine

@@ -11,3 +11,4 @@ pub mod Memory
 pub mod PageSets
 pub mod Certs
 pub mod inner
+pub mod Paged

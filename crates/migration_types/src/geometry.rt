@@ -1,6 +1,7 @@
 //! How many pages and cells a machine has.
 
 ghost use Rattle.std.specs.Prelude.{◌≡◌, ◌<◌, MatchBool, MatchResult};
+ghost use Rattle.migration_types.specs.declared.size.Size.TheVariants.{Small};
 ghost use Rattle.migration_types.specs.Extents.{IsExtent, IsGeometryFault};
 
 use crate::pages::PageNo;
@@ -46,9 +47,17 @@ pub enum GeometryFault {
 pub const MOST_CELLS: u32 = 512;
 
 impl Geometry {
+    /// A machine of so many pages, 1 to 65,536, of so many cells, 1 to 512, at most 1,048,576 cells in all. Of several
+    /// faults, the first is answered.
+    pub fn new(pages: u32, cells: u32) -> Result<Self, GeometryFault>
+        ensures { MatchResult result (λ g. (g ≡ record { size = Small; pages = pages; cells = cells }) × IsExtent g) (IsGeometryFault Small pages cells) }
+    {
+        Geometry::with_size(Size::Small, pages, cells)
+    }
+
     /// A machine of this size, of so many pages of so many cells. Of several faults, the first is answered.
     #[tactic(auto, using(crate::specs::Limits::limits_at_most))]
-    pub fn new(size: Size, pages: u32, cells: u32) -> Result<Self, GeometryFault>
+    pub fn with_size(size: Size, pages: u32, cells: u32) -> Result<Self, GeometryFault>
         ensures { MatchResult result (λ g. (g ≡ record { size = size; pages = pages; cells = cells }) × IsExtent g) (IsGeometryFault size pages cells) }
     {
         let limits = size.limits();

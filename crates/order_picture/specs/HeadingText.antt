@@ -7,7 +7,7 @@ use Rattle.migration_types.specs.Sessions.{Recorded}
 use Rattle.audit_model.specs.Names.{log_length}
 use Rattle.audit_report.specs.declared.report.Report.{Report}
 use Rattle.audit_report.specs.declared.report.Report.TheVariants as report
-use Rattle.report_text.specs.ReportText.{first_line}
+use Rattle.audit_report.specs.ReportText.{first_line}
 use Rattle.session_story.specs.declared.topics.Told.{Told}
 use Rattle.session_story.specs.declared.topics.Told.TheVariants as told
 use Rattle.session_story.specs.Amended.{is_always_wrong}

@@ -6,7 +6,7 @@ use Rattle.migration_types.specs.declared.cert.Run.{Run}
 use Rattle.migration_types.specs.Receipts.{Name}
 use Rattle.migration_types.specs.Sessions.{Recorded}
 use Rattle.audit_report.specs.declared.report.Report.{Report}
-use Rattle.report_text.specs.ReportText.{first_line}
+use Rattle.audit_report.specs.ReportText.{first_line}
 use Rattle.session_story.specs.declared.amends.Amended.{Amended}
 use Rattle.session_story.specs.declared.topics.Topic.{Topic}
 use Rattle.session_story.specs.Amended.{amended_by}

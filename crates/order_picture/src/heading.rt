@@ -11,10 +11,9 @@ ghost use Rattle.order_picture.specs.inner.Words.{words_left};
 use crate::picture::Picture;
 use crate::shapes::push_attribute;
 use crate::words::{push, push_many, push_records, push_with};
-use audit_report::Report;
+use audit_report::{Report, push_first_line};
 use merge_runs::all_of;
 use migration_types::Session;
-use report_text::push_first_line;
 use session_story::{Told, is_always_wrong, push_summary};
 use std::alloc::{AllocError, Global};
 

@@ -6,7 +6,7 @@ use Rattle.migration_types.specs.declared.records.GuestRec.TheVariants.{Halt, Re
 use Rattle.migration_types.specs.Sessions.{Recorded}
 use Rattle.audit_model.specs.declared.home.Home.{Home}
 use Rattle.audit_model.specs.Flat.{changed, home_after, home, is_target}
-use Rattle.page_tables.specs.Tables.{or_here}
+use Rattle.page_store.specs.Tables.{or_here}
 use Rattle.page_facts.specs.Machines.{late_after}
 
 -- ---- tables of what earlier records say

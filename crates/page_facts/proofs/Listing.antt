@@ -8,8 +8,8 @@ use Rattle.migration_types.specs.declared.records.PagerRec.{PagerRec}
 use Rattle.migration_types.specs.declared.records.PagerRec.TheVariants.{Got, Pull, Ready, Fault, Join, Want, Place, Zero, Skip, All}
 use Rattle.migration_types.specs.Sessions.{Recorded}
 use Rattle.audit_model.specs.Shape.{is_placement_of}
-use Rattle.paged.specs.Paged.{source_page, pager_page}
-use Rattle.paged.specs.Paged.{of_page}
+use Rattle.migration_types.specs.Paged.{source_page, pager_page}
+use Rattle.migration_types.specs.Paged.{of_page}
 use Rattle.page_facts.specs.Tables.{some_before, first_before}
 use Rattle.page_facts.specs.Judged.{is_wrong_send, is_altered}
 use Rattle.page_facts.proofs.Before.{some_true, some_false, first_none, first_some, IsFirstAt}

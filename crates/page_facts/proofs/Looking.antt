@@ -11,8 +11,8 @@ use Rattle.audit_model.specs.Flat.{changed}
 use Rattle.audit_model.specs.Shape.{passes, is_placement_of, earlier}
 use Rattle.audit_model.specs.Faults.{looks_at}
 use Rattle.audit_model.proofs.Lists.{each_at}
-use Rattle.page_tables.proofs.Noting.{noted_none}
-use Rattle.page_tables.specs.Tables.{Values, pages_of, values, IsWith}
+use Rattle.page_store.proofs.Noting.{noted_none}
+use Rattle.page_store.specs.Tables.{Values, pages_of, values, IsWith}
 use Rattle.page_facts.specs.Tables.{some_before, or_here, IsTable}
 use Rattle.page_facts.specs.Moved.{PagerPage, placed_by}
 use Rattle.page_facts.proofs.Judging.{here_by}

@@ -6,8 +6,8 @@ use Rattle.migration_types.specs.Extents.{Extent}
 use Rattle.migration_types.specs.declared.version.Version.{Version}
 use Rattle.migration_types.specs.Sessions.{PagerRecFits}
 use Rattle.audit_model.specs.Shape.{is_placement_of}
-use Rattle.page_tables.specs.Tables.{or_here}
-use Rattle.page_tables.proofs.Noting.{noted_none}
+use Rattle.page_store.specs.Tables.{or_here}
+use Rattle.page_store.proofs.Noting.{noted_none}
 use Rattle.page_facts.specs.Moved.{PagerPage, placed_by}
 use Rattle.page_facts.proofs.Judging.{here_by}
 

@@ -24,8 +24,8 @@ use Rattle.audit_model.specs.Faults.{IsEarly, IsOver, GuestFault, PagerFault, if
 use Rattle.audit_model.specs.inner.PageFaultTests.{is_flat_page, is_wrong_read, is_given, is_stale, is_second, is_altered, is_unfit, fault_test}
 use Rattle.audit_model.proofs.Cuts.{same_from_test}
 use Rattle.audit_model.proofs.PageFaultTests.{fault_Decides}
-use Rattle.paged.specs.Paged.{guest_page, source_page, pager_page}
-use Rattle.paged.specs.Paged.{of_page}
+use Rattle.migration_types.specs.Paged.{guest_page, source_page, pager_page}
+use Rattle.migration_types.specs.Paged.{of_page}
 use Rattle.page_facts.specs.Tables.{first_before}
 use Rattle.page_facts.specs.Judged.{is_wrong_send, is_wrong_read as reads_wrong, is_altered as is_placed_wrong}
 use Rattle.page_facts.specs.Moved.{is_again}
@@ -58,14 +58,14 @@ there_is page_of (Some r) page e = (r, refl, go (page_of r) refl e)
   where
     go : (o : Option ℕ) → page_of r ≡ o → o ≡ Some page → of_page page_of page r ≡ true
     go None is e = absurd (cc)
-    go (Some p) is e = let same : p ≡ page = cc in ap (λ o. Rattle.paged.specs.Paged.is_page o page) is ∙ eq-eqb p page same
+    go (Some p) is e = let same : p ≡ page = cc in ap (λ o. Rattle.migration_types.specs.Paged.is_page o page) is ∙ eq-eqb p page same
 
 is_there : {A : Type 0} (page_of : A → Option ℕ) (o : Option A) (page : ℕ) (r : A) → o ≡ Some r → of_page page_of page r ≡ true → if_there page_of o ≡ Some page
 is_there page_of o page r is own = ap (λ o. if_there page_of o) is ∙ go (page_of r) refl
   where
     go : (o : Option ℕ) → page_of r ≡ o → o ≡ Some page
-    go None e = let f : of_page page_of page r ≡ false = ap (λ o. Rattle.paged.specs.Paged.is_page o page) e in absurd (cc)
-    go (Some p) e = let t : (p == page) ≡ true = sym (ap (λ o. Rattle.paged.specs.Paged.is_page o page) e) ∙ own in ap (λ k. Some k) (eqb-true p page t)
+    go None e = let f : of_page page_of page r ≡ false = ap (λ o. Rattle.migration_types.specs.Paged.is_page o page) e in absurd (cc)
+    go (Some p) e = let t : (p == page) ≡ true = sym (ap (λ o. Rattle.migration_types.specs.Paged.is_page o page) e) ∙ own in ap (λ k. Some k) (eqb-true p page t)
 
 -- the first by the reasons of a page's records is the first of the log
 module _ {A : Type 0} (s : Recorded) (page : ℕ) (name : LogName) (log : List A) (page_of : A → Option ℕ) (is_at : (n : ℕ) → page_at s (name, n) ≡ if_there page_of (slice_get log n)) (why : ℕ → A → Option PageReason) (least_is : (n : ℕ) (r : A) → slice_get log n ≡ Some r → of_page page_of page r ≡ true → reason_at s (name, n) ≡ why n r) where

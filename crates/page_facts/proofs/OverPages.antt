@@ -18,8 +18,8 @@ use Rattle.audit_model.specs.declared.reasons.PageReason.TheVariants.{Read as Wr
 use Rattle.audit_model.specs.Names.{if_there}
 use Rattle.audit_model.specs.Faults.{GuestFault, SourceFault, PagerFault, if_fault, HasNoPageFault}
 use Rattle.audit_model.specs.FirstFault.{IsFirstPageFault}
-use Rattle.paged.specs.Paged.{AreWithin}
-use Rattle.paged.specs.Paged.{guest_page, source_page, pager_page}
+use Rattle.migration_types.specs.Paged.{AreWithin}
+use Rattle.migration_types.specs.Paged.{guest_page, source_page, pager_page}
 use Rattle.page_facts.specs.declared.page_fault.PageFault.{PageFault}
 use Rattle.page_facts.specs.inner.FirstOfLog.{reason_at, IsCleanLog, IsFirstOfLog}
 use Rattle.page_facts.specs.PageFaults.{page_at, Precedes, AreClean, IsFirstFaultOf, IsClean, IsFirstFault, IsPageOf, IsFirstFaultFrom, precedes, least}

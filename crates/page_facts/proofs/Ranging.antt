@@ -11,9 +11,9 @@ use Rattle.audit_model.specs.Flat.{flat, home, is_target}
 use Rattle.audit_model.specs.Shape.{passes}
 use Rattle.audit_model.specs.Certificates.{is_touch_of}
 use Rattle.page_store.specs.Frames.{memory_of}
-use Rattle.page_tables.proofs.Noting.{noted_none}
-use Rattle.paged.specs.Paged.{guest_page}
-use Rattle.paged.specs.Paged.{of_page, is_page}
+use Rattle.page_store.proofs.Noting.{noted_none}
+use Rattle.migration_types.specs.Paged.{guest_page}
+use Rattle.migration_types.specs.Paged.{of_page, is_page}
 use Rattle.page_facts.specs.Tables.{or_here, first_before}
 use Rattle.page_facts.specs.Judged.{is_late_touch}
 use Rattle.page_facts.specs.declared.range.Seen.{Seen}

@@ -11,8 +11,8 @@ use Rattle.migration_types.specs.Extents.{Extent}
 use Rattle.migration_types.specs.declared.version.Version.{Version}
 use Rattle.migration_types.specs.Sessions.{GuestRecFits, SourceRecFits, PagerRecFits}
 use Rattle.audit_model.proofs.Lists.{each_at}
-use Rattle.paged.specs.Paged.{guest_page, source_page, pager_page}
-use Rattle.paged.specs.Paged.{AreWithin}
+use Rattle.migration_types.specs.Paged.{guest_page, source_page, pager_page}
+use Rattle.migration_types.specs.Paged.{AreWithin}
 
 within : {A : Type 0} (page_of : A → Option ℕ) (Fits : A → Type 0) (pages : ℕ) (log : List A) → ((r : A) (p : ℕ) → Fits r → page_of r ≡ Some p → p < pages) → AllByRecursion Fits log → AreWithin page_of pages log
 within page_of Fits pages log each all = record { each = λ n p r is e. each r p (each_at Fits log n r all is) e }

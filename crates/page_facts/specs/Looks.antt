@@ -5,7 +5,7 @@ use Rattle.migration_types.specs.declared.records.GuestRec.TheVariants.{See}
 use Rattle.migration_types.specs.Sessions.{Recorded}
 use Rattle.audit_model.specs.Shape.{is_placement_of}
 use Rattle.audit_model.specs.Faults.{looks_at}
-use Rattle.page_tables.specs.Tables.{Values}
+use Rattle.page_store.specs.Tables.{Values}
 use Rattle.page_facts.specs.Tables.{some_before, or_here, first_before, IsTable}
 use Rattle.page_facts.specs.declared.looks.Looks.{Looks}
 

@@ -1,8 +1,8 @@
 -- Tables of pages, and what earlier records say.
 use Rattle.std.specs.Prelude.{◌≡◌, ℕ, zero, suc, Bool, false, ◌||◌, List, Option, None, slice_get}
 use Rattle.audit_model.specs.Shape.{passes}
-pub use Rattle.page_tables.specs.Tables.{or_here, noted, marked_if}
-use Rattle.page_tables.specs.Tables.{Values, pages_of, values}
+pub use Rattle.page_store.specs.Tables.{or_here, noted, marked_if}
+use Rattle.page_store.specs.Tables.{Values, pages_of, values}
 
 -- whether an earlier record passes a test, which may look at the record's place
 abbrev pub some_before : {A : Type 0} → (ℕ → A → Bool) → List A → ℕ → Bool

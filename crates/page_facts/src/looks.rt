@@ -4,13 +4,13 @@ ghost use Rattle.std.specs.Prelude.{◌≡◌, ◌≤◌, length, IfOk};
 ghost use Rattle.migration_types.specs.declared.records.GuestRec.TheVariants.{See};
 ghost use Rattle.migration_types.specs.Sessions.{IsSession};
 ghost use Rattle.audit_model.specs.Faults.{looks_at};
-ghost use Rattle.page_tables.specs.Tables.{pages_of, values, IsWith};
+ghost use Rattle.page_store.specs.Tables.{pages_of, values, IsWith};
 ghost use Rattle.page_facts.specs.Moved.{PagerPage, placed_by};
 ghost use Rattle.page_facts.specs.Tables.{or_here, IsTable};
 ghost use Rattle.page_facts.specs.Looks.{look_of, first_look, AreNoted, AreLooks, AreLooksOf};
 
 use migration_types::{GuestRec, PagerRec, Session};
-use page_tables::Table;
+use page_store::Table;
 use std::alloc::{AllocError, Global};
 
 /// What the walk over the guest's log keeps.

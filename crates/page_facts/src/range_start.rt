@@ -20,7 +20,7 @@ fn machine_of(session: &Session, count: usize) -> Geometry
 {
     session.keeps_limits();
     let geometry = session.geometry();
-    match Geometry::new(geometry.size(), count as u32, geometry.cells()) {
+    match Geometry::with_size(geometry.size(), count as u32, geometry.cells()) {
         Ok(geometry) => geometry,
         Err(_) => unreachable!(),
     }

@@ -1,15 +1,17 @@
-//! The frames of one machine: a value for each cell of each page.
+//! The frames of one machine: a value for each cell of each page; and tables with a value for each page.
 #![tactic(auto)]
 
 ghost use Rattle.std.specs.Prelude.{◌≡◌, ◌<◌, ◌≤◌, ◌*◌, ◌+◌, ◌++◌, IfOk, length, replicate, take, drop};
 ghost use Rattle.std.specs.List.{AllByRecursion};
 
 mod cells;
+mod tables;
 
 use cells::Cells;
 use migration_types::{Geometry, InitPage, PageNo};
 use std::alloc::{AllocError, Global};
 use std::marker::Model;
+pub use tables::Table;
 
 /// A value for each cell of each page of a machine. Only the constructors take memory: one block for all frames, and
 /// one of a byte for each 64 cells.

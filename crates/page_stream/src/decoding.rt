@@ -125,7 +125,7 @@ fn page_of(
                 Some(cells) => Ok(Some(Packet::Page {
                     number,
                     page: PageNo::new(page),
-                    contents: Contents::from_vec(cells),
+                    cells: Contents::from_vec(cells),
                 })),
             }
         }

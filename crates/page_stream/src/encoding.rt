@@ -76,8 +76,8 @@ pub(crate) fn put_packet(out: &mut Vec<u8>, packet: &Packet) -> Result<(), Alloc
         Packet::Page {
             number,
             page,
-            contents,
-        } => put_page(out, *number, *page, contents.as_slice()),
+            cells,
+        } => put_page(out, *number, *page, cells.as_slice()),
         Packet::Want { number, page } => {
             put_head(out, 9, 3, *number)?;
             put_number(out, page.number())
@@ -143,12 +143,12 @@ pub fn fits(geometry: Geometry, packet: &Packet) -> bool
         Packet::Page {
             number: _,
             page,
-            contents,
+            cells,
         } => {
             if page.number() >= geometry.pages() {
                 return false;
             }
-            contents_fit(geometry.cells(), contents.as_slice())
+            contents_fit(geometry.cells(), cells.as_slice())
         }
         Packet::Want { number: _, page } => page.number() < geometry.pages(),
         Packet::All { number: _ } => true,

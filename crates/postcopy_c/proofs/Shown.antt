@@ -3,7 +3,7 @@ use Rattle.std.proofs.Common.{ℕ, List, Result, Ok, Err, IfOk, sym, subst}
 use Rattle.std.specs.declared.alloc.AllocError.{AllocError}
 use Rattle.text_lines.specs.Text.{IsSpelling}
 use Rattle.migration_types.specs.Sessions.{Recorded}
-use Rattle.session_text.specs.Grammar.{SpellsSession}
+use Rattle.session_log.specs.Grammar.{SpellsSession}
 use Rattle.judged_texts.specs.declared.auditing.Audited.{Audited}
 use Rattle.postcopy_c.specs.declared.showing.ShownAs.{ShownAs}
 use Rattle.postcopy_c.specs.declared.showing.Showing.{Showing}

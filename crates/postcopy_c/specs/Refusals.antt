@@ -3,9 +3,9 @@ use Rattle.std.specs.Prelude.{◌≡◌, ◌≢◌, ◌≤◌, ◌⊎◌, ℕ, L
 use Rattle.text_lines.specs.declared.FaultKind.{FaultKind}
 use Rattle.text_lines.specs.declared.FaultKind.TheVariants.{Memory}
 use Rattle.text_lines.specs.Text.{IsLine, IsSpelling, IsRefusalLine}
-use Rattle.session_text.specs.Grammar.{SpellsSession}
+use Rattle.session_log.specs.Grammar.{SpellsSession}
 use Rattle.cert_text.specs.Grammar.{SpellsCert}
-use Rattle.order_text.specs.Order.{SpellsOrder}
+use Rattle.cert_text.specs.Order.{SpellsOrder}
 use Rattle.postcopy_c.specs.declared.refusals.PostcopyRefusal.{PostcopyRefusal}
 use Rattle.postcopy_c.specs.Answers.{IsPut}
 

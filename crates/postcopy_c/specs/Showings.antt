@@ -2,19 +2,19 @@
 use Rattle.std.specs.Prelude.{◌≡◌, ◌≢◌, ℕ, ◌<◌, ◌⊎◌, List, [], ◌∷◌, length}
 use Rattle.text_lines.specs.Text.{IsSpelling, IsRefusalLine, ended}
 use Rattle.migration_types.specs.Sessions.{Recorded}
-use Rattle.session_text.specs.Grammar.{SpellsSession}
+use Rattle.session_log.specs.Grammar.{SpellsSession}
 use Rattle.faulty_pages.specs.declared.FaultyPage.{FaultyPage}
 use Rattle.faulty_pages.specs.FaultyPages.{AreFaultyPages}
 use Rattle.audit_report.specs.declared.report.Report.{Report}
 use Rattle.audit_report.specs.Reports.{IsReport}
-use Rattle.report_text.specs.RefusalText.{refusal_text}
-use Rattle.report_text.specs.ReportText.{first_line}
-use Rattle.report_text.specs.FaultyPagesText.{all_faults_text}
+use Rattle.audit_report.specs.RefusalText.{refusal_text}
+use Rattle.audit_report.specs.ReportText.{first_line}
+use Rattle.audit_report.specs.FaultyPagesText.{all_faults_text}
 use Rattle.audit_report.specs.declared.report.Report.TheVariants as report
 use Rattle.completeness.specs.declared.missing.Missing.{Missing}
 use Rattle.completeness.specs.declared.missing.Extent.{Extent}
 use Rattle.completeness.specs.Complete.{IsComplete, Lacks}
-use Rattle.report_text.specs.MissingText.{missing_text}
+use Rattle.audit_report.specs.MissingText.{missing_text}
 use Rattle.judged_texts.specs.declared.auditing.Audited.{Audited}
 use Rattle.judged_texts.specs.declared.auditing.Audited.TheVariants.{Refused, Reported}
 use Rattle.session_story.specs.Told.{IsToldText, refused_text}

@@ -7,10 +7,9 @@ ghost use Rattle.postcopy_c.specs.Refusals.{no_words, TellsRefusal, IsToldOf, Is
 
 use crate::kinds::{CERT_TEXT, NO_MEMORY, READ, RUNS_TEXT, SESSION_TEXT};
 use crate::telling::put;
-use cert_text::CertLines;
-use order_text::OrderText;
+use cert_text::{CertLines, OrderText};
 use refusal_words::{Reason, reason_of};
-use session_text::SessionLines;
+use session_log::SessionLines;
 use std::alloc::Global;
 use text_lines::{FaultKind, Refusal, Rewind, next_line, read_or_why};
 

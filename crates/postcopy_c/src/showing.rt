@@ -12,16 +12,17 @@ ghost use Rattle.postcopy_c.specs.Showings.{IsAllFaultsText, IsLackText, IsLackB
 use crate::answer::{PostcopyAnswer, audited_answer, out_of_memory};
 use crate::kinds::{CLEAN, FAULTY, NO_MEMORY, SESSION_TEXT};
 use crate::telling::put;
-use audit_report::{Report, audit_by};
+use audit_report::{
+    Report, audit_by, print_all_faults, print_first_line, print_refused_session, push_missing,
+};
 use completeness::{Extent, first_missing};
 use faulty_pages::faulty_pages;
 use judged_texts::Audited;
 use migration_types::Session;
 use order_picture::print_picture_on;
 use page_facts::Alone;
-use report_text::{print_all_faults, print_first_line, print_refused_session, push_missing};
+use session_log::{read_session, session_texts_are_unambiguous};
 use session_story::{Topic, print_refused, print_topic};
-use session_text::{read_session, session_texts_are_unambiguous};
 use std::alloc::{AllocError, Global};
 
 /// As what a session is shown.

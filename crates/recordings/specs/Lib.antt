@@ -2,3 +2,5 @@ pub mod Lines
 pub mod Recordings
 pub mod Seen
 pub mod Wide
+pub mod Walking
+pub mod inner

@@ -1,5 +1,11 @@
-//! Recordings: sessions of machines of any size, whose numbers have 64 bits, and their lines.
+//! Recordings: sessions of machines of any size, whose numbers have 64 bits; their lines, and their text, which is read line
+//! by line, and of which nothing is kept.
 #![tactic(auto)]
+
+ghost use Rattle.std.specs.Prelude.{◌≡◌, OnOk, IfErr};
+ghost use Rattle.text_lines.specs.Text.{IsUnambiguous};
+ghost use Rattle.recordings.specs.Recordings.{SpellsRecording};
+ghost use Rattle.recordings.specs.Walking.{Walks, IsRefusedBy};
 
 mod fields;
 mod guest;
@@ -9,8 +15,11 @@ mod laws;
 mod link;
 mod machine;
 mod pager;
+mod place;
+mod reading;
 mod source;
 mod visiting;
+mod walker;
 mod wide;
 mod writing;
 
@@ -18,5 +27,57 @@ pub use laws::{
     lines_are_plain, lines_are_short, lines_tell_records, recordings_fit, sessions_are_recordings,
 };
 pub use machine::{BEYOND, Machine};
+use reading::walk_through;
+use std::alloc::Global;
+use std::io::Read;
+use thiserror::Error;
 pub use visiting::Visitor;
+use walker::Walker;
 pub use wide::{WideGuest, WideInit, WideLane, WideLink, WidePager, WideSource};
+
+/// Why there is no recording.
+#[derive(Clone, Copy, Debug, PartialEq, Eq, Error)]
+pub enum RecordingFault {
+    /// The line, counted from 1, at which the bytes stop being a recording's text.
+    #[error("line {0}: not the text of a recording")]
+    Line(u64),
+    /// What was read gave an error, or has too many lines to count.
+    #[error("the recording was not read")]
+    File,
+    /// Memory was refused.
+    #[error("out of memory")]
+    Memory,
+}
+
+/// No recording's text begins another's, a text is that of one recording, and a recording has one text. Runs nothing.
+pub fn recording_texts_are_unambiguous()
+    ensures { IsUnambiguous SpellsRecording }
+{}
+
+/// How many bytes are read at a time, at most.
+const PIECE: usize = 1_048_576;
+
+/// Goes through the recording that a reader has left, with a visitor, which meets the machine once its lines came, and each
+/// page and record as its line comes. Nothing is kept but a piece of the text.
+///
+/// # Errors
+///
+/// Where the bytes are no recording's text, the line, counted from 1, at which they stop being one: no recording's text
+/// begins with the lines up to that one. Where the bytes end too early, it is the line that follows their last line feed. A
+/// line of more than 8,448 bytes is refused before it ends. Otherwise that a read failed, or that memory was refused, to
+/// `walk` or to the visitor. By then the visitor may have met some of what came.
+pub fn walk<R: Read, V: Visitor>(
+    alloc: Global,
+    reader: &mut R,
+    visitor: &mut V,
+) -> Result<(), RecordingFault>
+    requires { V.IsNew visitor.old }
+    ensures walked { OnOk result (Walks V.Met (R.remaining reader.old) visitor.new) }
+    ensures refused { IfErr result (λ fault. IsRefusedBy (R.remaining reader.old) fault) }
+{
+    let mut walker = Walker::new(alloc);
+    let Ok(mut buffer) = vec![in alloc; 0u8; PIECE] else {
+        return Err(RecordingFault::Memory);
+    };
+    walk_through(reader, visitor, &mut walker, buffer.as_mut_slice())
+}

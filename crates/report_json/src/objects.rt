@@ -10,13 +10,12 @@ use crate::fields::{
 };
 use crate::lists::{push_list_under, push_runs};
 use crate::records::records_of;
-use audit_report::Report;
+use audit_report::{Report, line_of_taken};
 use cert_check::{ShapeFault, Verdict};
 use completeness::Missing;
 use faulty_pages::FaultyPage;
 use migration_types::{LogName, PageNo, Run, Session};
 use page_facts::PageFault;
-use report_text::line_of_taken;
 use session_story::{Explanation, page_at};
 use std::alloc::{AllocError, Global};
 

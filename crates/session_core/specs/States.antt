@@ -4,13 +4,13 @@ use Rattle.std.specs.List.{AllByRecursion}
 use Rattle.migration_types.specs.declared.version.Version.{Version}
 use Rattle.migration_types.specs.Extents.{Extent}
 use Rattle.migration_events.specs.Ops.{OpFits, LateOpFits}
-use Rattle.script.specs.Scenarios.{Scenario}
-use Rattle.script.specs.declared.vcpus.Vcpu.{Vcpu as Scheduled}
-use Rattle.source_book.specs.Books.{SourceKept, part_of as source_of}
+use Rattle.guest_script.specs.Scenarios.{Scenario}
+use Rattle.guest_script.specs.declared.vcpus.Vcpu.{Vcpu as Scheduled}
+use Rattle.active_push.specs.Books.{SourceKept, part_of as source_of}
 use Rattle.link_book.specs.Links.{Linked}
-use Rattle.guest_book.specs.Books.{GuestKept, part_of as guest_of}
-use Rattle.target_book.specs.Kept.{Kept, part_of as target_of, geometry_of}
-use Rattle.pager_book.specs.PagerLists.{PagerLists, part_of as pager_of}
+use Rattle.target_side.specs.Guests.{GuestKept, part_of as guest_of}
+use Rattle.target_side.specs.Kept.{Kept, part_of as target_of, geometry_of}
+use Rattle.target_side.specs.PagerLists.{PagerLists, part_of as pager_of}
 use Rattle.migration_model.specs.Books.{Vcpu, Scripted, BooksBefore, BooksAfter, books_before}
 
 -- what a script says to the events

@@ -5,8 +5,8 @@ ghost use Rattle.migration_types.specs.Sessions.{IsSession};
 ghost use Rattle.migration_model.specs.Books.{Before, IsScript, session_of, session_before, session_after};
 ghost use Rattle.migration_model.specs.Events.{start, home_step, home_event, all_at_move, halted, has_room};
 ghost use Rattle.book_events.specs.Logs.{logs_in};
-ghost use Rattle.pager_book.specs.PagerLists.{part_of as pager_of};
-ghost use Rattle.pager_book.specs.PagerPart.{new_pager};
+ghost use Rattle.target_side.specs.PagerLists.{part_of as pager_of};
+ghost use Rattle.target_side.specs.PagerPart.{new_pager};
 ghost use Rattle.session_core.specs.States.{home_of, away_of, scripted_of, IsBefore};
 
 use crate::CoreFault;
@@ -14,14 +14,13 @@ use crate::after::AfterHalt;
 use crate::left::{Left, all_left};
 use book_events::halting::halt;
 use book_events::logs::{LentLogs, logs_of_guest};
-use guest_book::GuestBook;
+use guest_script::Script;
 use link_book::LinkBook;
 use migration_events::Event;
 use migration_types::Session;
-use pager_book::PagerBook;
-use script::Script;
 use std::alloc::{AllocError, Global};
 use std::marker::Model;
+use target_side::{GuestBook, PagerBook};
 
 /// A migration before its halt: the guest's book, and what each virtual processor has left to do of a script. Contracts
 /// see the script, what is left, and the guest's book.
@@ -74,6 +73,51 @@ impl<'a> BeforeHalt<'a> {
             Event::GuestStep { vcpu } => self.guest_step(vcpu),
             _ => Ok(()),
         }
+    }
+
+    /// Whether each log has room for what an event appends. Takes no memory.
+    pub fn look(&self, event: Event) -> Result<(), CoreFault>
+        ensures room { OnOk result (has_room (session_of (home_event event (home_of self.now))) ≡ true) }
+        ensures full { OnErr result (has_room (session_of (home_event event (home_of self.now))) ≡ false) }
+        ensures memory { IsErrOf result CoreFault.Memory → ⊥ }
+    {
+        match event {
+            Event::GuestStep { vcpu } => self.look_to_step(vcpu),
+            Event::Halt => self.look_to_halt(),
+            _ => {
+                self.keeps_limits();
+                Ok(())
+            }
+        }
+    }
+
+    /// Whether the guest's log has room for what a virtual processor's next operation before its move appends.
+    fn look_to_step(&self, vcpu: u8) -> Result<(), CoreFault>
+        ensures room { OnOk result (has_room (session_before (home_step vcpu (slice_get (home_of self.now).vcpus vcpu) (home_of self.now))) ≡ true) }
+        ensures full { OnErr result (has_room (session_before (home_step vcpu (slice_get (home_of self.now).vcpus vcpu) (home_of self.now))) ≡ false) }
+        ensures memory { IsErrOf result CoreFault.Memory → ⊥ }
+    {
+        self.keeps_limits();
+        let Some(left) = self.vcpus.get(usize::from(vcpu)) else {
+            return Ok(());
+        };
+        let Some((op, _)) = left.early() else {
+            return Ok(());
+        };
+        self.guest.look_to_access(vcpu, &op)
+    }
+
+    /// Whether the guest's log has room for the halt's record, where each virtual processor is at its move.
+    fn look_to_halt(&self) -> Result<(), CoreFault>
+        ensures room { OnOk result (has_room (session_of (home_event Event.Halt (home_of self.now))) ≡ true) }
+        ensures full { OnErr result (has_room (session_of (home_event Event.Halt (home_of self.now))) ≡ false) }
+        ensures memory { IsErrOf result CoreFault.Memory → ⊥ }
+    {
+        self.keeps_limits();
+        if self.all_at_move() {
+            return self.guest.look_to_halt();
+        }
+        Ok(())
     }
 
     /// A virtual processor does its next operation before its move, which is recorded. One that is at its move, and a

@@ -5,8 +5,8 @@ ghost use Rattle.std.specs.Option.{option_map};
 ghost use Rattle.session_core.specs.States.{vcpu_of};
 ghost use Rattle.session_core.specs.inner.Steps.{next, early, late};
 
+use guest_script::Vcpu;
 use migration_events::Op;
-use script::Vcpu;
 use std::alloc::{AllocError, Global};
 use std::marker::Model;
 

@@ -8,9 +8,9 @@ ghost use Rattle.session_core.specs.Promised.{IsRecordedBy};
 
 use crate::CoreFault;
 use crate::cores::Core;
+use guest_script::Script;
 use migration_events::Event;
 use migration_types::Session;
-use script::Script;
 use std::alloc::Global;
 use std::mem::drop;
 

@@ -14,7 +14,7 @@ use Rattle.audit_model.specs.declared.reasons.PageReason.{PageReason}
 use Rattle.audit_model.specs.declared.reasons.PageReason.TheVariants.{Read as WrongRead, Early, Given, Stale, Twice, Altered, Unfit, Over}
 use Rattle.audit_model.specs.Names.{if_there}
 use Rattle.audit_model.specs.Faults.{GuestFault, SourceFault, PagerFault, if_fault, IsPageFault}
-use Rattle.paged.specs.Paged.{guest_page, source_page, pager_page}
+use Rattle.migration_types.specs.Paged.{guest_page, source_page, pager_page}
 use Rattle.page_facts.specs.PageFaults.{page_at}
 use Rattle.page_facts.proofs.Within.{guest_within, source_within, pager_within}
 

@@ -3,9 +3,9 @@ use Rattle.std.specs.Prelude.{◌≡◌, ℕ, List, [], ◌∷◌, ◌++◌, cod
 use Rattle.text_lines.specs.Text.{ended}
 use Rattle.migration_types.specs.Sessions.{Recorded}
 use Rattle.audit_report.specs.declared.report.Report.{Report}
-use Rattle.report_text.specs.ReportText.{first_line}
-use Rattle.report_text.specs.MissingText.{missing_text}
-use Rattle.report_text.specs.RefusalText.{refusal_text}
+use Rattle.audit_report.specs.ReportText.{first_line}
+use Rattle.audit_report.specs.MissingText.{missing_text}
+use Rattle.audit_report.specs.RefusalText.{refusal_text}
 use Rattle.completeness.specs.declared.missing.Missing.{Missing}
 use Rattle.session_story.specs.declared.topics.Told.{Told}
 use Rattle.session_story.specs.declared.topics.Topic.{Topic}

@@ -19,9 +19,8 @@ use crate::values::Held;
 use audit_model::PageReason;
 use audit_report::Report;
 use cert_check::ShapeFault;
-use migration_types::{LogName, PageNo, Session, SourceRec};
+use migration_types::{LogName, PageNo, Paged, Session, SourceRec};
 use page_facts::PageFault;
-use paged::Paged;
 use std::alloc::{AllocError, Global};
 
 /// What is told of a faulty record besides its page's story.

@@ -7,10 +7,9 @@ ghost use Rattle.session_story.specs.Told.{IsExplainedText, IsToldText, lacking_
 
 use crate::topics::{Topic, tell};
 use crate::words::{words_of, words_of_missing};
-use audit_report::Report;
+use audit_report::{Report, print_first_line, print_refused_session, push_missing};
 use completeness::Missing;
 use migration_types::Session;
-use report_text::{print_first_line, print_refused_session, push_missing};
 use std::alloc::{AllocError, Global};
 
 /// What is told of a session on a topic, in words, after the first line of the report on it. Each line ends with LF. Takes

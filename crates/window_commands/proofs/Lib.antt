@@ -1,1 +1,5 @@
 pub mod Told
+pub mod Words
+pub mod Written
+pub mod ByTables
+pub mod Joined

@@ -1,8 +1,8 @@
 -- Answers that tell the lines of a recording.
 use Rattle.std.specs.Prelude.{◌≡◌, ℕ, ◌⊎◌, List, codes}
 use Rattle.text_lines.specs.Text.{IsSpelling, IsRefusalLine}
-use Rattle.line_table.specs.Tables.{SpellsTable}
-use Rattle.line_table.specs.Relined.{IsRelined}
+use Rattle.window_commands.specs.Tables.{SpellsTable}
+use Rattle.window_commands.specs.Relined.{IsRelined}
 use Rattle.command_texts.specs.Answers.{numbered}
 use Rattle.window_commands.specs.declared.relining.LinesIn.{LinesIn}
 use Rattle.window_commands.specs.declared.relining.LinesIn.TheVariants.{Words, Object}

@@ -2,7 +2,7 @@
 use Rattle.std.specs.Prelude.{◌≡◌, ℕ, Bool, true, false, List, [], ◌∷◌, ◌++◌, Option, Result, IfSome, codes}
 use Rattle.std.specs.Io.KnownBytes.{Keeps}
 use Rattle.text_lines.specs.Text.{IsRefusalLine}
-use Rattle.line_table.specs.Tables.{table_text}
+use Rattle.window_commands.specs.Tables.{table_text}
 use Rattle.recordings.specs.Recordings.{SpellsRecording}
 use Rattle.window_cut.specs.declared.pages.Window.{Window}
 use Rattle.window_cut.specs.declared.session.WindowText.{WindowText}

@@ -4,8 +4,8 @@
 ghost use Rattle.std.specs.Prelude.{◌≡◌, ◌<◌, ℕ, List, Option, IfOk, IfErr};
 ghost use Rattle.window_commands.specs.Relining.{AreToldBy, IsToldBy, between, key};
 
+use crate::{TableParts, push_relined};
 use command_texts::{Answer, Fault, Gathered, Given, OnOne, OnTwo, Taker, given_alone, refused};
-use line_table::{TableParts, push_relined};
 use migration_types::Seq;
 use std::alloc::{AllocError, Global};
 

@@ -8,9 +8,9 @@ ghost use Rattle.window_cut.specs.declared.pages.Window.{Window as Pages};
 ghost use Rattle.window_commands.specs.Found.{IsFound};
 ghost use Rattle.window_commands.specs.Windows.{EndsWindow, IsWindowAnswer, with_lines};
 
+use crate::push_table;
 use command_texts::{ACCEPTED, Answer, Fault, REFUSED, TextSource, given, opened, remark, written};
-use line_table::push_table;
-use recording_text::RecordingFault;
+use recordings::RecordingFault;
 use std::alloc::{AllocError, Global};
 use std::io::Write;
 use text_lines::push_keyed;

@@ -4,8 +4,8 @@ use Rattle.std.specs.Prelude.{IfErr, IfOk}
 use Rattle.migration_types.specs.Sessions.{Recorded}
 use Rattle.text_lines.specs.Text.{IsSpelling}
 use Rattle.recordings.specs.Recordings.{SpellsRecording}
-use Rattle.recording_text.specs.declared.RecordingFault.TheVariants.{Line, File, Memory}
-use Rattle.recording_text.proofs.Values.{recordings_unambiguous}
+use Rattle.recordings.specs.declared.RecordingFault.TheVariants.{Line, File, Memory}
+use Rattle.recordings.proofs.Values.{recordings_unambiguous}
 use Rattle.window_cut.specs.declared.faults.CutFault.{CutFault}
 use Rattle.window_cut.specs.declared.faults.CutFault.TheVariants.{Recording, Outside, Changed}
 use Rattle.window_cut.specs.declared.pages.Window.{Window}

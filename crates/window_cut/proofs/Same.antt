@@ -14,7 +14,7 @@ use Rattle.migration_types.specs.declared.records.PagerRec.TheVariants.{Got, Pul
 use Rattle.migration_types.specs.Sessions.{Recorded}
 use Rattle.text_lines.specs.Text.{IsSpelling}
 use Rattle.recordings.specs.Recordings.{SpellsRecording}
-use Rattle.recording_text.proofs.Values.{recordings_unambiguous}
+use Rattle.recordings.proofs.Values.{recordings_unambiguous}
 use Rattle.audit_model.specs.Windows.{Numbers, newest}
 use Rattle.window_cut.specs.declared.faults.CutFault.{CutFault}
 use Rattle.window_cut.specs.declared.faults.CutFault.TheVariants.{Recording, Outside, Changed}

@@ -2,9 +2,9 @@
 use Rattle.std.specs.Prelude.{◌≡◌, ℕ, ◌+◌, ◌<◌, ◌≤◌, ◌⊎◌, List, Some, Option, IfSome}
 use Rattle.migration_types.specs.Sessions.{Recorded}
 use Rattle.text_lines.specs.Text.{ended, IsSpelling}
-use Rattle.session_text.specs.Grammar.{session_lines}
+use Rattle.session_log.specs.Grammar.{session_lines}
 use Rattle.recordings.specs.Recordings.{SpellsRecording}
-use Rattle.recording_text.specs.Walking.{IsRefusedBy}
+use Rattle.recordings.specs.Walking.{IsRefusedBy}
 use Rattle.audit_model.specs.Windows.{window}
 use Rattle.window_cut.specs.declared.faults.CutFault.{CutFault}
 use Rattle.window_cut.specs.declared.faults.CutFault.TheVariants.{Recording, Outside, Changed}

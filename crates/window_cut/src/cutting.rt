@@ -9,7 +9,7 @@ use crate::marking::Marks;
 use crate::pages::Window;
 use crate::session::WindowText;
 use crate::visiting::{Marking, Way, Writing};
-use recording_text::{RecordingFault, walk};
+use recordings::{RecordingFault, walk};
 use std::alloc::Global;
 use std::io::Read;
 use std::marker::Brand;

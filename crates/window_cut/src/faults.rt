@@ -1,6 +1,6 @@
 //! Why there is no window.
 
-use recording_text::RecordingFault;
+use recordings::RecordingFault;
 use thiserror::Error;
 
 /// Why there is no window.

@@ -13,7 +13,7 @@ use crate::origins::line_origins;
 use crate::pages::Window;
 use crate::session::{WindowText, session_text};
 use crate::visiting::Writing;
-use recording_text::RecordingFault;
+use recordings::RecordingFault;
 use std::alloc::{AllocError, Global};
 
 impl<W> Writing<W> {

@@ -1,13 +1,12 @@
 //! Reports with each page that has a fault, as lines and as objects.
 
 use crate::texts::{HANDOVER, changed};
-use audit_report::{Report, audit};
+use audit_report::{Report, audit, print_all_faults};
 use faulty_pages::{FaultyPage, faulty_pages};
 use migration_types::Session;
 use page_facts::Alone;
 use report_json::push_all_faults;
-use report_text::print_all_faults;
-use session_text::read_session;
+use session_log::read_session;
 use std::alloc::{AllocError, Global};
 use std::marker::Sync;
 use std::thread::Threads;

@@ -15,7 +15,7 @@ use merge_runs::{MergeFault, is_merging, replay};
 use migration_types::{Cert, LogName, Run, Seq, Session, Version, line_of};
 use page_facts::first_page_fault;
 use plain_audit::first_broken;
-use session_text::read_session;
+use session_log::read_session;
 use std::alloc::{AllocError, Global};
 use std::marker::Sync;
 use std::thread::Threads;

@@ -3,8 +3,8 @@
 use crate::texts::{HANDOVER, changed};
 use audit_report::audit;
 use report_json::push_explained;
+use session_log::read_session;
 use session_story::explain;
-use session_text::read_session;
 use std::alloc::{AllocError, Global};
 use std::marker::Sync;
 use std::thread::Threads;

@@ -4,7 +4,7 @@ use crate::texts::{EARLY_ACCESS, FOUND, HANDOVER};
 use cert_text::read_runs;
 use merge_runs::{MergeFault, first_bad_run, is_merging, replay};
 use migration_types::{LogName, PageNo, Run, Session};
-use session_text::read_session;
+use session_log::read_session;
 use std::alloc::Global;
 
 /// A session with a guest that is halted, and never moves.

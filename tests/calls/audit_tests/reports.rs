@@ -1,10 +1,9 @@
 //! Reports on recorded sessions, against the rules.
 
 use crate::texts::{FRESH, HANDOVER, OVER, PULLED, SEEN, changed};
-use audit_report::{Report, audit};
-use report_text::print_report;
+use audit_report::{Report, audit, print_report};
 use migration_types::Session;
-use session_text::read_session;
+use session_log::read_session;
 use std::alloc::Global;
 use std::marker::Sync;
 use std::thread::Threads;

@@ -1,7 +1,7 @@
 //! Sessions, and an order of one of them, as texts.
 
 use migration_types::Session;
-use session_text::read_session;
+use session_log::read_session;
 use std::alloc::{AllocError, Global};
 
 /// Page 0 comes when it is missed, and page 1, which was written, after it.

@@ -1,12 +1,11 @@
 //! Sessions of many pages, which threads judge side by side, beside the calling thread alone.
 
-use audit_report::{Report, audit};
+use audit_report::{Report, audit, print_report};
 use cert_check::{Verdict, check, check_par};
 use cert_text::read_cert;
 use judged_texts::check_texts;
-use report_text::print_report;
 use migration_types::{Cert, Session};
-use session_text::read_session;
+use session_log::read_session;
 use std::alloc::{AllocError, Global};
 use std::marker::Sync;
 use std::thread::Threads;

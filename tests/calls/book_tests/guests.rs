@@ -1,19 +1,18 @@
 //! A machine of two pages of one cell, of which page 1 begins as 7: a read, a write, a release and the halt.
 
-use guest_book::GuestBook;
 use migration_events::Op;
-use migration_types::{Contents, Geometry, GuestRec, InitPage, PageNo, Size};
+use migration_types::{Contents, Geometry, GuestRec, InitPage, PageNo};
 use page_stream::Packet;
 use std::alloc::AllocError;
 use std::test::Fail;
-use target_book::TargetFault;
+use target_side::{GuestBook, TargetFault};
 
 const FIRST: u32 = 0;
 
 const SECOND: u32 = 1;
 
 fn book(rt: &HostRuntime) -> Result<GuestBook, Fail> {
-    let geometry = Geometry::new(Size::Small, 2, 1)?;
+    let geometry = Geometry::new(2, 1)?;
     let init = vec![in rt.alloc();
         InitPage {
             page: PageNo::new(SECOND),

@@ -9,18 +9,17 @@ use book_events::paging::pager_pull;
 use book_events::sending::push;
 use link_book::{LinkBook, LinkFault};
 use migration_events::{Direction, Fate};
-use migration_types::{Contents, Geometry, LaneRec, PageNo, PagerRec, Shared, Size};
+use migration_types::{Contents, Geometry, LaneRec, PageNo, PagerRec, Shared};
 use page_stream::Packet;
 use std::alloc::{AllocError, Global};
 use std::test::Fail;
-use target_book::TargetBook;
-use pager_book::PagerBook;
+use target_side::{PagerBook, TargetBook};
 
 fn page(number: u32) -> Packet {
     Packet::Page {
         number,
         page: PageNo::new(1),
-        contents: Contents::one(7),
+        cells: Contents::one(7),
     }
 }
 
@@ -114,9 +113,9 @@ fn pushes_within_the_window_of_the_line_that_it_takes(rt: HostRuntime) -> Result
 fn is_of(geometry: Geometry, packet: &Packet) -> bool {
     match packet {
         Packet::State { released, .. } => released.as_slice().is_empty(),
-        Packet::Page { page, contents, .. } => {
+        Packet::Page { page, cells, .. } => {
             page.number() < geometry.pages()
-                && contents.as_slice().len() == geometry.cells() as usize
+                && cells.as_slice().len() == geometry.cells() as usize
         }
         Packet::Want { .. } | Packet::All { .. } => true,
     }
@@ -157,7 +156,7 @@ fn is_pulled(log: &[PagerRec]) -> bool {
 
 #[test]
 fn the_pager_pulls_once_the_state_has_come(rt: HostRuntime) -> Result<(), Fail> {
-    let geometry = Geometry::new(Size::Small, 2, 1)?;
+    let geometry = Geometry::new(2, 1)?;
     let mut pager = PagerBook::new(rt.alloc(), geometry)?;
     let halted = TargetBook::halted(rt.alloc(), geometry, Vec::new(rt.alloc())).ok();
     let mut target = halted.expect(&rt, "memory for the target");

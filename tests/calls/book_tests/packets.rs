@@ -2,7 +2,7 @@
 //! writers that fail.
 
 use crate::want;
-use migration_types::{Contents, Geometry, PageNo, Shared, Size};
+use migration_types::{Contents, Geometry, PageNo, Shared};
 use page_stream::{Packet, PumpFault, Stream, StreamFaultKind, encode, fits, pump};
 use std::alloc::{AllocError, Global};
 use std::io;
@@ -29,7 +29,7 @@ const FIVE: [&[u8]; 5] = [&BARE, &STATE, &PAGE, &WANT, &ALL];
 
 /// Whether the packet fits, and has these bytes.
 fn is_written(alloc: Global, packet: &Packet, bytes: &[u8]) -> bool {
-    let Ok(geometry) = Geometry::new(Size::Small, 2, 1) else {
+    let Ok(geometry) = Geometry::new(2, 1) else {
         return false;
     };
     fits(geometry, packet) && encode(alloc, packet).is_ok_and(|written| written.as_slice() == bytes)
@@ -59,7 +59,7 @@ fn is_page_written(alloc: Global, page: u32) -> bool {
     let packet = Packet::Page {
         number: 3,
         page: PageNo::new(page),
-        contents: Contents::one(5),
+        cells: Contents::one(5),
     };
     is_written(alloc, &packet, &PAGE)
 }
@@ -122,7 +122,7 @@ fn passed(
 
 /// Whether a stream answers the five packets, where their bytes and these come so many at a time.
 fn takes_five(alloc: Global, more: &[u8], count: usize) -> Result<bool, Fail> {
-    let geometry = Geometry::new(Size::Small, 2, 1)?;
+    let geometry = Geometry::new(2, 1)?;
     let bytes = five_and(alloc, more)?;
     let out = passed(alloc, geometry, &bytes, count)?;
     Ok(out.len() == 73 && bytes.starts_with(&out))
@@ -152,7 +152,7 @@ fn faults_of(
     first: &[u8],
     second: &[u8],
 ) -> Option<(Option<StreamFaultKind>, Option<StreamFaultKind>)> {
-    let mut stream = Stream::new(alloc, Geometry::new(Size::Small, 2, 1).ok()?);
+    let mut stream = Stream::new(alloc, Geometry::new(2, 1).ok()?);
     Some((fault_of(&mut stream, first), fault_of(&mut stream, second)))
 }
 
@@ -244,7 +244,7 @@ fn pumped(alloc: Global, bytes: &[u8], trial: Trial) -> Option<(Result<u64, Pump
         most: trial.takes,
         fails: trial.write_fails,
     };
-    let geometry = Geometry::new(Size::Small, 2, 1).ok()?;
+    let geometry = Geometry::new(2, 1).ok()?;
     let answer = pump(alloc, &mut source, &mut sink, geometry, trial.turns);
     bytes
         .starts_with(&sink.got)

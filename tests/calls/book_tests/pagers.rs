@@ -2,12 +2,11 @@
 //! which another waits, and what a full log refuses.
 
 use migration_events::Op;
-use migration_types::{Contents, Geometry, MOST_RECORDS, PageNo, PagerRec, Shared, Size};
+use migration_types::{Contents, Geometry, MOST_RECORDS, PageNo, PagerRec, Shared};
 use page_stream::Packet;
 use std::alloc::Global;
 use std::test::Fail;
-use target_book::{Access, TargetBook, TargetFault};
-use pager_book::PagerBook;
+use target_side::{Access, PagerBook, TargetBook, TargetFault};
 
 /// The state comes, with no released page, and the guest resumes.
 pub(crate) fn begins(alloc: Global, pager: &mut PagerBook, target: &mut TargetBook) -> bool {
@@ -60,7 +59,7 @@ fn page_comes(pager: &mut PagerBook) -> Result<(), TargetFault> {
     let packet = Packet::Page {
         number: 5,
         page: PageNo::new(1),
-        contents: Contents::one(7),
+        cells: Contents::one(7),
     };
     pager.pop(3, &packet)
 }
@@ -125,7 +124,7 @@ fn both_wake(pager: &mut PagerBook, target: &mut TargetBook) -> bool {
 
 #[test]
 fn two_wait_for_one_page(rt: HostRuntime) -> Result<(), Fail> {
-    let geometry = Geometry::new(Size::Small, 2, 1)?;
+    let geometry = Geometry::new(2, 1)?;
     let mut pager = PagerBook::new(rt.alloc(), geometry)?;
     let halted = TargetBook::halted(rt.alloc(), geometry, Vec::new(rt.alloc())).ok();
     let mut target = halted.expect(&rt, "memory for the target");
@@ -170,7 +169,7 @@ fn is_dropped(log: &[PagerRec]) -> bool {
 
 #[test]
 fn nobody_waits_for_a_released_page(rt: HostRuntime) -> Result<(), Fail> {
-    let geometry = Geometry::new(Size::Small, 2, 1)?;
+    let geometry = Geometry::new(2, 1)?;
     let mut pager = PagerBook::new(rt.alloc(), geometry)?;
     let halted = TargetBook::halted(rt.alloc(), geometry, Vec::new(rt.alloc())).ok();
     let mut target = halted.expect(&rt, "memory for the target");
@@ -195,7 +194,7 @@ fn fills(pager: &mut PagerBook) -> bool {
 
 #[test]
 fn refuses_at_a_full_log(rt: HostRuntime) -> Result<(), Fail> {
-    let geometry = Geometry::new(Size::Small, 2, 1)?;
+    let geometry = Geometry::new(2, 1)?;
     let mut pager = PagerBook::new(rt.alloc(), geometry)?;
     let halted = TargetBook::halted(rt.alloc(), geometry, Vec::new(rt.alloc())).ok();
     let mut target = halted.expect(&rt, "memory for the target");

@@ -5,11 +5,10 @@ use crate::pagers::begins;
 use book_events::Came;
 use book_events::paging::{pager_deliver, pager_fault};
 use migration_events::Op;
-use migration_types::{Geometry, PageNo, Size};
+use migration_types::{Geometry, PageNo};
 use page_stream::Packet;
 use std::test::Fail;
-use target_book::{Access, TargetBook};
-use pager_book::PagerBook;
+use target_side::{Access, PagerBook, TargetBook};
 
 /// A fault of the pager's comes to this.
 fn fault_is(pager: &mut PagerBook, target: &mut TargetBook, came: Came) -> bool {
@@ -48,7 +47,7 @@ fn says_all(pager: &mut PagerBook) -> bool {
 
 #[test]
 fn a_fault_settles_without_a_miss(rt: HostRuntime) -> Result<(), Fail> {
-    let geometry = Geometry::new(Size::Small, 1, 1)?;
+    let geometry = Geometry::new(1, 1)?;
     let mut pager = PagerBook::new(rt.alloc(), geometry)?;
     let halted = TargetBook::halted(rt.alloc(), geometry, Vec::new(rt.alloc())).ok();
     let mut target = halted.expect(&rt, "memory for the target");
@@ -63,7 +62,7 @@ fn a_fault_settles_without_a_miss(rt: HostRuntime) -> Result<(), Fail> {
 
 #[test]
 fn a_delivery_settles_without_a_page(rt: HostRuntime) -> Result<(), Fail> {
-    let geometry = Geometry::new(Size::Small, 1, 1)?;
+    let geometry = Geometry::new(1, 1)?;
     let mut pager = PagerBook::new(rt.alloc(), geometry)?;
     let halted = TargetBook::halted(rt.alloc(), geometry, Vec::new(rt.alloc())).ok();
     let mut target = halted.expect(&rt, "memory for the target");

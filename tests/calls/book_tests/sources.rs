@@ -2,7 +2,7 @@
 //! that is full.
 
 use crate::want;
-use source_book::{SourceBook, SourceFault};
+use active_push::{SourceBook, SourceFault};
 use balloon_ledger::Ledger;
 use migration_types::{Geometry, MOST_RECORDS, PageNo, Size, SourceRec};
 use page_store::Store;
@@ -15,7 +15,7 @@ const SECOND: u32 = 1;
 
 /// The machine's book after the halt, and its state packet.
 pub(crate) fn after_halt(rt: &HostRuntime) -> Result<(SourceBook, Packet), Fail> {
-    let geometry = Geometry::new(Size::Small, 2, 1)?;
+    let geometry = Geometry::new(2, 1)?;
     let mut store = Store::zeroed(rt.alloc(), geometry)?;
     store.write(PageNo::new(SECOND), 0, 7);
     let ledger = Ledger::new(rt.alloc(), geometry)?;
@@ -32,8 +32,8 @@ fn is_page(packet: &Packet, given: (u32, u32, u64)) -> bool {
         Packet::Page {
             number: n,
             page: p,
-            contents,
-        } => *n == number && p.number() == page && contents.as_slice() == [cell].as_slice(),
+            cells,
+        } => *n == number && p.number() == page && cells.as_slice() == [cell].as_slice(),
         _ => false,
     }
 }

@@ -1,11 +1,11 @@
 //! A guest that misses a page and goes on once it is placed, a page of zeros, releases, and logs without room.
 
 use migration_events::Op;
-use migration_types::{Geometry, GuestRec, PageNo, Size};
+use migration_types::{Geometry, GuestRec, PageNo};
 use page_store::Store;
 use std::alloc::Global;
 use std::test::Fail;
-use target_book::{Access, Missing, TargetBook, TargetFault};
+use target_side::{Access, Missing, TargetBook, TargetFault};
 
 /// A book over a log of so many releases.
 fn halted(alloc: Global, geometry: Geometry, releases: usize) -> Result<TargetBook, TargetFault> {
@@ -138,7 +138,7 @@ fn reads_zeros(book: &mut TargetBook) -> bool {
 
 #[test]
 fn misses_looks_and_goes_on(rt: HostRuntime) -> Result<(), Fail> {
-    let geometry = Geometry::new(Size::Small, 2, 2)?;
+    let geometry = Geometry::new(2, 2)?;
     let mut book = halted(rt.alloc(), geometry, 0).expect(&rt, "a book");
     assert!(rt; misses_once(&mut book));
     assert!(rt; goes_on(&mut book));
@@ -181,7 +181,7 @@ fn looks_first(book: &mut TargetBook) -> bool {
 
 #[test]
 fn releases_at_the_target(rt: HostRuntime) -> Result<(), Fail> {
-    let geometry = Geometry::new(Size::Small, 2, 2)?;
+    let geometry = Geometry::new(2, 2)?;
     let mut book = halted(rt.alloc(), geometry, 0).expect(&rt, "a book");
     assert!(rt; resume(&mut book) == Some(Ok(())));
     assert!(rt; frees(&mut book));
@@ -193,7 +193,7 @@ fn releases_at_the_target(rt: HostRuntime) -> Result<(), Fail> {
 
 #[test]
 fn finds_no_room(rt: HostRuntime) -> Result<(), Fail> {
-    let geometry = Geometry::new(Size::Small, 2, 2)?;
+    let geometry = Geometry::new(2, 2)?;
     let full = halted(rt.alloc(), geometry, 1_048_576).map(|_| ());
     assert!(rt; full == Err(TargetFault::LogFull));
     let mut book = halted(rt.alloc(), geometry, 1_048_575).expect(&rt, "a book");

@@ -4,7 +4,7 @@ use crate::nearest;
 use arrayvec::ArrayVec;
 use balloon_ledger::Ledger;
 use bubbling::Bubbles;
-use migration_types::{Geometry, PageNo, Size};
+use migration_types::{Geometry, PageNo};
 use std::test::Fail;
 
 /// The guest faults at a page of the machine.
@@ -36,7 +36,7 @@ fn is_done(bubbles: &mut Bubbles) -> bool {
 
 #[test]
 fn takes_turns(rt: HostRuntime) -> Result<(), Fail> {
-    let geometry = Geometry::new(Size::Small, 8, 1)?;
+    let geometry = Geometry::new(8, 1)?;
     let ledger = Ledger::new(rt.alloc(), geometry)?;
     let mut bubbles = Bubbles::new(rt.alloc(), geometry, 2, &ledger)?;
     assert!(rt; bubbles.geometry() == geometry && bubbles.left() == 8);
@@ -49,7 +49,7 @@ fn takes_turns(rt: HostRuntime) -> Result<(), Fail> {
 
 #[test]
 fn keeps_one_pivot(rt: HostRuntime) -> Result<(), Fail> {
-    let geometry = Geometry::new(Size::Small, 8, 1)?;
+    let geometry = Geometry::new(8, 1)?;
     let ledger = Ledger::new(rt.alloc(), geometry)?;
     let mut bubbles = Bubbles::new(rt.alloc(), geometry, 1, &ledger)?;
     fault_at(&mut bubbles, 6);
@@ -63,7 +63,7 @@ fn keeps_one_pivot(rt: HostRuntime) -> Result<(), Fail> {
 
 #[test]
 fn moves_edges_past_a_released_page(rt: HostRuntime) -> Result<(), Fail> {
-    let geometry = Geometry::new(Size::Small, 8, 1)?;
+    let geometry = Geometry::new(8, 1)?;
     let mut ledger = Ledger::new(rt.alloc(), geometry)?;
     ledger.release(PageNo::new(4));
     let mut bubbles = Bubbles::new(rt.alloc(), geometry, 2, &ledger)?;
@@ -150,7 +150,7 @@ fn agree(bubbles: &mut Bubbles, search: &mut Search) -> bool {
 
 #[test]
 fn agrees_with_a_search(rt: HostRuntime) -> Result<(), Fail> {
-    let geometry = Geometry::new(Size::Small, 64, 1)?;
+    let geometry = Geometry::new(64, 1)?;
     let ledger = Ledger::new(rt.alloc(), geometry)?;
     for most in 1..17 {
         let mut bubbles = Bubbles::new(rt.alloc(), geometry, most, &ledger)?;
@@ -179,7 +179,7 @@ fn agree_behind_new_pivots(bubbles: &mut Bubbles, search: &mut Search) -> bool {
 
 #[test]
 fn agrees_with_a_search_behind_new_pivots(rt: HostRuntime) -> Result<(), Fail> {
-    let geometry = Geometry::new(Size::Small, 64, 1)?;
+    let geometry = Geometry::new(64, 1)?;
     let ledger = Ledger::new(rt.alloc(), geometry)?;
     for most in 1..17 {
         let mut bubbles = Bubbles::new(rt.alloc(), geometry, most, &ledger)?;

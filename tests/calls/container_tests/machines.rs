@@ -2,14 +2,14 @@
 
 use balloon_ledger::Ledger;
 use flat_machine::Machine;
-use migration_types::{Contents, Geometry, GuestRec, InitPage, PageNo, Size};
+use migration_types::{Contents, Geometry, GuestRec, InitPage, PageNo};
 use page_store::Store;
 use std::test::Fail;
 
 #[test]
 fn frames_keep_values(rt: HostRuntime) -> Result<(), Fail> {
     let (first, second) = (PageNo::new(0), PageNo::new(1));
-    let geometry = Geometry::new(Size::Small, 2, 2)?;
+    let geometry = Geometry::new(2, 2)?;
     let cells = Contents::from_vec(vec![in rt.alloc(); 5, 0]?);
     let init = vec![in rt.alloc(); InitPage { page: first, cells }]?;
     let mut store = Store::from_init(rt.alloc(), geometry, init.as_slice())?;
@@ -31,7 +31,7 @@ fn is_blank(store: &Store, page: PageNo) -> bool {
 #[test]
 fn a_release_leaves_no_value_and_no_other_page(rt: HostRuntime) -> Result<(), Fail> {
     let (first, second, third) = (PageNo::new(0), PageNo::new(1), PageNo::new(2));
-    let mut store = Store::zeroed(rt.alloc(), Geometry::new(Size::Small, 3, 200)?)?;
+    let mut store = Store::zeroed(rt.alloc(), Geometry::new(3, 200)?)?;
     store.write(first, 199, 1);
     store.write(third, 0, 3);
     store.write(second, 0, 2);
@@ -58,7 +58,7 @@ fn a_release_leaves_no_value_and_no_other_page(rt: HostRuntime) -> Result<(), Fa
 #[test]
 fn frames_begin_with_zeros(rt: HostRuntime) -> Result<(), Fail> {
     let first = PageNo::new(0);
-    let store = Store::zeroed(rt.alloc(), Geometry::new(Size::Small, 1, 2)?)?;
+    let store = Store::zeroed(rt.alloc(), Geometry::new(1, 2)?)?;
     assert!(rt; store.page(first) == [0, 0].as_slice());
     Ok(())
 }
@@ -66,7 +66,7 @@ fn frames_begin_with_zeros(rt: HostRuntime) -> Result<(), Fail> {
 #[test]
 fn a_machine_follows_writes_and_releases(rt: HostRuntime) -> Result<(), Fail> {
     let second = PageNo::new(1);
-    let geometry = Geometry::new(Size::Small, 2, 1)?;
+    let geometry = Geometry::new(2, 1)?;
     let frames = Store::zeroed(rt.alloc(), geometry)?;
     let ledger = Ledger::new(rt.alloc(), geometry)?;
     let mut machine = Machine { frames, ledger };

@@ -1,8 +1,8 @@
 //! What is kept for each page of a machine: marks, numbers, releases and placements.
 
 use balloon_ledger::Ledger;
-use migration_types::{Geometry, PageNo, Size};
-use page_tables::Table;
+use migration_types::{Geometry, PageNo};
+use page_store::Table;
 use residency::Residency;
 use std::test::Fail;
 
@@ -35,7 +35,7 @@ fn numbers_are_kept(rt: HostRuntime) -> Result<(), Fail> {
 #[test]
 fn a_ledger_follows_releases(rt: HostRuntime) -> Result<(), Fail> {
     let (first, third) = (PageNo::new(0), PageNo::new(2));
-    let geometry = Geometry::new(Size::Small, 3, 1)?;
+    let geometry = Geometry::new(3, 1)?;
     let mut ledger = Ledger::new(rt.alloc(), geometry)?;
     ledger.release(third);
     ledger.release(first);
@@ -50,7 +50,7 @@ fn a_ledger_follows_releases(rt: HostRuntime) -> Result<(), Fail> {
 #[test]
 fn residency_follows_placements(rt: HostRuntime) -> Result<(), Fail> {
     let (first, second) = (PageNo::new(0), PageNo::new(1));
-    let geometry = Geometry::new(Size::Small, 2, 1)?;
+    let geometry = Geometry::new(2, 1)?;
     let mut residency = Residency::new(rt.alloc(), geometry)?;
     assert!(rt; residency.geometry() == geometry && residency.frontier().is_none());
     residency.mark(second, 5);
@@ -70,7 +70,7 @@ fn residency_follows_placements(rt: HostRuntime) -> Result<(), Fail> {
 #[test]
 fn released_pages_are_resident(rt: HostRuntime) -> Result<(), Fail> {
     let (first, second) = (PageNo::new(0), PageNo::new(1));
-    let mut residency = Residency::new(rt.alloc(), Geometry::new(Size::Small, 2, 1)?)?;
+    let mut residency = Residency::new(rt.alloc(), Geometry::new(2, 1)?)?;
     residency.release(first);
     assert!(rt; residency.resident(first) && residency.placed_at(first).is_none());
     assert!(rt; residency.covers(first) && residency.frontier().is_none());

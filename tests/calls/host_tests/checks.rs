@@ -1,12 +1,11 @@
 //! What a run of a script could leave, whole or with something wrong, and what is told of it.
 
+use audit_report::print_first_line;
+use guest_script::{Script, read_script};
 use host_checks::{Answered, RunFault, Transcript, session_of, settle};
 use migration_events::Op;
 use migration_types::{Contents, GuestRec, LinkRec, Logs, PageNo, PagerRec, Seq, SourceRec};
 use page_store::Store;
-use report_text::print_first_line;
-use script::Script;
-use script_text::read_script;
 use std::alloc::{AllocError, Global};
 use std::thread::Threads;
 
@@ -246,8 +245,19 @@ fn store_of(alloc: Global, script: &Script, left: &Left) -> Result<Store, AllocE
     Ok(store)
 }
 
-/// Whether a fault is that the audit's report has this first line.
+/// Whether this is what a fault says of itself, to a reader and to a programmer.
+fn says(alloc: Global, fault: &RunFault, shown: &str, name: &str) -> bool {
+    let (Ok(text), Ok(debug)) = (format!(in alloc; "{fault}"), format!(in alloc; "{fault:?}")) else {
+        return false;
+    };
+    text.as_str() == shown && debug.as_str() == name
+}
+
+/// Whether a fault is that the audit's report has this first line, and says of itself that the audit refuses it.
 fn is_refused(alloc: Global, fault: &RunFault, line: &str) -> bool {
+    if !says(alloc, fault, "the audit refuses what was recorded", "AuditRefused(..)") {
+        return false;
+    }
     match fault {
         RunFault::AuditRefused(report) => match print_first_line(alloc, report) {
             Ok(written) => written.as_slice() == line.as_bytes(),

@@ -1,9 +1,8 @@
 //! Scripts of the second version whose operations and fates are drawn by a number, as is whether there is a lane.
 
 use crate::runs::{Carrier, run};
+use guest_script::{Script, read_script};
 use host_threads::Open;
-use script::Script;
-use script_text::read_script;
 use std::alloc::{AllocError, Global};
 use std::net::{Net, TcpListener, TcpStream};
 use std::sync::Wait;

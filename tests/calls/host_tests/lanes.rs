@@ -2,8 +2,8 @@
 
 use crate::gates::{Board, Offers};
 use crate::runs::{Carrier, has_answers, run};
+use guest_script::read_script;
 use host_threads::{Migrated, Open};
-use script_text::read_script;
 use std::alloc::Global;
 use std::net::{Net, TcpListener, TcpStream};
 use std::sync::Wait;

@@ -1,11 +1,10 @@
 //! Records and logs at the limits of a session, and beyond them.
 
+use guest_script::{Script, read_script};
 use host_checks::{RunFault, session_of};
 use migration_types::{
     Contents, GuestRec, LaneRec, LinkRec, Logs, MOST_RECORDS, PageNo, PagerRec, Seq, SourceRec,
 };
-use script::Script;
-use script_text::read_script;
 use std::alloc::{AllocError, Global};
 use std::test::Fail;
 

@@ -1,12 +1,11 @@
 //! Runs over relays that go wrong.
 
 use crate::runs::{TWO_MISSES, has_answers};
+use guest_script::{Script, read_script};
 use host_threads::{Gate, Migrated, Open, Relay, RelayFault, RunFault, migrate_over};
-use script::Script;
-use script_text::read_script;
 use std::alloc::Global;
-use std::sync::atomic::{AtomicU32, Ordering};
 use std::sync::{Arc, Wait};
+use std::sync::atomic::{AtomicU32, Ordering};
 use std::thread::Threads;
 
 /// What a relay does.

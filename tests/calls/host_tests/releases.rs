@@ -2,9 +2,9 @@
 
 use crate::gates::{Board, Flags, MISSED, Releases};
 use crate::runs::{Carrier, has_answers, has_value, run};
+use guest_script::read_script;
 use host_threads::{Migrated, Open};
 use migration_types::{PageNo, PagerRec, Version};
-use script_text::read_script;
 use std::alloc::Global;
 use std::net::{Net, TcpListener, TcpStream};
 use std::sync::Wait;

@@ -3,10 +3,9 @@
 use crate::are_answers;
 use crate::gates::{Board, Readers};
 use crate::relays::run_over_relay;
+use guest_script::{Script, read_script};
 use host_threads::{Gate, Migrated, Open, RunFault, migrate, migrate_tcp};
 use migration_types::PageNo;
-use script::Script;
-use script_text::read_script;
 use std::alloc::{AllocError, Global};
 use std::net::{Net, TcpListener, TcpStream};
 use std::sync::Wait;

@@ -1,7 +1,7 @@
 //! What errors say of themselves.
 
+use guest_script::{ScriptFault, VcpuFault};
 use migration_types::GeometryFault;
-use script::{ScriptFault, VcpuFault};
 use std::test::Fail;
 use text_lines::{FaultKind, TextFault};
 

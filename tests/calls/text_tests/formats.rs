@@ -3,7 +3,7 @@
 use crate::fault_of;
 use cert_text::{read_cert, read_runs, write_cert, write_runs};
 use migration_types::{Cert, Session};
-use session_text::{read_session, write_session};
+use session_log::{read_session, write_session};
 use std::alloc::Global;
 use std::process::Abort;
 use text_lines::FaultKind;

@@ -3,9 +3,8 @@
 use crate::formats::none_is_wrong;
 use crate::refusal_line;
 use crate::texts::{FRESH, LARGE, RUNS, SENT};
-use cert_text::{read_cert, read_runs};
+use cert_text::{OrderReader, OrderText, read_cert, read_order, read_runs};
 use migration_types::Run;
-use order_text::{OrderReader, OrderText, read_order};
 use std::alloc::Global;
 use text_lines::{Rewind, TextReader, read_or_why};
 

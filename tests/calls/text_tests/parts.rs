@@ -1,9 +1,9 @@
 //! Long texts, of which several threads take parts.
 
-use crate::formats::is_session_text;
 use crate::{fault_of, refusal_line};
+use crate::formats::is_session_text;
 use migration_types::Session;
-use session_text::SessionReader;
+use session_log::SessionReader;
 use std::alloc::{AllocError, Global};
 use std::thread::Threads;
 use text_lines::{FaultKind, TextFault, end_line, push_keyed, push_line, push_number, push_then};

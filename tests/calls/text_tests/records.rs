@@ -3,7 +3,7 @@
 use crate::formats::{Format, fault_in, none_is_wrong};
 use LogName::{Guest, Lane, Link, Pager, Source};
 use migration_types::{Contents, LaneRec, LogName, PagerRec, Session, SourceRec, Version};
-use session_text::read_session;
+use session_log::read_session;
 use std::alloc::{AllocError, Global};
 use text_lines::{FaultKind, push_keyed, push_line};
 

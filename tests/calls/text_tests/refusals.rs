@@ -4,8 +4,8 @@ use crate::formats::none_is_wrong;
 use crate::refused_texts::{REFUSED, RULES, Text};
 use Text::{Cert, Events, Runs, Script, Session};
 use cert_text::{CertReader, RunsReader};
-use script_text::{EventParts, ScriptParts};
-use session_text::SessionReader;
+use guest_script::{EventParts, ScriptParts};
+use session_log::SessionReader;
 use std::alloc::Global;
 use text_lines::{Refusal, Rewind, Staged, TextReader, Wanted, read_or_why};
 

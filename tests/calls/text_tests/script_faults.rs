@@ -1,9 +1,8 @@
 //! Scripts that are made by hand, and those that are none.
 
+use guest_script::{Script, ScriptFault, Vcpu, VcpuFault, write_script};
 use migration_events::{Fate, Op};
 use migration_types::{Contents, Geometry, InitPage, PageNo, Seq, Size, Version};
-use script::{Script, ScriptFault, Vcpu, VcpuFault};
-use script_text::write_script;
 use std::alloc::{AllocError, Global};
 use std::test::Fail;
 
@@ -211,7 +210,7 @@ fn made_of(
 
 /// Whether these parts have this fault.
 fn has_fault(alloc: Global, parts: &Parts, fault: ScriptFault) -> bool {
-    let Ok(geometry) = Geometry::new(Size::Small, 2, 1) else {
+    let Ok(geometry) = Geometry::new(2, 1) else {
         return false;
     };
     match made_of(alloc, geometry, parts) {
@@ -222,7 +221,7 @@ fn has_fault(alloc: Global, parts: &Parts, fault: ScriptFault) -> bool {
 
 /// Whether these parts make the script of a text.
 fn has_text(alloc: Global, parts: &Parts, text: &[u8]) -> bool {
-    let Ok(geometry) = Geometry::new(Size::Small, 2, 1) else {
+    let Ok(geometry) = Geometry::new(2, 1) else {
         return false;
     };
     match made_of(alloc, geometry, parts) {

@@ -3,10 +3,9 @@
 use crate::fault_of;
 use crate::formats::none_is_wrong;
 use FaultKind::{Ended, Form, Range};
+use guest_script::{Script, read_events, read_script, write_events, write_script};
 use migration_events::{Direction, Event, Fate, Op};
 use migration_types::{PageNo, Version};
-use script::Script;
-use script_text::{read_events, read_script, write_events, write_script};
 use std::alloc::{AllocError, Global};
 use std::test::Fail;
 use text_lines::{FaultKind, TextFault};

@@ -4,7 +4,7 @@ use crate::formats::{Format, fault_in};
 use crate::slow::slow_refusal_line;
 use crate::texts::{FIRST, KINDS, LATE, PULLED, PUSHED, SECOND};
 use migration_types::{GuestRec, InitPage, LinkRec, LogName, Session, Version, line_of};
-use session_text::read_session;
+use session_log::read_session;
 use std::alloc::Global;
 
 /// Whether a record is a read at the limits of its fields.

@@ -11,7 +11,7 @@ use std::alloc::{AllocError, Global};
 static GEOMETRIES: [(u32, u32); 3] = [(1, 1), (65_536, 16), (2_048, 512)];
 
 fn is_geometry(pages: u32, cells: u32) -> bool {
-    match Geometry::new(Size::Small, pages, cells) {
+    match Geometry::new(pages, cells) {
         Ok(geometry) => geometry.size() == Size::Small && geometry.pages() == pages && geometry.cells() == cells,
         Err(_) => false,
     }
@@ -30,7 +30,7 @@ static NO_GEOMETRIES: [(u32, u32, GeometryFault); 8] = [
 ];
 
 fn is_refused(pages: u32, cells: u32, fault: GeometryFault) -> bool {
-    match Geometry::new(Size::Small, pages, cells) {
+    match Geometry::new(pages, cells) {
         Ok(_) => false,
         Err(found) => found == fault,
     }
@@ -194,7 +194,7 @@ fn keeps_parts(alloc: Global, version: Version, geometry: Geometry) -> bool {
 }
 
 fn keeps_session(alloc: Global, version: Version) -> bool {
-    match Geometry::new(Size::Small, 2, 1) {
+    match Geometry::new(2, 1) {
         Ok(geometry) => keeps_parts(alloc, version, geometry),
         Err(_) => false,
     }

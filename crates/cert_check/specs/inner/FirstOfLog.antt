@@ -8,7 +8,7 @@ use Rattle.migration_types.specs.declared.records.SourceRec.{SourceRec}
 use Rattle.migration_types.specs.declared.records.SourceRec.TheVariants.{Send}
 use Rattle.migration_types.specs.Receipts.{Name}
 use Rattle.audit_model.specs.Shape.{is_right, is_send_of, earlier}
-use Rattle.page_tables.specs.Tables.{Values, pages_of, values, with_value}
+use Rattle.page_store.specs.Tables.{Values, pages_of, values, with_value}
 
 -- the first of the reasons for which a record is not right
 abbrev pub first_reason : Bool → Bool → Bool → Bool → Option ShapeReason

@@ -9,7 +9,7 @@ use Rattle.audit_model.specs.declared.home.Home.{Home}
 use Rattle.audit_model.specs.Flat.{home, in_ledger, freed, freed_after, at_halt}
 use Rattle.audit_model.specs.Shape.{earlier, is_placement_of}
 use Rattle.balloon_ledger.specs.Released.{Marks, released}
-use Rattle.page_tables.specs.Tables.{Values}
+use Rattle.page_store.specs.Tables.{Values}
 use Rattle.page_facts.specs.Tables.{IsTable}
 use Rattle.completeness.specs.Complete.{settles}
 use Rattle.completeness.specs.declared.pages.Seen.{Seen}

@@ -13,7 +13,7 @@ use Rattle.audit_model.specs.World.{World}
 use Rattle.balloon_ledger.specs.Released.{released}
 use Rattle.flat_machine.specs.Machines.{IsSized as IsMachineSized}
 use Rattle.page_store.specs.Frames.{Frames, memory_of}
-use Rattle.page_tables.specs.Tables.{pages_of, values}
+use Rattle.page_store.specs.Tables.{pages_of, values}
 use Rattle.merge_runs.specs.declared.moving.Moving.{Moving}
 use Rattle.merge_runs.specs.inner.Targets.{HasPage as TargetHasPage, IsSized as IsTargetSized}
 

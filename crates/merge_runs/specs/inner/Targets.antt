@@ -4,7 +4,7 @@ use Rattle.migration_types.specs.Extents.{Extent}
 use Rattle.migration_types.specs.Memory.{Memory, zeros}
 use Rattle.migration_types.specs.PageSets.{Pages, no_page, with_page}
 use Rattle.page_store.specs.Frames.{memory_of}
-use Rattle.page_tables.specs.Tables.{pages_of, values}
+use Rattle.page_store.specs.Tables.{pages_of, values}
 use Rattle.merge_runs.specs.declared.target.Target.{Target}
 
 -- the machine and its tables have the page

@@ -3,7 +3,7 @@ use Rattle.std.specs.Prelude.{ℕ, List, Result, Ok, Err}
 use Rattle.migration_types.specs.Sessions.{Recorded}
 use Rattle.text_lines.specs.Text.{IsSpelling}
 use Rattle.recordings.specs.Recordings.{SpellsRecording}
-use Rattle.recording_text.specs.declared.RecordingFault.TheVariants.{Line, File, Memory}
+use Rattle.recordings.specs.declared.RecordingFault.TheVariants.{Line, File, Memory}
 use Rattle.window_cut.specs.declared.faults.CutFault.{CutFault}
 use Rattle.window_cut.specs.declared.faults.CutFault.TheVariants.{Recording, Outside, Changed}
 use Rattle.window_cut.specs.declared.marking.Marks.{Marks}

@@ -1,4 +1,4 @@
-use Rattle.session_text.specs.Grammar.{SpellsSession}
+use Rattle.session_log.specs.Grammar.{SpellsSession}
 use Rattle.cert_text.specs.Grammar.{SpellsCert}
 use Rattle.command_texts.specs.Reasons.{IsRefusedAt, TellsBeside}
 use Rattle.judge_commands.specs.Answers.{AddsMisfitOf}

@@ -1,4 +1,4 @@
-use Rattle.session_text.specs.Grammar.{SpellsSession}
+use Rattle.session_log.specs.Grammar.{SpellsSession}
 use Rattle.command_texts.specs.declared.why.Telling.TheVariants.{Full}
 use Rattle.command_texts.specs.Reasons.{IsRefusedAt, TellsWhyOf}
 use Rattle.judge_commands.specs.Noted.{TellsNoUse}

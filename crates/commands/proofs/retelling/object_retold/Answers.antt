@@ -1,5 +1,5 @@
-use Rattle.session_text.specs.Grammar.{SpellsSession}
-use Rattle.line_table.specs.Tables.{SpellsTable}
+use Rattle.session_log.specs.Grammar.{SpellsSession}
+use Rattle.window_commands.specs.Tables.{SpellsTable}
 use Rattle.command_texts.specs.Reasons.{IsRefusedAt, TellsBeside}
 use Rattle.window_commands.specs.declared.relining.LinesIn.TheVariants.{Object}
 use Rattle.commands.specs.Told.{AddsNothing, NotesFirst}

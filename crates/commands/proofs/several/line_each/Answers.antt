@@ -1,4 +1,4 @@
-use Rattle.session_text.specs.Grammar.{SpellsSession}
+use Rattle.session_log.specs.Grammar.{SpellsSession}
 use Rattle.command_texts.specs.Reasons.{IsRefusedAt}
 use Rattle.judge_commands.specs.Noted.{TellsNoUse}
 use Rattle.commands.proofs.Beside.{several_told}

@@ -1,6 +1,6 @@
 use Rattle.std.proofs.Common.{sym, subst, ◌∙◌}
 use Rattle.migration_types.specs.declared.records.PagerRec.{PagerRec}
-use Rattle.page_tables.specs.Tables.{values, IsWith}
+use Rattle.page_store.specs.Tables.{values, IsWith}
 use Rattle.completeness.specs.inner.Walks.{placed_by}
 use Rattle.completeness.proofs.Walking.{marked_placed}
 use Rattle.completeness.proofs.pages.take_placement.Goals as goal

@@ -2,7 +2,7 @@ use Rattle.std.proofs.Common.{sym, subst}
 use Rattle.migration_types.specs.declared.records.GuestRec.{GuestRec}
 use Rattle.audit_model.specs.declared.home.Home.{Home}
 use Rattle.audit_model.specs.declared.home.Home.TheVariants.{AtTarget}
-use Rattle.page_tables.specs.Tables.{values, IsWith}
+use Rattle.page_store.specs.Tables.{values, IsWith}
 use Rattle.completeness.specs.inner.Walks.{freed_by}
 use Rattle.completeness.proofs.pages.take_release.Goals as goal
 

@@ -1,7 +1,7 @@
 use Rattle.std.proofs.Common.{ℕ, Result, subst}
 use Rattle.text_lines.specs.Answer.{IsRead}
-use Rattle.script.specs.Scenarios.{Scenario}
-use Rattle.script_text.specs.Scripts.{SpellsScript}
+use Rattle.guest_script.specs.Scenarios.{Scenario}
+use Rattle.guest_script.specs.Scripts.{SpellsScript}
 use Rattle.host_commands.specs.Migrations.{IsMigrateAnswer, ScriptText}
 use Rattle.command_texts.proofs.Said.{given_holds}
 use Rattle.host_commands.proofs.Migrated.{migration_told}

@@ -1,7 +1,7 @@
 use Rattle.std.proofs.Common.{ℕ, Result, subst}
 use Rattle.text_lines.specs.Answer.{IsRead}
-use Rattle.script.specs.Scenarios.{Scenario}
-use Rattle.script_text.specs.Scripts.{SpellsScript}
+use Rattle.guest_script.specs.Scenarios.{Scenario}
+use Rattle.guest_script.specs.Scripts.{SpellsScript}
 use Rattle.host_commands.specs.Steps.{AreSteps, ScriptText, steps_status, steps_text}
 use Rattle.command_texts.proofs.Said.{says_right}
 use Rattle.host_commands.proofs.stepping.steps_read.Goals as goal

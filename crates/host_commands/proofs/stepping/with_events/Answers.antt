@@ -2,7 +2,7 @@ use Rattle.std.proofs.Common.{ℕ, List, Result, subst, sym}
 use Rattle.text_lines.specs.Answer.{IsRead}
 use Rattle.text_lines.specs.Text.{IsSpelling}
 use Rattle.migration_events.specs.declared.events.Event.{Event}
-use Rattle.script_text.specs.Events.{SpellsEvents}
+use Rattle.guest_script.specs.Events.{SpellsEvents}
 use Rattle.host_commands.specs.Steps.{AreSteps, EventsText, steps_status, steps_text}
 use Rattle.command_texts.proofs.Said.{says_right}
 use Rattle.host_commands.proofs.stepping.with_events.Goals as goal

@@ -1,5 +1,5 @@
 use Rattle.std.proofs.Common.{rules, is_some}
-use Rattle.source_book.specs.Books.{part_of}
+use Rattle.active_push.specs.Books.{part_of}
 use Rattle.migration_events.specs.declared.events.Event.TheVariants.{Serve, SourceTick}
 use Rattle.host_threads.proofs.Turning.{turn_within}
 use Rattle.host_threads.proofs.source.act.Goals as goal

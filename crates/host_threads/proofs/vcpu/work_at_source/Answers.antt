@@ -1,7 +1,7 @@
 use Rattle.std.proofs.Common.{◌≡◌, ◌+◌, ◌++◌, List, [], ◌∷◌, take, sym, ap, ◌∙◌, subst}
 use Rattle.std.proofs.lemmas.List.{take_more}
 use Rattle.migration_events.specs.declared.ops.Op.{Op}
-use Rattle.guest_book.specs.Books.{part_of}
+use Rattle.target_side.specs.Guests.{part_of}
 use Rattle.host_checks.specs.declared.transcript.Answered.{Answered}
 use Rattle.host_checks.specs.Outcomes.{answered}
 use Rattle.host_threads.specs.Operations.{HasDone}

@@ -1,5 +1,5 @@
 use Rattle.std.proofs.Common.{take}
-use Rattle.guest_book.specs.Books.{part_of}
+use Rattle.target_side.specs.Guests.{part_of}
 use Rattle.host_threads.specs.Operations.{HasDone}
 use Rattle.host_threads.proofs.vcpu.work_at_source.Given as goal
 

@@ -1,7 +1,7 @@
 use Rattle.std.proofs.Common.{ℕ, Result, subst}
 use Rattle.text_lines.specs.Answer.{IsRead}
 use Rattle.migration_types.specs.Sessions.{Recorded}
-use Rattle.session_text.specs.Grammar.{SpellsSession}
+use Rattle.session_log.specs.Grammar.{SpellsSession}
 use Rattle.judge_commands.proofs.Reported.{refusal_told, report_told}
 use Rattle.judge_commands.proofs.auditing.audit_read.Goals as goal
 

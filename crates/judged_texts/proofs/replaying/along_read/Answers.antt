@@ -1,6 +1,6 @@
 use Rattle.std.proofs.Common.{subst}
 use Rattle.text_lines.specs.Answer.{IsRead}
-use Rattle.order_text.specs.Order.{SpellsOrder}
+use Rattle.cert_text.specs.Order.{SpellsOrder}
 use Rattle.judged_texts.proofs.Outcomes.{along_of}
 use Rattle.judged_texts.proofs.replaying.along_read.Goals as goal
 

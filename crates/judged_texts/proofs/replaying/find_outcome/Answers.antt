@@ -1,6 +1,6 @@
 use Rattle.std.proofs.Common.{subst}
 use Rattle.text_lines.specs.Answer.{IsRead}
-use Rattle.session_text.specs.Grammar.{SpellsSession}
+use Rattle.session_log.specs.Grammar.{SpellsSession}
 use Rattle.judged_texts.proofs.Outcomes.{outcome_of}
 use Rattle.judged_texts.proofs.replaying.find_outcome.Goals as goal
 

@@ -2,7 +2,7 @@ use Rattle.std.proofs.Common.{ℕ, Result, subst}
 use Rattle.text_lines.specs.Answer.{IsRead}
 use Rattle.migration_types.specs.Certs.{Certified}
 use Rattle.migration_types.specs.Sessions.{Recorded}
-use Rattle.session_text.specs.Grammar.{SpellsSession}
+use Rattle.session_log.specs.Grammar.{SpellsSession}
 use Rattle.cert_text.specs.Grammar.{SpellsCert}
 use Rattle.judge_commands.proofs.Misfits.{misfit_added, no_cert, no_session}
 use Rattle.judge_commands.proofs.checking.CheckCommandOnTwo.push_more.Goals as goal

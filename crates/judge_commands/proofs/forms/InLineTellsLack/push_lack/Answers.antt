@@ -1,5 +1,5 @@
 use Rattle.std.proofs.Common.{refl}
-use Rattle.report_text.specs.MissingText.{missing_text}
+use Rattle.audit_report.specs.MissingText.{missing_text}
 use Rattle.judge_commands.specs.Completed.{TellsInLine}
 use Rattle.judge_commands.proofs.Added.{adds}
 use Rattle.judge_commands.proofs.forms.InLineTellsLack.push_lack.Goals as goal

@@ -1,7 +1,7 @@
 use Rattle.std.proofs.Common.{◌∙◌, sym, ap, subst, List}
 use Rattle.std.specs.List.{AllByRecursion}
-use Rattle.guest_book.specs.GuestPart.{GuestPart}
-use Rattle.script.specs.declared.vcpus.Vcpu.{Vcpu as Scheduled}
+use Rattle.target_side.specs.GuestPart.{GuestPart}
+use Rattle.guest_script.specs.declared.vcpus.Vcpu.{Vcpu as Scheduled}
 use Rattle.std.specs.Prelude.{map}
 use Rattle.session_core.specs.States.{vcpu_of, LeftFits}
 use Rattle.session_core.proofs.Operations.{all_left_fits, init_is}

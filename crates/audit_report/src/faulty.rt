@@ -1,0 +1,62 @@
+//! The text of a report that tells each page with a fault.
+
+ghost use Rattle.std.specs.Prelude.{◌≡◌, [], ◌∷◌, ◌++◌, IfOk, OnOk};
+ghost use Rattle.text_lines.specs.Text.{ended};
+ghost use Rattle.audit_report.specs.FaultyPagesText.{all_faults_text, faulty_page_line, faulty_pages_lines, pages_after};
+
+use crate::Report;
+use crate::printing::print_first_line;
+use faulty_pages::FaultyPage;
+use std::alloc::{AllocError, Global};
+use text_lines::{push_keyed, push_keyed_word, push_number};
+
+const FAULTY_PAGES: &[u8] = b"faulty-pages ";
+
+/// Adds the line of a page with a fault.
+fn push_faulty_page(out: &mut Vec<u8>, faulty: &FaultyPage) -> Result<(), AllocError>
+    ensures { OnOk result (out.new.items ≡ out.old.items ++ (faulty_page_line faulty.now ++ 10 ∷ [])) }
+{
+    out.extend_from_slice(b"page ")?;
+    push_number(out, faulty.page.number())?;
+    push_keyed_word(out, b" line ", faulty.line, faulty.fault.reason.word())
+}
+
+/// Adds the lines of the pages with a fault: how many they are, and one for each. An error: there is no memory for them.
+pub fn push_faulty_pages(out: &mut Vec<u8>, pages: &[FaultyPage]) -> Result<(), AllocError>
+    ensures { OnOk result (out.new.items ≡ out.old.items ++ ended (faulty_pages_lines pages.now)) }
+{
+    push_keyed(out, FAULTY_PAGES, pages.len())?;
+    for faulty in pages {
+        push_faulty_page(out, faulty)?;
+    }
+    Ok(())
+}
+
+/// Adds what stands after the first line of a report that tells each page with a fault.
+fn push_pages_after(
+    out: &mut Vec<u8>,
+    report: &Report,
+    pages: &[FaultyPage],
+) -> Result<(), AllocError>
+    ensures { OnOk result (out.new.items ≡ out.old.items ++ ended (pages_after report.now pages.now)) }
+{
+    match report {
+        Report::Clean(_) | Report::Faulty { .. } => push_faulty_pages(out, pages),
+        Report::Shape(_) | Report::Knot { .. } => Ok(()),
+    }
+}
+
+/// The text of a report that tells each page with a fault: the report's first line, and after it the lines of these pages
+/// where it is clean or faulty. Of a session that has not the right shape, or no merging, no page is told. Each line ends with
+/// LF. An error: there is no memory for the text.
+pub fn print_all_faults(
+    alloc: Global,
+    report: &Report,
+    pages: &[FaultyPage],
+) -> Result<Vec<u8>, AllocError>
+    ensures { IfOk result (λ out. out.items ≡ all_faults_text report.now pages.now) }
+{
+    let mut out = print_first_line(alloc, report)?;
+    push_pages_after(&mut out, report, pages)?;
+    Ok(out)
+}

@@ -1,0 +1,41 @@
+//! The line that says what is missing from a session.
+
+ghost use Rattle.std.specs.Prelude.{◌≡◌, ◌++◌, OnOk};
+ghost use Rattle.migration_types.specs.Sessions.{line_of};
+ghost use Rattle.completeness.specs.Complete.{IsFirstMissing};
+ghost use Rattle.audit_report.specs.MissingText.{missing_text};
+
+use completeness::Missing;
+use migration_types::{LogName, Session, line_of};
+use std::alloc::AllocError;
+use text_lines::{push_keyed, push_line};
+
+/// The line of the pager's record of this number, where it is what a session lacks first that nothing became of what that took.
+pub fn line_of_taken(session: &Session, n: u32) -> u32
+    requires { IsFirstMissing session.now (Missing.Taken n) }
+    ensures { result ≡ line_of session.now (LogName.Pager, n) }
+{
+    line_of(session, LogName::Pager, n)
+}
+
+/// Adds the line that says what is missing from a session. An error: there is no memory for it.
+pub fn push_missing(
+    out: &mut Vec<u8>,
+    session: &Session,
+    missing: Missing,
+) -> Result<(), AllocError>
+    requires { IsFirstMissing session.now missing }
+    ensures { OnOk result (out.new.items ≡ out.old.items ++ missing_text session.now missing) }
+{
+    match missing {
+        Missing::Halt => push_line(out, b"incomplete halt"),
+        Missing::Resume => push_line(out, b"incomplete resume"),
+        Missing::Page(page) => push_keyed(out, b"incomplete page ", page.number()),
+        Missing::All => push_line(out, b"incomplete all"),
+        Missing::Done => push_line(out, b"incomplete done"),
+        Missing::Taken(n) => {
+            let line = line_of_taken(session, n);
+            push_keyed(out, b"incomplete line ", line)
+        }
+    }
+}

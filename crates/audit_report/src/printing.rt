@@ -1,0 +1,98 @@
+//! The text of a report, and the line of a text that is refused.
+
+ghost use Rattle.std.specs.Prelude.{◌≡◌, [], ◌∷◌, ◌++◌, IfOk, OnOk};
+ghost use Rattle.text_lines.specs.Text.{ended};
+ghost use Rattle.audit_report.specs.Reports.{ReportFits};
+ghost use Rattle.audit_report.specs.RefusalText.{refusal_text, certificate_refusal_text};
+ghost use Rattle.audit_report.specs.ReportText.{shape_line, first_line, lines_behind, report_text};
+
+use crate::Report;
+use cert_check::ShapeFault;
+use cert_text::{CLEAN, FAULTY, push_cert, push_runs_text};
+use std::alloc::{AllocError, Global};
+use text_lines::{push_keyed, push_keyed_word, push_line};
+
+const SESSION_TEXT: &[u8] = b"session-text line ";
+
+const CERT_TEXT: &[u8] = b"certificate-text line ";
+
+const SHAPE: &[u8] = b"shape line ";
+
+const KNOT: &[u8] = b"knot line ";
+
+/// Adds the line that says where the text of a session is refused.
+pub fn push_refused_session(out: &mut Vec<u8>, line: u32) -> Result<(), AllocError>
+    ensures { OnOk result (out.new.items ≡ out.old.items ++ refusal_text line) }
+{
+    push_keyed(out, SESSION_TEXT, line)
+}
+
+/// The line that says where the text of a session is refused. An error: there is no memory for it.
+pub fn print_refused_session(alloc: Global, line: u32) -> Result<Vec<u8>, AllocError>
+    ensures { IfOk result (λ out. out.items ≡ refusal_text line) }
+{
+    let mut out = Vec::new(alloc);
+    push_refused_session(&mut out, line)?;
+    Ok(out)
+}
+
+/// Adds the line that says where the text of a certificate is refused.
+pub fn push_refused_certificate(out: &mut Vec<u8>, line: u32) -> Result<(), AllocError>
+    ensures { OnOk result (out.new.items ≡ out.old.items ++ certificate_refusal_text line) }
+{
+    push_keyed(out, CERT_TEXT, line)
+}
+
+/// Adds the line of a fault of shape.
+pub fn push_shape(out: &mut Vec<u8>, fault: &ShapeFault) -> Result<(), AllocError>
+    ensures { OnOk result (out.new.items ≡ out.old.items ++ ended (shape_line fault.now ∷ [])) }
+{
+    push_keyed_word(out, SHAPE, fault.line, fault.reason.word())
+}
+
+/// Adds the first line of a report.
+pub fn push_first_line(out: &mut Vec<u8>, report: &Report) -> Result<(), AllocError>
+    ensures { OnOk result (out.new.items ≡ out.old.items ++ ended (first_line report.now ∷ [])) }
+{
+    match report {
+        Report::Clean(_) => push_line(out, CLEAN),
+        Report::Shape(fault) => push_shape(out, fault),
+        Report::Knot { left, .. } => push_keyed(out, KNOT, left.line),
+        Report::Faulty { line, fault, .. } => {
+            push_keyed_word(out, FAULTY, *line, fault.reason.word())
+        }
+    }
+}
+
+/// The first line of a report. An error: there is no memory for it.
+pub fn print_first_line(alloc: Global, report: &Report) -> Result<Vec<u8>, AllocError>
+    ensures { IfOk result (λ out. out.items ≡ ended (first_line report.now ∷ [])) }
+{
+    let mut out = Vec::new(alloc);
+    push_first_line(&mut out, report)?;
+    Ok(out)
+}
+
+/// Adds the text behind the first line: the certificate's where the report is clean, that of the order's runs where a page
+/// has a fault, and else none.
+fn push_behind(out: &mut Vec<u8>, report: &Report) -> Result<(), AllocError>
+    requires { ReportFits report.now }
+    ensures { OnOk result (out.new.items ≡ out.old.items ++ ended (lines_behind report.now)) }
+{
+    match report {
+        Report::Clean(cert) => push_cert(out, cert),
+        Report::Faulty { order, .. } => push_runs_text(out, order.as_slice()),
+        Report::Shape(_) | Report::Knot { .. } => Ok(()),
+    }
+}
+
+/// The text of a report: its first line, and behind it the certificate's text where it is clean, or the text of the
+/// order's runs where a page has a fault. Each line ends with LF. An error: there is no memory for the text.
+pub fn print_report(alloc: Global, report: &Report) -> Result<Vec<u8>, AllocError>
+    requires { ReportFits report.now }
+    ensures { IfOk result (λ out. out.items ≡ report_text report.now) }
+{
+    let mut out = print_first_line(alloc, report)?;
+    push_behind(&mut out, report)?;
+    Ok(out)
+}

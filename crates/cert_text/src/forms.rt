@@ -1,0 +1,45 @@
+//! The forms of a text that tells an order.
+
+ghost use Rattle.std.specs.Prelude.{◌≡◌};
+ghost use Rattle.cert_text.specs.inner.OrderHeld.{has_runs, has_front};
+
+use audit_model::PageReason;
+
+/// The form of a text that tells an order.
+#[derive(Clone, Copy)]
+pub enum Form {
+    /// A text of runs.
+    Runs,
+    /// The report on a session with a fault: a text of runs below a line that tells the fault's line and its reason.
+    Faulty { line: u32, reason: PageReason },
+    /// A certificate.
+    Cert,
+    /// The report on a clean session: a certificate below a line that says so.
+    Clean,
+}
+
+impl Form {
+    /// Whether a text of runs tells the order, and not a certificate.
+    pub(crate) fn has_runs(&self) -> bool
+        ensures { result ≡ has_runs self.now }
+    {
+        match self {
+            Form::Runs => true,
+            Form::Faulty { .. } => true,
+            Form::Cert => false,
+            Form::Clean => false,
+        }
+    }
+
+    /// Whether the first line of a report stands above what tells the order.
+    pub(crate) fn has_front(&self) -> bool
+        ensures { result ≡ has_front self.now }
+    {
+        match self {
+            Form::Runs => false,
+            Form::Faulty { .. } => true,
+            Form::Cert => false,
+            Form::Clean => true,
+        }
+    }
+}

@@ -1,3 +1,0 @@
-pub mod GuestPart
-pub mod Books
-pub mod inner

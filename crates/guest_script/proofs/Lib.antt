@@ -1,0 +1,15 @@
+pub mod Lists
+pub mod Pages
+pub mod Faults
+pub mod Exactly
+pub mod TextLists
+pub mod ByVersion
+pub mod LateOps
+pub mod Tells
+pub mod EventSteps
+pub mod ScriptTells
+pub mod Letters
+pub mod ScriptSteps
+pub mod ScriptVcpus
+pub mod ScriptGoes
+pub mod ScriptLaws

@@ -1,0 +1,9 @@
+use Rattle.guest_script.specs.inner.ScriptDraft.{draft_of}
+use Rattle.guest_script.proofs.ScriptGoes.{live_begins, live_few}
+use Rattle.guest_script.proofs.script_reader.ScriptPartsStages.goes_on.Goals as goal
+
+pub returns-clause-begins : goal.returns-clause-begins
+returns-clause-begins c = live_begins c.args._stage (draft_of c.args.self.now) c.requires
+
+pub returns-clause-few : goal.returns-clause-few
+returns-clause-few c = live_few c.args._stage (draft_of c.args.self.now) c.requires

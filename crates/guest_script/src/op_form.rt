@@ -1,0 +1,192 @@
+//! Lines of operations.
+
+ghost use Rattle.std.specs.Prelude.{◌≡◌, ◌≢◌, ◌≤◌, ◌<◌, ◌^◌, ℕ, List, [], ◌∷◌, ◌++◌, map, IfOk, IfErr, IfSome, OnOk, OnErr, MatchOption};
+ghost use Rattle.std.specs.Fmt.{decimal};
+ghost use Rattle.text_lines.specs.Text.{ended};
+ghost use Rattle.migration_types.specs.Extents.{IsExtent};
+ghost use Rattle.migration_events.specs.declared.ops.Op.{Op as Done};
+ghost use Rattle.guest_script.specs.Scripts.{counts_line, op_line, place_text, value_text, vcpu_onto, vcpus_onto};
+ghost use Rattle.guest_script.specs.Moments.{OpFitsAt};
+ghost use Rattle.guest_script.specs.inner.Ops.{TakesOp};
+ghost use Rattle.guest_script.specs.inner.ScriptHeld.{small_machine};
+
+use crate::{MOST_OPS, Vcpu, When, may_release};
+use crate::keys::{READ_KEY, RELEASE_KEY, VCPU_KEY, WRITE_KEY};
+use migration_events::Op;
+use migration_types::PageNo;
+use session_log::Sizes;
+use std::alloc::AllocError;
+use text_lines::{
+    FaultKind, Wanted, after_key, end_line, number_then, push_keyed, push_number, push_then,
+    read_decimal,
+};
+
+/// A number of at most `limit` that a text spells.
+fn read_limited(text: &[u8], limit: u64) -> Option<u64>
+    ensures { MatchOption result ((n : ℕ) → n ≤ limit → text.now ≢ decimal n) (λ n. (n ≤ limit) × (text.now ≡ decimal n)) }
+{
+    let number = read_decimal(text)?;
+    if number > limit {
+        return None;
+    }
+    Some(number)
+}
+
+/// The page and the cell that a text spells, of a machine.
+fn read_place(text: &[u8], sizes: Sizes) -> Option<(PageNo, u16)>
+    requires { IsExtent (small_machine sizes.pages sizes.cells) }
+    ensures { MatchOption result ((p c : ℕ) → p < sizes.pages → c < sizes.cells → text.now ≢ place_text p c) (λ a. (a.0 < sizes.pages) × (a.1 < sizes.cells) × (text.now ≡ place_text a.0 a.1)) }
+{
+    let (page, rest) = number_then(text, u64::from(sizes.pages) - 1)?;
+    let cell = read_limited(rest, u64::from(sizes.cells) - 1)?;
+    Some((PageNo::new(page as u32), cell as u16))
+}
+
+/// The page, the cell and the value that a text spells, of a machine.
+fn read_value(text: &[u8], sizes: Sizes) -> Option<(PageNo, u16, u64)>
+    requires { IsExtent (small_machine sizes.pages sizes.cells) }
+    ensures { MatchOption result ((p c x : ℕ) → p < sizes.pages → c < sizes.cells → x < 2 ^ 64 → text.now ≢ value_text p c x) (λ a. (a.0 < sizes.pages) × (a.1 < sizes.cells) × (a.2 < 2 ^ 64) × (text.now ≡ value_text a.0 a.1 a.2)) }
+{
+    let (page, rest) = number_then(text, u64::from(sizes.pages) - 1)?;
+    let (cell, rest) = number_then(rest, u64::from(sizes.cells) - 1)?;
+    let value = read_decimal(rest)?;
+    Some((PageNo::new(page as u32), cell as u16, value))
+}
+
+/// The operation that a line spells, for a machine, before a move or after it.
+fn read_op(line: &[u8], sizes: Sizes, when: When) -> Option<Op>
+    requires { IsExtent (small_machine sizes.pages sizes.cells) }
+    ensures { MatchOption result ((op : Done) → OpFitsAt when (small_machine sizes.pages sizes.cells) op → line.now ≢ op_line op) (λ op. OpFitsAt when (small_machine sizes.pages sizes.cells) op × (line.now ≡ op_line op)) }
+{
+    if let Some(text) = after_key(line, READ_KEY) {
+        let (page, cell) = read_place(text, sizes)?;
+        return Some(Op::Read { page, cell });
+    }
+    if let Some(text) = after_key(line, WRITE_KEY) {
+        let (page, cell, value) = read_value(text, sizes)?;
+        return Some(Op::Write { page, cell, value });
+    }
+    if !may_release(when) {
+        return None;
+    }
+    let text = after_key(line, RELEASE_KEY)?;
+    let page = read_limited(text, u64::from(sizes.pages) - 1)?;
+    Some(Op::Release {
+        page: PageNo::new(page as u32),
+    })
+}
+
+/// What may stand where an operation does, before a move or after it.
+pub fn wanted_op(when: When) -> Wanted {
+    let what = match when {
+        When::BeforeMove => "an operation before the move",
+        When::AfterMove(_) => "an operation after the move",
+    };
+    if may_release(when) {
+        Wanted::one(what, &["r P C", "w P C X", "z P"])
+    } else {
+        Wanted::one(what, &["r P C", "w P C X"])
+    }
+}
+
+/// Takes the line of an operation behind others, before a move or after it.
+pub fn take_op(ops: &mut Vec<Op>, sizes: Sizes, when: When, line: &[u8]) -> Result<(), FaultKind>
+    requires { IsExtent (small_machine sizes.pages sizes.cells) }
+    ensures ok { OnOk result (TakesOp when (small_machine sizes.pages sizes.cells) ops.old.items ops.new.items line.now) }
+    ensures refused { IfErr result (λ kind. kind ≢ FaultKind.Memory → (op : Done) → OpFitsAt when (small_machine sizes.pages sizes.cells) op → line.now ≢ op_line op) }
+    ensures err { OnErr result (ops.new.items ≡ ops.old.items) }
+{
+    let Some(op) = read_op(line, sizes, when) else {
+        return Err(FaultKind::Form);
+    };
+    match ops.push(op) {
+        Ok(()) => Ok(()),
+        Err(_) => Err(FaultKind::Memory),
+    }
+}
+
+/// How many operations there are before and after a move, as a line says.
+pub fn read_counts(line: &[u8]) -> Result<(u32, u32), FaultKind>
+    ensures found { IfOk result (λ a. (a.0 ≤ 65536) × (a.1 ≤ 65536) × (line.now ≡ counts_line a.0 a.1)) }
+    ensures refused { OnErr result ((b a : ℕ) → b ≤ 65536 → a ≤ 65536 → line.now ≢ counts_line b a) }
+{
+    let Some(text) = after_key(line, VCPU_KEY) else {
+        return Err(FaultKind::Form);
+    };
+    let Some((before, rest)) = number_then(text, u64::from(MOST_OPS)) else {
+        return Err(FaultKind::Form);
+    };
+    let Some(after) = read_limited(rest, u64::from(MOST_OPS)) else {
+        return Err(FaultKind::Form);
+    };
+    Ok((before as u32, after as u32))
+}
+
+/// What may stand where the numbers of a virtual processor's operations do.
+pub fn wanted_counts() -> Wanted {
+    let what = "the numbers of operations before and after the move of a virtual processor";
+    Wanted::one(what, &["vcpu N N"]).within(0, MOST_OPS)
+}
+
+/// Adds the line of an operation.
+fn push_op(out: &mut Vec<u8>, op: Op) -> Result<(), AllocError>
+    ensures { OnOk result (out.new.items ≡ out.old.items ++ (op_line op ++ 10 ∷ [])) }
+{
+    match op {
+        Op::Read { page, cell } => {
+            out.extend_from_slice(READ_KEY)?;
+            push_then(out, page.number())?;
+            push_number(out, cell)?;
+            end_line(out)
+        }
+        Op::Write { page, cell, value } => {
+            out.extend_from_slice(WRITE_KEY)?;
+            push_then(out, page.number())?;
+            push_then(out, cell)?;
+            push_number(out, value)?;
+            end_line(out)
+        }
+        Op::Release { page } => push_keyed(out, RELEASE_KEY, page.number()),
+    }
+}
+
+/// Adds the lines of operations.
+fn push_ops(out: &mut Vec<u8>, ops: &[Op]) -> Result<(), AllocError>
+    ensures { OnOk result (out.new.items ≡ out.old.items ++ ended (map op_line ops.now)) }
+{
+    for op in ops {
+        push_op(out, *op)?;
+    }
+    Ok(())
+}
+
+/// Adds the line that says how many operations there are before and after a move.
+fn push_counts(out: &mut Vec<u8>, before: usize, after: usize) -> Result<(), AllocError>
+    ensures { OnOk result (out.new.items ≡ out.old.items ++ (counts_line before after ++ 10 ∷ [])) }
+{
+    out.extend_from_slice(VCPU_KEY)?;
+    push_then(out, before)?;
+    push_number(out, after)?;
+    end_line(out)
+}
+
+/// Adds the lines of a virtual processor.
+fn push_vcpu(out: &mut Vec<u8>, vcpu: &Vcpu) -> Result<(), AllocError>
+    ensures { OnOk result (out.new.items ≡ out.old.items ++ ended (vcpu_onto vcpu.now [])) }
+{
+    let before = vcpu.before_move.as_slice();
+    let after = vcpu.after_move.as_slice();
+    push_counts(out, before.len(), after.len())?;
+    push_ops(out, before)?;
+    push_ops(out, after)
+}
+
+/// Adds the lines of virtual processors.
+pub fn push_vcpus(out: &mut Vec<u8>, vcpus: &[Vcpu]) -> Result<(), AllocError>
+    ensures { OnOk result (out.new.items ≡ out.old.items ++ ended (vcpus_onto vcpus.now [])) }
+{
+    for vcpu in vcpus {
+        push_vcpu(out, vcpu)?;
+    }
+    Ok(())
+}

@@ -1,4 +1,0 @@
-pub mod Words
-pub mod Written
-pub mod Told
-pub mod Joined

@@ -1,2 +1,0 @@
--- What of a certificate does not fit its session.
-pub mod Misfits

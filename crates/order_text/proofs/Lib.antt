@@ -1,3 +1,0 @@
-pub mod FirstLines
-pub mod Orders
-pub mod Inner

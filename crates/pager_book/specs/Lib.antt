@@ -1,3 +1,0 @@
-pub mod PagerPart
-pub mod PagerLists
-pub mod inner

@@ -1,3 +1,0 @@
--- What serves proofs alone.
-pub mod Sound
-pub mod Steps

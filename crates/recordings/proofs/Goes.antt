@@ -1,0 +1,246 @@
+-- What came so far goes on to a recording's text, and it is one where it is whole.
+use Rattle.std.proofs.Common.{◌≡◌, ◌≢◌, ℕ, ◌+◌, ◌-◌, ◌<◌, ◌≤◌, ◌^◌, List, [], ◌∷◌, ◌++◌, length, map, refl, sym, ap, subst, ◌∙◌, length-append, arith}
+use Rattle.std.specs.Fmt.{decimal}
+use Rattle.std.proofs.lemmas.List.{append-nil}
+use Rattle.text_lines.specs.Text.{Begins}
+use Rattle.text_lines.proofs.Cut.{Begins-front}
+use Rattle.migration_types.specs.declared.records.GuestRec.TheVariants.{Halt}
+use Rattle.migration_types.specs.declared.records.SourceRec.TheVariants.{State}
+use Rattle.migration_types.specs.declared.records.LinkRec.TheVariants.{Down}
+use Rattle.migration_types.specs.declared.records.LaneRec.TheVariants.{Down as LaneDown}
+use Rattle.migration_types.specs.declared.records.PagerRec.TheVariants.{All}
+use Rattle.migration_types.specs.declared.pages.InitPage.{InitPage}
+use Rattle.migration_types.specs.declared.version.Version.{Version}
+use Rattle.migration_types.specs.declared.version.Version.TheVariants.{One, Two}
+use Rattle.migration_types.specs.declared.size.Size.TheVariants.{Small}
+use Rattle.migration_types.specs.Limits.{HasSize}
+use Rattle.migration_types.specs.Extents.{Extent}
+use Rattle.migration_types.specs.Pages.{InitPageFits}
+use Rattle.migration_types.specs.Sessions.{Recorded}
+use Rattle.migration_types.specs.inner.InitPages.{rise_long, rise_increases}
+use Rattle.recordings.specs.Recordings.{IsCount, IsMachine, IsRecording, SpellsRecording, IsGuestRecOf, IsSourceRecOf, IsLinkRecOf, IsLaneRecOf, IsPagerRecOf}
+use Rattle.session_log.specs.declared.parts.Stage.{Stage}
+use Rattle.session_log.specs.declared.parts.Stage.TheVariants.{Header, Pages, Cells, InitCount, Init, Guest, Source, Link, Lane, Pager, Done}
+use Rattle.session_log.specs.Records.{guest_line, source_line, link_line, lane_line, pager_line}
+use Rattle.session_log.specs.Grammar.{header, pages_key, cells_key, init_key, guest_key, source_key, link_key, lane_key, pager_key, page_line, closing, session_lines}
+use Rattle.session_log.specs.inner.Held.{geometry_onto, init_onto, guest_onto, source_onto, link_onto, lane_onto}
+use Rattle.session_log.proofs.Lists.{all_append}
+use Rattle.session_log.proofs.Sections.{with_items, onto_more, onto_whole, fresh, fresh_fits, missing, filled_whole, filled_fits}
+use Rattle.session_log.proofs.ByVersion.{one_version, lane_is, lane_whole, lane_some}
+use Rattle.session_log.proofs.Goes.{pages_from, pages_fit, pages_count, pages_rise, rise_append, no_rest}
+use Rattle.session_log.proofs.Laws.{held_append, extent, guest_part, source_part, link_part, lane_part, pager_part, pager_lines, lane_lines, link_lines, source_lines, guest_lines}
+use Rattle.recordings.specs.inner.Held.{SessionDraft, Part, IsWhole, held_onto, recorded_of, most_count, StartFits, InitFits, LogFits, GuestFits, SourceFits, LinkFits, LaneFits, PagerFits, Live}
+use Rattle.recordings.proofs.TextLaws.{init_agrees, guest_agrees, source_agrees, link_agrees, lane_agrees, pager_agrees}
+
+-- all items of a list came
+pub all_came : {Y : Type 0} (part : Part Y) (came left : ℕ) → left ≡ 0 → came ≡ length part.items → came + left ≡ part.count → IsWhole part
+all_came part came left none is all = omega (arith, none, is, all)
+
+-- as many pages are announced as the machine has, at most
+pub few_announced : (d : SessionDraft) → StartFits d → d.init.count ≤ d.geometry.pages
+few_announced d f =
+    let long = rise_long 0 d.next_page d.init.items f.rising in
+    let room = f.room in
+    let within = f.within in
+    omega arith
+
+-- ---- a whole draft is a recording
+
+few_items : {X Y : Type 0} (Before : Type 0) (list : Part X) (Fits : Y → Type 0) (log : Part Y) → LogFits most_count Before list Fits log → length log.items < 2 ^ 63
+few_items Before list Fits log f = let few = f.few in let within = f.within in omega arith
+
+whole_fits : (d : SessionDraft) → PagerFits d → IsRecording (recorded_of d)
+whole_fits d f =
+    let lane = f.before in
+    let link = lane.before in
+    let source = link.before in
+    let guest = source.before in
+    let init = guest.before in
+    record {
+      size = init.size;
+      machine = init.geometry;
+      init = record { each = init.each; rising = rise_increases 0 d.next_page d.init.items init.rising };
+      few_guest = few_items (StartFits d) d.init (IsGuestRecOf d.geometry) d.guest guest;
+      few_source = few_items (GuestFits d) d.guest (IsSourceRecOf d.geometry) d.source source;
+      few_link = few_items (SourceFits d) d.source IsLinkRecOf d.link link;
+      few_lane = few_items (LinkFits d) d.link (IsLaneRecOf d.version) d.lane lane;
+      few_pager = few_items (LaneFits d) d.lane (IsPagerRecOf d.version d.geometry) d.pager f;
+      guest = guest.each;
+      source = source.each;
+      link = link.each;
+      lane = lane.each;
+      pager = f.each;
+    }
+
+whole_lines : (d : SessionDraft) → PagerFits d → IsWhole d.pager → held_onto Done d [] ≡ session_lines (recorded_of d)
+whole_lines d f whole =
+    let v = recorded_of d in
+    let end_lines = closing ∷ [] in
+    let pager = onto_whole pager_key pager_line d.pager end_lines end_lines whole refl in
+    let lane = lane_whole d.version d.lane (pager_part d end_lines) (pager_lines v) f.whole pager in
+    let held = lane_part d (pager_part d end_lines) in
+    let link = onto_whole link_key link_line d.link held (lane_lines v) f.before.whole lane in
+    let source = onto_whole source_key source_line d.source (link_part d held) (link_lines v) f.before.before.whole link in
+    let guest = onto_whole guest_key guest_line d.guest (source_part d (link_part d held)) (source_lines v) f.before.before.before.whole source in
+    let init = onto_whole init_key page_line d.init (guest_part d (source_part d (link_part d held))) (guest_lines v) f.before.before.before.before.whole guest in
+    ap (geometry_onto d) init
+
+pub done_spells : (d : SessionDraft) → PagerFits d → IsWhole d.pager → SpellsRecording (recorded_of d) (held_onto Done d [])
+done_spells d f whole = (whole_fits d f, whole_lines d f whole)
+
+-- ---- from each state there are lines to a whole draft
+
+step : (stage next : Stage) (d e : SessionDraft) (more : List (List ℕ)) → held_onto stage d more ≡ held_onto next e [] → Begins SpellsRecording (held_onto next e []) → Begins SpellsRecording (held_onto stage d [])
+step stage next d e more eq b = Begins-front SpellsRecording (held_onto stage d []) more (subst (Begins SpellsRecording) (sym (held_append stage d [] more ∙ eq)) b)
+
+done_begins : (d : SessionDraft) → PagerFits d → IsWhole d.pager → Begins SpellsRecording (held_onto Done d [])
+done_begins d f whole = (recorded_of d, [], (whole_fits d f, append-nil (held_onto Done d []) ∙ whole_lines d f whole))
+
+pager_begins : (d : SessionDraft) → PagerFits d → Begins SpellsRecording (held_onto Pager d [])
+pager_begins d f =
+    let more = missing d.pager All in
+    let e : SessionDraft = record d { pager = with_items d.pager more } in
+    step Pager Done d e (map pager_line more ++ closing ∷ []) (ap (lane_onto d) (onto_more pager_key pager_line d.pager more (closing ∷ [])))
+    (done_begins e (filled_fits most_count (LaneFits d) d.lane (IsPagerRecOf d.version d.geometry) d.pager All f tt) (filled_whole d.pager All f.within))
+
+lane_begins : (d : SessionDraft) → LaneFits d → d.version ≡ Two → Begins SpellsRecording (held_onto Lane d [])
+lane_begins d f second =
+    let more = missing d.lane (LaneDown 0) in
+    let log = with_items d.lane more in
+    let rest = (pager_key ++ decimal 0) ∷ [] in
+    let e : SessionDraft = record d { lane = log; pager = fresh 0 } in
+    let lines = map lane_line more ++ rest in
+    let has : IsLaneRecOf d.version (LaneDown 0) = subst (λ (v : Version). IsLaneRecOf v (LaneDown 0)) (sym second) (tt, omega arith) in
+    step Lane Pager d e lines (ap (link_onto d) (lane_is d.version d.lane lines second ∙ (onto_more lane_key lane_line d.lane more rest ∙ sym (lane_is d.version log rest second))))
+    (pager_begins e (fresh_fits most_count (LaneFits e) log (IsPagerRecOf d.version d.geometry) 0 (filled_fits most_count (LinkFits d) d.link (IsLaneRecOf d.version) d.lane (LaneDown 0) f has) (filled_whole d.lane (LaneDown 0) f.within) (omega arith)))
+
+link_begins : (d : SessionDraft) → LinkFits d → Begins SpellsRecording (held_onto Link d [])
+link_begins d f =
+    let more = missing d.link (Down 0) in
+    let log = with_items d.link more in
+    let e : SessionDraft = record d { link = log; lane = fresh 0; pager = fresh 0 } in
+    let rest = lane_part e ((pager_key ++ decimal 0) ∷ []) in
+    let link = filled_fits most_count (SourceFits d) d.source IsLinkRecOf d.link (Down 0) f (omega arith) in
+    let lane = fresh_fits most_count (LinkFits e) log (IsLaneRecOf d.version) 0 link (filled_whole d.link (Down 0) f.within) (omega arith) in
+    step Link Pager d e (map link_line more ++ rest) (ap (source_onto d) (onto_more link_key link_line d.link more rest))
+    (pager_begins e (fresh_fits most_count (LaneFits e) (fresh 0) (IsPagerRecOf d.version d.geometry) 0 lane refl (omega arith)))
+
+source_begins : (d : SessionDraft) → SourceFits d → Begins SpellsRecording (held_onto Source d [])
+source_begins d f =
+    let more = missing d.source State in
+    let log = with_items d.source more in
+    let line = link_key ++ decimal 0 in
+    let e : SessionDraft = record d { source = log; link = fresh 0 } in
+    step Source Link d e (map source_line more ++ line ∷ []) (ap (guest_onto d) (onto_more source_key source_line d.source more (line ∷ [])))
+    (link_begins e (fresh_fits most_count (SourceFits e) log IsLinkRecOf 0 (filled_fits most_count (GuestFits d) d.guest (IsSourceRecOf d.geometry) d.source State f tt) (filled_whole d.source State f.within) (omega arith)))
+
+guest_begins : (d : SessionDraft) → GuestFits d → Begins SpellsRecording (held_onto Guest d [])
+guest_begins d f =
+    let more = missing d.guest Halt in
+    let log = with_items d.guest more in
+    let line = source_key ++ decimal 0 in
+    let e : SessionDraft = record d { guest = log; source = fresh 0 } in
+    step Guest Source d e (map guest_line more ++ line ∷ []) (ap (init_onto d) (onto_more guest_key guest_line d.guest more (line ∷ [])))
+    (source_begins e (fresh_fits most_count (GuestFits e) log (IsSourceRecOf d.geometry) 0 (filled_fits most_count (StartFits d) d.init (IsGuestRecOf d.geometry) d.guest Halt f tt) (filled_whole d.guest Halt f.within) (omega arith)))
+
+-- initial pages that came go on to all that were announced
+init_filled : (version : Version) (e : Extent) (next : ℕ) (part : Part InitPage) → InitFits version e next part → (more : List InitPage) × (top : ℕ) × InitFits version e top (with_items part more) × IsWhole (with_items part more)
+init_filled version e next part f =
+    let m = part.count - length part.items in
+    let more = pages_from e.cells next m in
+    let within = f.within in
+    let len = pages_count e.cells next m in
+    let room = f.room in
+    let both = length-append part.items more in (
+      more,
+      next + m,
+      record {
+        size = f.size;
+        geometry = f.geometry;
+        within = omega arith;
+        each = all_append (InitPageFits e) part.items more f.each (pages_fit e next m f.geometry.some_cells room);
+        rising = rise_append 0 next (next + m) part.items more f.rising (pages_rise e.cells next m);
+        room = omega arith;
+      },
+      omega arith,
+    )
+
+init_begins : (d : SessionDraft) → StartFits d → Begins SpellsRecording (held_onto Init d [])
+init_begins d f =
+    let filled = init_filled d.version d.geometry d.next_page d.init f in
+    let more = filled.0 in
+    let top = filled.1 in
+    let list = with_items d.init more in
+    let line = guest_key ++ decimal 0 in
+    let e : SessionDraft = record d { init = list; next_page = top; guest = fresh 0 } in
+    step Init Guest d e (map page_line more ++ line ∷ []) (ap (geometry_onto d) (onto_more init_key page_line d.init more (line ∷ [])))
+    (guest_begins e (fresh_fits most_count (StartFits e) list (IsGuestRecOf d.geometry) 0 filled.2 filled.3 (omega arith)))
+
+abbrev empty_draft : Version → Extent → SessionDraft
+empty_draft version e = record { version = version; geometry = e; next_page = 0; init = fresh 0; guest = fresh 0; source = fresh 0; link = fresh 0; lane = fresh 0; pager = fresh 0 }
+
+count_begins : (d : SessionDraft) → IsMachine d.geometry → HasSize d.version d.geometry.size → Begins SpellsRecording (held_onto InitCount d [])
+count_begins d geo has =
+    let e = empty_draft d.version d.geometry in
+    step InitCount Init d e ((init_key ++ decimal 0) ∷ []) refl (init_begins e (record { size = has; geometry = geo; within = omega arith; each = tt; rising = refl; room = omega arith }))
+
+cells_begins : (d : SessionDraft) → 1 ≤ d.geometry.pages → IsCount d.geometry.pages → HasSize d.version d.geometry.size → Begins SpellsRecording (held_onto Cells d [])
+cells_begins d low high has =
+    let e = empty_draft d.version (extent d.geometry.size d.geometry.pages 1) in
+    step Cells InitCount d e ((cells_key ++ decimal 1) ∷ []) refl (count_begins e (record { some_pages = low; few_pages = high; some_cells = omega arith; few_cells = omega arith }) has)
+
+pages_begins : (d : SessionDraft) → HasSize d.version d.geometry.size → Begins SpellsRecording (held_onto Pages d [])
+pages_begins d has =
+    let e = empty_draft d.version (extent d.geometry.size 1 1) in
+    step Pages Cells d e ((pages_key ++ decimal 1) ∷ []) refl (cells_begins e (omega arith) (omega arith) has)
+
+pub live_begins : (stage : Stage) (d : SessionDraft) → Live stage d → Begins SpellsRecording (held_onto stage d [])
+live_begins Header d live =
+    let e = empty_draft One (extent Small 1 1) in
+    step Header Pages d e (header One Small ∷ []) refl (pages_begins e tt)
+live_begins Pages d live = pages_begins d live.1
+live_begins Cells d live = cells_begins d live.1 live.2 live.3
+live_begins InitCount d live = count_begins d live.1 live.2
+live_begins Init d live = init_begins d live.0
+live_begins Guest d live = guest_begins d live.0
+live_begins Source d live = source_begins d live.0
+live_begins Link d live = link_begins d live.0
+live_begins Lane d live = lane_begins d live.0 live.1
+live_begins Pager d live = pager_begins d live
+live_begins Done d live = done_begins d live.0 live.1
+
+-- ---- what is not whole is no text
+
+not_whole_at : (stage : Stage) (d : SessionDraft) → Live stage d → stage ≢ Done → (v : Recorded) → IsRecording v → held_onto stage d [] ≡ session_lines v → ⊥
+not_whole_at Header d live other v fits e = absurd cc
+not_whole_at Pages d live other v fits e = absurd cc
+not_whole_at Cells d live other v fits e = absurd cc
+not_whole_at InitCount d live other v fits e = absurd cc
+not_whole_at Init d live other v fits e =
+    let a = (init_agrees d [] v live.0 fits e).init in
+    let within = live.0.within in
+    no_rest page_line v.init d.init.items (guest_lines v) a.items (omega (arith, a.count)) (omega arith)
+not_whole_at Guest d live other v fits e =
+    let a = guest_agrees d [] v live.0 fits e in
+    let within = live.0.within in
+    no_rest guest_line v.guest d.guest.items (source_lines v) a.items (omega (arith, a.count)) (omega arith)
+not_whole_at Source d live other v fits e =
+    let a = source_agrees d [] v live.0 fits e in
+    let within = live.0.within in
+    no_rest source_line v.source d.source.items (link_lines v) a.items (omega (arith, a.count)) (omega arith)
+not_whole_at Link d live other v fits e =
+    let a = link_agrees d [] v live.0 fits e in
+    let within = live.0.within in
+    no_rest link_line v.link d.link.items (lane_lines v) a.items (omega (arith, a.count)) (lane_some v.version v.lane (pager_lines v) (omega arith))
+not_whole_at Lane d live other v fits e =
+    let a = lane_agrees d [] v live.0 (λ first. absurd (one_version d.version first live.1)) fits e in
+    let within = live.0.within in
+    no_rest lane_line v.lane d.lane.items (pager_lines v) a.items (omega (arith, a.count)) (omega arith)
+not_whole_at Pager d live other v fits e =
+    let a = pager_agrees d [] v live fits e in
+    let within = live.within in
+    no_rest pager_line v.pager d.pager.items (closing ∷ []) a.items (omega (arith, a.count)) (omega arith)
+not_whole_at Done d live other v fits e = absurd (other refl)
+
+pub not_whole : (stage : Stage) (d : SessionDraft) (held : List (List ℕ)) → held_onto stage d [] ≡ held → Live stage d → stage ≢ Done → (v : Recorded) → SpellsRecording v held → ⊥
+not_whole stage d held e live other v s = not_whole_at stage d live other v s.0 (e ∙ s.1)

@@ -1,4 +1,0 @@
-pub mod ReportText
-pub mod FaultyPagesText
-pub mod RefusalText
-pub mod MissingText

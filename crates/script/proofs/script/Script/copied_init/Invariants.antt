@@ -1,5 +1,0 @@
-use Rattle.std.proofs.Common.{◌≡◌, take}
-use Rattle.script.proofs.script.Script.copied_init.Given as goal
-
-abbrev pub invariant-loop-given : goal.invariant-loop-given
-invariant-loop-given l = l.pages.items ≡ take l.given-index l.init

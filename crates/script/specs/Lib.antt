@@ -1,3 +1,0 @@
-pub mod Moments
-pub mod Scenarios
-pub mod ScriptFaults

@@ -1,6 +1,0 @@
-use Rattle.std.proofs.Common.{◌≡◌, map, take}
-use Rattle.script_text.specs.Scripts.{fate_letter}
-use Rattle.script_text.proofs.fates.read_letters.Given as goal
-
-abbrev pub invariant-loop-letter : goal.invariant-loop-letter
-invariant-loop-letter l = map fate_letter l.fates.items ≡ take l.letter-index l.letters

@@ -1,6 +1,0 @@
-use Rattle.script_text.specs.inner.ScriptDraft.{draft_of}
-use Rattle.script_text.proofs.ScriptSteps.{cells_taken}
-use Rattle.script_text.proofs.script_steps.ScriptParts.at_cells.Goals as goal
-
-pub returns : goal.returns
-returns c = let found = c.in_ok-cells.ensures.found in cells_taken (draft_of c.args.self.now) c.in_ok-cells.cells c.args.line.now c.requires found.0 found.1

@@ -1,6 +1,0 @@
-use Rattle.script_text.specs.inner.ScriptDraft.{draft_of}
-use Rattle.script_text.proofs.ScriptSteps.{down_taken}
-use Rattle.script_text.proofs.script_steps.ScriptParts.at_down.Goals as goal
-
-pub returns : goal.returns
-returns c = let found = c.in_ok-down.ensures.found in down_taken (draft_of c.args.self.now) c.in_ok-down.down c.args.line.now c.requires found.0 found.1

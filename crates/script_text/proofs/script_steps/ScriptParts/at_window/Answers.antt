@@ -1,6 +1,0 @@
-use Rattle.script_text.specs.inner.ScriptDraft.{draft_of}
-use Rattle.script_text.proofs.ScriptSteps.{window_taken}
-use Rattle.script_text.proofs.script_steps.ScriptParts.at_window.Goals as goal
-
-pub returns : goal.returns
-returns c = let found = c.in_ok-window.ensures.found in window_taken (draft_of c.args.self.now) c.in_ok-window.window c.args.line.now c.requires found.0 found.1 found.2

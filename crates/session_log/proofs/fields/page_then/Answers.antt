@@ -1,0 +1,10 @@
+use Rattle.std.proofs.Common.{sym, ◌∙◌, arith}
+use Rattle.std.specs.Fmt.{decimal}
+use Rattle.std.proofs.lemmas.List.{append_cancel_left}
+use Rattle.session_log.proofs.fields.page_then.Goals as goal
+
+pub returns-in_err-page-clause-whole : goal.returns-in_err-page-clause-whole
+returns-in_err-page-clause-whole c = λ n lt e. absurd (c.in_err-page.ensures.whole n (omega (arith, c.from.ensures)) (append_cancel_left c.args.key.now c.in_ok-after_key.field-0.now (decimal n) (sym c.in_ok-after_key.ensures ∙ e)))
+
+pub returns-clause-whole : goal.returns-clause-whole
+returns-clause-whole c = λ n lt e. c.in_ok-page.ensures.whole n (omega (arith, c.from.ensures)) (append_cancel_left c.args.key.now c.in_ok-after_key.field-0.now (decimal n) (sym c.in_ok-after_key.ensures ∙ e))

@@ -1,0 +1,56 @@
+//! What a session's text has by its version and its size.
+
+ghost use Rattle.std.specs.Prelude.{◌≡◌, ◌≢◌, [], ◌++◌, IfSome, IfNone, OnOk};
+ghost use Rattle.migration_types.specs.declared.version.Version.{Version as Of};
+ghost use Rattle.migration_types.specs.declared.size.Size.{Size as Limited};
+ghost use Rattle.migration_types.specs.Limits.{HasSize};
+ghost use Rattle.text_lines.specs.Text.{ended};
+ghost use Rattle.session_log.specs.Grammar.{header, with_lane};
+
+use crate::keys::{FIRST_HEADER, SECOND_HEADER, THIRD_HEADER};
+use crate::lane::{LANE_KEY, LaneLines};
+use crate::records::Records;
+use migration_types::{Session, Size, Version};
+use std::alloc::AllocError;
+use text_lines::{is_line, push_counted};
+
+/// The first line of the text of a session of this version and size. There is no session of the first version and the large
+/// size, and so no line.
+pub fn session_header(version: Version, size: Size) -> &'static [u8]
+    ensures { result.now ≡ header version size }
+{
+    match (version, size) {
+        (Version::One, Size::Small) => FIRST_HEADER,
+        (Version::One, Size::Large) => b"",
+        (Version::Two, Size::Small) => SECOND_HEADER,
+        (Version::Two, Size::Large) => THIRD_HEADER,
+    }
+}
+
+/// The version and the size whose sessions have this first line.
+#[tactic(auto, using(crate::proofs::ByVersion::no_header))]
+pub fn read_header(line: &[u8]) -> Option<(Version, Size)>
+    ensures found { IfSome result (λ told. HasSize told.0 told.1 × (line.now ≡ header told.0 told.1)) }
+    ensures none { IfNone result ((version : Of) (size : Limited) → HasSize version size → line.now ≢ header version size) }
+{
+    if is_line(line, FIRST_HEADER) {
+        return Some((Version::One, Size::Small));
+    }
+    if is_line(line, SECOND_HEADER) {
+        return Some((Version::Two, Size::Small));
+    }
+    if is_line(line, THIRD_HEADER) {
+        return Some((Version::Two, Size::Large));
+    }
+    None
+}
+
+/// Adds the lines of the lane's log, where the version has it.
+pub(crate) fn push_lane(out: &mut Vec<u8>, session: &Session) -> Result<(), AllocError>
+    ensures { OnOk result (out.new.items ≡ out.old.items ++ ended (with_lane session.now.version session.now.lane [])) }
+{
+    match session.version() {
+        Version::One => Ok(()),
+        Version::Two => push_counted::<Records<LaneLines>>(out, LANE_KEY, session.lane()),
+    }
+}

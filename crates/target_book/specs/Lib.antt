@@ -1,5 +1,0 @@
-pub mod TargetPart
-pub mod History
-pub mod Told
-pub mod Kept
-pub mod inner

@@ -1,0 +1,5 @@
+pub mod Records
+pub mod States
+pub mod Woven
+pub mod Sound
+pub mod Steps
