@@ -1,5 +1,5 @@
 /* Stands before the system's calls, by LD_PRELOAD, and lets them fail. REFUSING is '-', or '<call> <first> <last> <how>': of the
-   calls of malloc and realloc ('memory'), read, write or open, those with these numbers, from 1 on, answer
+   calls of malloc and realloc ('memory'), read, write, open or pthread_create ('thread'), those with these numbers, from 1 on, answer
 
        memory   no memory
        short    as asked, for one byte
@@ -18,16 +18,17 @@
 #include <errno.h>
 #include <fcntl.h>
 #include <limits.h>
+#include <pthread.h>
 #include <stdarg.h>
 #include <stdio.h>
 #include <stdlib.h>
 #include <string.h>
 #include <unistd.h>
 
-enum { MEMORY, READ, WRITE, OPEN, CALLS };
+enum { MEMORY, READ, WRITE, OPEN, THREAD, CALLS };
 enum { WHOLE, SHORT = -1, NONE = -2 };
 
-static const char *const names[CALLS] = {"memory", "read", "write", "open"};
+static const char *const names[CALLS] = {"memory", "read", "write", "open", "thread"};
 static _Atomic long count[CALLS], refused;
 static long first, last;
 static int chosen = CALLS, how;
@@ -43,6 +44,7 @@ static void *(*real_realloc)(void *, size_t);
 static ssize_t (*real_read)(int, void *, size_t);
 static ssize_t (*real_write)(int, const void *, size_t);
 static int (*real_open)(const char *, int, ...);
+static int (*real_pthread_create)(pthread_t *, const pthread_attr_t *, void *(*)(void *), void *);
 
 static void find(void *at, const char *name) {
     void *found = dlsym(RTLD_NEXT, name);
@@ -58,6 +60,7 @@ __attribute__((constructor)) static void begin(void) {
     find(&real_read, "read");
     find(&real_write, "write");
     find(&real_open, "open");
+    find(&real_pthread_create, "pthread_create");
     if (words && sscanf(words, "%15s %ld %ld %15s", call, &first, &last, kind) == 4) {
         for (chosen = 0; chosen < CALLS && strcmp(call, names[chosen]); chosen++) {}
         how = !strcmp(kind, "short") ? SHORT : !strcmp(kind, "none") ? NONE : !strcmp(kind, "memory") ? ENOMEM : atoi(kind);
@@ -71,7 +74,7 @@ __attribute__((constructor)) static void begin(void) {
 static void tell(void) {
     char line[128];
     running = 0;
-    int len = snprintf(line, sizeof line, "%ld %ld %ld %ld %ld\n", count[0], count[1], count[2], count[3], refused);
+    int len = snprintf(line, sizeof line, "%ld %ld %ld %ld %ld %ld\n", count[0], count[1], count[2], count[3], count[4], refused);
     if (real_write(99, line, (size_t)len) < 0) errno = 0;
 }
 
@@ -170,4 +173,9 @@ int open(const char *name, int flags, ...) {
     int met = fate(OPEN);
     if (met > 0) return errno = met, -1;
     return real_open(name, flags, mode);
+}
+
+int pthread_create(pthread_t *thread, const pthread_attr_t *how, void *(*body)(void *), void *given) {
+    int met = fate(THREAD);
+    return met > 0 ? met : real_pthread_create(thread, how, body, given);
 }

@@ -16,9 +16,10 @@ use crate::range_judge::judge_range;
 use migration_types::{PageNo, Session};
 use page_store::Table;
 use rayon::current_num_threads;
+use rayon::prelude::*;
 use std::alloc::{AllocError, Global};
 use std::marker::Sync;
-use std::thread::{Threads, map_indices};
+use std::thread::Threads;
 
 /// What is asked of pages: what is taken of what is found of each, as [`FirstFault`](crate::FirstFault) or a user's own.
 pub trait Question {
@@ -197,16 +198,16 @@ fn add_parts<Q: Question>(
     question: &Q,
     session: &Session,
     all: &mut Part<Q::Answer>,
-    parts: Vec<Result<Part<Q::Answer>, AllocError>>,
+    parts: Vec<Part<Q::Answer>>,
 ) -> Result<(), AllocError>
     requires limits { IsSession session.now }
     requires all { IsPart (Q.IsAnswer question.now session.now) session.now.geometry.pages all.old.first all.old.count all.old.answer }
-    requires parts { AllByRecursion (λ part. IfOk part (λ p. IsPart (Q.IsAnswer question.now session.now) session.now.geometry.pages p.first p.count p.answer)) parts.items }
+    requires parts { AllByRecursion (λ part. IsPart (Q.IsAnswer question.now session.now) session.now.geometry.pages part.first part.count part.answer) parts.items }
     ensures first { all.new.first ≡ all.old.first }
     ensures all { OnOk result (IsPart (Q.IsAnswer question.now session.now) session.now.geometry.pages all.new.first all.new.count all.new.answer) }
 {
     for part in parts {
-        add_part(question, session, all, part?)?;
+        add_part(question, session, all, part)?;
     }
     Ok(())
 }
@@ -246,6 +247,33 @@ fn threads_for<R: Threads>(rt: &R, session: &Session) -> usize {
     current_num_threads(rt)
 }
 
+/// What is answered of each of so many parts, by threads side by side: each part is worth a thread.
+fn answer_parts<R: Threads + Sync, X: Send + Drop, Q: Question<Answer = X> + Sync>(
+    rt: &R,
+    question: &Q,
+    alloc: Global,
+    session: &Session,
+    looks: &Table<Option<u32>>,
+    size: usize,
+    parts: usize,
+) -> Result<Vec<Part<X>>, AllocError>
+    requires limits { IsSession session.now }
+    requires asked { Q.IsFor question.now session.now }
+    requires looks { IsTable session.now.geometry.pages looks.now (first_look session.now (length session.now.guest)) }
+    ensures { IfOk result (λ answered. AllByRecursion (λ part. IsPart (Q.IsAnswer question.now session.now) session.now.geometry.pages part.first part.count part.answer) answered.items) }
+{
+    (0..parts)
+        .into_par_iter()
+        .with_min_len(1)
+        .map(
+            |number: usize| -> Result<Part<X>, AllocError>
+                requires { IsSession session.now × Q.IsFor question.now session.now × IsTable session.now.geometry.pages looks.now (first_look session.now (length session.now.guest)) }
+                ensures { IfOk result (λ part. IsPart (Q.IsAnswer question.entry.now session.entry.now) session.entry.now.geometry.pages part.first part.count part.answer) }
+            { answer_part(question, alloc, session, looks, size, number) },
+        )
+        .collect(rt, alloc)?
+}
+
 /// What is answered of all pages by threads side by side, a range of pages for each processor; where there is one processor
 /// or little work, by the calling thread. An error: there is no memory for it.
 pub fn answer_apart<R: Threads + Sync, X: Send + Drop, Q: Question<Answer = X> + Sync>(
@@ -265,16 +293,12 @@ pub fn answer_apart<R: Threads + Sync, X: Send + Drop, Q: Question<Answer = X> +
     let looks = first_looks(alloc, session)?;
     let pages = session.geometry().pages() as usize;
     let size = pages.div_ceil(parts);
-    let judge = |number: usize| -> Result<Part<X>, AllocError>
-        requires { IsSession session.now × Q.IsFor question.now session.now × IsTable session.now.geometry.pages looks (first_look session.now (length session.now.guest)) }
-        ensures { IfOk result (λ part. IsPart (Q.IsAnswer question.entry.now session.entry.now) session.entry.now.geometry.pages part.first part.count part.answer) }
-    { answer_part(question, alloc, session, &looks, size, number) };
-    let judged = map_indices(rt, alloc, parts, &judge)?;
+    let answered = answer_parts(rt, question, alloc, session, &looks, size, parts)?;
     let mut all = Part {
         first: 0,
         count: 0,
         answer: question.blank(alloc, pages)?,
     };
-    add_parts(question, session, &mut all, judged)?;
+    add_parts(question, session, &mut all, answered)?;
     complete(question, alloc, session, &looks, all)
 }
