@@ -80,6 +80,10 @@ fn is_reported<R: Threads + Sync>(rt: &R, alloc: Global, case: &Case) -> Result<
 #[test]
 fn each_faulty_page_is_told(rt: HostRuntime) {
     for case in &CASES {
-        assert!(rt; matches!(is_reported(&rt, rt.alloc(), case), Ok(true)), "{}", case.is);
+        assert!(rt;
+            matches!(is_reported(&rt, rt.alloc(), case), Ok(true)),
+            "{}",
+            case.is
+        );
     }
 }

@@ -58,6 +58,10 @@ fn is_told<R: Threads + Sync>(rt: &R, alloc: Global, case: &Case) -> Result<bool
 #[test]
 fn objects_tell_the_records_of_what_happened(rt: HostRuntime) {
     for case in &CASES {
-        assert!(rt; matches!(is_told(&rt, rt.alloc(), case), Ok(true)), "{}", case.is);
+        assert!(rt;
+            matches!(is_told(&rt, rt.alloc(), case), Ok(true)),
+            "{}",
+            case.is
+        );
     }
 }

@@ -4,9 +4,7 @@
 use crate::texts::{Logs, session_of};
 use audit_model::PageReason;
 use migration_types::{Entry, First, LogName, PageNo, Session};
-use page_facts::{
-    PageFacts, PageFault, facts_of, findings_for, first_page_fault, is_right_entry,
-};
+use page_facts::{PageFacts, PageFault, facts_of, findings_for, first_page_fault, is_right_entry};
 use std::alloc::Global;
 
 /// A session in which page 0 is sent, placed, looked at and read.

@@ -32,18 +32,38 @@ fn is_broken_along_its_report(alloc: Global, session: &str) -> bool {
 fn replays_along_reports(rt: HostRuntime) {
     let alloc = rt.alloc();
     assert!(rt; is_broken_along_its_report(alloc, STALE_PAGE));
-    assert!(rt; matches!(along(alloc, EARLY_ACCESS, Wanted::Report), Ok(Outcome::Broken(_))));
+    assert!(rt;
+        matches!(
+            along(alloc, EARLY_ACCESS, Wanted::Report),
+            Ok(Outcome::Broken(_))
+        )
+    );
     assert!(rt; matches!(along(alloc, HANDOVER, Wanted::Report), Ok(Outcome::Safe)));
 }
 
 #[test]
 fn replays_along_certificates(rt: HostRuntime) {
-    assert!(rt; matches!(along(rt.alloc(), HANDOVER, Wanted::Certificate), Ok(Outcome::Safe)));
+    assert!(rt;
+        matches!(
+            along(rt.alloc(), HANDOVER, Wanted::Certificate),
+            Ok(Outcome::Safe)
+        )
+    );
 }
 
 #[test]
 fn other_reports_tell_no_order(rt: HostRuntime) {
     let alloc = rt.alloc();
-    assert!(rt; matches!(along(alloc, WRONG_SHAPE, Wanted::Report), Ok(Outcome::RunsText(1))));
-    assert!(rt; matches!(along(alloc, STALE_PAGE, Wanted::FirstLine), Ok(Outcome::RunsText(2))));
+    assert!(rt;
+        matches!(
+            along(alloc, WRONG_SHAPE, Wanted::Report),
+            Ok(Outcome::RunsText(1))
+        )
+    );
+    assert!(rt;
+        matches!(
+            along(alloc, STALE_PAGE, Wanted::FirstLine),
+            Ok(Outcome::RunsText(2))
+        )
+    );
 }

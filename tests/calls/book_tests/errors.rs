@@ -48,8 +48,14 @@ fn a_stream_that_does_not_go_on_says_why(rt: HostRuntime) -> Result<(), Fail> {
     let Some(fault) = refusal_of(rt.alloc(), &[0, 0, 0, 5, 5])? else {
         return Err(Fail::new("the stream goes on"));
     };
-    assert_eq!(rt; format!(in rt.alloc(); "{fault}")?.as_str(), "a packet of a kind that none has");
-    assert_eq!(rt; format!(in rt.alloc(); "{fault:?}")?.as_str(), "StreamFault { kind: Kind, .. }");
+    assert_eq!(rt;
+        format!(in rt.alloc(); "{fault}")?.as_str(),
+        "a packet of a kind that none has"
+    );
+    assert_eq!(rt;
+        format!(in rt.alloc(); "{fault:?}")?.as_str(),
+        "StreamFault { kind: Kind, .. }"
+    );
     Ok(())
 }
 

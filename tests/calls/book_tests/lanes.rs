@@ -114,8 +114,7 @@ fn is_of(geometry: Geometry, packet: &Packet) -> bool {
     match packet {
         Packet::State { released, .. } => released.as_slice().is_empty(),
         Packet::Page { page, cells, .. } => {
-            page.number() < geometry.pages()
-                && cells.as_slice().len() == geometry.cells() as usize
+            page.number() < geometry.pages() && cells.as_slice().len() == geometry.cells() as usize
         }
         Packet::Want { .. } | Packet::All { .. } => true,
     }

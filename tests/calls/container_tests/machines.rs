@@ -24,8 +24,7 @@ fn frames_keep_values(rt: HostRuntime) -> Result<(), Fail> {
 
 /// Whether each cell of a page is 0.
 fn is_blank(store: &Store, page: PageNo) -> bool {
-    page.number() < store.geometry().pages()
-        && store.page(page).iter().all(|value| *value == 0)
+    page.number() < store.geometry().pages() && store.page(page).iter().all(|value| *value == 0)
 }
 
 #[test]

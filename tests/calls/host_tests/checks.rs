@@ -247,7 +247,8 @@ fn store_of(alloc: Global, script: &Script, left: &Left) -> Result<Store, AllocE
 
 /// Whether this is what a fault says of itself, to a reader and to a programmer.
 fn says(alloc: Global, fault: &RunFault, shown: &str, name: &str) -> bool {
-    let (Ok(text), Ok(debug)) = (format!(in alloc; "{fault}"), format!(in alloc; "{fault:?}")) else {
+    let (Ok(text), Ok(debug)) = (format!(in alloc; "{fault}"), format!(in alloc; "{fault:?}"))
+    else {
         return false;
     };
     text.as_str() == shown && debug.as_str() == name
@@ -255,7 +256,12 @@ fn says(alloc: Global, fault: &RunFault, shown: &str, name: &str) -> bool {
 
 /// Whether a fault is that the audit's report has this first line, and says of itself that the audit refuses it.
 fn is_refused(alloc: Global, fault: &RunFault, line: &str) -> bool {
-    if !says(alloc, fault, "the audit refuses what was recorded", "AuditRefused(..)") {
+    if !says(
+        alloc,
+        fault,
+        "the audit refuses what was recorded",
+        "AuditRefused(..)",
+    ) {
         return false;
     }
     match fault {

@@ -25,6 +25,9 @@ fn a_run_says_why_it_is_refused(rt: HostRuntime) -> Result<(), Fail> {
 #[test]
 fn a_relay_says_that_it_failed(rt: HostRuntime) -> Result<(), Fail> {
     let fault = RelayFault;
-    assert_eq!(rt; format!(in rt.alloc(); "{fault}")?.as_str(), "the relay failed");
+    assert_eq!(rt;
+        format!(in rt.alloc(); "{fault}")?.as_str(),
+        "the relay failed"
+    );
     Ok(())
 }

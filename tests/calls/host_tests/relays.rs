@@ -4,8 +4,8 @@ use crate::runs::{TWO_MISSES, has_answers};
 use guest_script::{Script, read_script};
 use host_threads::{Gate, Migrated, Open, Relay, RelayFault, RunFault, migrate_over};
 use std::alloc::Global;
-use std::sync::{Arc, Wait};
 use std::sync::atomic::{AtomicU32, Ordering};
+use std::sync::{Arc, Wait};
 use std::thread::Threads;
 
 /// What a relay does.

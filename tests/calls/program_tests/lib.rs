@@ -167,31 +167,43 @@ fn wrong_case<
 
 // What is told of inputs that are empty, or begin with an empty line, and of a certificate that stands for another text.
 
-const EMPTY_SESSION: &[u8] = b"-:1:1: the text is empty; expected \"postcopy-session 1\", \"postcopy-session 2\" or \"postcopy-session 3\", the header of a session\n";
+const EMPTY_SESSION: &[u8] =
+    b"-:1:1: the text is empty; expected \"postcopy-session 1\", \"postcopy-session 2\" or \"postcopy-session 3\", the header of a session\n";
 
-const EMPTY_CERT: &[u8] = b"-:1:1: the text is empty; expected \"postcopy-certificate 1\", \"postcopy-certificate 2\" or \"postcopy-certificate 3\", the header of a certificate\n";
+const EMPTY_CERT: &[u8] =
+    b"-:1:1: the text is empty; expected \"postcopy-certificate 1\", \"postcopy-certificate 2\" or \"postcopy-certificate 3\", the header of a certificate\n";
 
-const EMPTY_ORDER: &[u8] = b"-:1:1: the text is empty; expected the first line of a text of runs, of a certificate or of a report\n";
+const EMPTY_ORDER: &[u8] =
+    b"-:1:1: the text is empty; expected the first line of a text of runs, of a certificate or of a report\n";
 
-const EMPTY_EVENTS: &[u8] = b"-:1:1: the text is empty; expected \"postcopy-events 1\", the header of events\n";
+const EMPTY_EVENTS: &[u8] =
+    b"-:1:1: the text is empty; expected \"postcopy-events 1\", the header of events\n";
 
-const EMPTY_LINE: &[u8] = b"-:1:1: found an empty line; expected \"postcopy-session 1\", \"postcopy-session 2\" or \"postcopy-session 3\", the header of a session\n";
+const EMPTY_LINE: &[u8] =
+    b"-:1:1: found an empty line; expected \"postcopy-session 1\", \"postcopy-session 2\" or \"postcopy-session 3\", the header of a session\n";
 
-const CERT_FOR_SESSION: &[u8] = b"cert:1:1: this is a certificate; expected a session: are the two files swapped?\n";
+const CERT_FOR_SESSION: &[u8] =
+    b"cert:1:1: this is a certificate; expected a session: are the two files swapped?\n";
 
 // What is told beside a clean session whose guest uses no page at the target, as a file, on the input, of three, behind why a
 // certificate is no session, and before a text that is not there.
-const SESSION_NOTE: &[u8] = b"session: note: the guest neither reads nor writes a page after a resume, so no use of one was judged\n";
+const SESSION_NOTE: &[u8] =
+    b"session: note: the guest neither reads nor writes a page after a resume, so no use of one was judged\n";
 
-const INPUT_NOTE: &[u8] = b"-: note: the guest neither reads nor writes a page after a resume, so no use of one was judged\n";
+const INPUT_NOTE: &[u8] =
+    b"-: note: the guest neither reads nor writes a page after a resume, so no use of one was judged\n";
 
-const THREE_NOTES: &[u8] = b"session: note: the guest neither reads nor writes a page after a resume, so no use of one was judged\n-: note: the guest neither reads nor writes a page after a resume, so no use of one was judged\nsession: note: the guest neither reads nor writes a page after a resume, so no use of one was judged\n";
+const THREE_NOTES: &[u8] =
+    b"session: note: the guest neither reads nor writes a page after a resume, so no use of one was judged\n-: note: the guest neither reads nor writes a page after a resume, so no use of one was judged\nsession: note: the guest neither reads nor writes a page after a resume, so no use of one was judged\n";
 
-const CERT_FOR_SESSION_AND_NOTE: &[u8] = b"cert:1:1: this is a certificate; expected a session: are the two files swapped?\nsession: note: the guest neither reads nor writes a page after a resume, so no use of one was judged\n";
+const CERT_FOR_SESSION_AND_NOTE: &[u8] =
+    b"cert:1:1: this is a certificate; expected a session: are the two files swapped?\nsession: note: the guest neither reads nor writes a page after a resume, so no use of one was judged\n";
 
-const NOTE_AND_NONE: &[u8] = b"session: note: the guest neither reads nor writes a page after a resume, so no use of one was judged\nfile none\n";
+const NOTE_AND_NONE: &[u8] =
+    b"session: note: the guest neither reads nor writes a page after a resume, so no use of one was judged\nfile none\n";
 
-const SESSION_FOR_RUNS: &[u8] = b"session:1:1: this is a session; expected a text of runs: are the two files swapped?\n";
+const SESSION_FOR_RUNS: &[u8] =
+    b"session:1:1: this is a session; expected a text of runs: are the two files swapped?\n";
 
 // Each pair of texts, of which one or both may be the input.
 static VERDICTS: [Case; 10] = [
@@ -342,9 +354,27 @@ fn outputs(rt: HostRuntime) {
     assert!(rt; is_named(&rt, plain.as_slice(), None, None));
     let refused = ["postcopy", "audit", "-o", "out", "session"];
     assert!(rt; is_named(&rt, refused.as_slice(), None, None));
-    let both = ["postcopy", "window", "--lines", "table", "-o", "out", "recording", "0", "1"];
+    let both = [
+        "postcopy",
+        "window",
+        "--lines",
+        "table",
+        "-o",
+        "out",
+        "recording",
+        "0",
+        "1",
+    ];
     assert!(rt; is_named(&rt, both.as_slice(), Some("table"), Some("out")));
-    let lines = ["postcopy", "window", "--lines", "table", "recording", "0", "1"];
+    let lines = [
+        "postcopy",
+        "window",
+        "--lines",
+        "table",
+        "recording",
+        "0",
+        "1",
+    ];
     assert!(rt; is_named(&rt, lines.as_slice(), Some("table"), None));
     let told = ["postcopy", "explain", "--lines", "table", "session"];
     assert!(rt; is_named(&rt, told.as_slice(), None, None));
@@ -547,7 +577,14 @@ fn missing_files(rt: HostRuntime) {
 
 // Sessions and what is no session.
 static AUDITS: [Case; 5] = [
-    Case(&["postcopy", "certify", "session"], b"", 0, CERT, SESSION_NOTE, None),
+    Case(
+        &["postcopy", "certify", "session"],
+        b"",
+        0,
+        CERT,
+        SESSION_NOTE,
+        None,
+    ),
     Case(
         &["postcopy", "audit", "session"],
         b"",
@@ -835,11 +872,26 @@ static LONG: [(&[u8], usize, bool, Said); 11] = [
     (b"postcopy-session 2\n", 268_435_457, true, NOT_READ),
     (b"postcopy-session 3\n\n", 268_435_456, false, NO_PAGES),
     (b"postcopy-session 3\n\n", 268_435_457, false, NOT_READ),
-    (b"postcopy-certificate 3\n", 268_435_457, true, A_CERTIFICATE),
+    (
+        b"postcopy-certificate 3\n",
+        268_435_457,
+        true,
+        A_CERTIFICATE,
+    ),
     (b"postcopy-certificate 2\n", 268_435_457, true, NOT_READ),
     (b"postcopy-runs 1\n", 268_435_457, true, RUNS),
-    (b"clean\npostcopy-certificate 3\n", 268_435_457, true, A_REPORT),
-    (b"clean\npostcopy-certificate 2\n", 268_435_457, true, NOT_READ),
+    (
+        b"clean\npostcopy-certificate 3\n",
+        268_435_457,
+        true,
+        A_REPORT,
+    ),
+    (
+        b"clean\npostcopy-certificate 2\n",
+        268_435_457,
+        true,
+        NOT_READ,
+    ),
     (b"faulty line 9 read\n", 268_435_457, true, A_REPORT),
     (b"shape line 9 named\n", 268_435_457, true, NOT_READ),
 ];

@@ -22,7 +22,13 @@ static NO_COMMANDS: [&[&str]; 15] = [
     &["postcopy", "audit", "-o", "out", "session"],
     &["postcopy", "window", "recording", "0"],
     &["postcopy", "window", "recording", "first", "1"],
-    &["postcopy", "window", "recording", "0", "9223372036854775808"],
+    &[
+        "postcopy",
+        "window",
+        "recording",
+        "0",
+        "9223372036854775808",
+    ],
 ];
 
 fn is_refused<

@@ -8,7 +8,10 @@ use text_lines::{FaultKind, TextFault};
 #[test]
 fn a_geometry_says_which_limit_is_missed(rt: HostRuntime) -> Result<(), Fail> {
     for (fault, said) in [
-        (GeometryFault::Pages, "a machine has at least one page, and no more than its size allows"),
+        (
+            GeometryFault::Pages,
+            "a machine has at least one page, and no more than its size allows",
+        ),
         (GeometryFault::Cells, "a page has 1 to 512 cells"),
         (
             GeometryFault::TooMany,

@@ -208,7 +208,12 @@ static LARGE_CHANGES: [Change; 11] = [
     Change(2, Range, "pages 2", "pages 16777217"),
     Change(5, Form, "pages 2", "pages 16777216"),
     Change(3, Form, "source 134217727", "source 134217728"),
-    Change(3, Form, "source 134217727 1048576", "source 1048576 134217728"),
+    Change(
+        3,
+        Form,
+        "source 134217727 1048576",
+        "source 1048576 134217728",
+    ),
     Change(4, Form, "fresh 134217727", "fresh 134217728"),
     Change(5, Range, "runs 2", "runs 671088641"),
     Change(8, Form, "runs 2", "runs 671088640"),

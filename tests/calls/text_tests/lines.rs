@@ -1,7 +1,7 @@
 //! A text of one byte, read whole and in pieces, and the field readers and writers once each.
 
-use crate::{fault_of, refusal_line};
 use crate::formats::none_is_wrong;
+use crate::{fault_of, refusal_line};
 use session_log::read_page_contents;
 use std::alloc::{AllocError, Global};
 use std::marker::Model;

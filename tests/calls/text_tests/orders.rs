@@ -40,7 +40,8 @@ fn runs_tell(alloc: Global) -> bool {
 fn cert_tells(alloc: Global, text: &str) -> bool {
     match read_cert(alloc, text.as_bytes()) {
         Ok(cert) => {
-            tells(alloc, text.as_bytes(), cert.runs()) && tells_below(alloc, "clean", text, cert.runs())
+            tells(alloc, text.as_bytes(), cert.runs())
+                && tells_below(alloc, "clean", text, cert.runs())
         }
         Err(_) => false,
     }
@@ -56,7 +57,9 @@ fn orders_are_read(rt: HostRuntime) {
 
 #[test]
 fn each_reason_is_read(rt: HostRuntime) {
-    for reason in ["read", "early", "given", "stale", "twice", "altered", "unfit", "over"] {
+    for reason in [
+        "read", "early", "given", "stale", "twice", "altered", "unfit", "over",
+    ] {
         let alloc = rt.alloc();
         let text = format!(in alloc; "faulty line 1 {reason}\n{RUNS}");
         assert!(rt; text.is_ok_and(|text| read_order(alloc, text.as_bytes()).is_ok()));
@@ -152,6 +155,9 @@ fn reports_are_read_in_pieces(rt: HostRuntime) {
         panic!(rt; "out of memory");
     };
     for size in 1..9usize {
-        assert!(rt; tells_in_pieces(alloc, text.as_bytes(), size, cert.runs()), "{size}");
+        assert!(rt;
+            tells_in_pieces(alloc, text.as_bytes(), size, cert.runs()),
+            "{size}"
+        );
     }
 }

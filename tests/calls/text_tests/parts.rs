@@ -1,7 +1,7 @@
 //! Long texts, of which several threads take parts.
 
-use crate::{fault_of, refusal_line};
 use crate::formats::is_session_text;
+use crate::{fault_of, refusal_line};
 use migration_types::Session;
 use session_log::SessionReader;
 use std::alloc::{AllocError, Global};

@@ -1,8 +1,8 @@
 //! Texts that come in pieces, however they are cut.
 
-use crate::{fault_of, refusal_line};
 use crate::formats::{Format, is_cert_text, is_session_text, none_is_wrong};
 use crate::texts::{FIRST, FRESH, KINDS, LATE, PULLED, PUSHED, RUNS, SECOND, SENT};
+use crate::{fault_of, refusal_line};
 use cert_text::{CertReader, RunsReader};
 use migration_types::Run;
 use session_log::SessionReader;

@@ -141,7 +141,12 @@ fn wanted_at(at: At) -> Wanted {
             rule: "two runs in a row take from different logs",
             least: 1,
             most: 9,
-            ..listed("a run", &["run source N", "run link N", "run pager N"], 1, 3)
+            ..listed(
+                "a run",
+                &["run source N", "run link N", "run pager N"],
+                1,
+                3,
+            )
         },
         At::Guest => listed("a record of the guest", &GUEST, 8, 9),
         At::ThirdOfGuest => listed("a record of the guest", &GUEST, 2, 9),

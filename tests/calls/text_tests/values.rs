@@ -2,8 +2,7 @@
 
 use migration_types::{
     Cert, Contents, Entry, First, Geometry, GeometryFault, GuestRec, LaneRec, LinkRec, LogName,
-    Logs, PageNo, PagerRec, Record, Run, Seq, Session, Size, SourceRec, Version,
-    lane_lines,
+    Logs, PageNo, PagerRec, Record, Run, Seq, Session, Size, SourceRec, Version, lane_lines,
 };
 use std::alloc::{AllocError, Global};
 
@@ -12,7 +11,9 @@ static GEOMETRIES: [(u32, u32); 3] = [(1, 1), (65_536, 16), (2_048, 512)];
 
 fn is_geometry(pages: u32, cells: u32) -> bool {
     match Geometry::new(pages, cells) {
-        Ok(geometry) => geometry.size() == Size::Small && geometry.pages() == pages && geometry.cells() == cells,
+        Ok(geometry) => geometry.size() == Size::Small
+            && geometry.pages() == pages
+            && geometry.cells() == cells,
         Err(_) => false,
     }
 }
@@ -233,7 +234,12 @@ const RUN: Run = Run {
 fn cert_of_one(alloc: Global, version: Version) -> Result<Cert, AllocError> {
     let entries = Vec::from_array(alloc, [ENTRY])?;
     let runs = Vec::from_array(alloc, [RUN])?;
-    Ok(Cert::new(version, Size::Small, Seq::from_vec(entries), Seq::from_vec(runs)))
+    Ok(Cert::new(
+        version,
+        Size::Small,
+        Seq::from_vec(entries),
+        Seq::from_vec(runs),
+    ))
 }
 
 fn is_of_one(cert: &Cert, version: Version) -> bool {
