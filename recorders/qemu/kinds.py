@@ -2,6 +2,8 @@
 import json
 from dataclasses import asdict, dataclass, field, replace
 
+from dialect import KEPT
+
 BASE = 0x400000
 
 
@@ -23,6 +25,8 @@ class Plan:
     pre: float = 0.5          # and then so many seconds
     after: int = 3000         # at the target, behind the end
     preempt: bool = False
+    multifd: int = 0          # connections of their own for the pages of pre-copy, which the relay does not read
+    kvm: bool = False         # the guest runs on the processor, and not on an emulated one
     paused: bool = False      # the guest is stopped first, and goes on at the target behind the end
     cuts: list = field(default_factory=list)  # the connection is cut behind so many pages; -1: behind the package
     fault: str = ""
@@ -30,6 +34,12 @@ class Plan:
     linger: int = 0           # milliseconds by which a QEMU that ends with an error ends later
     limit: float = 40.0       # seconds for each part of the migration
     base: int = BASE
+    source_version: str = KEPT  # of QEMU; written by who makes the migration
+    target_version: str = KEPT
+
+    def capabilities(self):
+        """What both QEMUs are asked to be capable of."""
+        return ["postcopy-ram", "postcopy-blocktime", *["postcopy-preempt"] * self.preempt, *["multifd"] * bool(self.multifd)]
 
     def to_text(self):
         return json.dumps(asdict(self), indent=1)
@@ -52,7 +62,10 @@ KINDS = {
                  {"pages": 512, "post_bandwidth": 1_000_000, "cuts": [200]}),
     "preempt-recovery": ("both connections are cut, and the migration goes on over two others",
                          {"pages": 512, "preempt": True, "post_bandwidth": 1_000_000, "cuts": [200]}),
-    "lost-write": ("64 pages, which fit the emulator's TLB: QEMU 7.2 loses writes here",
+    "kvm": ("the guest runs on the processor, where /dev/kvm is",
+            {"pages": 64, "kvm": True, "warm": 50, "after": 100, "bandwidth": 200_000, "post_bandwidth": 200_000}),
+    "multifd": ("pre-copy goes over two more connections", {"pages": 1024, "multifd": 2, "post_bandwidth": 1_000_000}),
+    "lost-write": ("64 pages, which fit the emulator's TLB: QEMU 5.2 and 7.2 lose writes here",
                    {"pages": 64, "words": 8, "flush": False, "pre_pages": 72, "pre": 0.0, "post_bandwidth": 300_000}),
 }
 

@@ -17,6 +17,9 @@
  *
  * A placement is made without a wake, then told, and then woken; and it is made and told under the lock that the guest's bytes
  * take. So a look of the guest that comes behind the placement in the pipe came behind it in fact, and one before, before.
+ *
+ * The library is built here and preloaded into QEMUs that bring their own C library, from 2.28 on: so it takes dlsym by the name
+ * that all of them have, and calls nothing that is newer.
  */
 #define _GNU_SOURCE
 #include <dlfcn.h>
@@ -34,6 +37,10 @@
 #include <sys/uio.h>
 #include <unistd.h>
 
+#if defined __x86_64__ && defined __GLIBC__
+__asm__(".symver dlsym, dlsym@GLIBC_2.2.5");
+#endif
+
 #define PAGE 4096UL
 #define DESCRIPTORS 1024
 #define MOST_PAGES 65536
@@ -42,7 +49,7 @@ enum use { UNKNOWN, GUEST, USERFAULT, OTHER };
 
 static pthread_mutex_t lock = PTHREAD_MUTEX_INITIALIZER;
 static int pipe_end = -1, contents_file = -1;
-static ino_t pipe_inode;
+static uint64_t pipe_inode;
 static uint64_t ram, base, pages;
 static uint64_t window; /* where the window is in this process, 0 before it is guarded */
 static long stored, early, linger;
@@ -56,13 +63,24 @@ static void (*real_exit)(int) __attribute__((noreturn));
 
 static uint64_t number(const char *name)
 {
-    const char *text = getenv(name);
-    return text ? strtoull(text, NULL, 0) : 0;
+    uint64_t value = 0;
+    for (const char *text = getenv(name); text && *text >= '0' && *text <= '9'; text++)
+        value = value * 10 + (uint64_t)(*text - '0');
+    return value;
+}
+
+/* Whether a descriptor is a pipe, and its inode. */
+static int is_pipe(int fd, uint64_t *inode)
+{
+    struct statx found;
+    if (statx(fd, "", AT_EMPTY_PATH, STATX_TYPE | STATX_INO, &found))
+        return 0;
+    *inode = found.stx_ino;
+    return S_ISFIFO(found.stx_mode);
 }
 
 __attribute__((constructor)) static void begin(void)
 {
-    struct stat found;
     real_ioctl = dlsym(RTLD_NEXT, "ioctl");
     real_read = dlsym(RTLD_NEXT, "read");
     real_writev = dlsym(RTLD_NEXT, "writev");
@@ -73,11 +91,10 @@ __attribute__((constructor)) static void begin(void)
         return;
     pipe_end = open(path, O_WRONLY | O_CLOEXEC);
     contents_file = open(contents, O_WRONLY | O_CREAT | O_TRUNC | O_CLOEXEC, 0666);
-    if (pipe_end < 0 || contents_file < 0 || fstat(pipe_end, &found)) {
+    if (pipe_end < 0 || contents_file < 0 || !is_pipe(pipe_end, &pipe_inode)) {
         perror("preload");
         exit(1);
     }
-    pipe_inode = found.st_ino;
     ram = number("RECORD_RAM");
     base = number("RECORD_BASE");
     pages = number("RECORD_PAGES") < MOST_PAGES ? number("RECORD_PAGES") : MOST_PAGES;
@@ -219,9 +236,9 @@ ssize_t read(int fd, void *into, size_t length)
 /* Whether what is written there is the guest's: its port goes to the pipe. */
 static int is_guests(int fd)
 {
-    struct stat found;
+    uint64_t inode;
     if (is_known(fd, UNKNOWN))
-        use_of[fd] = fstat(fd, &found) == 0 && S_ISFIFO(found.st_mode) && found.st_ino == pipe_inode ? GUEST : OTHER;
+        use_of[fd] = is_pipe(fd, &inode) && inode == pipe_inode ? GUEST : OTHER;
     return is_known(fd, GUEST);
 }
 

@@ -1,4 +1,4 @@
-"""Kept recordings of QEMU 7.2, and each fact that their conversion rests on, told wrong in one of them."""
+"""Kept recordings of QEMU, and each fact that their conversion rests on, told wrong in one of them."""
 import hashlib
 import os
 import re
@@ -6,9 +6,9 @@ import tempfile
 
 import convert
 import judge
-from moments import SOURCE, TARGET, Moments
+from dialect import Moments
 from pack import unpacked
-from pipe import Pipe
+from pipe import Access, InFlight, Pipe
 from records import Hole
 from source_side import SourceSide
 from target_side import TargetSide
@@ -244,10 +244,18 @@ def of_ends(tests):
 
 
 def of_moments(tests):
-    for table in (SOURCE, TARGET):
-        moments = Moments(table)
-        tests.wants("a line that is no moment", list(moments.of("postcopy_start")), [])
-    tests.wants("a moment with its fields", list(Moments(TARGET).of("uffd fault 7 123")), [("fault", {"page": "7", "thread": "123"})])
+    for side in ("source", "target"):
+        tests.wants("a line that is no moment", list(Moments(side).of("postcopy_start")), [])
+    tests.wants("a moment with its fields", list(Moments("target").of("uffd fault 7 123")), [("fault", {"page": "7", "thread": "123"})])
+    recover = "migrate_set_state new state postcopy-recover"
+    for version, line, moments in (
+            ("5.2.0", "1234@1764236000.123456:vm_state_notify running 1 reason 9 (running)", ["resume"]),
+            ("7.2.22", "1234@1764236000.123456:vm_state_notify running 1 reason 9 (running)", []),
+            ("5.2.0", "ram_load_postcopy_loop @400000 8", ["taken"]), ("10.0.13", "ram_load_postcopy_loop @400000 8", []),
+            ("5.2.0", "postcopy_ram_enable_notify", ["ready"]), ("10.0.13", "postcopy_ram_enable_notify", []),
+            ("11.1.3", "loadvm_postcopy_handle_listen after uffd", ["ready"]), ("5.2.0", "loadvm_postcopy_handle_listen after uffd", []),
+            ("10.0.13", recover, ["messages over a new connection"]), ("10.0.13", f"{recover}-setup", [])):
+        tests.wants(f"the moments of '{line}' in {version}", [moment for moment, _ in Moments("target", version).of(line)], moments)
 
 
 def run(tests):
