@@ -17,6 +17,9 @@ ENDS = (
     ("not at its end within its limit", "it took more than"),
 )
 
+# What a recording that is not judged is called where it is told in a word.
+UNJUDGED = (("no post-copy", "there was no post-copy"), ("lost stack", "are no event"))
+
 
 @dataclass
 class Result:
@@ -37,6 +40,17 @@ class Result:
         """The verdict without its line's number, and without what only this one has."""
         verdict = re.sub(r" line \d+|0x[0-9a-f]+|\d+", "", self.verdict).strip()
         return f"{self.ran}; {verdict}" if self.ran else verdict
+
+    @property
+    def in_a_word(self):
+        """What became of it, as a table of versions has it."""
+        if self.ran:
+            return " and ".join([self.ran, *([self.end] if self.end.endswith("hangs") else [])])
+        if self.verdict.startswith("faulty"):
+            return f"`{self.verdict.split()[-1]}`"
+        if self.verdict.startswith("not judged"):
+            return next((name for name, words in UNJUDGED if words in self.verdict), "not judged")
+        return "clean" if self.is_clean else self.end if self.verdict == "clean, yes" else self.reason
 
     @property
     def is_clean(self):

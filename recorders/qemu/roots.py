@@ -11,7 +11,7 @@ import shutil
 import subprocess
 import tarfile
 
-from build import Missing
+from build import PACKAGES, Missing
 
 MIRROR = "http://deb.debian.org/debian"
 NAME = "qemu-system-x86_64"
@@ -130,5 +130,6 @@ def found(name):
     else:
         path = shutil.which(name)
     if not path or not os.access(path, os.X_OK) or os.path.isdir(path):
-        raise Missing(f"{name} is no program, and no release that recorders/qemu/versions has made a root of")
+        raise Missing(f"{name} is no program here, and no release that recorders/qemu/versions has made a root of. On Debian:\n"
+                      f"    apt-get install --no-install-recommends {PACKAGES}")
     return path
