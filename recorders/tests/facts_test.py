@@ -11,6 +11,7 @@ from pack import unpacked
 from pipe import Access, InFlight, Pipe
 from records import Hole
 from source_side import SourceSide
+from stream import PAGE_BYTES
 from target_side import TargetSide
 from wire import ZERO
 from witness import pages_that_differ
@@ -209,6 +210,22 @@ def of_witness(tests):
                 [page for page in sorted(placed) if placed[page] != contents[page]], found["lost-write"])
 
 
+class PageByPage(bytes):
+    """A memory of which no more than a page is copied at once."""
+
+    def __getitem__(self, key):
+        part = super().__getitem__(key)
+        if isinstance(key, slice) and len(part) > PAGE_BYTES:
+            raise AssertionError(f"{len(part)} bytes are copied")
+        return part
+
+
+def of_its_copies(tests):
+    files = files_of("lost-write")
+    files["halt.mem"] = PageByPage(files["halt.mem"])
+    tests.wants("the witness copies a page at a time", len(pages_that_differ(convert.Recording(files.__getitem__))[0]), 7)
+
+
 def of_facts(tests):
     for what, name, change, reason in WRONG_FILES:
         tests.wants(f"told wrong: {what}", reason_of(session_of(change(files_of(name)))), reason)
@@ -289,6 +306,27 @@ def of_the_first_access(tests):
         tests.wants(f"the first access: {what}", told.records, wanted)
 
 
+class NoWire:
+    """In the place of a Wire of a migration that came to nothing."""
+    connections, has_state, left = (), False, ()
+
+    def of(self, is_lane, generation):
+        return None
+
+
+def of_a_source_that_goes_on(tests):
+    """What the source's guest does when it is started again is in no record, and the target goes on from the halt."""
+    told, found = Told(), []
+    side = SourceSide(told, NoWire(), None, False, "10.0.13", found.append)
+    begun, line = write_of(77)[:9], b"vm_state_notify running %d reason 7 (any)\n"
+    side.read(Pipe(), bytes([0xC2, *write_of(5)[1:]]) + begun + line % 0 + line % 1 + write_of(77)[9:] + b"\xc4" + write_of(8, page=6) + b"\xc4")
+    tests.wants("what is told", told.records, [("read", 5), ("halt", None), ("halted", None)])
+    tests.wants("what the target goes on with", (side.in_flight, found), (InFlight(begun, 0, 0), [InFlight(begun, 0, 0)]))
+    side = SourceSide(Told(), NoWire(), None, False, "10.0.13", lambda in_flight: Access(0, "write", 4, 0, 9))
+    side.read(Pipe(), line % 0)
+    tests.wants("an access that was done stands in front of the halt", side.session.records, [("write", 4), ("halt", None), ("halted", None)])
+
+
 def of_restarts(tests):
     """Where the source started its guest again, how many accesses each side tells since."""
     found = {name: convert.Recording(files_of(name).__getitem__).restart() for name, _, _ in kept()}
@@ -358,9 +396,11 @@ def run(tests):
     of_recordings(tests)
     of_examples(tests)
     of_witness(tests)
+    of_its_copies(tests)
     of_facts(tests)
     of_the_halt(tests)
     of_the_first_access(tests)
+    of_a_source_that_goes_on(tests)
     of_restarts(tests)
     of_a_strange_stream(tests)
     of_ends(tests)

@@ -1,4 +1,6 @@
 """The parser of the migration stream, on bytes made by hand."""
+import struct
+
 import stream
 from streams import (CONFIGURATION, END, EOS, HEADER, answer, bitmap, command, discard, footer, package, page, reader, request,
                      section_part, section_start, sizes, zeros)
@@ -43,6 +45,10 @@ def run(tests):
     for length in range(len(HEADER + CONFIGURATION), len(WHOLE), 997):
         part = down(WHOLE[:length])
         tests.wants(f"a stream of {length} bytes gives the items that are whole", part, items[:len(part)])
+
+    flush = struct.pack(">Q", 0x200)
+    found = down(HEADER + section_part() + page(0x5000, A, "pc.ram") + flush + page(0x6000, B) + EOS)
+    tests.wants("the channels of multifd are flushed", ([item.raw for item in found].count(flush), sum(isinstance(item, stream.Page) for item in found)), (1, 2))
 
     resumed = command(1) + command(9) + command(10, b"\6pc.ram") + section_part() + page(0x8000, A, "pc.ram") + EOS
     tests.wants("a resumed stream has no header", b"".join(item.raw for item in down(resumed, True)), resumed)
