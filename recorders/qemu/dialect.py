@@ -10,6 +10,7 @@ import re
 from dataclasses import dataclass
 
 FIRST = (0, 0)
+PC_RAM = "pc.ram"  # the guest's memory, in all versions
 KEPT = "7.2"  # the version of recordings that tell of none
 STAMP = re.compile(r"^\d+@\d+\.\d+:")  # in front of a line of the trace, as long as STAMPED_BEFORE
 STAMPED_BEFORE = (7, 0)

@@ -12,6 +12,15 @@ from build import Missing
 LONGEST = 60  # seconds for an answer
 
 
+def free_huge_pages():
+    """How many pages of 2 MiB this machine has free."""
+    try:
+        with open("/sys/kernel/mm/hugepages/hugepages-2048kB/free_hugepages", encoding="ascii") as file:
+            return int(file.read())
+    except OSError:
+        return 0
+
+
 class Emulator:
     NAME = "qemu-system-x86_64"
 
@@ -80,5 +89,8 @@ class Emulator:
                 raise Missing(f"{self} ({self.path}) cannot migrate with {', '.join(names)}: {refused['desc']}")
         if said := self.ask("-version", LD_PRELOAD=os.path.abspath(library)).stderr.strip():
             raise Missing(f"{self} ({self.path}) does not take the preloaded library: {said[:300]}")
+        if plan.huge and (free := free_huge_pages()) < plan.ram:
+            raise Missing(f"{plan.ram} free pages of 2 MiB are needed, and there are {free}: left out. As root:\n"
+                          f"    sysctl vm.nr_hugepages={plan.ram}")
         if plan.kvm and not os.access("/dev/kvm", os.R_OK | os.W_OK):
             raise Missing("there is no /dev/kvm that this user may open: left out")

@@ -27,6 +27,7 @@ class Plan:
     preempt: bool = False
     multifd: int = 0          # connections of their own for the pages of pre-copy, which the relay does not read
     kvm: bool = False         # the guest runs on the processor, and not on an emulated one
+    huge: bool = False        # the guest's memory is of pages of 2 MiB
     paused: bool = False      # the guest is stopped first, and goes on at the target behind the end
     cuts: list = field(default_factory=list)  # the connection is cut behind so many pages; -1: behind the package
     fault: str = ""
@@ -65,6 +66,8 @@ KINDS = {
     "kvm": ("the guest runs on the processor, where /dev/kvm is",
             {"pages": 64, "kvm": True, "warm": 50, "after": 100, "bandwidth": 200_000, "post_bandwidth": 200_000}),
     "multifd": ("pre-copy goes over two more connections", {"pages": 1024, "multifd": 2, "post_bandwidth": 1_000_000}),
+    "huge": ("the guest's memory is of pages of 2 MiB, where there are free ones",
+             {"pages": 1024, "huge": True, "post_bandwidth": 4_000_000}),
     "lost-write": ("64 pages, which fit the emulator's TLB: QEMU 5.2 and 7.2 lose writes here",
                    {"pages": 64, "words": 8, "flush": False, "pre_pages": 72, "pre": 0.0, "post_bandwidth": 300_000}),
 }

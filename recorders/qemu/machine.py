@@ -5,6 +5,7 @@ import subprocess
 import threading
 import time
 
+from dialect import PC_RAM
 from qmp import Gone, Hangs, Qmp, Refused
 
 DEAD = ("ended", "hangs")  # what `migration` says of a QEMU that does not say it itself
@@ -57,9 +58,11 @@ class Machine:
             RECORD_RAM=str(plan.ram << 20), RECORD_BASE=str(plan.base), RECORD_PAGES=str(plan.pages),
             RECORD_LINGER=str(plan.linger),
             RECORD_EARLY=str(plan.skip + 1 if plan.fault == "early" and name == "target" else 0))
+        memory = ["-object", f"memory-backend-memfd,id={PC_RAM},size={plan.ram}M,hugetlb=on,hugetlbsize=2M",
+                  "-machine", f"memory-backend={PC_RAM}"] if plan.huge else []
         command = [
             path, "-name", name, "-machine", f"{machine},accel={'kvm' if plan.kvm else 'tcg'}", "-m", f"{plan.ram}M", "-smp", str(plan.cpus),
-            "-nodefaults", "-no-user-config", "-display", "none", "-bios", "./guest.bin",
+            *memory, "-nodefaults", "-no-user-config", "-display", "none", "-bios", "./guest.bin",
             "-chardev", f"file,id=told,path={self.pipe}", "-device", "isa-debugcon,iobase=0xe9,chardev=told",
             "-qmp", f"unix:{self.socket},server=on,wait=off", "-D", self.pipe,
             *(word for event in trace for word in ("-trace", event)), *extra]

@@ -10,7 +10,7 @@
  *     uffd guard START LENGTH      memory from START on is guarded
  *     uffd have PAGE INDEX         a page of the window was there when it was guarded, and its contents
  *     uffd fault PAGE THREAD       a fault in the window was read
- *     uffd place PAGE INDEX        contents were put in place
+ *     uffd place PAGE INDEX        contents were put in place; a huge page is told as the pages of 4 KiB that it has
  *     uffd zero PAGE               zeros were put in place
  *     uffd refused PAGE ERRNO      they were not
  *     uffd early PAGE              a page was opened too early
@@ -165,22 +165,29 @@ static int place_too_early(int fd, struct uffdio_copy *copy, long page)
     return 0;
 }
 
-/* Makes a placement of one page, tells it, and wakes who waits. `contents` is NULL for zeros. */
-static int place(int fd, unsigned long request, void *what, struct uffdio_range range, const void *contents)
+/* Tells what became of the placement of a page of 4 KiB, where it is one of the window. */
+static void tell_placement(long page, int answer, int error, const void *contents)
+{
+    if (page < 0)
+        return;
+    if (answer)
+        dprintf(pipe_end, "uffd refused %ld %d\n", page, error);
+    else if (contents)
+        dprintf(pipe_end, "uffd place %ld %ld\n", page, store(contents));
+    else
+        dprintf(pipe_end, "uffd zero %ld\n", page);
+}
+
+/* Makes a placement of one page, which may be a huge one, tells it, and wakes who waits. `contents` is NULL for zeros. */
+static int place(int fd, unsigned long request, void *what, struct uffdio_range range, const char *contents)
 {
     long page = page_at(range.start);
-    if (early > 0 && page >= 0 && contents && is_waited_for[page] && --early == 0)
+    if (early > 0 && page >= 0 && contents && range.len == PAGE && is_waited_for[page] && --early == 0)
         return place_too_early(fd, what, page);
     pthread_mutex_lock(&lock);
     int answer = real_ioctl(fd, request, what), error = errno;
-    if (page >= 0) {
-        if (answer)
-            dprintf(pipe_end, "uffd refused %ld %d\n", page, error);
-        else if (contents)
-            dprintf(pipe_end, "uffd place %ld %ld\n", page, store(contents));
-        else
-            dprintf(pipe_end, "uffd zero %ld\n", page);
-    }
+    for (uint64_t at = 0; at < range.len; at += PAGE)
+        tell_placement(page_at(range.start + at), answer, error, contents ? contents + at : NULL);
     pthread_mutex_unlock(&lock);
     if (answer == 0)
         real_ioctl(fd, UFFDIO_WAKE, &range);
@@ -203,7 +210,7 @@ int ioctl(int fd, unsigned long request, ...)
     if (request == UFFDIO_COPY) {
         struct uffdio_copy *copy = what;
         copy->mode |= UFFDIO_COPY_MODE_DONTWAKE;
-        return place(fd, request, copy, (struct uffdio_range){copy->dst, copy->len}, (void *)copy->src);
+        return place(fd, request, copy, (struct uffdio_range){copy->dst, copy->len}, (const char *)copy->src);
     }
     if (request == UFFDIO_ZEROPAGE) {
         struct uffdio_zeropage *zero = what;

@@ -26,9 +26,9 @@ import socket
 import threading
 
 import stream
+from dialect import PC_RAM
 from faults import fault_of
 
-PC_RAM = "pc.ram"
 LONGEST_LOSS = 0.5  # seconds from the first page that is lost to the cut
 LONGEST_SILENCE = 0.3  # seconds in which a connection of multifd begins
 

@@ -167,13 +167,13 @@ def section(tap, blocks):
         head = tap.number("Q")
         flags, offset = head & 0xFFF, head & ~0xFFF
         if flags & MEM_SIZE:
-            while offset > 0:
-                tap.name()
-                offset -= tap.number("Q")
+            lengths(tap, offset)
             yield Item(tap.end())
         elif flags & (ZERO | PAGE):
             if not flags & CONTINUE:
                 blocks[0] = tap.name()
+            if not blocks[0]:
+                raise Strange(f"a page of no block, with flags {flags:#x}")
             length = len(tap.raw)
             contents = tap.take(PAGE_BYTES if flags & PAGE else 1)
             raw = tap.end()
@@ -185,6 +185,18 @@ def section(tap, blocks):
             return
         else:
             raise Strange(f"a page with flags {flags:#x}")
+
+
+def lengths(tap, total):
+    """The blocks and their lengths. One of huge pages has the length of these behind its own, in 64 bits, and nothing says so; it begins
+    with 0, as no name's length does."""
+    while total > 0:
+        name = tap.number("B")
+        if name == 0:
+            tap.take(7)
+            continue
+        tap.take(name)
+        total -= tap.number("Q")
 
 
 def command(tap):
