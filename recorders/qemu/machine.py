@@ -111,6 +111,13 @@ class Machine:
                 return status
             time.sleep(0.02)
 
+    def wait_for_end(self, seconds):
+        """Waits for the process to end."""
+        try:
+            self.process.wait(seconds)
+        except subprocess.TimeoutExpired:
+            pass
+
     def last_error(self):
         with open(self.errors) as file:
             lines = file.read().splitlines()

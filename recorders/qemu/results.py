@@ -10,6 +10,7 @@ from dataclasses import dataclass
 ENDS = (
     ("source waits for itself", "Cannot resume if there is no paused migration"),
     ("target ended while it loaded", "target ENDED.*(load of migration failed|loadvm failed)"),
+    ("target failed while it loaded", "no recovery: source [a-z-]+, target failed$"),
     ("target hangs", "target HANGS"),
     ("source hangs", "source HANGS"),
     ("target failed by itself", "the target went to"),

@@ -10,6 +10,8 @@ from machine import DEAD, Machine
 from qmp import Gone, Refused
 from relay import CutPlan, Relay, Window
 
+SECONDS_TO_END = 2  # in which a target whose load failed ends, if it does
+
 
 @dataclass
 class Outcome:
@@ -223,6 +225,8 @@ class Migration:
                 self.target("stop")
         except (Gone, Refused) as fault:
             self.remark(f"target: {fault}")
+        if outcome.target in ("failed", "ended"):
+            self.target.wait_for_end(SECONDS_TO_END)
         outcome.target = self.end_of(self.target, outcome.target)
         try:
             outcome.requests = self.source("query-migrate").get("ram", {}).get("postcopy-requests", 0)
