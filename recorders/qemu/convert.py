@@ -2,6 +2,7 @@
 from dataclasses import dataclass
 
 from contents import Contents
+from dialect import RUNS, STOPS
 from kinds import plan_from_text
 from pipe import Access, Pipe, text_of
 from postcopy.records import SMALL
@@ -11,9 +12,6 @@ from stream import PAGE_BYTES
 from source_side import SourceSide
 from target_side import TargetSide
 from wire import Wire
-
-
-HALT, START = b"vm_state_notify running 0 ", b"vm_state_notify running 1 "
 
 
 @dataclass(frozen=True)
@@ -78,25 +76,24 @@ class Recording:
     def restart(self):
         """The Restart, or None where the source did not start its guest again."""
         told = text_of(self.read("source.raw"))
-        halt = told.find(HALT)
-        if not self.wire.has_state or halt < 0 or told.find(START, halt) < 0:
+        halt = told.find(STOPS)
+        if not self.wire.has_state or halt < 0 or told.find(RUNS, halt) < 0:
             return None
-        pipe, in_flight, since = Pipe(), None, []
-        is_again = False
+        pipe, in_flight, is_again, since = Pipe(), None, False, []
         for token in pipe.tokens(self.read("source.raw")):
             if isinstance(token, str):
-                if HALT.decode() in token and in_flight is None:
+                if STOPS in token and in_flight is None:
                     in_flight = pipe.in_flight()
-                is_again = is_again or in_flight is not None and START.decode() in token
+                is_again = is_again or in_flight is not None and RUNS in token
             elif is_again and isinstance(token, Access):
                 since.append(token)
         there = []
         try:
-            there += (token for token in Pipe(in_flight).tokens(self.read("target.raw")) if isinstance(token, Access))
+            there.extend(token for token in Pipe(in_flight).tokens(self.read("target.raw")) if isinstance(token, Access))
         except Hole:
             pass  # a guest that lost its stack: what it told before is counted
         same = next((place for place, (one, other) in enumerate(zip(since, there)) if one != other), min(len(since), len(there)))
-        return Restart(START in text_of(self.read("target.raw")), len(since), len(there), same)
+        return Restart(RUNS in text_of(self.read("target.raw")), len(since), len(there), same)
 
     def links(self, session):
         """The logs of the link and of the lane, in the relay's order."""

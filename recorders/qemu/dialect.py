@@ -26,6 +26,7 @@ IN_POSTCOPY = ("postcopy-active", "postcopy-recover", "postcopy-recover-setup", 
                "postcopy-device")  # 11.1: the target loads the package
 IN_PRECOPY = ("active", "device",
               "failing")  # 11.1
+STOPS, RUNS = "vm_state_notify running 0 ", "vm_state_notify running 1 "  # what the lines of a guest's halt and start begin with
 LIBRARY = "uffd"  # what the lines of the preloaded library begin with
 
 
@@ -46,8 +47,8 @@ class Form:
 
 
 SOURCE = (
-    Form("halt", r"vm_state_notify running 0 "),
-    Form("start again", r"vm_state_notify running 1 "),
+    Form("halt", STOPS),
+    Form("start again", RUNS),
     Form("page", r"ram_save_page (?P<block>.*): offset: (?P<offset>\w+) host: "),
     Form("ask", r"migrate_handle_rp_req_pages "),
     Form("shut", r"source_return_path_thread_shut"),
@@ -58,7 +59,7 @@ TARGET = (
     Form("state", r"loadvm_handle_cmd_packaged_received "),
     Form("ready", r"postcopy_ram_enable_notify", before=(7, 0)),
     Form("ready", r"loadvm_postcopy_handle_listen after uffd", since=(7, 0)),
-    Form("resume", r"vm_state_notify running 1 "),
+    Form("resume", RUNS),
     Form("taken", r"ram_load_postcopy_loop @(?P<offset>\w+) (?P<flags>\w+)$", before=(7, 1)),
     Form("taken", r"ram_load_postcopy_loop chan=(?P<channel>\d+) addr=(?P<offset>\w+) flags=(?P<flags>\w+)", since=(7, 1)),
     Form("message", r"migrate_send_rp_message (?P<kind>\d+): "),

@@ -39,7 +39,7 @@ def number(data):
 
 def text_of(data):
     """The lines of a pipe, without what the guest told."""
-    return data.translate(None, GUESTS)
+    return data.translate(None, GUESTS).decode()
 
 
 @dataclass(frozen=True)
