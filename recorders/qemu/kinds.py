@@ -23,6 +23,7 @@ class Plan:
     warm: int = 2000          # before the migration starts
     pre_pages: int = 0        # the switch waits until pre-copy has sent so many pages of the window,
     pre: float = 0.5          # and then so many seconds
+    left: int = -1            # or until no more than so many bytes are left to send; -1: whatever is left
     after: int = 3000         # at the target, behind the end
     preempt: bool = False
     multifd: int = 0          # connections of their own for the pages of pre-copy, which the relay does not read
@@ -56,6 +57,8 @@ KINDS = {
              {"pages": 8192, "words": 1, "ram": 64, "bandwidth": 20_000_000, "post_bandwidth": 8_000_000}),
     "paused": ("the guest is stopped before, and started behind the migration",
                {"pages": 512, "paused": True, "post_bandwidth": 1_000_000}),
+    "nothing-left": ("the guest is stopped before, and the switch waits until pre-copy has nothing left to send",
+                     {"pages": 64, "paused": True, "pre": 0.0, "left": 0}),
     "processors": ("four virtual processors", {"pages": 512, "cpus": 4}),
     "preempt": ("pages that are asked for have a connection of their own: the lane",
                 {"pages": 1024, "preempt": True, "post_bandwidth": 1_000_000}),

@@ -145,6 +145,8 @@ class Migration:
         if status != "active":
             raise Gone(f"pre-copy: {status}")
         time.sleep(self.plan.pre)
+        while 0 <= self.plan.left < self.source("query-migrate").get("ram", {}).get("remaining", 0) and time.monotonic() < until:
+            pass  # the moment is short: pre-copy comes to its end at its next look
 
     def follow(self):
         """Waits for the end, and has the migration go on where a connection is cut."""
