@@ -30,6 +30,7 @@ class Result:
     is_put_in: bool = False  # whether the plan's fault was put in
     restart: str = ""        # what is told where the source started its guest again
     version: str = ""        # of QEMU, or of both
+    is_cut_missed: bool = False  # whether it came to its end before a cut that was planned
 
     @property
     def ran(self):
@@ -51,6 +52,8 @@ class Result:
             return f"`{self.verdict.split()[-1]}`"
         if self.verdict.startswith("not judged"):
             return next((name for name, words in UNJUDGED if words in self.verdict), "not judged")
+        if self.is_cut_missed:
+            return "cut not reached"
         return "clean" if self.is_clean else self.end if self.verdict == "clean, yes" else self.reason
 
     @property
@@ -97,7 +100,8 @@ def result_of(plan, folder, done):
         return Result(plan, f"not judged: the recorder ended with {said}", "")
     outcome, made = json.loads(read(f"{folder}/outcome.json")), json.loads(read(f"{folder}/plan.json"))
     version = " to ".join(dict.fromkeys([made["source_version"], made["target_version"]]))
-    return Result(plan, verdict, outcome_in_words(outcome), was_put_in(folder), read(f"{folder}/restart").strip(), version)
+    is_cut_missed = any("cut not reached" in remark for remark in outcome["remarks"])
+    return Result(plan, verdict, outcome_in_words(outcome), was_put_in(folder), read(f"{folder}/restart").strip(), version, is_cut_missed)
 
 
 def was_put_in(folder):

@@ -166,7 +166,8 @@ WRONG_FILES = (
 )
 WRONG_SIDES = (
     ("pages of zeros", "live", {"source_side": ZerosLate}, "knot"),
-    ("the access that the halt came into", "10.0-live", {"target_side": FirstAsAnyOther}, "faulty early"),
+    ("the read that the halt came into", "10.0-live", {"target_side": FirstAsAnyOther}, "faulty early"),
+    ("the write that the halt came into", "11.1-both-ran", {"target_side": FirstAsAnyOther}, "faulty early"),
     ("a request that is made a second time", "recovery", {"target_side": SecondRequestJoins}, "shape named"),
 )
 HOLES = (
@@ -331,8 +332,8 @@ def of_restarts(tests):
     """Where the source started its guest again, how many accesses each side tells since."""
     found = {name: convert.Recording(files_of(name).__getitem__).restart() for name, _, _ in kept()}
     tests.wants("of the kept recordings", {name: one for name, one in found.items() if one},
-                {"10.0-both-ran": convert.Restart(True, 3835, 3, 3)})
-    files = files_of("10.0-both-ran")
+                {"11.1-both-ran": convert.Restart(True, 621, 9, 9)})
+    files = files_of("11.1-both-ran")
     returned = convert.Recording({**files, "target.raw": files["target.raw"].replace(b"vm_state_notify running 1", b"vm_state_notify running 2")}.__getitem__)
     tests.wants("where the target never ran", returned.restart().name, "returned")
     with tempfile.TemporaryDirectory() as room:
@@ -341,8 +342,8 @@ def of_restarts(tests):
                 out.write(data)
         verdict = judge.judge(room, is_whole=False)
         tests.wants("beside the verdict", (verdict.line, verdict.is_clean, verdict.restart.line()), (
-            "clean, yes", False, "both ran: the source started its guest again; it told 3835 accesses since, and the guest at the target 3; "
-            "the first 3 of both are the same"))
+            "clean, yes", False, "both ran: the source started its guest again; it told 621 accesses since, and the guest at the target 9; "
+            "the first 9 of both are the same"))
         with open(f"{room}/restart", encoding="ascii") as file:
             tests.wants("it is left in the folder", file.read(), verdict.restart.line() + "\n")
 

@@ -165,6 +165,8 @@ def of_the_forwarder(tests, room):
 def of_the_table(tests):
     compare = command("compare")
     plan = plan_of("live")
+    missed = Result(plan, "clean, yes", "completed", is_cut_missed=True)
+    tests.wants("one that a cut was planned for, and not reached", (missed.in_a_word, missed.is_clean), ("cut not reached", True))
     results = [Result(plan, "clean, yes", "completed"), Result(plan, "clean, yes", "completed", restart="both ran: ..", version="10.0.13"),
                Result(plan, "clean, yes", "source failed, target HANGS", restart="returned: .."),
                Result(plan, "faulty line 7 early", "completed"), Result(plan, "not judged: the guest's bytes c2 are no event", "ended"),
