@@ -13,6 +13,7 @@ import time
 import build
 import emulator
 import machine
+import plain
 import qmp
 import roots
 import run as migration
@@ -130,6 +131,9 @@ def of_one_that_hangs(tests, room):
     hanging.is_running = lambda: True
     tests.wants("where its migration stands", [hanging.migration(), hanging.wait_for(("completed",), 30)], ["hangs", "hangs"])
     tests.wants("it is waited for once", hanging.qmp.calls, 1)
+    side = plain.Side.__new__(plain.Side)
+    side.qmp, side.hangs = Silent(), False
+    tests.wants("one that is asked without the recorder", (side.stands(), side.stands(), side.qmp.calls), (("hangs", "hangs"), ("hangs", "hangs"), 1))
     one = migration.Migration.__new__(migration.Migration)
     one.outcome, one.say = migration.Outcome(), lambda line: None
     tests.wants("how it ended", (one.end_of(hanging, "hangs"), one.outcome.remarks), ("HANGS", ["target: it runs, and does not answer"]))
@@ -157,7 +161,14 @@ def of_the_forwarder(tests, room):
             until = time.monotonic() + 10
             while forwarder.lost < 4 and time.monotonic() < until:
                 time.sleep(0.01)
-            forwarder.cut()
+            with socket.socket(socket.AF_UNIX) as lane:
+                lane.connect(f"{room}/from")
+                other, _ = listener.accept()
+                other.sendall(b"of the lane")
+                tests.wants("a second connection", lane.recv(100), b"of the lane")
+                forwarder.cut()
+                tests.wants("it is cut too", lane.recv(100), b"")
+                other.close()
             tests.wants("what is lost is counted, and does not come", (forwarder.lost, target.recv(100)), (4, b""))
             target.close()
 
