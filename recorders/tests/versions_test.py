@@ -148,10 +148,13 @@ def of_the_forwarder(tests, room):
     with socket.socket(socket.AF_UNIX) as listener:
         listener.bind(f"{room}/to")
         listener.listen()
+        listener.settimeout(10)
         forwarder = both_sides.Forwarder(f"{room}/from", f"{room}/to")
         with socket.socket(socket.AF_UNIX) as source:
+            source.settimeout(10)
             source.connect(f"{room}/from")
             target, _ = listener.accept()
+            target.settimeout(10)
             source.sendall(b"down")
             tests.wants("handed on", target.recv(100), b"down")
             forwarder.loses_down = True
@@ -162,6 +165,7 @@ def of_the_forwarder(tests, room):
             while forwarder.lost < 4 and time.monotonic() < until:
                 time.sleep(0.01)
             with socket.socket(socket.AF_UNIX) as lane:
+                lane.settimeout(10)
                 lane.connect(f"{room}/from")
                 other, _ = listener.accept()
                 other.sendall(b"of the lane")
