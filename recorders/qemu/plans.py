@@ -11,7 +11,8 @@ CUT_BEHIND_PACKAGE = {"pages": 64, "warm": 200, "cuts": [-1]}
 COMPARED = {
     "live": ("none", "live", {"warm": 200, "after": 500}),
     "recovery": ("none, with a recovery", "recovery", {"pages": 256, "warm": 200, "after": 500, "cuts": [100]}),
-    "preempt-recovery": ("none, with preempt and a recovery", "preempt-recovery", {"pages": 256, "warm": 200, "after": 500, "cuts": [100]}),
+    "preempt-recovery": ("none, with preempt and a recovery", "preempt-recovery",
+                         {"pages": 256, "warm": 200, "after": 500, "cuts": [100]}),
     "multifd": ("none, with multifd", "multifd", {"pages": 256, "warm": 200, "after": 500}),
     "kvm": ("none, by KVM", "kvm", {}),
     "lost-write": ("64 pages without `--flush`: lost writes", "lost-write", {}),
