@@ -16,9 +16,9 @@ COMPARED = {
     "multifd": ("none, with multifd", "multifd", {"pages": 256, "warm": 200, "after": 500}),
     "kvm": ("none, by KVM", "kvm", {}),
     "lost-write": ("64 pages without `--flush`: lost writes", "lost-write", {}),
-    "cut-behind-last-page": ("a cut behind the last page", "recovery", {"pages": 64, "warm": 200, "cuts": [55]}),
-    "cut-behind-package": ("a cut behind the package", "recovery", CUT_BEHIND_PACKAGE),
-    "cut-behind-package-preempt": ("a cut behind the package, with preempt", "preempt", CUT_BEHIND_PACKAGE),
+    "cut-behind-last-page": ("a cut after the last page", "recovery", {"pages": 64, "warm": 200, "cuts": [55]}),
+    "cut-behind-package": ("a cut after the package", "recovery", CUT_BEHIND_PACKAGE),
+    "cut-behind-package-preempt": ("a cut after the package, with preempt", "preempt", CUT_BEHIND_PACKAGE),
     "failed-load": ("the same without preempt, and a QEMU that fails ends 0.1 s later", "recovery",
                     {"pages": 64, "cpus": 2, "writes": 15, "pace": 20000, "warm": 200, "pre_pages": 80, "cuts": [-1], "linger": 100}),
 }

@@ -9,6 +9,7 @@ from dataclasses import dataclass
 # What ends of a migration are called in the table; any other stands there in QEMU's words.
 ENDS = (
     ("source waits for itself", "Cannot resume if there is no paused migration"),
+    ("target aborted", "target ENDED.*Assertion .* failed"),
     ("target ended while it loaded", "target ENDED.*(load of migration failed|loadvm failed)"),
     ("target failed while it loaded", "no recovery: source [a-z-]+, target failed$"),
     ("target hangs", "target HANGS"),

@@ -60,6 +60,7 @@ def of_results(tests):
                          "if there is no paused migration"),
                         ("target ended while it loaded", "source postcopy-paused, target ENDED; target: qemu-system-x86_64: load of migration failed: "
                          "Input/output error"),
+                        ("target aborted", "source completed, target ENDED; target: qemu-system-x86_64: util/yank.c:107: Assertion `it' failed."),
                         ("target hangs", "source postcopy-paused, target HANGS; target: it runs, and does not answer"),
                         ("not at its end within its limit", "source postcopy-active, target postcopy-active; it took more than 30 s"),
                         ("something new, N times", "something new, 3 times")):
