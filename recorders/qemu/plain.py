@@ -53,9 +53,9 @@ class Side:
         self.qmp.close()
 
 
-def wait_until(is_so, pause=0.01):
+def wait_until(is_so, pause=0.01, seconds=SECONDS):
     """Waits until something is so, and answers what was found."""
-    until = time.monotonic() + SECONDS
+    until = time.monotonic() + seconds
     while not (found := is_so()) and time.monotonic() < until:
         time.sleep(pause)
     return found
