@@ -77,7 +77,12 @@ class Emulator:
         return machine
 
     def require(self, plan, library):
-        """Raises Missing where it cannot make a plan's migrations, in QEMU's own words."""
+        """Raises Missing where it cannot make a plan's migrations, in QEMU's own words where it has some."""
+        if plan.huge and (free := free_huge_pages()) < plan.ram:
+            raise Missing(f"{plan.ram} free pages of 2 MiB are needed, and there are {free}: left out. As root:\n"
+                          f"    sysctl vm.nr_hugepages={plan.ram}")
+        if plan.kvm and not os.access("/dev/kvm", os.R_OK | os.W_OK):
+            raise Missing("there is no /dev/kvm that this user may open: left out")
         names = plan.capabilities()
         asked = [{"execute": "qmp_capabilities"},
                  {"execute": "migrate-set-capabilities",
@@ -87,10 +92,6 @@ class Emulator:
         for line in done.stdout.splitlines():
             if refused := json.loads(line).get("error"):
                 raise Missing(f"{self} ({self.path}) cannot migrate with {', '.join(names)}: {refused['desc']}")
-        if said := self.ask("-version", LD_PRELOAD=os.path.abspath(library)).stderr.strip():
+        said = self.ask("-version", LD_PRELOAD=os.path.abspath(library)).stderr.strip()
+        if os.path.abspath(library) in said:
             raise Missing(f"{self} ({self.path}) does not take the preloaded library: {said[:300]}")
-        if plan.huge and (free := free_huge_pages()) < plan.ram:
-            raise Missing(f"{plan.ram} free pages of 2 MiB are needed, and there are {free}: left out. As root:\n"
-                          f"    sysctl vm.nr_hugepages={plan.ram}")
-        if plan.kvm and not os.access("/dev/kvm", os.R_OK | os.W_OK):
-            raise Missing("there is no /dev/kvm that this user may open: left out")

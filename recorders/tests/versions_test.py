@@ -32,6 +32,11 @@ def command(name):
     return module
 
 
+def read(path):
+    with open(path, encoding="utf-8") as file:
+        return file.read()
+
+
 def program(path, *lines):
     with open(path, "w", encoding="ascii") as out:
         print("#!/bin/sh", *lines, sep="\n", file=out)
@@ -64,6 +69,14 @@ def of_what_is_lacking(tests, room):
     refusing = Emulator(qemu_like(room, "5.2.1", needed, "Invalid parameter postcopy-preempt"))
     said = tests.refuses("a QEMU that refuses a capability", build.Missing, lambda: refusing.require(plan_of("preempt"), library))
     tests.wants("in its own words", said.endswith("cannot migrate with postcopy-ram, postcopy-blocktime, postcopy-preempt: Invalid parameter postcopy-preempt"), True)
+    said = tests.refuses("a library that cannot be preloaded", build.Missing, lambda: one.require(plan_of("live"), library))
+    tests.wants("that is told", "does not take the preloaded library" in said, True)
+    access, free, os.access, emulator.free_huge_pages = os.access, emulator.free_huge_pages, lambda path, mode: False, lambda: 31
+    for kind, words in (("kvm", "no /dev/kvm"), ("huge", "32 free pages of 2 MiB are needed, and there are 31")):
+        said = tests.refuses(f"a machine that has nothing for {kind}", build.Missing, lambda: one.require(plan_of(kind), library))
+        tests.wants("it is told as left out", words in said and "left out" in said, True)
+    os.access, emulator.free_huge_pages = access, free
+    tests.wants("what is asked of a QEMU", '"capability": "postcopy-ram", "state": true' in read(f"{room}/asked"), True)
     tests.wants("capabilities of multifd", plan_of("multifd").capabilities(), ["postcopy-ram", "postcopy-blocktime", "multifd"])
     tests.refuses("a QEMU that is not there", build.Missing, lambda: Emulator(f"{room}/nothing"))
     tests.refuses("a program that is no QEMU", build.Missing, lambda: Emulator(program(f"{room}/other", "echo hello")))
