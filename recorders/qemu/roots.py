@@ -3,6 +3,7 @@
 A root has what debootstrap resolves and downloads for QEMU, of which QEMU itself, its libraries and its data are unpacked.
 Nothing of it is installed or run but QEMU, and neither a chroot nor root's rights are needed.
 """
+import contextlib
 import glob
 import os
 import re
@@ -18,6 +19,7 @@ NAME = "qemu-system-x86_64"
 PACKAGE = "qemu-system-x86"
 LIBRARIES = "usr/lib/x86_64-linux-gnu"
 NEEDED = re.compile(rf"usr/(lib|lib64|share/(qemu|seabios|ipxe|vgabios))/.*|usr/bin/{NAME}")
+TRIES = 3  # to download
 SUITE = re.compile("[a-z][a-z0-9.-]*")
 
 
@@ -38,7 +40,17 @@ def require_tools():
 
 
 def download(suite, folder, mirror, say):
-    """Has debootstrap resolve what QEMU of a suite needs, and download it. Answers the packages' files."""
+    """Has debootstrap resolve what QEMU of a suite needs, and download it. Answers the packages' files.
+
+    It goes on with what a try before has downloaded, so a mirror that fails for a moment is tried again.
+    """
+    for _ in range(TRIES - 1):
+        with contextlib.suppress(Missing):
+            return try_download(suite, folder, mirror, say)
+    return try_download(suite, folder, mirror, say)
+
+
+def try_download(suite, folder, mirror, say):
     words = ["debootstrap", "--download-only", "--variant=minbase", f"--include={PACKAGE}", suite, folder, mirror]
     last, count = "debootstrap said nothing", 0
     with subprocess.Popen(words, stdout=subprocess.PIPE, stderr=subprocess.STDOUT, text=True, env=dict(os.environ, LC_ALL="C")) as process:

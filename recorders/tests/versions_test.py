@@ -117,6 +117,11 @@ def of_roots(tests, room):
     program(f"{room}/bin/debootstrap", "echo 'I: Retrieving qemu-system-x86 1'; echo 'E: no network' >&2; exit 1")
     said = tests.refuses("a root that cannot be made", build.Missing, lambda: roots.make("sid", "http://nowhere", lambda line: None))
     tests.wants("why, and nothing is left of it", ("no network" in said, os.listdir(f"{room}/cache/postcopy/qemu")), (True, ["trixie"]))
+    program(f"{room}/bin/debootstrap", f"echo >> {room}/tries", 'to=$5/var/cache/apt/archives', 'mkdir -p "$to"',
+            f'[ -e "$to/a.deb" ] || {{ cp {room}/package.deb "$to/a.deb"; echo "E: no network"; exit 1; }}')
+    made = roots.make("sid", "http://nowhere", lambda line: None)
+    tests.wants("what fails once is tried again, with what is there already", (roots.found("sid"), len(read(f"{room}/tries"))), (roots.qemu_of(made), 2))
+    tests.wants("the downloads are gone", sorted(os.listdir(f"{room}/cache/postcopy/qemu")), ["sid", "trixie"])
     tests.refuses("a name that is no release", build.Missing, lambda: roots.make("../up", "http://nowhere", lambda line: None))
     os.environ["PATH"] = before
     os.environ.pop("XDG_CACHE_HOME")
