@@ -6,7 +6,7 @@ import re
 import subprocess
 
 import dialect
-import roots
+import releases
 from build import Missing
 
 LONGEST = 60  # seconds for an answer
@@ -25,7 +25,7 @@ class Emulator:
     NAME = "qemu-system-x86_64"
 
     def __init__(self, name=NAME):
-        self.path = roots.found(name)
+        self.path = releases.found(name)
         told = self.ask("-version").stdout
         match = re.search(r"version (\d+\.\d+(\.\d+)?)", told)
         if not match:

@@ -15,7 +15,7 @@ import emulator
 import machine
 import plain
 import qmp
-import roots
+import releases
 import run as migration
 from emulator import Emulator
 from kinds import plan_of
@@ -102,27 +102,27 @@ def of_roots(tests, room):
             archive.addfile(member, io.BytesIO())
     root = f"{room}/cache/postcopy/qemu/trixie"
     os.makedirs(root)
-    roots.unpack(f"{room}/package.deb", root)
+    releases.unpack(f"{room}/package.deb", root)
     found = sorted(os.path.relpath(os.path.join(where, name), root) for where, _, names in os.walk(root) for name in names)
     tests.wants("what is unpacked", found, ["usr/lib/x86_64-linux-gnu/ld-2.31.so", "usr/lib/x86_64-linux-gnu/liba.so.1",
                                            "usr/lib64/ld-linux-x86-64.so.2", "usr/share/qemu/bios.bin"])
     tests.wants("no rights of others", stat.S_IMODE(os.stat(f"{root}/usr/lib/x86_64-linux-gnu/ld-2.31.so").st_mode), 0o755)
     tests.wants("a link stays within", os.path.samefile(f"{root}/usr/lib64/ld-linux-x86-64.so.2", f"{root}/usr/lib/x86_64-linux-gnu/ld-2.31.so"), True)
-    roots.write_start(root, root)
-    with open(roots.qemu_of(root), encoding="utf-8") as file:
+    releases.write_start(root, root)
+    with open(releases.qemu_of(root), encoding="utf-8") as file:
         tests.wants("QEMU is started by the root's loader", f"exec {root}/usr/lib/x86_64-linux-gnu/ld-2.31.so --library-path" in file.read(), True)
     kept, os.environ["XDG_CACHE_HOME"] = os.environ.get("XDG_CACHE_HOME"), f"{room}/cache"
-    tests.wants("a release is found by its name", roots.found("trixie"), roots.qemu_of(root))
-    tests.refuses("one without a root", build.Missing, lambda: roots.found("sid"))
+    tests.wants("a release is found by its name", releases.found("trixie"), releases.qemu_of(root))
+    tests.refuses("one without a root", build.Missing, lambda: releases.found("sid"))
     program(f"{room}/bin/debootstrap", "echo 'I: Retrieving qemu-system-x86 1'; echo 'E: no network' >&2; exit 1")
-    said = tests.refuses("a root that cannot be made", build.Missing, lambda: roots.make("sid", "http://nowhere", lambda line: None))
+    said = tests.refuses("a root that cannot be made", build.Missing, lambda: releases.make("sid", "http://nowhere", lambda line: None))
     tests.wants("why, and nothing is left of it", ("no network" in said, os.listdir(f"{room}/cache/postcopy/qemu")), (True, ["trixie"]))
     program(f"{room}/bin/debootstrap", f"echo >> {room}/tries", 'to=$5/var/cache/apt/archives', 'mkdir -p "$to"',
             f'[ -e "$to/a.deb" ] || {{ cp {room}/package.deb "$to/a.deb"; echo "E: no network"; exit 1; }}')
-    made = roots.make("sid", "http://nowhere", lambda line: None)
-    tests.wants("what fails once is tried again, with what is there already", (roots.found("sid"), len(read(f"{room}/tries"))), (roots.qemu_of(made), 2))
+    made = releases.make("sid", "http://nowhere", lambda line: None)
+    tests.wants("what fails once is tried again, with what is there already", (releases.found("sid"), len(read(f"{room}/tries"))), (releases.qemu_of(made), 2))
     tests.wants("the downloads are gone", sorted(os.listdir(f"{room}/cache/postcopy/qemu")), ["sid", "trixie"])
-    tests.refuses("a name that is no release", build.Missing, lambda: roots.make("../up", "http://nowhere", lambda line: None))
+    tests.refuses("a name that is no release", build.Missing, lambda: releases.make("../up", "http://nowhere", lambda line: None))
     os.environ["PATH"] = before
     os.environ.pop("XDG_CACHE_HOME")
     if kept is not None:
