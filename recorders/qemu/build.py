@@ -12,7 +12,7 @@ OUT = f"{HERE}/out"
 ROM_LENGTH = 65536
 PACKAGES = "qemu-system-x86 binutils libc6-dev gcc"
 USERFAULTFD = {"x86_64": 323, "aarch64": 282}  # the system call's number
-TOOLS = ("qemu-system-x86_64", "gcc", "ld", "objcopy")
+TOOLS = ("gcc", "ld", "objcopy")
 
 GUEST_FLAGS = ("-m32", "-O2", "-Wall", "-Wextra", "-ffreestanding", "-Wno-array-bounds", "-fno-pic", "-fno-pie",
                "-fno-stack-protector", "-mgeneral-regs-only", "-fno-asynchronous-unwind-tables", "-fcf-protection=none")

@@ -1,13 +1,37 @@
-"""A session of what was recorded of a migration."""
+"""A session of what was recorded of a migration; and whether the source started its guest again."""
+from dataclasses import dataclass
+
 from contents import Contents
+from dialect import RUNS, STOPS
 from kinds import plan_from_text
-from pipe import Pipe
+from pipe import Access, Pipe, text_of
 from postcopy.records import SMALL
 from records import Hole, Session
 from relay import Window
+from stream import PAGE_BYTES
 from source_side import SourceSide
 from target_side import TargetSide
 from wire import Wire
+
+
+@dataclass(frozen=True)
+class Restart:
+    """The source started its guest again behind the halt: the accesses that are told since, at each side, and how many of them
+    are the same from the first on. `is_both` says that the target had started the guest too."""
+    is_both: bool
+    at_source: int
+    at_target: int
+    same: int
+
+    @property
+    def name(self):
+        return "both ran" if self.is_both else "returned"
+
+    def line(self):
+        since = f"the source started its guest again; it told {self.at_source} accesses since"
+        if not self.is_both:
+            return f"returned: {since}, and the guest never ran at the target"
+        return f"both ran: {since}, and the guest at the target {self.at_target}; the first {self.same} of both are the same"
 
 
 class Recording:
@@ -27,15 +51,49 @@ class Recording:
         """The session. With `is_from_halt` it begins with the memory at the halt."""
         plan = self.plan
         session = Session(plan.pages, plan.words, plan.preempt)
+        if not self.wire.has_state and self.wire.strange:
+            raise Hole(f"the stream has what is not known here: {self.wire.strange}")
         if not self.wire.has_state:
             raise Hole("there was no post-copy: the state was never handed over in a package")
-        pipe = Pipe()
-        self.source_side(session, self.wire, self.contents, is_from_halt).read(pipe.tokens(self.read("source.raw")))
-        self.target_side(session, self.wire, self.contents, plan.base).read(pipe.tokens(self.read("target.raw")))
+        source = self.source_side(session, self.wire, self.contents, is_from_halt, plan.source_version, self.done_before)
+        source.read(Pipe(), self.read("source.raw"))
+        is_in_flight = source.in_flight.is_behind_touch(is_by_block=not plan.kvm)
+        target = self.target_side(session, self.wire, self.contents, plan.base, plan.target_version, is_in_flight, bool(source.last))
+        target.read(Pipe(source.in_flight), self.read("target.raw"))
         self.links(session)
         if len(session.logs["guest"]) > SMALL.records and not is_from_halt:
             return self.session(is_from_halt=True)
         return session
+
+    def done_before(self, in_flight):
+        """The access that the halt came into, where it was done before the halt."""
+        return in_flight.done(self.read("target.raw"), self.cell_at_halt)
+
+    def cell_at_halt(self, page, cell):
+        place = page * PAGE_BYTES + cell * 8
+        return int.from_bytes(self.read("halt.mem")[place:place + 8], "little")
+
+    def restart(self):
+        """The Restart, or None where the source did not start its guest again."""
+        told = text_of(self.read("source.raw"))
+        halt = told.find(STOPS)
+        if not self.wire.has_state or halt < 0 or told.find(RUNS, halt) < 0:
+            return None
+        pipe, in_flight, is_again, since = Pipe(), None, False, []
+        for token in pipe.tokens(self.read("source.raw")):
+            if isinstance(token, str):
+                if STOPS in token and in_flight is None:
+                    in_flight = pipe.in_flight()
+                is_again = is_again or in_flight is not None and RUNS in token
+            elif is_again and isinstance(token, Access):
+                since.append(token)
+        there = []
+        try:
+            there.extend(token for token in Pipe(in_flight).tokens(self.read("target.raw")) if isinstance(token, Access))
+        except Hole:
+            pass  # a guest that lost its stack: what it told before is counted
+        same = next((place for place, (one, other) in enumerate(zip(since, there)) if one != other), min(len(since), len(there)))
+        return Restart(RUNS in text_of(self.read("target.raw")), len(since), len(there), same)
 
     def links(self, session):
         """The logs of the link and of the lane, in the relay's order."""

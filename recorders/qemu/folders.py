@@ -14,7 +14,7 @@ import build
 MARK = ".postcopy-recording"
 ON_MARK = "This folder was made by recorders/qemu, which replaces its own files in it when it records into it again.\n"
 FILES = ("plan.json", "guest.bin", "outcome.json", "halt.mem", "relay.log", "relay.pages", "session", "report", "certificate",
-         "explained", "picture.svg", "verdict", "witness",
+         "explained", "picture.svg", "verdict", "restart", "witness",
          *(f"{machine}.{what}" for machine in ("source", "target") for what in ("raw", "pages", "errors", "command")))
 
 # A socket's path has at most 107 bytes. QEMU's options are cut at commas, and the name of its log at a percent sign.

@@ -28,10 +28,10 @@ def write(path, text):
 
 
 class Verdict:
-    """A verdict in a line, as `clean, yes` or `faulty line 7 read` or `not judged: ..`."""
+    """A verdict in a line, as `clean, yes` or `faulty line 7 read` or `not judged: ..`; and a Restart or None."""
 
-    def __init__(self, line, session=None, left_out=0):
-        self.line, self.session, self.left_out = line, session, left_out
+    def __init__(self, line, session=None, left_out=0, restart=None):
+        self.line, self.session, self.left_out, self.restart = line, session, left_out, restart
 
     @property
     def reason(self):
@@ -40,7 +40,7 @@ class Verdict:
 
     @property
     def is_clean(self):
-        return self.line == "clean, yes"
+        return self.line == "clean, yes" and not self.restart
 
 
 def session_of(folder, is_whole, is_from_halt):
@@ -59,9 +59,19 @@ def judge(folder, is_whole=True, is_from_halt=False):
         verdict = Verdict(f"not judged: {fault}")
     else:
         verdict = Verdict(verdict_line(folder), session, left_out)
+    verdict.restart = restart_of(folder)
+    if verdict.restart:
+        write(f"{folder}/restart", verdict.restart.line() + "\n")
     write(f"{folder}/verdict", verdict.line + "\n")
     write(f"{folder}/witness", witness(folder))
     return verdict
+
+
+def restart_of(folder):
+    try:
+        return recording_in(folder).restart()
+    except (Hole, OSError):
+        return None  # which the verdict tells of
 
 
 def verdict_line(folder):

@@ -2,6 +2,8 @@
 import json
 from dataclasses import asdict, dataclass, field, replace
 
+from dialect import KEPT
+
 BASE = 0x400000
 
 
@@ -21,8 +23,12 @@ class Plan:
     warm: int = 2000          # before the migration starts
     pre_pages: int = 0        # the switch waits until pre-copy has sent so many pages of the window,
     pre: float = 0.5          # and then so many seconds
+    left: int = -1            # or until no more than so many bytes are left to send; -1: whatever is left
     after: int = 3000         # at the target, behind the end
     preempt: bool = False
+    multifd: int = 0          # connections of their own for the pages of pre-copy, which the relay does not read
+    kvm: bool = False         # the guest runs on the processor, and not on an emulated one
+    huge: bool = False        # the guest's memory is of pages of 2 MiB
     paused: bool = False      # the guest is stopped first, and goes on at the target behind the end
     cuts: list = field(default_factory=list)  # the connection is cut behind so many pages; -1: behind the package
     fault: str = ""
@@ -30,6 +36,12 @@ class Plan:
     linger: int = 0           # milliseconds by which a QEMU that ends with an error ends later
     limit: float = 40.0       # seconds for each part of the migration
     base: int = BASE
+    source_version: str = KEPT  # of QEMU; written by who makes the migration
+    target_version: str = KEPT
+
+    def capabilities(self):
+        """What both QEMUs are asked to be capable of."""
+        return ["postcopy-ram", "postcopy-blocktime", *["postcopy-preempt"] * self.preempt, *["multifd"] * bool(self.multifd)]
 
     def to_text(self):
         return json.dumps(asdict(self), indent=1)
@@ -45,6 +57,8 @@ KINDS = {
              {"pages": 8192, "words": 1, "ram": 64, "bandwidth": 20_000_000, "post_bandwidth": 8_000_000}),
     "paused": ("the guest is stopped before, and started behind the migration",
                {"pages": 512, "paused": True, "post_bandwidth": 1_000_000}),
+    "nothing-left": ("the guest is stopped before, and the switch waits until pre-copy has nothing left to send",
+                     {"pages": 64, "paused": True, "pre": 0.0, "left": 0}),
     "processors": ("four virtual processors", {"pages": 512, "cpus": 4}),
     "preempt": ("pages that are asked for have a connection of their own: the lane",
                 {"pages": 1024, "preempt": True, "post_bandwidth": 1_000_000}),
@@ -52,7 +66,12 @@ KINDS = {
                  {"pages": 512, "post_bandwidth": 1_000_000, "cuts": [200]}),
     "preempt-recovery": ("both connections are cut, and the migration goes on over two others",
                          {"pages": 512, "preempt": True, "post_bandwidth": 1_000_000, "cuts": [200]}),
-    "lost-write": ("64 pages, which fit the emulator's TLB: QEMU 7.2 loses writes here",
+    "kvm": ("the guest runs on the processor, where /dev/kvm is",
+            {"pages": 64, "kvm": True, "warm": 50, "after": 100, "bandwidth": 200_000, "post_bandwidth": 200_000}),
+    "multifd": ("pre-copy goes over two more connections", {"pages": 1024, "multifd": 2, "post_bandwidth": 1_000_000}),
+    "huge": ("the guest's memory is of pages of 2 MiB, where there are free ones",
+             {"pages": 1024, "huge": True, "post_bandwidth": 4_000_000}),
+    "lost-write": ("64 pages, which fit the emulator's TLB: QEMU 5.2 and 7.2 lose writes here",
                    {"pages": 64, "words": 8, "flush": False, "pre_pages": 72, "pre": 0.0, "post_bandwidth": 300_000}),
 }
 

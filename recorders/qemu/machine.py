@@ -5,18 +5,11 @@ import subprocess
 import threading
 import time
 
-from qmp import Gone, Qmp, Refused
+from dialect import PC_RAM
+from qmp import Gone, Hangs, Qmp, Refused
 
+DEAD = ("ended", "hangs")  # what `migration` says of a QEMU that does not say it itself
 EVENT_BYTES = 27  # of an access
-SOURCE_TRACE = ("runstate_set", "vm_state_notify", "ram_save_page", "migrate_handle_rp_req_pages",
-                "source_return_path_thread_shut", "postcopy_start", "migrate_set_state", "postcopy_pause_return_path", "postcopy_pause_return_path_continued",
-                "migration_completion_postcopy_end_after_complete", "migration_return_path_end_before",
-                "await_return_path_close_on_source_joining")
-TARGET_TRACE = ("runstate_set", "vm_state_notify", "loadvm_handle_cmd_packaged", "loadvm_handle_cmd_packaged_received",
-                "loadvm_postcopy_handle_listen", "loadvm_postcopy_handle_run_bh", "ram_load_postcopy_loop",
-                "migrate_send_rp_message", "postcopy_place_page", "postcopy_place_page_zero", "migrate_set_state",
-                "postcopy_pause_incoming_continued", "postcopy_pause_fast_load_continued",
-                "postcopy_ram_fault_thread_request", "postcopy_ram_fault_thread_quit")
 
 
 class PipeReader:
@@ -50,9 +43,10 @@ class PipeReader:
 
 class Machine:
     """QEMU stands in `folder`, and finds there what it reads and writes. Its sockets, its pipe and a link to the library that it
-    preloads are in `room`. So whatever the name of the folder has in it, no option of QEMU does."""
+    preloads are in `room`. So whatever the name of the folder has in it, no option of QEMU does. `machine` is the type of the machine,
+    and `trace` the events that it traces."""
 
-    def __init__(self, name, folder, room, plan, library, trace, extra=()):
+    def __init__(self, name, folder, room, plan, library, path, machine="pc", trace=(), extra=()):
         self.name, self.folder = name, folder
         self.pipe, self.socket, preloaded = room.name(f"{name}.pipe"), room.name(f"{name}.qmp"), room.name(f"{name}.so")
         os.mkfifo(self.pipe, 0o600)
@@ -64,9 +58,11 @@ class Machine:
             RECORD_RAM=str(plan.ram << 20), RECORD_BASE=str(plan.base), RECORD_PAGES=str(plan.pages),
             RECORD_LINGER=str(plan.linger),
             RECORD_EARLY=str(plan.skip + 1 if plan.fault == "early" and name == "target" else 0))
+        memory = ["-object", f"memory-backend-memfd,id={PC_RAM},size={plan.ram}M,hugetlb=on,hugetlbsize=2M",
+                  "-machine", f"memory-backend={PC_RAM}"] if plan.huge else []
         command = [
-            "qemu-system-x86_64", "-name", name, "-machine", "pc,accel=tcg", "-m", f"{plan.ram}M", "-smp", str(plan.cpus),
-            "-nodefaults", "-no-user-config", "-display", "none", "-bios", "./guest.bin",
+            path, "-name", name, "-machine", f"{machine},accel={'kvm' if plan.kvm else 'tcg'}", "-m", f"{plan.ram}M", "-smp", str(plan.cpus),
+            *memory, "-nodefaults", "-no-user-config", "-display", "none", "-bios", "./guest.bin",
             "-chardev", f"file,id=told,path={self.pipe}", "-device", "isa-debugcon,iobase=0xe9,chardev=told",
             "-qmp", f"unix:{self.socket},server=on,wait=off", "-D", self.pipe,
             *(word for event in trace for word in ("-trace", event)), *extra]
@@ -74,15 +70,22 @@ class Machine:
             print(*command, file=out)
         with open(self.errors, "w") as errors:
             self.process = subprocess.Popen(command, cwd=folder, env=environment, stderr=errors, stdin=subprocess.DEVNULL)
-        self.qmp = None
+        self.qmp, self.lock, self.hangs = None, threading.Lock(), False
 
     def is_running(self):
         return self.process.poll() is None
 
     def __call__(self, command, **arguments):
-        if not self.qmp:
-            self.qmp = Qmp(self.socket, self.is_running)
-        return self.qmp(command, **arguments)
+        with self.lock:  # the relay asks too
+            if self.hangs:
+                raise Hangs("it does not answer")
+            if not self.qmp:
+                self.qmp = Qmp(self.socket, self.is_running)
+            try:
+                return self.qmp(command, **arguments)
+            except Hangs:
+                self.hangs = True
+                raise
 
     def wait_for_accesses(self, count, seconds):
         """Waits until the guest has told so many accesses more. Answers whether it did."""
@@ -92,9 +95,11 @@ class Machine:
         return self.reader.length >= wanted
 
     def migration(self):
-        """Where the migration stands, or `ended` where QEMU did."""
+        """Where the migration stands, or one of DEAD."""
         try:
             return self("query-migrate").get("status", "none")
+        except Hangs:
+            return "hangs"
         except Gone:
             return "ended"
 
@@ -102,9 +107,16 @@ class Machine:
         until = time.monotonic() + seconds
         while True:
             status = self.migration()
-            if status in wanted or status == "ended" or time.monotonic() > until:
+            if status in wanted or status in DEAD or time.monotonic() > until:
                 return status
             time.sleep(0.02)
+
+    def wait_for_end(self, seconds):
+        """Waits for the process to end."""
+        try:
+            self.process.wait(seconds)
+        except subprocess.TimeoutExpired:
+            pass
 
     def last_error(self):
         with open(self.errors) as file:

@@ -1,4 +1,7 @@
-"""One migration of a campaign: a plan comes in as JSON, and what became of it is left in a folder."""
+"""One migration of a campaign: a plan comes in as JSON, and what became of it is left in a folder.
+
+    one.py FOLDER SOURCE TARGET     the QEMUs of both sides
+"""
 import os
 import sys
 
@@ -6,12 +9,14 @@ HERE = os.path.dirname(os.path.realpath(__file__))
 sys.path[:0] = [HERE, f"{HERE}/..", f"{HERE}/../../python"]
 import judge  # noqa: E402
 from kinds import plan_from_text  # noqa: E402
+from emulator import Emulator  # noqa: E402
 from run import Migration  # noqa: E402
 
 
 def main():
-    folder = sys.argv[1]
-    outcome = Migration(plan_from_text(sys.stdin.read()), folder, lambda line: None).run()
+    folder, *names = sys.argv[1:]
+    emulators = {name: Emulator(name) for name in names}
+    outcome = Migration(plan_from_text(sys.stdin.read()), folder, lambda line: None, [emulators[name] for name in names]).run()
     judge.judge(folder, outcome.is_whole)
 
 

@@ -10,7 +10,12 @@ from records import Hole
 GUEST = re.compile(rb"\xc0(?P<actor>[\x80-\xbf])|\xc1(?P<look>[\x80-\xbf]{3})|\xc2(?P<read>[\x80-\xbf]{16})"
                    rb"|\xc3(?P<write>[\x80-\xbf]{16})\xc4", re.S)
 PARTS = re.compile(rb"[\x80-\xff]+|[\x00-\x7f]+")
+GUESTS = bytes(range(0x80, 0x100))  # the bytes that are the guest's
 CELL = (1 << 64) - 1
+READ, WRITE = 0xc2, 0xc3
+READ_HEAD = 6     # bytes of a read in front of its value
+WRITE_WHOLE = 17  # bytes of a write in front of its last one
+LOOKS = 2         # of the guest, in front of each access
 
 
 @dataclass(frozen=True)
@@ -32,11 +37,48 @@ def number(data):
     return sum((byte & 63) << 6 * place for place, byte in enumerate(data))
 
 
+def text_of(data):
+    """The lines of a pipe, without what the guest told."""
+    return data.translate(None, GUESTS).decode()
+
+
+@dataclass(frozen=True)
+class InFlight:
+    """What the guest has told of the access that it is at: the bytes of an event that it has begun, and looks before it."""
+    begun: bytes = b""
+    actor: int = 0
+    looks: int = 0
+
+    def is_behind_touch(self, is_by_block):
+        """Whether the guest may have touched the page of its access already, so that no later look of it waits for the page.
+
+        The touch stands between the first look and the second; `is_by_block` says that a processor stops between an `out` and
+        what follows it, and nowhere else.
+        """
+        return self.looks == LOOKS or self.looks == 1 and (bool(self.begun) or not is_by_block)
+
+    def done(self, rest, memory_at):
+        """The access where it was done already, or None. `rest` is what is told behind, `memory_at(page, cell)` the memory now.
+
+        A read was done where a byte of its value is told; the others come behind. A write was done where it was told but for its
+        last byte, and the memory has its value.
+        """
+        if len(self.begun) == WRITE_WHOLE and self.begun[0] == WRITE:
+            page, cell, value = number(self.begun[1:4]), number(self.begun[4:6]), number(self.begun[6:]) & CELL
+            return Access(self.actor, "write", page, cell, value) if memory_at(page, cell) == value else None
+        if len(self.begun) > READ_HEAD and self.begun[0] == READ:
+            return next((token for token in Pipe(self).tokens(rest) if isinstance(token, Access)), None)
+        return None
+
+
 class Pipe:
     """Reads tokens: Look, Access, or a line of text. What the guest had begun to tell goes on in the next pipe."""
 
-    def __init__(self):
-        self.begun, self.actor = bytearray(), 0
+    def __init__(self, in_flight=InFlight()):
+        self.begun, self.actor, self.looks = bytearray(in_flight.begun), in_flight.actor, in_flight.looks
+
+    def in_flight(self):
+        return InFlight(bytes(self.begun), self.actor, self.looks)
 
     def tokens(self, data):
         line = ""
@@ -61,8 +103,10 @@ class Pipe:
             if what == "actor":
                 self.actor = number(data)
             elif what == "look":
+                self.looks += 1
                 yield Look(self.actor, number(data))
             else:
+                self.looks = 0
                 yield Access(self.actor, what, number(data[:3]), number(data[3:5]), number(data[5:]) & CELL)
         del self.begun[:end]
         if len(self.begun) > 64:

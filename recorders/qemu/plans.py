@@ -1,9 +1,32 @@
-"""Plans of migrations, drawn at random."""
+"""Plans of migrations: drawn at random, and those by which versions are compared."""
 from faults import KINDS as FAULTS
 from faults import NEED_CUT
 from kinds import plan_of
 
 DRAWN = ("live", "left", "cells", "wide", "paused", "processors", "preempt", "recovery", "preempt-recovery")
+
+CUT_BEHIND_PACKAGE = {"pages": 64, "warm": 200, "cuts": [-1]}
+
+# What is done, the kind, and what differs in its plan.
+COMPARED = {
+    "live": ("none", "live", {"warm": 200, "after": 500}),
+    "recovery": ("none, with a recovery", "recovery", {"pages": 256, "warm": 200, "after": 500, "cuts": [100]}),
+    "preempt-recovery": ("none, with preempt and a recovery", "preempt-recovery",
+                         {"pages": 256, "warm": 200, "after": 500, "cuts": [100]}),
+    "multifd": ("none, with multifd", "multifd", {"pages": 256, "warm": 200, "after": 500}),
+    "kvm": ("none, by KVM", "kvm", {}),
+    "lost-write": ("64 pages without `--flush`: lost writes", "lost-write", {}),
+    "cut-behind-last-page": ("a cut after the last page", "recovery", {"pages": 64, "warm": 200, "cuts": [55]}),
+    "cut-behind-package": ("a cut after the package", "recovery", CUT_BEHIND_PACKAGE),
+    "cut-behind-package-preempt": ("a cut after the package, with preempt", "preempt", CUT_BEHIND_PACKAGE),
+    "failed-load": ("the same without preempt, and a QEMU that fails ends 0.1 s later", "recovery",
+                    {"pages": 64, "cpus": 2, "writes": 15, "pace": 20000, "warm": 200, "pre_pages": 80, "cuts": [-1], "linger": 100}),
+}
+
+
+def plan_compared(name):
+    _, kind, changes = COMPARED[name]
+    return plan_of(kind, **changes)
 
 
 def ram_for(plan):

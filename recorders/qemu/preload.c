@@ -10,13 +10,16 @@
  *     uffd guard START LENGTH      memory from START on is guarded
  *     uffd have PAGE INDEX         a page of the window was there when it was guarded, and its contents
  *     uffd fault PAGE THREAD       a fault in the window was read
- *     uffd place PAGE INDEX        contents were put in place
+ *     uffd place PAGE INDEX        contents were put in place; a huge page is told as the pages of 4 KiB that it has
  *     uffd zero PAGE               zeros were put in place
  *     uffd refused PAGE ERRNO      they were not
  *     uffd early PAGE              a page was opened too early
  *
  * A placement is made without a wake, then told, and then woken; and it is made and told under the lock that the guest's bytes
  * take. So a look of the guest that comes behind the placement in the pipe came behind it in fact, and one before, before.
+ *
+ * The library is built here and preloaded into QEMUs that bring their own C library, from 2.28 on: so it takes dlsym by the name
+ * that all of them have, and calls nothing that is newer.
  */
 #define _GNU_SOURCE
 #include <dlfcn.h>
@@ -34,6 +37,10 @@
 #include <sys/uio.h>
 #include <unistd.h>
 
+#if defined __x86_64__ && defined __GLIBC__
+__asm__(".symver dlsym, dlsym@GLIBC_2.2.5");
+#endif
+
 #define PAGE 4096UL
 #define DESCRIPTORS 1024
 #define MOST_PAGES 65536
@@ -42,7 +49,7 @@ enum use { UNKNOWN, GUEST, USERFAULT, OTHER };
 
 static pthread_mutex_t lock = PTHREAD_MUTEX_INITIALIZER;
 static int pipe_end = -1, contents_file = -1;
-static ino_t pipe_inode;
+static uint64_t pipe_inode;
 static uint64_t ram, base, pages;
 static uint64_t window; /* where the window is in this process, 0 before it is guarded */
 static long stored, early, linger;
@@ -56,13 +63,24 @@ static void (*real_exit)(int) __attribute__((noreturn));
 
 static uint64_t number(const char *name)
 {
-    const char *text = getenv(name);
-    return text ? strtoull(text, NULL, 0) : 0;
+    uint64_t value = 0;
+    for (const char *text = getenv(name); text && *text >= '0' && *text <= '9'; text++)
+        value = value * 10 + (uint64_t)(*text - '0');
+    return value;
+}
+
+/* Whether a descriptor is a pipe, and its inode. */
+static int is_pipe(int fd, uint64_t *inode)
+{
+    struct statx found;
+    if (statx(fd, "", AT_EMPTY_PATH, STATX_TYPE | STATX_INO, &found))
+        return 0;
+    *inode = found.stx_ino;
+    return S_ISFIFO(found.stx_mode);
 }
 
 __attribute__((constructor)) static void begin(void)
 {
-    struct stat found;
     real_ioctl = dlsym(RTLD_NEXT, "ioctl");
     real_read = dlsym(RTLD_NEXT, "read");
     real_writev = dlsym(RTLD_NEXT, "writev");
@@ -73,11 +91,10 @@ __attribute__((constructor)) static void begin(void)
         return;
     pipe_end = open(path, O_WRONLY | O_CLOEXEC);
     contents_file = open(contents, O_WRONLY | O_CREAT | O_TRUNC | O_CLOEXEC, 0666);
-    if (pipe_end < 0 || contents_file < 0 || fstat(pipe_end, &found)) {
+    if (pipe_end < 0 || contents_file < 0 || !is_pipe(pipe_end, &pipe_inode)) {
         perror("preload");
         exit(1);
     }
-    pipe_inode = found.st_ino;
     ram = number("RECORD_RAM");
     base = number("RECORD_BASE");
     pages = number("RECORD_PAGES") < MOST_PAGES ? number("RECORD_PAGES") : MOST_PAGES;
@@ -148,22 +165,29 @@ static int place_too_early(int fd, struct uffdio_copy *copy, long page)
     return 0;
 }
 
-/* Makes a placement of one page, tells it, and wakes who waits. `contents` is NULL for zeros. */
-static int place(int fd, unsigned long request, void *what, struct uffdio_range range, const void *contents)
+/* Tells what became of the placement of a page of 4 KiB, where it is one of the window. */
+static void tell_placement(long page, int answer, int error, const void *contents)
+{
+    if (page < 0)
+        return;
+    if (answer)
+        dprintf(pipe_end, "uffd refused %ld %d\n", page, error);
+    else if (contents)
+        dprintf(pipe_end, "uffd place %ld %ld\n", page, store(contents));
+    else
+        dprintf(pipe_end, "uffd zero %ld\n", page);
+}
+
+/* Makes a placement of one page, which may be a huge one, tells it, and wakes who waits. `contents` is NULL for zeros. */
+static int place(int fd, unsigned long request, void *what, struct uffdio_range range, const char *contents)
 {
     long page = page_at(range.start);
-    if (early > 0 && page >= 0 && contents && is_waited_for[page] && --early == 0)
+    if (early > 0 && page >= 0 && contents && range.len == PAGE && is_waited_for[page] && --early == 0)
         return place_too_early(fd, what, page);
     pthread_mutex_lock(&lock);
     int answer = real_ioctl(fd, request, what), error = errno;
-    if (page >= 0) {
-        if (answer)
-            dprintf(pipe_end, "uffd refused %ld %d\n", page, error);
-        else if (contents)
-            dprintf(pipe_end, "uffd place %ld %ld\n", page, store(contents));
-        else
-            dprintf(pipe_end, "uffd zero %ld\n", page);
-    }
+    for (uint64_t at = 0; at < range.len; at += PAGE)
+        tell_placement(page_at(range.start + at), answer, error, contents ? contents + at : NULL);
     pthread_mutex_unlock(&lock);
     if (answer == 0)
         real_ioctl(fd, UFFDIO_WAKE, &range);
@@ -186,7 +210,7 @@ int ioctl(int fd, unsigned long request, ...)
     if (request == UFFDIO_COPY) {
         struct uffdio_copy *copy = what;
         copy->mode |= UFFDIO_COPY_MODE_DONTWAKE;
-        return place(fd, request, copy, (struct uffdio_range){copy->dst, copy->len}, (void *)copy->src);
+        return place(fd, request, copy, (struct uffdio_range){copy->dst, copy->len}, (const char *)copy->src);
     }
     if (request == UFFDIO_ZEROPAGE) {
         struct uffdio_zeropage *zero = what;
@@ -219,9 +243,9 @@ ssize_t read(int fd, void *into, size_t length)
 /* Whether what is written there is the guest's: its port goes to the pipe. */
 static int is_guests(int fd)
 {
-    struct stat found;
+    uint64_t inode;
     if (is_known(fd, UNKNOWN))
-        use_of[fd] = fstat(fd, &found) == 0 && S_ISFIFO(found.st_mode) && found.st_ino == pipe_inode ? GUEST : OTHER;
+        use_of[fd] = is_pipe(fd, &inode) && inode == pipe_inode ? GUEST : OTHER;
     return is_known(fd, GUEST);
 }
 

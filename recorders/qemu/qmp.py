@@ -12,9 +12,14 @@ class Gone(Exception):
     """QEMU is not there any more."""
 
 
+class Hangs(Gone):
+    """QEMU is there, and does not answer."""
+
+
 class Qmp:
     def __init__(self, path, is_running, seconds=20):
         self.socket = socket.socket(socket.AF_UNIX)
+        self.seconds = seconds
         self.socket.settimeout(seconds)
         self.connect(path, is_running, time.monotonic() + seconds)
         self.file = self.socket.makefile("rw")
@@ -35,7 +40,7 @@ class Qmp:
         try:
             line = self.file.readline()
         except TimeoutError:
-            raise Gone("it does not answer") from None
+            raise Hangs(f"it has not answered for {self.seconds} s") from None
         except OSError as fault:
             raise Gone(str(fault)) from None
         if not line:

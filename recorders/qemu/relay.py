@@ -1,6 +1,7 @@
 """Stands between two QEMUs that migrate, forwards both directions, and writes down what it hands over.
 
-Each item is handed over whole, once it is written down, under one lock. A line of the log begins with what is told and with
+Each item is handed over whole, once it is written down, under one lock. `before_package` is called when the package came and before
+it goes on: the guest stands still then, and cannot run at the target yet. A line of the log begins with what is told and with
 the connection's number; connections count from 0 as they come:
 
     open C main|lane new|resumed
@@ -16,6 +17,8 @@ the connection's number; connections count from 0 as they come:
     up C message
     cut C
     fault KIND PAGE..           what was put in
+    multifd                     a connection of multifd is opened: it is handed on, and nothing of it is read
+    strange WORDS               what the stream has next is not known; from there on it is handed on, and not told
 
 Once a connection is cut nothing more is told of it: what is still read from it went nowhere.
 """
@@ -23,10 +26,11 @@ import socket
 import threading
 
 import stream
+from dialect import PC_RAM
 from faults import fault_of
 
-PC_RAM = "pc.ram"
 LONGEST_LOSS = 0.5  # seconds from the first page that is lost to the cut
+LONGEST_SILENCE = 0.3  # seconds in which a connection of multifd begins
 
 
 class Cut(Exception):
@@ -73,13 +77,15 @@ class Connection:
 class Relay:
     """Listens on a socket of its own in `room`, `path`, and goes to the socket `target`, which may change between connections."""
 
-    def __init__(self, folder, room, window, target, fault=None, skip=0, cuts=()):
+    def __init__(self, folder, room, window, target, fault=None, skip=0, cuts=(), has_multifd=False, before_package=lambda: None):
         self.log = open(f"{folder}/relay.log", "w")
         self.contents = open(f"{folder}/relay.pages", "wb")
         self.window, self.target, self.cuts = window, target, list(cuts)
         self.fault = fault_of(fault, skip, window, self.tell)
         self.lock, self.stored, self.is_post = threading.Lock(), 0, False
         self.connections, self.threads, self.lost, self.complaint = [], [], [], None
+        self.has_multifd, self.unread = has_multifd, []
+        self.before_package = before_package
         self.was_cut = threading.Event()
         self.sent_before = self.sent_after = 0
         self.path = room.name("relay")
@@ -103,10 +109,13 @@ class Relay:
         self.listener.close()
         for connection in self.connections:
             connection.shut()
+        self.shut_unread()
         for thread in self.threads:
             thread.join(5)
         for connection in self.connections:
             connection.close()
+        for end in self.unread:
+            end.close()
         with self.lock:
             self.contents.close()
             self.log.close()
@@ -126,12 +135,43 @@ class Relay:
                 source.close()
                 target.close()
                 continue
+            if self.has_multifd and self.begins_with(source, stream.MULTIFD_MAGIC):
+                self.hand_on(source, target)
+                continue
             with self.lock:
                 connection = self.opened(source, target)
-            for work in (self.down, self.up):
-                thread = threading.Thread(target=self.guarded, args=(work, connection), daemon=True)
-                thread.start()
-                self.threads.append(thread)
+            self.start(self.down, connection)
+            self.start(self.up, connection)
+
+    def start(self, work, *words):
+        thread = threading.Thread(target=self.guarded, args=(work, *words), daemon=True)
+        thread.start()
+        self.threads.append(thread)
+
+    @staticmethod
+    def begins_with(source, magic):
+        """Whether a connection begins so; one that begins with nothing for a moment does not."""
+        source.settimeout(LONGEST_SILENCE)
+        try:
+            return source.recv(len(magic), socket.MSG_PEEK) == magic
+        except OSError:
+            return False
+        finally:
+            source.settimeout(None)
+
+    def hand_on(self, source, target):
+        """Hands on a connection in both directions, unread."""
+        with self.lock:
+            self.tell("multifd")
+            self.unread += [source, target]
+        self.start(self.copy, source, target)
+        self.start(self.copy, target, source)
+
+    @staticmethod
+    def copy(here, there):
+        while data := here.recv(1 << 16):
+            there.sendall(data)
+        there.shutdown(socket.SHUT_WR)
 
     def opened(self, source, target):
         """The first connection, and the first one after a cut, is the main one; the next one is the lane."""
@@ -141,9 +181,9 @@ class Relay:
         self.tell("open", connection.number, "lane" if is_lane else "main", "resumed" if connection.is_resumed else "new")
         return connection
 
-    def guarded(self, work, connection):
+    def guarded(self, work, *words):
         try:
-            work(connection)
+            work(*words)
         except (EOFError, OSError, Cut, ValueError):
             pass  # the connection is at its end, or closed by us
 
@@ -154,7 +194,15 @@ class Relay:
                 connection.is_cut = True
                 self.tell("cut", connection.number)
                 connection.shut()
+        self.shut_unread()
         self.was_cut.set()
+
+    def shut_unread(self):
+        for end in self.unread:
+            try:
+                end.shutdown(socket.SHUT_RDWR)
+            except OSError:
+                pass
 
     def cut_losing(self):
         """Cuts what loses pages: there may not come as many as were to be lost."""
@@ -178,7 +226,12 @@ class Relay:
                     self.check(connection)
                     self.take(connection, item)
         except stream.Strange as fault:
-            self.complaint = str(fault) if self.is_post else "pre-copy came to its end, and nothing was left to post-copy"
+            if isinstance(fault, stream.DeviceOutside) and not self.is_post:
+                self.complaint = "pre-copy came to its end, and nothing was left to post-copy"
+            else:
+                self.complaint = f"the stream has what is not known here: {fault}"
+                with self.lock:
+                    self.tell("strange", fault)
             self.copy_rest(connection, tap)
         finally:
             self.cut_losing()  # the stream may have ended before all was lost
@@ -203,6 +256,7 @@ class Relay:
             for page in self.fault.end_of_section():
                 self.hand_over(connection, page)
         elif isinstance(item, stream.Package):
+            self.before_package()
             self.tell("down", connection.number, "state", item.length)
             self.is_post = True
         elif isinstance(item, stream.Discard):

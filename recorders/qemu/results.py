@@ -9,11 +9,18 @@ from dataclasses import dataclass
 # What ends of a migration are called in the table; any other stands there in QEMU's words.
 ENDS = (
     ("source waits for itself", "Cannot resume if there is no paused migration"),
+    ("target aborted", "target ENDED.*Assertion .* failed"),
     ("target ended while it loaded", "target ENDED.*(load of migration failed|loadvm failed)"),
+    ("target failed while it loaded", "no recovery: source [a-z-]+, target failed$"),
+    ("target hangs", "target HANGS"),
+    ("source hangs", "source HANGS"),
     ("target failed by itself", "the target went to"),
     ("pre-copy came to its end", "gave up: pre-copy: completed"),
     ("not at its end within its limit", "it took more than"),
 )
+
+# What a recording that is not judged is called where it is told in a word.
+UNJUDGED = (("no post-copy", "there was no post-copy"), ("lost stack", "are no event"))
 
 
 @dataclass
@@ -22,15 +29,37 @@ class Result:
     verdict: str
     outcome: str
     is_put_in: bool = False  # whether the plan's fault was put in
+    restart: str = ""        # what is told where the source started its guest again
+    version: str = ""        # of QEMU, or of both
+    is_cut_missed: bool = False  # whether it came to its end before a cut that was planned
+
+    @property
+    def ran(self):
+        """`both ran` or `returned`, or nothing."""
+        return self.restart.split(":")[0]
 
     @property
     def reason(self):
         """The verdict without its line's number, and without what only this one has."""
-        return re.sub(r" line \d+|0x[0-9a-f]+|\d+", "", self.verdict).strip()
+        verdict = re.sub(r" line \d+|0x[0-9a-f]+|\d+", "", self.verdict).strip()
+        return f"{self.ran}; {verdict}" if self.ran else verdict
+
+    @property
+    def in_a_word(self):
+        """What became of it, as a table of versions has it."""
+        if self.ran:
+            return " and ".join([self.ran, *([self.end] if self.end.endswith("hangs") else [])])
+        if self.verdict.startswith("faulty"):
+            return f"`{self.verdict.split()[-1]}`"
+        if self.verdict.startswith("not judged"):
+            return next((name for name, words in UNJUDGED if words in self.verdict), "not judged")
+        if self.is_cut_missed:
+            return "cut not reached"
+        return "clean" if self.is_clean else self.end if self.verdict == "clean, yes" else self.reason
 
     @property
     def is_clean(self):
-        return self.verdict == "clean, yes" and self.outcome == "completed"
+        return self.verdict == "clean, yes" and self.outcome == "completed" and not self.ran
 
     @property
     def end(self):
@@ -54,7 +83,7 @@ class Result:
         parts = [plan.kind, f"{plan.pages} pages of {plan.words}", f"{plan.cpus} processors"]
         parts += [f"cut at {' '.join(map(str, plan.cuts))}"] if plan.cuts else []
         parts += [] if self.fault == "-" else [self.fault]
-        return f"{', '.join(parts)}: {self.verdict}; {self.outcome}"
+        return "; ".join([f"{', '.join(parts)}: {self.verdict}", *([self.restart] if self.restart else []), self.outcome])
 
 
 def read(path):
@@ -70,8 +99,10 @@ def result_of(plan, folder, done):
     if done.returncode or not verdict:
         said = (done.stderr.strip().splitlines() or ["nothing"])[-1]
         return Result(plan, f"not judged: the recorder ended with {said}", "")
-    outcome = json.loads(read(f"{folder}/outcome.json"))
-    return Result(plan, verdict, outcome_in_words(outcome), was_put_in(folder))
+    outcome, made = json.loads(read(f"{folder}/outcome.json")), json.loads(read(f"{folder}/plan.json"))
+    version = " to ".join(dict.fromkeys([made["source_version"], made["target_version"]]))
+    is_cut_missed = any("cut not reached" in remark for remark in outcome["remarks"])
+    return Result(plan, verdict, outcome_in_words(outcome), was_put_in(folder), read(f"{folder}/restart").strip(), version, is_cut_missed)
 
 
 def was_put_in(folder):
@@ -98,9 +129,11 @@ def rows(head, counts):
 
 
 def table(results, seconds):
-    """How often each kind had each verdict, and what was told of those that were not clean."""
+    """How often each version had each verdict of each kind, and what was told of those that were not clean."""
     counts = collections.Counter(
-        (result.plan.kind, result.fault, result.reason, result.end)
+        (result.version, result.plan.kind, result.fault, result.reason, result.end)
         for result in results)
-    return "\n".join([f"{len(results)} migrations in {seconds:.0f} s, {sum(result.is_clean for result in results)} clean", "",
-                      *rows(("kind", "fault", "verdict", "QEMU"), counts)])
+    ran = collections.Counter(result.ran for result in results if result.ran)
+    of_all = [f"{sum(result.is_clean for result in results)} clean", *(f"{count} {name}" for name, count in sorted(ran.items()))]
+    return "\n".join([f"{len(results)} migrations in {seconds:.0f} s, {', '.join(of_all)}", "",
+                      *rows(("version", "kind", "fault", "verdict", "QEMU"), counts)])

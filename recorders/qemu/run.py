@@ -1,15 +1,16 @@
 """One migration, recorded: both QEMUs, the relay between them, and what they tell, in a folder."""
 import json
 import time
-from dataclasses import asdict, dataclass, field
+from dataclasses import asdict, dataclass, field, replace
 
 import build
 import folders
-from machine import SOURCE_TRACE, TARGET_TRACE, Machine
+from dialect import ENDS, IN_POSTCOPY
+from machine import DEAD, Machine
 from qmp import Gone, Refused
 from relay import CutPlan, Relay, Window
 
-ENDS = ("completed", "failed", "cancelled", "postcopy-paused")
+SECONDS_TO_END = 2  # in which a target whose load failed ends, if it does
 
 
 @dataclass
@@ -35,16 +36,20 @@ class Outcome:
 
 
 class Migration:
-    """Recorded into `folder`, which has to be one that folders.take takes. `say` takes lines of progress."""
+    """Recorded into `folder`, which has to be one that folders.take takes. `say` takes lines of progress. `emulators` are those of
+    the source and of the target."""
 
-    def __init__(self, plan, folder, say):
-        self.plan, self.folder, self.say, self.outcome = plan, folder, say, Outcome()
+    def __init__(self, plan, folder, say, emulators):
+        self.source_emulator, self.target_emulator = emulators
+        self.plan = replace(plan, source_version=self.source_emulator.version_text, target_version=self.target_emulator.version_text)
+        self.folder, self.say, self.outcome = folder, say, Outcome()
         self.machines = []
 
     def run(self):
         folders.look_at(self.folder)
         build.require_tools()
         rom, library = build.build()
+        machine, traces = self.prepare(library)
         folders.take(self.folder)
         with open(f"{self.folder}/plan.json", "w") as out:
             out.write(self.plan.to_text())
@@ -52,7 +57,7 @@ class Migration:
         began = time.monotonic()
         self.room = folders.Room()
         try:
-            self.record(library)
+            self.record(library, machine, traces)
         finally:
             self.room.end()
         if self.relay.complaint:
@@ -62,13 +67,25 @@ class Migration:
             json.dump(asdict(self.outcome), out, indent=1)
         return self.outcome
 
-    def record(self, library):
+    def prepare(self, library):
+        """The type of both machines, and what each side traces. Raises Missing where a QEMU lacks what the plan needs."""
+        for emulator in {self.source_emulator, self.target_emulator}:
+            emulator.require(self.plan, library)
+        return (self.source_emulator.machine_for(self.target_emulator),
+                {"source": self.source_emulator.trace("source"), "target": self.target_emulator.trace("target")})
+
+    def record(self, library, machine, traces):
         cuts = [CutPlan(behind) for behind in self.plan.cuts]
         self.relay = Relay(self.folder, self.room, Window(self.plan.base, self.plan.pages), self.room.name("target"),
-                           self.plan.fault, self.plan.skip, cuts)
+                           self.plan.fault, self.plan.skip, cuts, bool(self.plan.multifd), self.save_memory)
+
+        def start(name, emulator, *extra):
+            self.machines.append(Machine(name, self.folder, self.room, self.plan, library, emulator.path, machine, traces[name], extra))
+            return self.machines[-1]
+
         try:
-            self.target = self.start("target", library, TARGET_TRACE, ["-incoming", "defer"])
-            self.source = self.start("source", library, SOURCE_TRACE)
+            self.target = start("target", self.target_emulator, "-incoming", "defer")
+            self.source = start("source", self.source_emulator)
             self.migrate()
         except Gone as fault:
             self.remark(f"gave up: {fault}")
@@ -77,9 +94,13 @@ class Migration:
                 machine.end(self.outcome.is_whole)
             self.relay.end()
 
-    def start(self, name, library, trace, extra=()):
-        self.machines.append(Machine(name, self.folder, self.room, self.plan, library, trace, extra))
-        return self.machines[-1]
+    def save_memory(self):
+        """Saves the source's memory where the package came and the target has not got it: so it is the memory at the halt, also where
+        the source starts its guest again later."""
+        try:
+            self.source("pmemsave", val=self.plan.base, size=self.plan.pages * 4096, filename="halt.mem")
+        except (Gone, Refused) as fault:
+            self.remark(f"source: {fault}")
 
     def remark(self, words):
         self.outcome.remarks.append(words)
@@ -89,6 +110,8 @@ class Migration:
         plan = self.plan
         self.set_up()
         self.target("migrate-incoming", uri=f"unix:{self.relay.target}")
+        versions = " to ".join(dict.fromkeys([plan.source_version, plan.target_version]))
+        self.say(f"QEMU {versions}, {'KVM' if plan.kvm else 'TCG'}")
         self.say(f"guest: {plan.pages} pages of {plan.words} words, {plan.cpus} processor{'s' if plan.cpus > 1 else ''}")
         if not self.source.wait_for_accesses(plan.pages * 3 // 4 + plan.warm, plan.limit):
             raise Gone("the guest does not walk")
@@ -102,9 +125,11 @@ class Migration:
         self.finish()
 
     def set_up(self):
-        names = ["postcopy-ram", "postcopy-blocktime"] + (["postcopy-preempt"] if self.plan.preempt else [])
+        capabilities = [{"capability": name, "state": True} for name in self.plan.capabilities()]
         for machine in (self.target, self.source):
-            machine("migrate-set-capabilities", capabilities=[{"capability": name, "state": True} for name in names])
+            machine("migrate-set-capabilities", capabilities=capabilities)
+            if self.plan.multifd:
+                machine("migrate-set-parameters", **{"multifd-channels": self.plan.multifd})
         # With a downtime of 1 ms pre-copy does not end by itself, which would leave nothing to post-copy.
         self.source("migrate-set-parameters", **{
             "max-bandwidth": self.plan.bandwidth, "max-postcopy-bandwidth": self.plan.post_bandwidth, "downtime-limit": 1})
@@ -113,12 +138,15 @@ class Migration:
         """Pre-copy has to run before post-copy can be asked for; and it may come to its end by itself."""
         until = time.monotonic() + self.plan.limit
         status = self.source.wait_for(("active", *ENDS), self.plan.limit)
-        while status == "active" and self.relay.sent_before < self.plan.pre_pages and time.monotonic() < until:
+        pages = 0 if self.plan.multifd else self.plan.pre_pages  # multifd's are not read
+        while status == "active" and self.relay.sent_before < pages and time.monotonic() < until:
             time.sleep(0.005)
             status = self.source.migration()
         if status != "active":
             raise Gone(f"pre-copy: {status}")
         time.sleep(self.plan.pre)
+        while 0 <= self.plan.left < self.source("query-migrate").get("ram", {}).get("remaining", 0) and time.monotonic() < until:
+            pass  # the moment is short: pre-copy comes to its end at its next look
 
     def follow(self):
         """Waits for the end, and has the migration go on where a connection is cut."""
@@ -139,7 +167,7 @@ class Migration:
         until, told = time.monotonic() + self.plan.limit, time.monotonic()
         while True:
             status, there = self.source.migration(), self.target.migration()
-            if self.relay.was_cut.is_set() or status in ENDS or "ended" in (status, there):
+            if self.relay.was_cut.is_set() or status in ENDS or status in DEAD or there in DEAD:
                 return
             if time.monotonic() > until:
                 self.remark(f"it took more than {self.plan.limit:.0f} s")
@@ -155,7 +183,7 @@ class Migration:
     def paused(self, machine):
         """Waits until a QEMU has noticed the cut; one that does not is told to pause."""
         status = machine.wait_for(("postcopy-paused", "completed", "failed"), 2)
-        if status in ("postcopy-active", "postcopy-recover"):
+        if status in IN_POSTCOPY:
             try:
                 machine("migrate-pause")
                 self.remark(f"the {machine.name} did not notice the cut, and was told")
@@ -188,7 +216,7 @@ class Migration:
         return True
 
     def finish(self):
-        """What is asked of both at the end, and the source's memory, which is that of the halt."""
+        """What is asked of both at the end."""
         plan, outcome = self.plan, self.outcome
         outcome.source, outcome.target = self.source.migration(), self.target.wait_for(ENDS, 3)
         try:
@@ -199,15 +227,22 @@ class Migration:
                 self.target("stop")
         except (Gone, Refused) as fault:
             self.remark(f"target: {fault}")
-        if outcome.target == "ended" or not self.target.is_running():
-            outcome.target = "ENDED"
-            self.remark(f"target: {self.target.last_error()}")
+        if outcome.target in ("failed", "ended"):
+            self.target.wait_for_end(SECONDS_TO_END)
+        outcome.target = self.end_of(self.target, outcome.target)
         try:
             outcome.requests = self.source("query-migrate").get("ram", {}).get("postcopy-requests", 0)
-            self.source("pmemsave", val=plan.base, size=plan.pages * 4096, filename="halt.mem")
         except (Gone, Refused) as fault:
             self.remark(f"source: {fault}")
-        if not self.source.is_running():
-            outcome.source = "ENDED"
-            self.remark(f"source: {self.source.last_error()}")
+        outcome.source = self.end_of(self.source, outcome.source)
         self.say(outcome.line())
+
+    def end_of(self, machine, status):
+        """How a QEMU ended: ENDED where the process did, HANGS where it does not answer, or what it says."""
+        if not machine.is_running():
+            self.remark(f"{machine.name}: {machine.last_error()}")
+            return "ENDED"
+        if machine.hangs:
+            self.remark(f"{machine.name}: it runs, and does not answer")
+            return "HANGS"
+        return status

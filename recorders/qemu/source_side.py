@@ -1,15 +1,18 @@
 """The guest's log as far as the halt, and the source's."""
-from moments import SOURCE, Moments
-from pipe import Access
+from dialect import Moments
+from pipe import Access, InFlight
 from records import Hole
 from wire import ZERO
 
 
 class SourceSide:
-    def __init__(self, session, wire, contents, is_from_halt):
-        self.session, self.wire, self.contents, self.is_from_halt = session, wire, contents, is_from_halt
-        self.moments = Moments(SOURCE)
-        self.is_halted = self.is_done = False
+    """`done(in_flight)` answers the access that the halt came into, where it was done before the halt."""
+
+    def __init__(self, session, wire, contents, is_from_halt, version, done):
+        self.session, self.wire, self.contents, self.is_from_halt, self.done_before = session, wire, contents, is_from_halt, done
+        self.moments = Moments("source", version)
+        self.is_halted = self.is_done = self.is_started_again = False
+        self.in_flight, self.last = InFlight(), None  # at the halt; the access that it came into, where that was done before
         self.pages_over = self.asks_over = 0   # behind so many recoveries
         self.asked = 0                         # requests that were taken, of their connection
         self.position = {connection.number: 0 for connection in wire.connections}
@@ -18,16 +21,24 @@ class SourceSide:
     def add(self, what, name=None, **fields):
         self.session.add("source", what, name, **fields)
 
-    def read(self, tokens):
-        for token in tokens:
+    def read(self, pipe, data):
+        for token in pipe.tokens(data):
             if isinstance(token, Access):
-                self.session.add("guest", token.what, vcpu=token.actor, page=token.page, cell=token.cell, value=token.value)
+                if not self.is_started_again:  # no record tells of a guest that goes on at the source
+                    self.access(token)
             elif isinstance(token, str):
                 for moment, fields in self.moments.of(token):
+                    if moment == "halt" and not self.is_halted:
+                        self.in_flight = pipe.in_flight()
                     self.act(moment, fields)
+        if not self.is_started_again:
+            self.in_flight = pipe.in_flight()
         if not self.is_halted:
             raise Hole("source.raw: the guest was never halted")
         self.send_rest()
+
+    def access(self, access):
+        self.session.add("guest", access.what, vcpu=access.actor, page=access.page, cell=access.cell, value=access.value)
 
     def act(self, moment, fields):
         if moment == "halt":
@@ -35,6 +46,8 @@ class SourceSide:
                 self.halt()
         elif not self.is_halted:
             return
+        elif moment == "start again":
+            self.is_started_again = True
         elif moment == "page":
             self.page_is_traced(self.wire.page_of(fields["block"], int(fields["offset"], 16)))
         elif moment == "ask":
@@ -50,6 +63,9 @@ class SourceSide:
 
     def halt(self):
         self.is_halted = True
+        self.last = self.done_before(self.in_flight)
+        if self.last:
+            self.access(self.last)
         if self.is_from_halt:
             self.session.logs["guest"].clear()
             self.session.initial = {page: self.contents.cells("halt.mem", page) for page in range(self.session.pages)}

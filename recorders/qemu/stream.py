@@ -1,4 +1,4 @@
-"""The migration stream of QEMU 7.2 as items, as far as a post-copy of memory alone needs it, and the answers that go back.
+"""The migration stream of QEMU as items, as far as a post-copy of memory alone needs it, and the answers that go back.
 
 Down the main connection come, behind a header that a resumed stream has not: sections of `ram`, commands and the end. The
 devices' state stands in a package whose length is told, and is not read. Down the second connection of postcopy-preempt come
@@ -9,18 +9,23 @@ Each item has the bytes that it was read from, so what is handed on is what came
 import struct
 from dataclasses import dataclass, field
 
+from dialect import COMMANDS
+
 PAGE_BYTES = 4096
-ZERO, MEM_SIZE, PAGE, EOS, CONTINUE = 0x02, 0x04, 0x08, 0x10, 0x20  # flags of a page's header
+ZERO, MEM_SIZE, PAGE, EOS, CONTINUE, MULTIFD_FLUSH = 0x02, 0x04, 0x08, 0x10, 0x20, 0x200  # flags of a page's header
 EOF, SECTION_START, SECTION_PART, SECTION_END, SECTION_FULL = 0x00, 0x01, 0x02, 0x03, 0x04
 CONFIGURATION, COMMAND, FOOTER = 0x07, 0x08, 0x7E
 MAGIC = b"QEVM\0\0\0\3"
-COMMANDS = {1: "open-return-path", 2: "ping", 3: "advise", 4: "listen", 5: "run", 6: "discard", 7: "package",
-            8: "colo", 9: "resume", 10: "recv-bitmap"}
+MULTIFD_MAGIC = b"\x11\x22\x33\x44"  # what a connection of multifd begins with
 SHUT, PONG, REQUEST_WITH_BLOCK, REQUEST, BITMAP = 1, 2, 3, 4, 5  # kinds of answers
 
 
 class Strange(Exception):
     """What a stream has that this does not understand."""
+
+
+class DeviceOutside(Strange):
+    """A device's state outside of a package: pre-copy came to its end, and there is no post-copy."""
 
 
 @dataclass
@@ -135,7 +140,7 @@ def items(tap, is_resumed=False):
                 name = tap.name()
                 tap.take(8)
                 if name != "ram":
-                    raise Strange(f"a section of {name} outside of the package")
+                    raise DeviceOutside(f"a section of {name} outside of the package")
             yield Item(tap.end())
             yield from section(tap, blocks)
             continue
@@ -162,22 +167,36 @@ def section(tap, blocks):
         head = tap.number("Q")
         flags, offset = head & 0xFFF, head & ~0xFFF
         if flags & MEM_SIZE:
-            while offset > 0:
-                tap.name()
-                offset -= tap.number("Q")
+            lengths(tap, offset)
             yield Item(tap.end())
         elif flags & (ZERO | PAGE):
             if not flags & CONTINUE:
                 blocks[0] = tap.name()
+            if not blocks[0]:
+                raise Strange(f"a page of no block, with flags {flags:#x}")
             length = len(tap.raw)
             contents = tap.take(PAGE_BYTES if flags & PAGE else 1)
             raw = tap.end()
             yield Page(raw, blocks[0], offset, raw[:length], contents, contents)
+        elif flags == MULTIFD_FLUSH:
+            yield Item(tap.end())
         elif flags == EOS:
             yield EndOfPages(tap.end())
             return
         else:
             raise Strange(f"a page with flags {flags:#x}")
+
+
+def lengths(tap, total):
+    """The blocks and their lengths. One of huge pages has the length of these behind its own, in 64 bits, and nothing says so; it begins
+    with 0, as no name's length does."""
+    while total > 0:
+        name = tap.number("B")
+        if name == 0:
+            tap.take(7)
+            continue
+        tap.take(name)
+        total -= tap.number("Q")
 
 
 def command(tap):

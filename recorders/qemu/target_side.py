@@ -1,5 +1,5 @@
 """The guest's log from the resume on, and the pager's."""
-from moments import TARGET, Moments
+from dialect import Moments
 from pipe import Access, Look
 from records import Hole
 from stream import PAGE, PAGE_BYTES, REQUEST, REQUEST_WITH_BLOCK, SHUT
@@ -8,10 +8,15 @@ from wire import ZERO
 
 
 class TargetSide:
-    def __init__(self, session, wire, contents, base):
+    """`is_in_flight` says that the guest may have touched the page of its first access at the source, and `is_first_done` that it
+    did that access there."""
+
+    def __init__(self, session, wire, contents, base, version, is_in_flight, is_first_done):
         self.session, self.wire, self.contents, self.base = session, wire, contents, base
-        self.moments = Moments(TARGET)
-        self.is_ready = self.is_resumed = self.has_state = self.is_shut = False
+        self.moments = Moments("target", version)
+        self.is_in_flight, self.is_first_done = is_in_flight, is_first_done
+        self.is_guarded = self.is_ready = self.is_resumed = self.has_state = self.is_shut = False
+        self.is_first, self.is_shown = True, False  # whether no access was told yet, and whether the last look showed its page
         self.have = []        # pages that were there when memory was guarded, with the places of their contents
         self.placed = {}      # by page, the number of its first placement among all placements
         self.placements = self.seen = self.misses = 0
@@ -22,17 +27,37 @@ class TargetSide:
         self.count = {False: 0, True: 0}          # pages that came by each
         self.requested = 0
 
-    def read(self, tokens):
-        for token in tokens:
+    def read(self, pipe, data):
+        for token in pipe.tokens(data):
             if isinstance(token, str):
                 for moment, fields in self.moments.of(token):
                     self.act(moment, fields)
             elif isinstance(token, Look):
                 self.look(token)
             elif isinstance(token, Access):
-                self.session.add("guest", token.what, vcpu=token.actor, page=token.page, cell=token.cell, value=token.value)
+                if not self.is_first or self.is_told_first(token):
+                    self.session.add("guest", token.what, vcpu=token.actor, page=token.page, cell=token.cell, value=token.value)
+                self.is_first = False
         if not self.is_ready:
             raise Hole("target.raw: the target never listened")
+        if not self.is_guarded:
+            raise Hole("target.raw: the preloaded library told of no memory that is guarded")
+
+    def is_told_first(self, access):
+        """Whether the first access at the target is told there.
+
+        Where its page was touched at the source no look at the target waited for the page. Then a read is left out: it may have
+        been at the source. A write was at the target; that it waited is the kernel's word.
+        """
+        if self.is_first_done:
+            return False
+        if self.is_shown or not self.is_in_flight:
+            return True
+        if access.what == "read":
+            return False
+        if access.page in self.placed:
+            self.see(self.placed[access.page])
+        return True
 
     def add(self, what, name=None, **fields):
         self.session.add("pager", what, name, **fields)
@@ -47,7 +72,7 @@ class TargetSide:
         elif moment == "resume":
             self.resume()
         elif moment == "taken":
-            self.take(int(fields["channel"]) > 0, int(fields["offset"], 16), int(fields["flags"], 16))
+            self.take(int(fields.get("channel", 0)) > 0, int(fields["offset"], 16), int(fields["flags"], 16))
         elif moment == "message":
             self.message(int(fields["kind"]))
         elif moment == "messages over a new connection":
@@ -55,6 +80,8 @@ class TargetSide:
         elif moment in ("pages over a new connection", "pages over a new lane"):
             is_lane = moment == "pages over a new lane"
             self.over[is_lane], self.count[is_lane] = self.over[is_lane] + 1, 0
+        elif moment == "guard":
+            self.is_guarded = True
         elif moment == "have":
             self.have.append((int(fields["page"]), fields["place"]))
         elif moment == "fault":
@@ -70,7 +97,8 @@ class TargetSide:
 
     def look(self, look):
         """A look shows the page's placement where that stands before it in the pipe."""
-        if look.page in self.placed:
+        self.is_shown = look.page in self.placed
+        if self.is_shown:
             self.see(self.placed[look.page])
             return
         if look.page in self.missed and self.session.is_last("guest", self.missed[look.page]):

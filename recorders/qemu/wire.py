@@ -39,12 +39,16 @@ class Wire:
         self.connections, self.discarded, self.last_before = [], set(), {}
         self.order = []       # (log, "down" or "up", name), which is ("state",), ("left", page), ("page", c, n) ..
         self.has_state = self.is_shut = False
+        self.strange = ""     # what of the stream was not understood
         for line in lines:
             self.read(line.split())
 
     def read(self, words):
         what, *fields = words
-        if what == "fault":
+        if what in ("fault", "multifd"):
+            return
+        if what == "strange":
+            self.strange = " ".join(fields)
             return
         if what == "open":
             self.connections.append(Connection(len(self.connections), fields[1] == "lane"))

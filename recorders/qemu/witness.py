@@ -13,7 +13,7 @@ def pages_that_differ(recording):
     memory, wire = recording.read("halt.mem"), recording.wire
     left = [page for page in getattr(wire, "left", ()) if page in wire.last_before]
     differ = [page for page in left
-              if recording.contents.page("relay.pages", wire.last_before[page]) != memory[page * PAGE_BYTES:][:PAGE_BYTES]]
+              if recording.contents.page("relay.pages", wire.last_before[page]) != memory[page * PAGE_BYTES:(page + 1) * PAGE_BYTES]]
     return differ, len(left)
 
 

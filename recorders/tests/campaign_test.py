@@ -44,17 +44,24 @@ def of_results(tests):
     tests.wants("clean, and a fault was put in", Result(flipped, "clean, yes", "completed", True).is_settled, False)
     tests.wants("a fault that was not reached", Result(flipped, "clean, yes", "completed").fault, "flip, not reached")
     tests.wants("not judged", Result(plan, "not judged: a hole", "completed").is_clean, False)
-    found = [clean, clean, Result(plan, "faulty line 7 read", "completed"), Result(plan, "faulty line 99 read", "completed"),
-             Result(replace(plan, kind="wide"), "not judged: page 7 of 9", outcome_in_words(ended))]
+    both = Result(plan, "clean, yes", "completed", restart="both ran: the source started its guest again", version="10.0")
+    tests.wants("clean, and the guest ran at both sides", (both.is_clean, both.is_settled, both.reason), (False, False, "both ran; clean, yes"))
+    found = [clean, clean, Result(plan, "faulty line 7 read", "completed"), Result(plan, "faulty line 99 read", "completed"), both,
+             Result(replace(plan, kind="wide"), "not judged: page 7 of 9", outcome_in_words(ended)),
+             replace(both, restart="returned: the source", verdict="faulty line 3 early")]
+    found = [replace(one, version=one.version or "7.2") for one in found]
     lines = [line.split() for line in results.table(found, 12).splitlines()]
     tests.wants("the table", lines, [
-        "5 migrations in 12 s, 2 clean".split(), [], "kind fault verdict QEMU how often".split(),
-        "live - clean, yes completed 2".split(), "live - faulty read completed 2".split(),
-        "wide - not judged: page of source postcopy-paused, target ENDED; no recovery: target ended 1".split()])
+        "7 migrations in 12 s, 2 clean, 1 both ran, 1 returned".split(), [], "version kind fault verdict QEMU how often".split(),
+        "7.2 live - clean, yes completed 2".split(), "7.2 live - faulty read completed 2".split(),
+        "10.0 live - both ran; clean, yes completed 1".split(), "10.0 live - returned; faulty early completed 1".split(),
+        "7.2 wide - not judged: page of source postcopy-paused, target ENDED; no recovery: target ended 1".split()])
     for name, words in (("source waits for itself", "source postcopy-active, target postcopy-paused; no recovery: migrate: Cannot resume "
                          "if there is no paused migration"),
                         ("target ended while it loaded", "source postcopy-paused, target ENDED; target: qemu-system-x86_64: load of migration failed: "
                          "Input/output error"),
+                        ("target aborted", "source completed, target ENDED; target: qemu-system-x86_64: util/yank.c:107: Assertion `it' failed."),
+                        ("target hangs", "source postcopy-paused, target HANGS; target: it runs, and does not answer"),
                         ("not at its end within its limit", "source postcopy-active, target postcopy-active; it took more than 30 s"),
                         ("something new, N times", "something new, 3 times")):
         tests.wants(f"the end's name: {name}", Result(plan, "clean, yes", words).end, name)

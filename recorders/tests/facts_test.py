@@ -1,4 +1,4 @@
-"""Kept recordings of QEMU 7.2, and each fact that their conversion rests on, told wrong in one of them."""
+"""Kept recordings of QEMU, and each fact that their conversion rests on, told wrong in one of them."""
 import hashlib
 import os
 import re
@@ -6,11 +6,12 @@ import tempfile
 
 import convert
 import judge
-from moments import SOURCE, TARGET, Moments
+from dialect import Moments
 from pack import unpacked
-from pipe import Pipe
+from pipe import Access, InFlight, Pipe
 from records import Hole
 from source_side import SourceSide
+from stream import PAGE_BYTES
 from target_side import TargetSide
 from wire import ZERO
 from witness import pages_that_differ
@@ -119,6 +120,13 @@ class ZerosLate(SourceSide):
             self.late = ()
 
 
+class FirstAsAnyOther(TargetSide):
+    """The first access at the target is told there, whatever the halt came into."""
+
+    def is_told_first(self, access):
+        return True
+
+
 class OneConnection(TargetSide):
     """What came by the connection behind the cut is told as if it had come by the one before."""
 
@@ -158,6 +166,8 @@ WRONG_FILES = (
 )
 WRONG_SIDES = (
     ("pages of zeros", "live", {"source_side": ZerosLate}, "knot"),
+    ("the read that the halt came into", "10.0-live", {"target_side": FirstAsAnyOther}, "faulty early"),
+    ("the write that the halt came into", "11.1-both-ran", {"target_side": FirstAsAnyOther}, "faulty early"),
     ("a request that is made a second time", "recovery", {"target_side": SecondRequestJoins}, "shape named"),
 )
 HOLES = (
@@ -201,6 +211,22 @@ def of_witness(tests):
                 [page for page in sorted(placed) if placed[page] != contents[page]], found["lost-write"])
 
 
+class PageByPage(bytes):
+    """A memory of which no more than a page is copied at once."""
+
+    def __getitem__(self, key):
+        part = super().__getitem__(key)
+        if isinstance(key, slice) and len(part) > PAGE_BYTES:
+            raise AssertionError(f"{len(part)} bytes are copied")
+        return part
+
+
+def of_its_copies(tests):
+    files = files_of("lost-write")
+    files["halt.mem"] = PageByPage(files["halt.mem"])
+    tests.wants("the witness copies a page at a time", len(pages_that_differ(convert.Recording(files.__getitem__))[0]), 7)
+
+
 def of_facts(tests):
     for what, name, change, reason in WRONG_FILES:
         tests.wants(f"told wrong: {what}", reason_of(session_of(change(files_of(name)))), reason)
@@ -226,6 +252,113 @@ def of_pipes(tests):
     tests.refuses("bytes that are no event", Hole, lambda: list(Pipe().tokens(bytes([0xC5]) * 100)))
 
 
+def write_of(value, page=5, cell=1):
+    return bytes([0xC3, 0x80 | page, 0x80, 0x80, 0x80 | cell, 0x80, *(0x80 | value >> 6 * place & 63 for place in range(11))])
+
+
+def of_the_halt(tests):
+    """An access that the halt comes into: on which side it was, by what was told of it and by the memory."""
+    wrote, read = write_of(77), bytes([0xC2, *write_of(77)[1:]])
+    for what, begun, rest, memory, wanted in (
+            ("a write that the memory has", wrote, b"\xc4", 77, ("write", 5, 1, 77)), ("one that it has not", wrote, b"\xc4", 76, None),
+            ("a write that was not told but for its last byte", wrote[:16], wrote[16:] + b"\xc4", 77, None),
+            ("a read of which a byte of the value is told", read[:7], read[7:], 0, ("read", 5, 1, 77)),
+            ("a read of which none is", read[:6], read[6:], 77, None), ("a read that is told to its end nowhere", read[:7], b"", 77, None)):
+        found = InFlight(begun, 0, 2).done(b"a line\n" + rest, lambda page, cell: memory if (page, cell) == (5, 1) else None)
+        tests.wants(f"done before the halt: {what}", found and (found.what, found.page, found.cell, found.value), wanted)
+    for looks, begun, is_by_block, wanted in ((0, b"", False, False), (0, b"\xc1", False, False), (1, b"", True, False), (1, b"", False, True),
+                                              (1, b"\xc1", True, True), (2, b"", True, True), (2, b"\xc3", True, True)):
+        tests.wants(f"the page may be touched: {looks} looks, {begun}, {is_by_block}", InFlight(begun, 0, looks).is_behind_touch(is_by_block), wanted)
+    both = Pipe()
+    list(both.tokens(bytes([0xC0, 0x82, 0xC1, 0x85, 0x80, 0x80]) + wrote[:3]))
+    tests.wants("what is in flight", both.in_flight(), InFlight(wrote[:3], 2, 1))
+    tests.wants("it is told to its end by the other side", [token.value for token in Pipe(both.in_flight()).tokens(wrote[3:] + b"\xc4")], [77])
+
+
+class Told:
+    """In the place of a session: what is told."""
+
+    def __init__(self):
+        self.records = []
+
+    def add(self, log, what, name=None, **fields):
+        self.records.append((what, fields.get("page")))
+
+    def is_last(self, log, name):
+        return True
+
+
+def of_the_first_access(tests):
+    """The first access at the target, where its page was touched at the source: no look of the target waited for it."""
+    look, read, write = bytes([0xC1, 0x85, 0x80, 0x80]), bytes([0xC2, *write_of(77)[1:]]), write_of(77) + b"\xc4"
+    for what, is_in_flight, is_done, placed, data, wanted in (
+            ("a read is left out", True, False, True, read, []),
+            ("a write is told, with the placement", True, False, True, write, [("see", None), ("write", 5)]),
+            ("a write before the placement", True, False, False, write, [("write", 5)]),
+            ("what was done at the source is not told again", True, True, True, read + write, [("write", 5)]),
+            ("a look that showed the page", True, False, True, look + read, [("see", None), ("read", 5)]),
+            ("an access that was not in flight", False, False, True, read, [("read", 5)])):
+        told = Told()
+        side = TargetSide(told, None, None, 0, "10.0.13", is_in_flight, is_done)
+        side.is_ready = side.is_guarded = True
+        if placed:
+            side.placed[5] = 1
+        side.read(Pipe(), data)
+        tests.wants(f"the first access: {what}", told.records, wanted)
+
+
+class NoWire:
+    """In the place of a Wire of a migration that came to nothing."""
+    connections, has_state, left = (), False, ()
+
+    def of(self, is_lane, generation):
+        return None
+
+
+def of_a_source_that_goes_on(tests):
+    """What the source's guest does when it is started again is in no record, and the target goes on from the halt."""
+    told, found = Told(), []
+    side = SourceSide(told, NoWire(), None, False, "10.0.13", found.append)
+    begun, line = write_of(77)[:9], b"vm_state_notify running %d reason 7 (any)\n"
+    side.read(Pipe(), bytes([0xC2, *write_of(5)[1:]]) + begun + line % 0 + line % 1 + write_of(77)[9:] + b"\xc4" + write_of(8, page=6) + b"\xc4")
+    tests.wants("what is told", told.records, [("read", 5), ("halt", None), ("halted", None)])
+    tests.wants("what the target goes on with", (side.in_flight, found), (InFlight(begun, 0, 0), [InFlight(begun, 0, 0)]))
+    side = SourceSide(Told(), NoWire(), None, False, "10.0.13", lambda in_flight: Access(0, "write", 4, 0, 9))
+    side.read(Pipe(), line % 0)
+    tests.wants("an access that was done stands in front of the halt", side.session.records, [("write", 4), ("halt", None), ("halted", None)])
+
+
+def of_restarts(tests):
+    """Where the source started its guest again, how many accesses each side tells since."""
+    found = {name: convert.Recording(files_of(name).__getitem__).restart() for name, _, _ in kept()}
+    tests.wants("of the kept recordings", {name: one for name, one in found.items() if one},
+                {"11.1-both-ran": convert.Restart(True, 621, 9, 9)})
+    files = files_of("11.1-both-ran")
+    returned = convert.Recording({**files, "target.raw": files["target.raw"].replace(b"vm_state_notify running 1", b"vm_state_notify running 2")}.__getitem__)
+    tests.wants("where the target never ran", returned.restart().name, "returned")
+    with tempfile.TemporaryDirectory() as room:
+        for name, data in files.items():
+            with open(f"{room}/{name}", "wb") as out:
+                out.write(data)
+        verdict = judge.judge(room, is_whole=False)
+        tests.wants("beside the verdict", (verdict.line, verdict.is_clean, verdict.restart.line()), (
+            "clean, yes", False, "both ran: the source started its guest again; it told 621 accesses since, and the guest at the target 9; "
+            "the first 9 of both are the same"))
+        with open(f"{room}/restart", encoding="ascii") as file:
+            tests.wants("it is left in the folder", file.read(), verdict.restart.line() + "\n")
+
+
+def of_a_strange_stream(tests):
+    """What the stream has that is not known is told, and is no lack of post-copy."""
+    files = files_of("live")
+    log = files["relay.log"].split(b"down 0 state")[0] + b"strange a command 99\n"
+    said = tests.refuses("a stream that was not understood", Hole, lambda: session_of({**files, "relay.log": log}))
+    tests.wants("what", said, "the stream has what is not known here: a command 99")
+    told = tests.refuses("a library that was not preloaded", Hole,
+                         lambda: session_of({**files, "target.raw": files["target.raw"].replace(b"uffd guard", b"uffd other")}))
+    tests.wants("that is told", "preloaded library" in told, True)
+
+
 def of_ends(tests):
     """Recordings that end early, as when a QEMU ends: what is left is judged, or it is told what it lacks."""
     files = files_of("recovery")
@@ -244,10 +377,18 @@ def of_ends(tests):
 
 
 def of_moments(tests):
-    for table in (SOURCE, TARGET):
-        moments = Moments(table)
-        tests.wants("a line that is no moment", list(moments.of("postcopy_start")), [])
-    tests.wants("a moment with its fields", list(Moments(TARGET).of("uffd fault 7 123")), [("fault", {"page": "7", "thread": "123"})])
+    for side in ("source", "target"):
+        tests.wants("a line that is no moment", list(Moments(side).of("postcopy_start")), [])
+    tests.wants("a moment with its fields", list(Moments("target").of("uffd fault 7 123")), [("fault", {"page": "7", "thread": "123"})])
+    recover = "migrate_set_state new state postcopy-recover"
+    for version, line, moments in (
+            ("5.2.0", "1234@1764236000.123456:vm_state_notify running 1 reason 9 (running)", ["resume"]),
+            ("7.2.22", "1234@1764236000.123456:vm_state_notify running 1 reason 9 (running)", []),
+            ("5.2.0", "ram_load_postcopy_loop @400000 8", ["taken"]), ("10.0.13", "ram_load_postcopy_loop @400000 8", []),
+            ("5.2.0", "postcopy_ram_enable_notify", ["ready"]), ("10.0.13", "postcopy_ram_enable_notify", []),
+            ("11.1.3", "loadvm_postcopy_handle_listen after uffd", ["ready"]), ("5.2.0", "loadvm_postcopy_handle_listen after uffd", []),
+            ("10.0.13", recover, ["messages over a new connection"]), ("10.0.13", f"{recover}-setup", [])):
+        tests.wants(f"the moments of '{line}' in {version}", [moment for moment, _ in Moments("target", version).of(line)], moments)
 
 
 def run(tests):
@@ -256,5 +397,11 @@ def run(tests):
     of_recordings(tests)
     of_examples(tests)
     of_witness(tests)
+    of_its_copies(tests)
     of_facts(tests)
+    of_the_halt(tests)
+    of_the_first_access(tests)
+    of_a_source_that_goes_on(tests)
+    of_restarts(tests)
+    of_a_strange_stream(tests)
     of_ends(tests)

@@ -108,14 +108,13 @@ def of_the_sockets(tests, room):
     folder = f"{room}/a,b %d"
     folders.take(folder)
     os.makedirs(f"{room}/bin")
-    with open(f"{room}/bin/qemu-system-x86_64", "w", encoding="ascii") as out:
+    qemu = f"{room}/bin/qemu"
+    with open(qemu, "w", encoding="ascii") as out:
         out.write("#!/bin/sh\nunset LD_PRELOAD\npwd > where\nexec sleep 60\n")
     os.chmod(out.name, 0o755)
-    path, os.environ["PATH"] = os.environ["PATH"], f"{room}/bin:{os.environ['PATH']}"
     made = folders.Room()
     relay = Relay(folder, made, Window(0x400000, 8), made.name("target"))
-    machine = Machine("target", folder, made, plan_of("live"), f"{room}/a library.so", ())
-    os.environ["PATH"] = path
+    machine = Machine("target", folder, made, plan_of("live"), f"{room}/a library.so", qemu)
     tests.wants("the relay listens on a socket", relay.listener.family, socket.AF_UNIX)
     tests.wants("the sockets and the pipe stand in the room", {os.path.dirname(it) for it in (relay.path, machine.socket, machine.pipe)}, {made.path})
     tests.wants("which is for this user alone", modes_of(made.path), 0o700)

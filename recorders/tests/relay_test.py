@@ -188,15 +188,61 @@ def of_a_bitmap(tests):
 
 
 def of_what_is_strange(tests):
-    data = HEADER + b"\x04" + bytes(4) + b"\5timer" + bytes(100)
+    """A device's state outside of a package is the end of pre-copy. What is not known is told as such, and with its number."""
+    for data, complaint, log in (
+            (b"\x04" + bytes(4) + b"\5timer" + bytes(100), "pre-copy came to its end, and nothing was left to post-copy", []),
+            (command(99) + bytes(100), "the stream has what is not known here: a command 99", ["strange a command 99"]),
+            (b"\x55" + bytes(100), "the stream has what is not known here: a section of kind 0x55", ["strange a section of kind 0x55"])):
+        with tempfile.TemporaryDirectory() as room:
+            ends = Ends(room)
+            source, target = ends.connect()
+            source.sendall(HEADER + data)
+            source.shutdown(socket.SHUT_WR)
+            tests.wants("what is not understood is handed over all the same", read_all(target), HEADER + data)
+            told_of = ends.end()
+            tests.wants("and told of", (ends.relay.complaint, told(told_of, "strange")), (complaint, log))
+
+
+def of_the_package(tests):
+    """What is to be done before the package goes on is done when it has come, and the target has not got it."""
+    found = []
     with tempfile.TemporaryDirectory() as room:
-        ends = Ends(room)
+        ends = Ends(room, before_package=lambda: found.append((ends.relay.is_post, receives(target))))
         source, target = ends.connect()
-        source.sendall(data)
-        source.shutdown(socket.SHUT_WR)
-        tests.wants("what is not understood is handed over all the same", read_all(target), data)
+        source.sendall(BEFORE)
+        read_until(target, BEFORE)
+        source.sendall(SWITCH)
+        wait_for(lambda: ends.relay.is_post)
+        tests.wants("once, and in front of the package", found, [(False, discard("pc.ram", (at(0), 6 * 4096)))])
         ends.end()
-        tests.wants("and told of", ends.relay.complaint, "pre-copy came to its end, and nothing was left to post-copy")
+
+
+def receives(target):
+    """What has come, and was not read."""
+    return target.recv(1 << 16, socket.MSG_PEEK)
+
+
+def read_until(target, data):
+    while data:
+        data = data[len(target.recv(min(len(data), 1 << 16))):]
+
+
+def of_multifd(tests):
+    """A connection that begins as multifd's is handed on in both directions, unread; and it is cut with the others."""
+    with tempfile.TemporaryDirectory() as room:
+        ends = Ends(room, has_multifd=True)
+        source, target = ends.connect()
+        source.sendall(BEFORE)
+        more, there = ends.connect()
+        more.sendall(stream.MULTIFD_MAGIC + b"any bytes")
+        tests.wants("what goes down", there.recv(100), stream.MULTIFD_MAGIC + b"any bytes")
+        there.sendall(b"back")
+        tests.wants("what comes back", more.recv(100), b"back")
+        with ends.relay.lock:
+            ends.relay.cut()
+        tests.wants("it is cut with the others", there.recv(100), b"")
+        log = ends.end()
+    tests.wants("what is told of it", ([line for line in log if line.startswith(("open", "multifd"))]), ["open 0 main new", "multifd"])
 
 
 def wait_for(is_so, seconds=10):
@@ -211,3 +257,5 @@ def run(tests):
     of_few_pages(tests)
     of_a_bitmap(tests)
     of_what_is_strange(tests)
+    of_the_package(tests)
+    of_multifd(tests)

@@ -1,7 +1,9 @@
 """The parser of the migration stream, on bytes made by hand."""
+import struct
+
 import stream
-from streams import (CONFIGURATION, END, EOS, HEADER, answer, bitmap, command, discard, footer, package, page, reader, request,
-                     section_part, section_start, sizes, zeros)
+from streams import (CONFIGURATION, END, EOS, HEADER, answer, bitmap, command, discard, footer, name, package, page, reader,
+                     request, section_part, section_start, sizes, zeros)
 
 A, B = bytes([1]) * 4096, bytes([2]) * 4096
 WHOLE = (HEADER + CONFIGURATION + command(1) + command(2, b"\0\0\0\1") + command(3, bytes(16)) +
@@ -36,6 +38,7 @@ def run(tests):
     tests.wants("a page is its header and its contents", [item.head + item.contents == item.raw for item in items
                                                           if isinstance(item, stream.Page)], [True] * 4)
     tests.wants("commands", [item.name for item in items if isinstance(item, stream.Command)], ["open-return-path", "ping", "advise"])
+    tests.wants("each command that is known", [item.name for item in down(HEADER + command(9) + command(11))[1:]], ["resume", "switchover-start"])
     tests.wants("the package is not looked into", [item.length for item in items if isinstance(item, stream.Package)], [28])
     found = [item for item in items if isinstance(item, stream.Discard)]
     tests.wants("ranges", [(item.block, item.ranges) for item in found], [("pc.ram", [(0x5000, 0x1000), (0x9000, 0x3000)])])
@@ -43,6 +46,14 @@ def run(tests):
     for length in range(len(HEADER + CONFIGURATION), len(WHOLE), 997):
         part = down(WHOLE[:length])
         tests.wants(f"a stream of {length} bytes gives the items that are whole", part, items[:len(part)])
+
+    huge = struct.pack(">Q", (1 << 22) + 4096 | 0x04) + name("pc.ram") + struct.pack(">QQ", 1 << 22, 1 << 21) + name("vga") + struct.pack(">Q", 4096)
+    found = down(HEADER + section_start() + huge + EOS + footer() + section_part() + page(0x5000, A, "pc.ram") + EOS)
+    tests.wants("a block of huge pages", [item.block for item in found if isinstance(item, stream.Page)], ["pc.ram"])
+    tests.refuses("a page of no block", stream.Strange, lambda: down(HEADER + section_part() + page(0x5000, A)))
+    flush = struct.pack(">Q", 0x200)
+    found = down(HEADER + section_part() + page(0x5000, A, "pc.ram") + flush + page(0x6000, B) + EOS)
+    tests.wants("the channels of multifd are flushed", ([item.raw for item in found].count(flush), sum(isinstance(item, stream.Page) for item in found)), (1, 2))
 
     resumed = command(1) + command(9) + command(10, b"\6pc.ram") + section_part() + page(0x8000, A, "pc.ram") + EOS
     tests.wants("a resumed stream has no header", b"".join(item.raw for item in down(resumed, True)), resumed)

@@ -37,7 +37,7 @@ start32:
     call walk
     .balign 8
 gdt:
-    .quad 0, 0x00cf9a000000ffff, 0x00cf92000000ffff
+    .quad 0, 0x00cf9b000000ffff, 0x00cf93000000ffff /* marked as accessed: a processor cannot mark them in a ROM */
 gdtr:
     .word 23
     .long gdt
@@ -51,9 +51,12 @@ trampoline:
     .word 0xff00, 0xf000
 
 /*
- * Both touch the word, which waits if the page is absent, tell the bytes, which begin with a look, and do the access. From the
- * touch on it is one run of instructions without a jump and within one page of code, so TCG translates it as one block, and
- * TCG stops a processor only between blocks: all of it is on one side of the halt.
+ * Both touch the word, which waits if the page is absent, tell the bytes, which begin with a look, and do the access, which is
+ * one instruction of 64 bits (MMX's move, which KVM can emulate too). From the touch on it is one run of instructions without a
+ * jump and within one page of code. Older QEMUs (5.2, 7.2) translate it as one block, and TCG stops a processor only between
+ * blocks: all of it is on one side of the halt. Newer ones (10.0, 11.1) end a block behind each `out`, and KVM stops a processor
+ * anywhere: there the halt may come into an access. What was told of it by then says on which side a read is: it stands right
+ * before the value's first byte. A write stands right before the last byte.
  */
 
 /* read_word(word, bytes): tells 10 bytes, and then 11 of what was read */
@@ -63,6 +66,7 @@ read_word:
     pushl %esi
     movl 12(%esp), %ecx
     movl 16(%esp), %esi
+    subl $8, %esp
     jmp 1f
     .balign 256
 1:  movl (%ecx), %eax
@@ -70,8 +74,10 @@ read_word:
     lodsb
     outb %al, PORT
     .endr
-    movl (%ecx), %ebx
-    movl 4(%ecx), %edx
+    movq (%ecx), %mm0
+    movq %mm0, (%esp)
+    movl (%esp), %ebx
+    movl 4(%esp), %edx
     .rept 11
     movl %ebx, %eax
     andl $63, %eax
@@ -80,6 +86,7 @@ read_word:
     shrdl $6, %edx, %ebx
     shrl $6, %edx
     .endr
+    addl $8, %esp
     popl %esi
     popl %ebx
     ret
@@ -87,12 +94,10 @@ read_word:
 /* write_word(word, bytes, low, high): tells 21 bytes, writes, and tells a last one */
     .balign 512
 write_word:
-    pushl %ebx
     pushl %esi
-    movl 12(%esp), %ecx
-    movl 16(%esp), %esi
-    movl 20(%esp), %ebx
-    movl 24(%esp), %edx
+    movl 8(%esp), %ecx
+    movl 12(%esp), %esi
+    movq 16(%esp), %mm0
     jmp 1f
     .balign 256
 1:  movl (%ecx), %eax
@@ -100,12 +105,10 @@ write_word:
     lodsb
     outb %al, PORT
     .endr
-    movl %ebx, (%ecx)
-    movl %edx, 4(%ecx)
+    movq %mm0, (%ecx)
     movb $0xc4, %al
     outb %al, PORT
     popl %esi
-    popl %ebx
     ret
 
     .section .note.GNU-stack, "", @progbits

@@ -1,0 +1,115 @@
+"""What differs between versions of QEMU: moments in its trace, commands of its stream, and names of states.
+
+A moment of a migration is a line of the trace. `halt`: the guest stands still at `vm_state_notify running 0`; `runstate_set`
+comes before the processors do. `ready`: memory is guarded `after uffd`; pages are taken before
+`loadvm_postcopy_handle_listen` returns. Placements are the preloaded library's lines: QEMU's own `postcopy_place_page` comes
+behind the wake. A version stands here as (major, minor); what stands without one is the same in all that were tried, 5.2 to
+11.1.
+"""
+import re
+from dataclasses import dataclass
+
+FIRST = (0, 0)
+PC_RAM = "pc.ram"  # the guest's memory, in all versions
+KEPT = "7.2"  # the version of recordings that tell of none
+STAMP = re.compile(r"^\d+@\d+\.\d+:")  # in front of a line of the trace, as long as STAMPED_BEFORE
+STAMPED_BEFORE = (7, 0)
+
+# Commands of the stream by their numbers. A version has those of earlier ones too.
+COMMANDS = {1: "open-return-path", 2: "ping", 3: "advise", 4: "listen", 5: "run", 6: "discard", 7: "package",
+            8: "colo", 9: "resume", 10: "recv-bitmap",
+            11: "switchover-start"}  # 10.0
+
+# Where a migration stands, by `query-migrate`.
+ENDS = ("completed", "failed", "cancelled", "postcopy-paused")
+IN_POSTCOPY = ("postcopy-active", "postcopy-recover", "postcopy-recover-setup",  # 10.0
+               "postcopy-device")  # 11.1: the target loads the package
+IN_PRECOPY = ("active", "device",
+              "failing")  # 11.1
+STOPS, RUNS = "vm_state_notify running 0 ", "vm_state_notify running 1 "  # what the lines of a guest's halt and start begin with
+LIBRARY = "uffd"  # what the lines of the preloaded library begin with
+
+
+@dataclass(frozen=True)
+class Form:
+    """A form of a moment's line, in the versions from `since` on and before `before`."""
+    moment: str
+    form: str
+    since: tuple = FIRST
+    before: tuple = (1000, 0)
+
+    @property
+    def event(self):
+        return self.form.split(" ")[0].rstrip("$")
+
+    def is_of(self, version):
+        return self.since <= version < self.before
+
+
+SOURCE = (
+    Form("halt", STOPS),
+    Form("start again", RUNS),
+    Form("page", r"ram_save_page (?P<block>.*): offset: (?P<offset>\w+) host: "),
+    Form("ask", r"migrate_handle_rp_req_pages "),
+    Form("shut", r"source_return_path_thread_shut"),
+    Form("pages over a new connection", r"migrate_set_state new state postcopy-recover$"),
+    Form("asks over a new connection", r"postcopy_pause_return_path_continued"),
+)
+TARGET = (
+    Form("state", r"loadvm_handle_cmd_packaged_received "),
+    Form("ready", r"postcopy_ram_enable_notify", before=(7, 0)),
+    Form("ready", r"loadvm_postcopy_handle_listen after uffd", since=(7, 0)),
+    Form("resume", RUNS),
+    Form("taken", r"ram_load_postcopy_loop @(?P<offset>\w+) (?P<flags>\w+)$", before=(7, 1)),
+    Form("taken", r"ram_load_postcopy_loop chan=(?P<channel>\d+) addr=(?P<offset>\w+) flags=(?P<flags>\w+)", since=(7, 1)),
+    Form("message", r"migrate_send_rp_message (?P<kind>\d+): "),
+    Form("messages over a new connection", r"migrate_set_state new state postcopy-recover$"),
+    Form("pages over a new connection", r"postcopy_pause_incoming_continued"),
+    Form("pages over a new lane", r"postcopy_pause_fast_load_continued", since=(7, 1)),
+    Form("guard", rf"{LIBRARY} guard "),
+    Form("have", rf"{LIBRARY} have (?P<page>\d+) (?P<place>\d+)"),
+    Form("fault", rf"{LIBRARY} fault (?P<page>\d+) (?P<thread>\d+)"),
+    Form("place", rf"{LIBRARY} place (?P<page>\d+) (?P<place>\d+)"),
+    Form("zero", rf"{LIBRARY} zero (?P<page>\d+)"),
+    Form("refused", rf"{LIBRARY} refused (?P<page>\d+) (?P<error>\d+)"),
+)
+# What is traced besides, for who reads a recording. A version that has not all of it is recorded all the same.
+BESIDES = {
+    "source": ("runstate_set", "postcopy_start", "migrate_set_state", "postcopy_pause_return_path",
+               "migration_completion_postcopy_end_after_complete", "migration_return_path_end_before",
+               "await_return_path_close_on_source_joining"),
+    "target": ("runstate_set", "loadvm_handle_cmd_packaged", "loadvm_postcopy_handle_listen", "loadvm_postcopy_handle_run_bh",
+               "postcopy_place_page", "postcopy_place_page_zero", "migrate_set_state", "postcopy_ram_fault_thread_request",
+               "postcopy_ram_fault_thread_quit"),
+}
+FORMS = {"source": SOURCE, "target": TARGET}
+
+
+def version_of(text):
+    """A version's text as (major, minor)."""
+    return tuple(int(part) for part in text.split(".")[:2])
+
+
+def events_of(side, version):
+    """The trace events that the moments of a side need."""
+    return sorted({form.event for form in FORMS[side] if form.is_of(version) and form.event != LIBRARY})
+
+
+class Moments:
+    """Finds in a line of a side's trace the moments that it is."""
+
+    def __init__(self, side, version=KEPT):
+        version = version_of(version)
+        self.is_stamped = version < STAMPED_BEFORE
+        self.words = {}
+        for form in FORMS[side]:
+            if form.is_of(version):
+                self.words.setdefault(form.event, []).append((form.moment, re.compile(form.form)))
+
+    def of(self, line):
+        """Each moment that the line is, with its fields."""
+        if self.is_stamped:
+            line = STAMP.sub("", line)
+        for moment, form in self.words.get(line.split(" ", 1)[0], ()):
+            if match := form.match(line):
+                yield moment, match.groupdict()

@@ -1,0 +1,97 @@
+"""A QEMU, as a program: its version, and what it lacks for a migration that is to be recorded."""
+import functools
+import json
+import os
+import re
+import subprocess
+
+import dialect
+import releases
+from build import Missing
+
+LONGEST = 60  # seconds for an answer
+
+
+def free_huge_pages():
+    """How many pages of 2 MiB this machine has free."""
+    try:
+        with open("/sys/kernel/mm/hugepages/hugepages-2048kB/free_hugepages", encoding="ascii") as file:
+            return int(file.read())
+    except OSError:
+        return 0
+
+
+class Emulator:
+    NAME = "qemu-system-x86_64"
+
+    def __init__(self, name=NAME):
+        self.path = releases.found(name)
+        told = self.ask("-version").stdout
+        match = re.search(r"version (\d+\.\d+(\.\d+)?)", told)
+        if not match:
+            raise Missing(f"{self.path} does not say what version of QEMU it is: {told[:200]!r}")
+        self.version_text = match[1]
+        self.version = dialect.version_of(match[1])
+
+    def __str__(self):
+        return f"QEMU {self.version_text}"
+
+    def ask(self, *words, text="", **environment):
+        try:
+            done = subprocess.run([self.path, *words], input=text, capture_output=True, text=True, timeout=LONGEST,
+                                  env=dict(os.environ, **environment))
+        except (OSError, subprocess.TimeoutExpired) as fault:
+            raise Missing(f"{self.path} cannot be run: {fault}") from None
+        if done.returncode:
+            raise Missing(f"{self.path} {' '.join(words)}: status {done.returncode}: {done.stderr.strip()[-300:]}")
+        return done
+
+    @functools.cached_property
+    def events(self):
+        """All events that it can trace."""
+        told = self.ask("-trace", "help")  # 5.2 tells them on its standard error
+        return set((told.stdout or told.stderr).split())
+
+    def trace(self, side):
+        """The events that a side is to trace. Raises Missing where it lacks one that a moment needs."""
+        needed = dialect.events_of(side, self.version)
+        if lacks := [event for event in needed if event not in self.events]:
+            raise Missing(f"{self} ({self.path}) has no trace event {', '.join(lacks)}: recorders/qemu/dialect.py has to know "
+                          "what its version has in place of it")
+        return needed + [event for event in dialect.BESIDES[side] if event in self.events and event not in needed]
+
+    def machines(self):
+        """The types of machines, and what `pc` stands for."""
+        told = self.ask("-machine", "help").stdout
+        alias = re.search(r"^pc +.*\(alias of (\S+)\)", told, re.MULTILINE)
+        return set(re.findall(r"^(\S+)", told, re.MULTILINE)), alias[1] if alias else "pc"
+
+    def machine_for(self, target):
+        """The type of machine that both sides have: the source's `pc`, or the target's where the source is newer."""
+        if self.path == target.path:
+            return "pc"
+        older, newer = sorted((self, target), key=lambda one: one.version)
+        machine = older.machines()[1]
+        if machine not in newer.machines()[0]:
+            raise Missing(f"{newer} ({newer.path}) has no machine {machine}, which {older} has for pc")
+        return machine
+
+    def require(self, plan, library):
+        """Raises Missing where it cannot make a plan's migrations, in QEMU's own words where it has some."""
+        if plan.huge and (free := free_huge_pages()) < plan.ram:
+            raise Missing(f"{plan.ram} free pages of 2 MiB are needed, and there are {free}: left out. As root:\n"
+                          f"    sysctl vm.nr_hugepages={plan.ram}")
+        if plan.kvm and not os.access("/dev/kvm", os.R_OK | os.W_OK):
+            raise Missing("there is no /dev/kvm that this user may open: left out")
+        names = plan.capabilities()
+        asked = [{"execute": "qmp_capabilities"},
+                 {"execute": "migrate-set-capabilities",
+                  "arguments": {"capabilities": [{"capability": name, "state": True} for name in names]}}]
+        text = "".join(json.dumps(one) + "\n" for one in [*asked, {"execute": "quit"}])
+        done = self.ask("-machine", "none", "-nodefaults", "-no-user-config", "-display", "none", "-qmp", "stdio", text=text)
+        for line in done.stdout.splitlines():
+            if refused := json.loads(line).get("error"):
+                raise Missing(f"{self} ({self.path}) cannot migrate with {', '.join(names)}: {refused['desc']}")
+        said = self.ask("-version", LD_PRELOAD=os.path.abspath(library)).stderr.strip()
+        if os.path.abspath(library) in said:
+            raise Missing(f"{self} ({self.path}) does not take the preloaded library: {said[:300]}")

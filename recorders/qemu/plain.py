@@ -1,0 +1,61 @@
+"""A QEMU with the test guest and nothing else: no preload, no trace, no relay. It is asked by QMP alone."""
+import os
+import subprocess
+import time
+
+from build import Missing
+from qmp import Gone, Hangs, Qmp
+
+SECONDS = 10  # for each thing that is waited for
+
+
+class Side:
+    """A QEMU with the test guest, whose port is a file."""
+
+    def __init__(self, name, emulator, room, rom, accelerator, *extra):
+        self.hangs = False
+        self.name, self.told, self.errors = name, room.name(f"{name}.told"), room.name(f"{name}.errors")
+        monitor = room.name(f"{name}.qmp")
+        with open(self.errors, "w", encoding="utf-8") as errors:
+            self.process = subprocess.Popen(
+                [emulator.path, "-machine", f"pc,accel={accelerator}", "-m", "32M", "-nodefaults", "-no-user-config", "-display", "none",
+                 "-bios", rom, "-chardev", f"file,id=told,path={self.told}", "-device", "isa-debugcon,iobase=0xe9,chardev=told",
+                 "-qmp", f"unix:{monitor},server=on,wait=off", *extra], stderr=errors, stdin=subprocess.DEVNULL)
+        try:
+            self.qmp = Qmp(monitor, lambda: self.process.poll() is None, SECONDS)
+        except Gone as fault:
+            self.process.kill()
+            self.process.wait()
+            raise Missing(f"{name}: {fault}: {self.said()}") from None
+
+    def said(self):
+        with open(self.errors, encoding="utf-8") as file:
+            return (file.read().strip().splitlines() or [""])[-1]
+
+    def stands(self):
+        """Where the migration stands and where the guest does, in QEMU's words."""
+        if self.hangs:
+            return "hangs", "hangs"
+        try:
+            return self.qmp("query-migrate").get("status", "none"), self.qmp("query-status")["status"]
+        except Hangs:
+            self.hangs = True
+            return "hangs", "hangs"
+        except Gone:
+            return "ended", "ended"
+
+    def count(self):
+        return os.path.getsize(self.told)
+
+    def end(self):
+        self.process.kill()
+        self.process.wait()
+        self.qmp.close()
+
+
+def wait_until(is_so, pause=0.01, seconds=SECONDS):
+    """Waits until something is so, and answers what was found."""
+    until = time.monotonic() + seconds
+    while not (found := is_so()) and time.monotonic() < until:
+        time.sleep(pause)
+    return found

@@ -1,0 +1,147 @@
+"""QEMUs of other releases of Debian, in a folder of the user's cache: each by its own loader and its own libraries.
+
+A root has what debootstrap resolves and downloads for QEMU, of which QEMU itself, its libraries and its data are unpacked.
+Nothing of it is installed or run but QEMU, and neither a chroot nor root's rights are needed.
+"""
+import contextlib
+import glob
+import os
+import re
+import shlex
+import shutil
+import subprocess
+import tarfile
+
+from build import PACKAGES, Missing
+
+MIRROR = "http://deb.debian.org/debian"
+NAME = "qemu-system-x86_64"
+PACKAGE = "qemu-system-x86"
+LIBRARIES = "usr/lib/x86_64-linux-gnu"
+NEEDED = re.compile(rf"usr/(lib|lib64|share/(qemu|seabios|ipxe|vgabios))/.*|usr/bin/{NAME}")
+TRIES = 3  # to download
+SUITE = re.compile("[a-z][a-z0-9.-]*")
+
+
+def top():
+    """Where the roots are."""
+    cache = os.environ.get("XDG_CACHE_HOME") or os.path.expanduser("~/.cache")
+    return f"{cache}/postcopy/qemu"
+
+
+def qemu_of(root):
+    return f"{root}/{NAME}"
+
+
+def require_tools():
+    lacks = [tool for tool in ("debootstrap", "dpkg-deb") if not shutil.which(tool)]
+    if lacks:
+        raise Missing(f"{', '.join(lacks)} not found. On Debian:\n    apt-get install --no-install-recommends debootstrap dpkg")
+
+
+def download(suite, folder, mirror, say):
+    """Has debootstrap resolve what QEMU of a suite needs, and download it. Answers the packages' files.
+
+    It goes on with what a try before has downloaded, so a mirror that fails for a moment is tried again.
+    """
+    for _ in range(TRIES - 1):
+        with contextlib.suppress(Missing):
+            return try_download(suite, folder, mirror, say)
+    return try_download(suite, folder, mirror, say)
+
+
+def try_download(suite, folder, mirror, say):
+    words = ["debootstrap", "--download-only", "--variant=minbase", f"--include={PACKAGE}", suite, folder, mirror]
+    last, count = "debootstrap said nothing", 0
+    with subprocess.Popen(words, stdout=subprocess.PIPE, stderr=subprocess.STDOUT, text=True, env=dict(os.environ, LC_ALL="C")) as process:
+        for line in process.stdout:
+            last = line.strip() or last
+            if line.startswith("I: Retrieving "):
+                count += 1
+                say(f"download: {count}, {line.split()[2]}")
+    if process.returncode:
+        raise Missing(f"debootstrap of {suite}: {last}")
+    return sorted(glob.glob(f"{folder}/var/cache/apt/archives/*.deb"))
+
+
+def merged(name):
+    """A path within a root where `lib` is `usr/lib`, as in each release since Debian 12."""
+    name = os.path.normpath(name.lstrip("./") or ".")
+    return f"usr/{name}" if re.match("lib(64)?(/|$)", name) else name
+
+
+def unpack(package, root):
+    """Unpacks of a package what QEMU runs with: no rights of others, no device, nothing outside of the root."""
+    with subprocess.Popen(["dpkg-deb", "--fsys-tarfile", package], stdout=subprocess.PIPE) as process:
+        with tarfile.open(fileobj=process.stdout, mode="r|") as archive:
+            for member in archive:
+                member.name = merged(member.name)
+                if not NEEDED.fullmatch(member.name) or not (member.isreg() or member.issym() or member.islnk()):
+                    continue
+                if member.issym() and member.linkname.startswith("/"):
+                    member.linkname = os.path.relpath(merged(member.linkname), os.path.dirname(member.name))
+                elif member.islnk():
+                    member.linkname = merged(member.linkname)
+                member.mode = 0o755 if member.mode & 0o111 else 0o644
+                archive.extract(member, root)
+    if process.returncode:
+        raise Missing(f"dpkg-deb cannot unpack {package}")
+
+
+def loader_of(root):
+    for name in ("ld-linux-x86-64.so.2", "ld-*.so"):
+        if found := glob.glob(f"{root}/{LIBRARIES}/{name}"):
+            return os.path.realpath(found[0])
+    raise Missing(f"{root} has no loader")
+
+
+def write_start(root, place):
+    """Writes the program that starts the root's QEMU, where the root is to stand in `place`."""
+    loader = os.path.relpath(loader_of(root), os.path.realpath(root))
+    here, libraries = shlex.quote(place), f"{place}/{LIBRARIES}"
+    start = qemu_of(root)
+    with open(start, "w", encoding="utf-8") as out:
+        out.write("#!/bin/sh\n# Starts the QEMU of this folder by its own loader and libraries. Written by recorders/qemu/versions.\n"
+                  f"QEMU_MODULE_DIR={shlex.quote(libraries + '/qemu')}\nexport QEMU_MODULE_DIR\n"
+                  f"exec {here}/{loader} --library-path {shlex.quote(libraries + ':' + libraries + '/pulseaudio')} "
+                  f"{here}/usr/bin/{NAME} -L {here}/usr/share/qemu -L {here}/usr/share/seabios \"$@\"\n")
+    os.chmod(start, 0o755)
+
+
+def make(suite, mirror, say):
+    """Makes the root of a suite; it is there as a whole, or not at all."""
+    if not SUITE.fullmatch(suite):
+        raise Missing(f"'{suite}' is no name of a release of Debian")
+    root = f"{top()}/{suite}"
+    new, downloads = f"{root}.new", f"{root}.packages"
+    for folder in (new, downloads):
+        shutil.rmtree(folder, ignore_errors=True)
+    try:
+        os.makedirs(new)
+        packages = download(suite, downloads, mirror, say)
+        for number, package in enumerate(packages, 1):
+            say(f"unpack: {number} of {len(packages)}, {os.path.basename(package).split('_')[0]}")
+            unpack(package, new)
+        write_start(new, root)
+        shutil.rmtree(root, ignore_errors=True)
+        os.rename(new, root)
+    except OSError as fault:
+        raise Missing(f"the root of {suite} cannot be made: {fault}") from None
+    finally:
+        for folder in (new, downloads):
+            shutil.rmtree(folder, ignore_errors=True)
+    return root
+
+
+def found(name):
+    """The path of a QEMU: of a release whose root is there, of a program in PATH, or the path that is named."""
+    if "/" in name:
+        path = os.path.abspath(name)
+    elif SUITE.fullmatch(name) and os.path.exists(qemu_of(f"{top()}/{name}")):
+        path = qemu_of(f"{top()}/{name}")
+    else:
+        path = shutil.which(name)
+    if not path or not os.access(path, os.X_OK) or os.path.isdir(path):
+        raise Missing(f"{name} is no program here, and no release that recorders/qemu/versions has made a root of. On Debian:\n"
+                      f"    apt-get install --no-install-recommends {PACKAGES}")
+    return path

@@ -1,0 +1,221 @@
+"""What differs between QEMUs: what one lacks is told before, roots of other releases, one that hangs, and a guest at both sides."""
+import importlib.machinery
+import importlib.util
+import io
+import os
+import socket
+import stat
+import tarfile
+import tempfile
+import threading
+import time
+
+import build
+import emulator
+import machine
+import plain
+import qmp
+import releases
+import run as migration
+from emulator import Emulator
+from kinds import plan_of
+from results import Result
+
+QEMU = f"{os.path.dirname(os.path.dirname(os.path.abspath(__file__)))}/qemu"
+
+
+def command(name):
+    """A command of recorders/qemu, as a module."""
+    loader = importlib.machinery.SourceFileLoader(f"{name}_command", f"{QEMU}/{name}")
+    module = importlib.util.module_from_spec(importlib.util.spec_from_loader(loader.name, loader))
+    loader.exec_module(module)
+    return module
+
+
+def read(path):
+    with open(path, encoding="utf-8") as file:
+        return file.read()
+
+
+def program(path, *lines):
+    with open(path, "w", encoding="ascii") as out:
+        print("#!/bin/sh", *lines, sep="\n", file=out)
+    os.chmod(path, 0o755)
+    return path
+
+
+def qemu_like(room, version, events, refusal="", stream=1, machines="pc  Standard PC (alias of pc-i440fx-7.2)\\npc-i440fx-7.2  Standard PC"):
+    """A program that answers as a QEMU does where it is asked what it is."""
+    answer = f'{{"error": {{"desc": "{refusal}"}}}}' if refusal else '{"return": {}}'
+    return program(f"{room}/qemu-{version}", 'case "$*" in',
+                   f"*version*) echo 'QEMU emulator version {version} (Debian 1:{version})' ;;",
+                   f"*trace*) printf '%s\\n' {' '.join(events)} >&{stream} ;;",
+                   f"*'machine help'*) printf '{machines}\\n' ;;",
+                   f"*) cat > {room}/asked; printf '%s\\n' '{{\"return\": {{}}}}' '{answer}' ;;", "esac")
+
+
+def of_what_is_lacking(tests, room):
+    needed = emulator.dialect.events_of("target", (10, 0))
+    tests.wants("what a side needs has no line of the library", [event for event in needed if event == emulator.dialect.LIBRARY], [])
+    one = Emulator(qemu_like(room, "10.0.13", [*needed, "runstate_set", "other"]))
+    tests.wants("a version", (str(one), one.version), ("QEMU 10.0.13", (10, 0)))
+    tests.wants("what is traced: what moments need, and of the rest what is there", one.trace("target"), [*needed, "runstate_set"])
+    old = Emulator(qemu_like(room, "5.2.0", emulator.dialect.events_of("target", (5, 2)), stream=2))
+    tests.wants("events that are told on standard error", old.trace("target"), emulator.dialect.events_of("target", (5, 2)))
+    tests.wants("5.2 is asked for no event of a lane", "postcopy_pause_fast_load_continued" in old.trace("target"), False)
+    said = tests.refuses("a QEMU that lacks an event", build.Missing, lambda: one.trace("source"))
+    tests.wants("the event is named", "vm_state_notify" not in said and "ram_save_page" in said, True)
+    library = program(f"{room}/library")
+    refusing = Emulator(qemu_like(room, "5.2.1", needed, "Invalid parameter postcopy-preempt"))
+    said = tests.refuses("a QEMU that refuses a capability", build.Missing, lambda: refusing.require(plan_of("preempt"), library))
+    tests.wants("in its own words", said.endswith("cannot migrate with postcopy-ram, postcopy-blocktime, postcopy-preempt: Invalid parameter postcopy-preempt"), True)
+    said = tests.refuses("a library that cannot be preloaded", build.Missing, lambda: one.require(plan_of("live"), library))
+    tests.wants("that is told", "does not take the preloaded library" in said, True)
+    access, free, os.access, emulator.free_huge_pages = os.access, emulator.free_huge_pages, lambda path, mode: False, lambda: 31
+    for kind, words in (("kvm", "no /dev/kvm"), ("huge", "32 free pages of 2 MiB are needed, and there are 31")):
+        said = tests.refuses(f"a machine that has nothing for {kind}", build.Missing, lambda: one.require(plan_of(kind), library))
+        tests.wants("it is told as left out", words in said and "left out" in said, True)
+    os.access, emulator.free_huge_pages = access, free
+    tests.wants("what is asked of a QEMU", '"capability": "postcopy-ram", "state": true' in read(f"{room}/asked"), True)
+    tests.wants("capabilities of multifd", plan_of("multifd").capabilities(), ["postcopy-ram", "postcopy-blocktime", "multifd"])
+    tests.refuses("a QEMU that is not there", build.Missing, lambda: Emulator(f"{room}/nothing"))
+    tests.refuses("a program that is no QEMU", build.Missing, lambda: Emulator(program(f"{room}/other", "echo hello")))
+    newer = Emulator(qemu_like(room, "11.1.3", needed, machines="pc  PC (alias of pc-i440fx-11.1)\\npc-i440fx-11.1  PC\\npc-i440fx-7.2  PC"))
+    seven = Emulator(qemu_like(room, "7.2.22", needed))
+    tests.wants("the machine of both, from older to newer and back, and alone",
+                (seven.machine_for(newer), newer.machine_for(seven), newer.machine_for(newer)), ("pc-i440fx-7.2", "pc-i440fx-7.2", "pc"))
+    none = Emulator(qemu_like(room, "12.0.0", needed, machines="pc  PC (alias of pc-i440fx-12.0)\\npc-i440fx-12.0  PC"))
+    tests.refuses("a newer QEMU without the older's machine", build.Missing, lambda: seven.machine_for(none))
+
+
+def of_roots(tests, room):
+    """A package is unpacked into a root: what QEMU runs with, below usr, without rights of others."""
+    before, os.environ["PATH"] = os.environ["PATH"], f"{room}/bin:{os.environ['PATH']}"
+    os.makedirs(f"{room}/bin")
+    program(f"{room}/bin/dpkg-deb", 'cat "$2"')
+    with tarfile.open(f"{room}/package.deb", "w") as archive:
+        for name, mode, link in (("./lib/x86_64-linux-gnu/ld-2.31.so", 0o4755, ""), ("./usr/lib/x86_64-linux-gnu/liba.so.1", 0o644, ""),
+                                 ("./lib64/ld-linux-x86-64.so.2", 0o777, "/lib/x86_64-linux-gnu/ld-2.31.so"), ("./bin/su", 0o4755, ""),
+                                 ("./usr/share/qemu/bios.bin", 0o644, ""), ("./usr/share/doc/readme", 0o644, ""), ("../../outside", 0o644, "")):
+            member = tarfile.TarInfo(name)
+            member.mode, member.type, member.linkname = mode, tarfile.SYMTYPE if link else tarfile.REGTYPE, link
+            archive.addfile(member, io.BytesIO())
+    root = f"{room}/cache/postcopy/qemu/trixie"
+    os.makedirs(root)
+    releases.unpack(f"{room}/package.deb", root)
+    found = sorted(os.path.relpath(os.path.join(where, name), root) for where, _, names in os.walk(root) for name in names)
+    tests.wants("what is unpacked", found, ["usr/lib/x86_64-linux-gnu/ld-2.31.so", "usr/lib/x86_64-linux-gnu/liba.so.1",
+                                           "usr/lib64/ld-linux-x86-64.so.2", "usr/share/qemu/bios.bin"])
+    tests.wants("no rights of others", stat.S_IMODE(os.stat(f"{root}/usr/lib/x86_64-linux-gnu/ld-2.31.so").st_mode), 0o755)
+    tests.wants("a link stays within", os.path.samefile(f"{root}/usr/lib64/ld-linux-x86-64.so.2", f"{root}/usr/lib/x86_64-linux-gnu/ld-2.31.so"), True)
+    releases.write_start(root, root)
+    with open(releases.qemu_of(root), encoding="utf-8") as file:
+        tests.wants("QEMU is started by the root's loader", f"exec {root}/usr/lib/x86_64-linux-gnu/ld-2.31.so --library-path" in file.read(), True)
+    kept, os.environ["XDG_CACHE_HOME"] = os.environ.get("XDG_CACHE_HOME"), f"{room}/cache"
+    tests.wants("a release is found by its name", releases.found("trixie"), releases.qemu_of(root))
+    tests.refuses("one without a root", build.Missing, lambda: releases.found("sid"))
+    program(f"{room}/bin/debootstrap", "echo 'I: Retrieving qemu-system-x86 1'; echo 'E: no network' >&2; exit 1")
+    said = tests.refuses("a root that cannot be made", build.Missing, lambda: releases.make("sid", "http://nowhere", lambda line: None))
+    tests.wants("why, and nothing is left of it", ("no network" in said, os.listdir(f"{room}/cache/postcopy/qemu")), (True, ["trixie"]))
+    program(f"{room}/bin/debootstrap", f"echo >> {room}/tries", 'to=$5/var/cache/apt/archives', 'mkdir -p "$to"',
+            f'[ -e "$to/a.deb" ] || {{ cp {room}/package.deb "$to/a.deb"; echo "E: no network"; exit 1; }}')
+    made = releases.make("sid", "http://nowhere", lambda line: None)
+    tests.wants("what fails once is tried again, with what is there already", (releases.found("sid"), len(read(f"{room}/tries"))), (releases.qemu_of(made), 2))
+    tests.wants("the downloads are gone", sorted(os.listdir(f"{room}/cache/postcopy/qemu")), ["sid", "trixie"])
+    tests.refuses("a name that is no release", build.Missing, lambda: releases.make("../up", "http://nowhere", lambda line: None))
+    os.environ["PATH"] = before
+    os.environ.pop("XDG_CACHE_HOME")
+    if kept is not None:
+        os.environ["XDG_CACHE_HOME"] = kept
+
+
+class Silent:
+    """In the place of a Qmp: QEMU does not answer."""
+    calls = 0
+
+    def __call__(self, command, **arguments):
+        self.calls += 1
+        raise qmp.Hangs("it has not answered for 20 s")
+
+
+def of_one_that_hangs(tests, room):
+    path = f"{room}/monitor"
+    with socket.socket(socket.AF_UNIX) as listener:
+        listener.bind(path)
+        listener.listen()
+        tests.refuses("a monitor that does not answer", qmp.Hangs, lambda: qmp.Qmp(path, lambda: True, 0.2))
+    hanging = machine.Machine.__new__(machine.Machine)
+    hanging.name, hanging.qmp, hanging.lock, hanging.hangs = "target", Silent(), threading.Lock(), False
+    hanging.is_running = lambda: True
+    tests.wants("where its migration stands", [hanging.migration(), hanging.wait_for(("completed",), 30)], ["hangs", "hangs"])
+    tests.wants("it is waited for once", hanging.qmp.calls, 1)
+    side = plain.Side.__new__(plain.Side)
+    side.qmp, side.hangs = Silent(), False
+    tests.wants("one that is asked without the recorder", (side.stands(), side.stands(), side.qmp.calls), (("hangs", "hangs"), ("hangs", "hangs"), 1))
+    one = migration.Migration.__new__(migration.Migration)
+    one.outcome, one.say = migration.Outcome(), lambda line: None
+    tests.wants("how it ended", (one.end_of(hanging, "hangs"), one.outcome.remarks), ("HANGS", ["target: it runs, and does not answer"]))
+    hanging.is_running = lambda: False
+    hanging.last_error = lambda: "load of migration failed"
+    tests.wants("one that ended", one.end_of(hanging, "hangs"), "ENDED")
+
+
+def of_the_forwarder(tests, room):
+    """both_sides hands bytes on, and loses those of one direction."""
+    both_sides = command("both_sides")
+    with socket.socket(socket.AF_UNIX) as listener:
+        listener.bind(f"{room}/to")
+        listener.listen()
+        listener.settimeout(10)
+        forwarder = both_sides.Forwarder(f"{room}/from", f"{room}/to")
+        with socket.socket(socket.AF_UNIX) as source:
+            source.settimeout(10)
+            source.connect(f"{room}/from")
+            target, _ = listener.accept()
+            target.settimeout(10)
+            source.sendall(b"down")
+            tests.wants("handed on", target.recv(100), b"down")
+            forwarder.loses_down = True
+            source.sendall(b"lost")
+            target.sendall(b"up")
+            tests.wants("and back", source.recv(100), b"up")
+            until = time.monotonic() + 10
+            while forwarder.lost < 4 and time.monotonic() < until:
+                time.sleep(0.01)
+            with socket.socket(socket.AF_UNIX) as lane:
+                lane.settimeout(10)
+                lane.connect(f"{room}/from")
+                other, _ = listener.accept()
+                other.sendall(b"of the lane")
+                tests.wants("a second connection", lane.recv(100), b"of the lane")
+                forwarder.cut()
+                tests.wants("it is cut too", lane.recv(100), b"")
+                other.close()
+            tests.wants("what is lost is counted, and does not come", (forwarder.lost, target.recv(100)), (4, b""))
+            target.close()
+
+
+def of_the_table(tests):
+    compare = command("compare")
+    plan = plan_of("live")
+    missed = Result(plan, "clean, yes", "completed", is_cut_missed=True)
+    tests.wants("one that a cut was planned for, and not reached", (missed.in_a_word, missed.is_clean), ("cut not reached", True))
+    results = [Result(plan, "clean, yes", "completed"), Result(plan, "clean, yes", "completed", restart="both ran: ..", version="10.0.13"),
+               Result(plan, "clean, yes", "source failed, target HANGS", restart="returned: .."),
+               Result(plan, "faulty line 7 early", "completed"), Result(plan, "not judged: the guest's bytes c2 are no event", "ended"),
+               Result(plan, "not judged: there was no post-copy: ..", "completed"),
+               Result(plan, "clean, yes", "source postcopy-paused, target ENDED; target: load of migration failed")]
+    tests.wants("what became of each, in a word", [result.in_a_word for result in results],
+                ["clean", "both ran", "returned and target hangs", "`early`", "lost stack", "no post-copy", "target ended while it loaded"])
+    old, new = Result(plan, "", ""), Result(plan, "", "")
+    old.path, old.version_text, new.path, new.version_text = "/old", "7.2.22", "/new", "10.0.13"
+    found = {("live", "/old"): "it lacks something", ("live", "/new"): [results[0], results[1], results[0]]}
+    tests.wants("the table", compare.table(["live"], [old, new], found).splitlines(),
+                ["| | 7.2.22 | 10.0.13 |", "| --- | --- | --- |", "| none | not there | 2 clean, 1 both ran |"])
+
+
+def run(tests):
+    for of_them in (of_what_is_lacking, of_roots, of_one_that_hangs, of_the_forwarder):
+        with tempfile.TemporaryDirectory() as room:
+            of_them(tests, room)
+    of_the_table(tests)
