@@ -1,0 +1,95 @@
+"""Stands between `criu lazy-pages` and the page server, forwards both directions, and writes down what it hands over.
+
+Each message is handed over whole, once it is written down, under one lock. The lines of the log are
+
+    up COMMAND PAGES ADDRESS
+    down pages PAGES ADDRESS FIRST GIVEN   contents as they came, places in the file of contents from FIRST on; the first GIVEN went on
+    down status VALUE
+    fault KIND ADDRESS                     what was put in
+"""
+import socket
+import threading
+import time
+
+from page_server import Answers, Requests, Status, Strange
+from relay_faults import fault_of
+
+PIECE = 1 << 20
+
+
+class Relay:
+    """`pager` and `server` are ends of the two connections; the other ends are CRIU's."""
+
+    def __init__(self, folder, header, pager, server, plan, before):
+        self.log = open(f"{folder}/relay.log", "w", encoding="ascii")
+        self.contents = open(f"{folder}/relay.pages", "wb")
+        self.header, self.pager, self.server, self.delay = header, pager, server, plan.delay / 1000
+        self.fault = fault_of(plan, before, self.tell)
+        self.requests, self.answers = Requests(header), Answers(header)
+        self.lock, self.stored, self.complaint = threading.Lock(), 0, None
+        self.threads = [threading.Thread(target=self.guarded, args=(work, *ends), daemon=True)
+                        for work, ends in ((self.up, (pager, server)), (self.down, (server, pager)))]
+        for thread in self.threads:
+            thread.start()
+
+    def tell(self, *fields):
+        print(*fields, file=self.log, flush=True)
+
+    def guarded(self, work, source, sink):
+        """Forwards until the connection ends, and then ends the other one in this direction."""
+        try:
+            while data := source.recv(PIECE):
+                work(data, sink)
+        except OSError:
+            pass  # one end is closed
+        except Strange as fault:
+            self.complaint = str(fault)
+        for end in (source, sink) if self.complaint else (sink,):
+            try:
+                end.shutdown(socket.SHUT_RDWR if self.complaint else socket.SHUT_WR)
+            except OSError:
+                pass
+
+    def up(self, data, sink):
+        for message in self.requests.feed(data):
+            with self.lock:
+                self.answers.asked(message)
+                self.tell("up", message.command, message.pages, f"{message.address:x}")
+                sink.sendall(message.to_bytes(self.header))
+
+    def down(self, data, sink):
+        with self.lock:
+            answers = self.answers.feed(data)
+        for answer in answers:
+            if self.delay:
+                time.sleep(self.delay)
+            with self.lock:
+                given = self.told(answer)
+                if given is not None:
+                    sink.sendall(given.to_bytes(self.header))
+
+    def told(self, answer):
+        """Writes an answer down, and answers what is handed over in its place, or None."""
+        if isinstance(answer, Status):
+            self.tell("down", "status", answer.value)
+            return answer
+        given = self.fault.of(answer)
+        self.contents.write(answer.contents)
+        self.contents.flush()
+        self.tell("down", "pages", answer.pages, f"{answer.address:x}", self.stored, given.pages if given else 0)
+        self.stored += answer.pages
+        return given
+
+    def end(self):
+        for one in (self.pager, self.server):
+            try:
+                one.shutdown(socket.SHUT_RDWR)
+            except OSError:
+                pass
+        for thread in self.threads:
+            thread.join(5)
+        self.pager.close()
+        self.server.close()
+        with self.lock:
+            self.contents.close()
+            self.log.close()

@@ -1,0 +1,61 @@
+"""The two sides of a migration on this machine: namespaces of their own for processes and mounts, with CRIU's root."""
+import os
+import subprocess
+import time
+
+import roots
+
+PROCESS = 1000  # the number of the process that is moved, at both sides
+
+
+class Failed(Exception):
+    """What did not start, in words."""
+
+
+class Side:
+    """A root with a namespace of its own for processes. Whatever runs in it ends with it."""
+
+    def __init__(self, name, root, folders, errors):
+        self.name, self.errors = name, errors
+        keeper = ["unshare", "--pid", "--fork", "--kill-child", "--mount-proc", "sleep", "infinity"]
+        self.keeper = self.started(roots.inside(root, keeper, folders))
+        self.first = self.child_of_keeper()
+
+    def started(self, words, environment=(), descriptors=()):
+        return subprocess.Popen(words, stdin=subprocess.DEVNULL, stdout=self.errors, stderr=self.errors, pass_fds=descriptors,
+                                env={"PATH": "/usr/sbin:/usr/bin:/sbin:/bin", "LC_ALL": "C", **dict(environment)}, start_new_session=True)
+
+    def child_of_keeper(self):
+        """The first process of the namespace, once it is there with mounts of its own."""
+        until = time.monotonic() + 10
+        while time.monotonic() < until and self.keeper.poll() is None:
+            try:
+                with open(f"/proc/{self.keeper.pid}/task/{self.keeper.pid}/children", encoding="ascii") as children:
+                    first = children.read().split()
+                if first and os.readlink(f"/proc/{first[0]}/exe").endswith("/sleep"):
+                    return first[0]
+            except OSError:
+                pass
+            time.sleep(0.005)
+        raise Failed(f"no namespace for the {self.name}")
+
+    def run(self, *words, environment=(), descriptors=()):
+        """Starts a command in the side."""
+        return self.started(["nsenter", "--target", self.first, "--mount", "--pid", "--", *words], environment, descriptors)
+
+    def memory(self, address, length):
+        """Memory of the process that is moved."""
+        with open(f"/proc/{self.first}/root/proc/{PROCESS}/mem", "rb", buffering=0) as memory:
+            memory.seek(address)
+            return memory.read(length)
+
+    def has_process(self):
+        try:
+            with open(f"/proc/{self.first}/root/proc/{PROCESS}/stat", encoding="ascii") as status:
+                return status.read().rpartition(")")[2].split()[0] not in "ZX"
+        except OSError:
+            return False
+
+    def end(self):
+        self.keeper.kill()
+        self.keeper.wait()
