@@ -2,7 +2,7 @@
 import json
 from dataclasses import asdict, dataclass, replace
 
-BASE = 0x10000000  # where walk.c has its window
+BASE = 0x100000000000  # where walk.c has its window
 
 KINDS = {
     "live": ("the process runs, and asks for what it needs", {}),
@@ -45,7 +45,7 @@ class Plan:
     delay: int = 5          # milliseconds by which the relay hands over each answer later
     fault: str = ""
     skip: int = 3           # of the pages or the answers that the fault could take
-    limit: float = 20.0     # seconds for each part of the migration
+    limit: float = 60.0     # seconds for each part of the migration
     plain: bool = False     # without the library in lazy-pages: nothing is judged
     criu: str = ""          # the version
 

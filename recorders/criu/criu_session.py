@@ -40,6 +40,8 @@ class Recording:
         sides = Sides(self, session, wire)
         for line in whole_lines(self.read("log")):
             sides.read(line.split())
+        if not sides.is_resumed:
+            raise Hole("there was no post-copy: the process was not resumed at the target")
         sides.end()
         return session
 

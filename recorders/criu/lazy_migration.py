@@ -16,7 +16,9 @@ from sides import PROCESS, Failed, Side
 
 FILES = ("plan.json", "log", "relay.log", "relay.pages", "target.pages", "outcome.json", "errors", "dump.log", "lazy-pages.log",
          "restore.log", "session", "report", "certificate", "explained", "picture.svg", "verdict")
+RECORDED = ("log", "relay.log", "relay.pages", "target.pages")  # and the plan, which is there at once: what a session is made from
 QUIET = 3.0  # seconds in which nothing is told, once the process hangs
+SAMPLES, LEAST_SAMPLES, LEAST_TICKS = 200, 10, 20  # looks whether it does, 0.05 s apart; ticks are of 0.01 s
 
 
 @dataclass
@@ -74,6 +76,8 @@ class Migration:
         self.root, self.plan.criu = criu_build.root_and_version(self.plan.criu)
         built = criu_build.build()
         folders.take(self.folder, FILES)
+        for name in RECORDED:
+            self.write(name, "")
         self.write("plan.json", self.plan.to_text())
         self.room, self.log, self.sides = folders.Room(), f"{self.folder}/log", []
         try:
@@ -106,16 +110,43 @@ class Migration:
         return os.stat(self.log).st_size
 
     def wait_for_accesses(self, count, seconds, is_over=lambda: False):
-        """Waits until the process has told so many lines more, or tells nothing. Answers whether it did."""
+        """Waits until the process has told so many accesses more, or hangs. Answers whether it did."""
         found, at, until, last = 0, self.told(), time.monotonic() + seconds, time.monotonic()
-        while found < count and time.monotonic() < min(until, last + QUIET) and not is_over():
+        while found < count and time.monotonic() < until and not is_over():
             time.sleep(0.01)
             with open(self.log, "rb") as log:
                 log.seek(at)
                 more = log.read()
             if more:
                 found, at, last = found + more.count(b"\ng ") + more.startswith(b"g "), at + len(more), time.monotonic()
+            elif time.monotonic() > last + QUIET:
+                if self.is_at_rest():
+                    break
+                last = time.monotonic()
         return found >= count
+
+    def is_at_rest(self):
+        """Whether nothing goes on: nothing is told, no answer is on its way, and neither the process nor the page server runs or waits
+        for a processor. lazy-pages may run: it looks for messages over and over, so it has had its time where it finds none."""
+        told, used, samples = self.told(), self.ticks_of_pager(), 0
+        for _ in range(SAMPLES):
+            time.sleep(0.05)
+            samples += 1
+            if self.told() != told or self.relay is not None and self.relay.is_waited_for() or self.is_running():
+                return False
+            if samples >= LEAST_SAMPLES and self.ticks_of_pager() - used >= LEAST_TICKS:
+                return True
+        return self.ticks_of_pager() == used
+
+    def is_running(self):
+        """Whether the process, or the page server, runs or waits for a processor."""
+        *_, last = sides = [side.processes() for side in self.sides]
+        others = [state for side in sides[:-1] for state, _ in side.values()]
+        return "R" in [*others, last.get(PROCESS, "X")[0]]
+
+    def ticks_of_pager(self):
+        """The processor time of what runs beside the process, on the side where that runs."""
+        return sum(ticks for number, (_, ticks) in self.sides[-1].processes().items() if number != PROCESS)
 
     def lock_gate(self, seconds):
         """Stops the process between accesses; answers whether it could be."""
@@ -155,13 +186,12 @@ class Migration:
         if self.outcome.restore != 0:
             raise GaveUp("the process was not restored")
         self.say("restored: the process runs at the target")
-        while lazy.poll() is None and self.wait_for_accesses(1, plan.limit, lambda: lazy.poll() is not None):
-            pass
-        self.outcome.lazy_pages = ended(lazy, 0.5 if not plan.plain else QUIET)
-        self.outcome.dump = ended(dump, 2) if self.outcome.lazy_pages != "hangs" else "waits"
-        self.say(str(self.outcome))
-        if self.outcome.lazy_pages == 0 and not self.wait_for_accesses(plan.after, plan.limit):
+        self.wait_for_accesses(float("inf"), plan.limit, lambda: lazy.poll() is not None)
+        self.outcome.lazy_pages = lazy.poll() if lazy.poll() is not None else "hangs" if self.is_at_rest() else "has not ended"
+        self.outcome.dump = "waits" if lazy.poll() is None else ended(dump, plan.limit)
+        if lazy.poll() == 0 and not self.wait_for_accesses(plan.after, plan.limit):
             self.outcome.remarks.append("the process told nothing more")
+        self.say(str(self.outcome))
 
     def common(self, name):
         return ["--images-dir", self.room.name("images"), "--work-dir", self.room.path, "-v4", "--log-file", f"{self.folder}/{name}.log"]
@@ -213,8 +243,8 @@ class Migration:
 
     def stop(self):
         """Ends both sides, with the process between accesses where it can be stopped there."""
-        self.lock_gate(2)
-        for side in self.sides:
+        self.lock_gate(2)  # until nothing of the sides is left
+        for side in reversed(self.sides):
             side.end()
         if self.relay:
             self.relay.end()

@@ -26,7 +26,7 @@ class Relay:
         self.header, self.pager, self.server, self.delay = header, pager, server, plan.delay / 1000
         self.fault = fault_of(plan, before, self.tell)
         self.requests, self.answers = Requests(header), Answers(header)
-        self.lock, self.stored, self.complaint = threading.Lock(), 0, None
+        self.lock, self.stored, self.complaint, self.is_delaying = threading.Lock(), 0, None, False
         self.threads = [threading.Thread(target=self.guarded, args=(work, *ends), daemon=True)
                         for work, ends in ((self.up, (pager, server)), (self.down, (server, pager)))]
         for thread in self.threads:
@@ -50,6 +50,11 @@ class Relay:
             except OSError:
                 pass
 
+    def is_waited_for(self):
+        """Whether an answer is still to come, or to be handed over."""
+        with self.lock:
+            return bool(self.answers.waiting) or self.is_delaying
+
     def up(self, data, sink):
         for message in self.requests.feed(data):
             with self.lock:
@@ -60,6 +65,7 @@ class Relay:
     def down(self, data, sink):
         with self.lock:
             answers = self.answers.feed(data)
+            self.is_delaying = bool(answers)
         for answer in answers:
             if self.delay:
                 time.sleep(self.delay)
@@ -67,6 +73,7 @@ class Relay:
                 given = self.told(answer)
                 if given is not None:
                     sink.sendall(given.to_bytes(self.header))
+        self.is_delaying = False
 
     def told(self, answer):
         """Writes an answer down, and answers what is handed over in its place, or None."""

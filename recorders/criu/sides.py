@@ -1,5 +1,6 @@
 """The two sides of a migration on this machine: namespaces of their own for processes and mounts, with CRIU's root."""
 import os
+import signal
 import subprocess
 import time
 
@@ -49,13 +50,22 @@ class Side:
             memory.seek(address)
             return memory.read(length)
 
+    def processes(self):
+        """The state of each process of the side and its ticks of processor time, by its number there."""
+        found, processes = {}, f"/proc/{self.first}/root/proc"
+        for number in filter(str.isdigit, os.listdir(processes)):
+            try:
+                with open(f"{processes}/{number}/stat", encoding="ascii", errors="replace") as status:
+                    fields = status.read().rpartition(")")[2].split()
+            except OSError:
+                continue  # it has ended meanwhile
+            found[int(number)] = fields[0], int(fields[11]) + int(fields[12])
+        return found
+
     def has_process(self):
-        try:
-            with open(f"/proc/{self.first}/root/proc/{PROCESS}/stat", encoding="ascii") as status:
-                return status.read().rpartition(")")[2].split()[0] not in "ZX"
-        except OSError:
-            return False
+        return self.processes().get(PROCESS, "X")[0] not in "ZX"
 
     def end(self):
-        self.keeper.kill()
+        """Ends all that runs in the side: its first process ends behind all others, and the keeper behind it."""
+        os.kill(int(self.first), signal.SIGKILL)
         self.keeper.wait()

@@ -32,7 +32,7 @@
 #include <sys/stat.h>
 #include <unistd.h>
 
-#define BASE 0x10000000UL
+#define BASE 0x100000000000UL /* far from all else, wherever that is put */
 #define PAGE 4096UL
 #define STACK (64 * 1024)
 #define MOST_PAGES 65536
