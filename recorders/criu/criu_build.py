@@ -10,7 +10,7 @@ from roots import Missing, Root
 HERE = os.path.dirname(os.path.abspath(__file__))
 OUT = f"{HERE}/out"
 
-# Suites of Debian that have a CRIU of 4.1 or newer. The first one is made where none is there.
+# Suites of Debian that have a CRIU of 4.1 or newer.
 ROOTS = {suite: Root(f"criu-{suite}", suite, ("criu",)) for suite in ("trixie", "sid")}
 
 # By the name of what is built: its source, and how.
@@ -33,22 +33,23 @@ def version_in(root):
     return found[1]
 
 
-def made():
-    """The roots that are there, by their suites."""
-    return {suite: root for suite, root in ROOTS.items() if roots.is_made(root)}
+def versions():
+    """The version of CRIU in each root that is there, by its suite. Raises Missing where none is."""
+    found = {suite: version_in(root) for suite, root in ROOTS.items() if roots.is_made(root)}
+    if not found:
+        raise Missing(f"no CRIU of 4.1 or newer is there. This makes a root with one, by debootstrap, in {roots.folder()}:\n"
+                      "    recorders/criu/versions trixie")
+    return found
 
 
 def root_and_version(wanted=""):
     """The folder of a root, and the version of CRIU in it: of the suite or the version that is wanted, or of the first that is there."""
-    found = made()
-    if not found:
-        raise Missing(f"no CRIU of 4.1 or newer is there. This makes a root with one, by debootstrap, in {roots.folder()}:\n"
-                      "    recorders/criu/versions trixie")
-    for suite, root in found.items():
-        version = version_in(root)
+    found = versions()
+    for suite, version in found.items():
         if wanted in ("", suite, version):
-            return roots.path(root), version
-    raise Missing(f"there is no CRIU '{wanted}': there are roots of {', '.join(found)}")
+            return roots.path(ROOTS[suite]), version
+    there = ", ".join(f"{suite} with {version}" for suite, version in found.items())
+    raise Missing(f"there is no CRIU '{wanted}': there is a root of {there}")
 
 
 def compile_one(name):

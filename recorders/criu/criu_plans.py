@@ -11,7 +11,9 @@ KINDS = {
     "threads": ("four threads", {"pages": 512, "threads": 4}),
     "released": ("pages are given up before the halt, and are zeros at the target", {"releases": 4, "keep_at_target": True}),
     "releases": ("pages are given up at the target too: a session of the second version", {"releases": 2, "delay": 0}),
-    "split": ("pages of requests that are under way are given up: CRIU 4.1 and 4.2 hang here", {"ahead": 4, "delay": 20}),
+    "split": ("pages of requests that are under way are given up: CRIU 4.1 and 4.2 hang here", {"ahead": 16, "delay": 50}),
+    "split-two": ("the same while another page is waited for: CRIU asks for the same pages over and over, too",
+                  {"ahead": 16, "delay": 50, "threads": 2}),
 }
 
 FAULTS = {
@@ -25,7 +27,6 @@ FAULTS = {
     "early": "a page is open to the process 0.2 s before its contents are there",
 }
 IN_LIBRARY = ("early",)
-HEALED = ("short",)
 
 
 @dataclass

@@ -14,46 +14,14 @@ def whole_lines(data):
     return data.decode("ascii").split("\n")[:-1]
 
 
-class Recording:
-    """The files of a recording; `read(name)` answers the bytes of one."""
-
-    def __init__(self, read):
-        self.read = read
-        self.plan = plan_from_text(read("plan.json").decode())
-        self.header = header_of(self.plan.criu)
-
-    def page_of(self, address):
-        """The number of a page of the window, or None."""
-        page = (address - BASE) // PAGE_BYTES
-        return page if 0 <= page < self.plan.pages else None
-
-    def contents(self, name):
-        """What reads the cells of a page in a file of contents."""
-        data = self.read(name)
-        return lambda place: cells_of(data[place * PAGE_BYTES:(place + 1) * PAGE_BYTES], self.plan.words)
-
-    def session(self):
-        session = Session(self.plan.pages, self.plan.words, self.plan.has_releases_at_target)
-        wire = Wire(self, session)
-        for line in whole_lines(self.read("relay.log")):
-            wire.read(line.split())
-        sides = Sides(self, session, wire)
-        for line in whole_lines(self.read("log")):
-            sides.read(line.split())
-        if not sides.is_resumed:
-            raise Hole("there was no post-copy: the process was not resumed at the target")
-        sides.end()
-        return session
-
-
 class Wire:
     """The logs of the source and of the link, by what the relay told."""
 
     def __init__(self, recording, session):
         self.recording, self.session = recording, session
         self.contents, self.sent = recording.contents("relay.pages"), {}
-        self.requests = 0
-        self.handed = []  # of each answer that was handed over, how many bytes it and those before it have, and the address of each page
+        self.requests = self.answers = 0
+        self.handed = []  # of each answer that was handed over: how many bytes those up to it have, its number, and its pages' addresses
         self.end = 0
         session.add("source", "halted", halt="halt")
         session.add("source", "state", name="state")
@@ -90,7 +58,7 @@ class Wire:
             page = self.recording.page_of(at)
             if page is None:
                 continue
-            name = ("page", len(self.handed), place)
+            name = ("page", self.answers, place)
             if page in self.sent:
                 self.session.add("source", "again", name=name, sent=self.sent[page])
             else:
@@ -100,10 +68,11 @@ class Wire:
                 self.session.add("link", "down", name=name, sent=name)
         if given:
             self.handed_over(self.recording.header.size + given * PAGE_BYTES, addresses[:given])
+        self.answers += 1
 
     def handed_over(self, length, addresses):
         self.end += length
-        self.handed.append((self.end, addresses))
+        self.handed.append((self.end, self.answers, addresses))
 
 
 class Sides:
@@ -190,14 +159,16 @@ class Sides:
 
     def pager(self, what, fields):
         self.be_ready()
-        if what in ("place", "zero", "refused", "early"):
-            address = int(fields[0], 16)
-            if what == "refused":
-                self.refuse(address, int(fields[1], 16))
-            elif what != "early" and (page := self.recording.page_of(address)) is not None:
+        if what in ("place", "zero"):
+            if (page := self.recording.page_of(int(fields[0], 16))) is not None:
                 self.place(page, int(fields[1])) if what == "place" else self.zero(page)
-            return
-        self.drop_arrived()
+        elif what in ("refused", "early"):
+            pass  # what is refused is dropped, and the page that was opened too early is placed
+        else:
+            self.drop_arrived()
+            self.went_on(what, fields)
+
+    def went_on(self, what, fields):
         if what == "fault":
             self.fault(self.recording.page_of(int(fields[0], 16)))
         elif what == "remove":
@@ -232,22 +203,18 @@ class Sides:
         """So many bytes were taken of the answers, in all."""
         handed = self.wire.handed
         while self.taken < len(handed) and handed[self.taken][0] <= count:
-            for place, address in enumerate(handed[self.taken][1]):
+            _, answer, addresses = handed[self.taken]
+            for place, address in enumerate(addresses):
                 if (page := self.recording.page_of(address)) is not None:
-                    name = self.arrived[page] = ("got", self.taken, place)
-                    self.session.add("pager", "got", name=name, down=("page", self.taken, place))
+                    name = self.arrived[page] = ("page", answer, place)
+                    self.session.add("pager", "got", name=name, down=name)
             self.taken += 1
 
     def drop_arrived(self):
-        """CRIU puts an answer in place, or none of it, before it does anything else: what is left is dropped."""
+        """CRIU puts an answer in place, or what it can of it, before it does anything else: what is left is dropped."""
         for name in self.arrived.values():
             self.session.add("pager", "skip", got=name)
         self.arrived.clear()
-
-    def refuse(self, address, length):
-        for at in range(address, address + length, PAGE_BYTES):
-            if name := self.arrived.pop(self.recording.page_of(at), None):
-                self.session.add("pager", "skip", got=name)
 
     def place(self, page, contents):
         if page not in self.arrived:
@@ -269,6 +236,40 @@ class Sides:
         self.placed.setdefault(page, self.placements)
         self.waiting.pop(page, None)
         self.session.add("pager", call, name=("placement", self.placements), page=page, **fields)
+
+
+class Recording:
+    """The files of a recording; `read(name)` answers the bytes of one."""
+
+    wire, sides = Wire, Sides
+
+    def __init__(self, read):
+        self.read = read
+        self.plan = plan_from_text(read("plan.json").decode())
+        self.header = header_of(self.plan.criu)
+
+    def page_of(self, address):
+        """The number of a page of the window, or None."""
+        page = (address - BASE) // PAGE_BYTES
+        return page if 0 <= page < self.plan.pages else None
+
+    def contents(self, name):
+        """What reads the cells of a page in a file of contents."""
+        data = self.read(name)
+        return lambda place: cells_of(data[place * PAGE_BYTES:(place + 1) * PAGE_BYTES], self.plan.words)
+
+    def session(self):
+        session = Session(self.plan.pages, self.plan.words, self.plan.has_releases_at_target)
+        wire = self.wire(self, session)
+        for line in whole_lines(self.read("relay.log")):
+            wire.read(line.split())
+        sides = self.sides(self, session, wire)
+        for line in whole_lines(self.read("log")):
+            sides.read(line.split())
+        if not sides.is_resumed:
+            raise Hole("there was no post-copy: the process was not resumed at the target")
+        sides.end()
+        return session
 
 
 def recording_in(folder):

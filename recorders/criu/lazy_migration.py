@@ -18,6 +18,7 @@ FILES = ("plan.json", "log", "relay.log", "relay.pages", "target.pages", "outcom
          "restore.log", "session", "report", "certificate", "explained", "picture.svg", "verdict")
 RECORDED = ("log", "relay.log", "relay.pages", "target.pages")  # and the plan, which is there at once: what a session is made from
 QUIET = 3.0  # seconds in which nothing is told, once the process hangs
+REPEATS = 20  # of a request in a row, once lazy-pages does nothing else
 SAMPLES, LEAST_SAMPLES, LEAST_TICKS = 200, 10, 20  # looks whether it does, 0.05 s apart; ticks are of 0.01 s
 
 
@@ -117,13 +118,24 @@ class Migration:
             with open(self.log, "rb") as log:
                 log.seek(at)
                 more = log.read()
-            if more:
-                found, at, last = found + more.count(b"\ng ") + more.startswith(b"g "), at + len(more), time.monotonic()
+            accesses, at = more.count(b"\ng ") + more.startswith(b"g "), at + len(more)
+            if accesses:
+                found, last = found + accesses, time.monotonic()
             elif time.monotonic() > last + QUIET:
-                if self.is_at_rest():
+                if self.repeats_itself() or self.is_at_rest():
                     break
                 last = time.monotonic()
         return found >= count
+
+    def repeats_itself(self):
+        """Whether lazy-pages asks for the same pages over and over, as nothing ends that but the process."""
+        return self.relay is not None and self.relay.repeats >= REPEATS and not self.is_running()
+
+    def has_become(self, lazy):
+        """What has become of lazy-pages: its status, or what it does in place of ending."""
+        if lazy.poll() is not None:
+            return lazy.poll()
+        return "asks for the same pages over and over" if self.repeats_itself() else "hangs" if self.is_at_rest() else "has not ended"
 
     def is_at_rest(self):
         """Whether nothing goes on: nothing is told, no answer is on its way, and neither the process nor the page server runs or waits
@@ -187,7 +199,7 @@ class Migration:
             raise GaveUp("the process was not restored")
         self.say("restored: the process runs at the target")
         self.wait_for_accesses(float("inf"), plan.limit, lambda: lazy.poll() is not None)
-        self.outcome.lazy_pages = lazy.poll() if lazy.poll() is not None else "hangs" if self.is_at_rest() else "has not ended"
+        self.outcome.lazy_pages = self.has_become(lazy)
         self.outcome.dump = "waits" if lazy.poll() is None else ended(dump, plan.limit)
         if lazy.poll() == 0 and not self.wait_for_accesses(plan.after, plan.limit):
             self.outcome.remarks.append("the process told nothing more")

@@ -3,8 +3,8 @@
  *
  * RECORD_LOG is the file in which the process that is moved tells its accesses, so the order of both is that of one file.
  * RECORD_PAGES is the file for the contents of pages, one after another; RECORD_SOCKET the descriptor of the connection. With
- * RECORD_EARLY=N the N-th page that is put in place alone, in RECORD_PROCESS, is open to it 0.2 s before its contents are there, as by
- * a pager with a fault. The lines are
+ * RECORD_EARLY=N the N-th page that is put in place for a fault, in RECORD_PROCESS, is open to it 0.2 s before its contents are there,
+ * as by a pager with a fault. The lines are
  *
  *     p fault ADDRESS            a fault was read
  *     p remove START END         a message was read that the process gives these pages up
@@ -41,6 +41,7 @@
 static int told = -1, contents_file = -1, connection = -1;
 static long stored, early;
 static unsigned long taken;
+static uint64_t waited_for; /* the page of the last fault */
 static pid_t process;
 
 static int (*real_ioctl)(int, unsigned long, ...);
@@ -158,7 +159,7 @@ int ioctl(int fd, unsigned long request, ...)
     va_end(words);
     if (told >= 0 && request == UFFDIO_COPY) {
         struct uffdio_copy *copy = what;
-        if (early > 0 && copy->len == PAGE && --early == 0)
+        if (early > 0 && copy->len == PAGE && copy->dst == waited_for && --early == 0)
             return place_too_early(fd, copy);
         copy->mode |= UFFDIO_COPY_MODE_DONTWAKE;
         return place(fd, request, copy, (struct uffdio_range){copy->dst, copy->len}, copy->src, &copy->copy);
@@ -184,9 +185,10 @@ static int is_userfault(int fd)
 
 static void tell_message(const struct uffd_msg *message)
 {
-    if (message->event == UFFD_EVENT_PAGEFAULT)
-        tell("p fault %llx\n", message->arg.pagefault.address & ~(PAGE - 1));
-    else if (message->event == UFFD_EVENT_REMOVE || message->event == UFFD_EVENT_UNMAP)
+    if (message->event == UFFD_EVENT_PAGEFAULT) {
+        waited_for = message->arg.pagefault.address & ~(PAGE - 1);
+        tell("p fault %lx\n", waited_for);
+    } else if (message->event == UFFD_EVENT_REMOVE || message->event == UFFD_EVENT_UNMAP)
         tell("p remove %llx %llx\n", message->arg.remove.start, message->arg.remove.end);
 }
 

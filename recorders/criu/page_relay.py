@@ -27,6 +27,7 @@ class Relay:
         self.fault = fault_of(plan, before, self.tell)
         self.requests, self.answers = Requests(header), Answers(header)
         self.lock, self.stored, self.complaint, self.is_delaying = threading.Lock(), 0, None, False
+        self.last, self.repeats = None, 0  # what was asked last, and how often in a row before
         self.threads = [threading.Thread(target=self.guarded, args=(work, *ends), daemon=True)
                         for work, ends in ((self.up, (pager, server)), (self.down, (server, pager)))]
         for thread in self.threads:
@@ -59,6 +60,8 @@ class Relay:
         for message in self.requests.feed(data):
             with self.lock:
                 self.answers.asked(message)
+                self.repeats = self.repeats + 1 if message == self.last else 0
+                self.last = message
                 self.tell("up", message.command, message.pages, f"{message.address:x}")
                 sink.sendall(message.to_bytes(self.header))
 

@@ -12,6 +12,7 @@ COMMANDS = {4: "open", 5: "parent", 6: "add", 7: "get", 0x1023: "close", 0x1024:
 NUMBERS = {name: number for number, name in COMMANDS.items()}
 IS_PRESENT = 1 << 2  # among the flags of `add`: contents follow
 STATUS = struct.Struct("<i")
+MOST_PAGES = 1 << 20  # of a message; CRIU asks for 4 MiB at most
 
 # The header: up to 4.1 the count of pages has 32 bits, from 4.2 on 64.
 NARROW, WIDE = struct.Struct("<IIQQ"), struct.Struct("<I4xQQQ")
@@ -57,6 +58,8 @@ def message_of(header, data):
     command, pages, address, whose = header.unpack_from(data)
     if command & 0xffff not in COMMANDS:
         raise Strange(f"a message of the page server's protocol has the command {command & 0xffff}, which is not known")
+    if pages > MOST_PAGES:
+        raise Strange(f"a message of the page server's protocol is of {pages} pages")
     return Message(COMMANDS[command & 0xffff], pages, address, whose, command >> 16)
 
 
