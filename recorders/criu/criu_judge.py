@@ -40,7 +40,7 @@ def explain_and_draw(folder):
 
 
 def waited_for(folder):
-    """The page that each thread waits for at the end, by what the process told alone."""
+    """The pages that threads wait for at the end, by what the process told alone."""
     with open(f"{folder}/log", "rb") as log:
         last = {words[1]: words for words in map(str.split, whole_lines(log.read())) if words[0] == "g"}
-    return sorted(int(words[3]) for words in last.values() if words[2] == "m")
+    return sorted({int(words[3]) for words in last.values() if words[2] == "m"})

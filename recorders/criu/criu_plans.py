@@ -13,7 +13,7 @@ KINDS = {
     "releases": ("pages are given up at the target too: a session of the second version", {"releases": 2, "delay": 0}),
     "split": ("pages of requests that are under way are given up: CRIU 4.1 and 4.2 hang here", {"ahead": 16, "delay": 50}),
     "split-two": ("the same while another page is waited for: CRIU asks for the same pages over and over, too",
-                  {"ahead": 16, "delay": 50, "threads": 2}),
+                  {"ahead": 40, "delay": 50, "threads": 4}),
 }
 
 FAULTS = {

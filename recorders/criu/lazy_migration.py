@@ -7,18 +7,21 @@ import subprocess
 import time
 from dataclasses import dataclass, field
 
+import build
 import criu_build
 import folders
 from criu_plans import BASE
 from page_relay import Relay
 from page_server import PAGE_BYTES, header_of
+from roots import Missing
 from sides import PROCESS, Failed, Side
 
 FILES = ("plan.json", "log", "relay.log", "relay.pages", "target.pages", "outcome.json", "errors", "dump.log", "lazy-pages.log",
          "restore.log", "session", "report", "certificate", "explained", "picture.svg", "verdict")
 RECORDED = ("log", "relay.log", "relay.pages", "target.pages")  # and the plan, which is there at once: what a session is made from
+ON_MARK = "This folder was made by recorders/criu, which replaces its own files in it when it records into it again.\n"
 QUIET = 3.0  # seconds in which nothing is told, once the process hangs
-REPEATS = 20  # of a request in a row, once lazy-pages does nothing else
+REPEATS = 50  # of a request in a row, once lazy-pages does nothing else
 SAMPLES, LEAST_SAMPLES, LEAST_TICKS = 200, 10, 20  # looks whether it does, 0.05 s apart; ticks are of 0.01 s
 
 
@@ -77,12 +80,17 @@ class Migration:
         self.root, self.plan.criu = criu_build.root_and_version(self.plan.criu)
         built = criu_build.build()
         folders.take(self.folder, FILES)
+        self.write(folders.MARK, ON_MARK)
         for name in RECORDED:
             self.write(name, "")
         self.write("plan.json", self.plan.to_text())
-        self.room, self.log, self.sides = folders.Room(), f"{self.folder}/log", []
         try:
-            with open(f"{self.folder}/errors", "wb") as self.errors, open(self.log, "wb"), open(self.room.name("gate"), "wb") as self.gate:
+            self.room = folders.Room()
+        except build.Missing as fault:
+            raise Missing(str(fault)) from None
+        self.log, self.sides = f"{self.folder}/log", []
+        try:
+            with open(f"{self.folder}/errors", "wb") as self.errors, open(self.room.name("gate"), "wb") as self.gate:
                 os.mkdir(self.room.name("images"))
                 try:
                     self.move(*built)
@@ -122,14 +130,14 @@ class Migration:
             if accesses:
                 found, last = found + accesses, time.monotonic()
             elif time.monotonic() > last + QUIET:
-                if self.repeats_itself() or self.is_at_rest():
+                if self.is_at_rest():
                     break
                 last = time.monotonic()
         return found >= count
 
     def repeats_itself(self):
-        """Whether lazy-pages asks for the same pages over and over, as nothing ends that but the process."""
-        return self.relay is not None and self.relay.repeats >= REPEATS and not self.is_running()
+        """Whether lazy-pages asks for the same pages over and over."""
+        return self.relay is not None and self.relay.repeats >= REPEATS
 
     def has_become(self, lazy):
         """What has become of lazy-pages: its status, or what it does in place of ending."""
@@ -151,10 +159,10 @@ class Migration:
         return self.ticks_of_pager() == used
 
     def is_running(self):
-        """Whether the process, or the page server, runs or waits for a processor."""
-        *_, last = sides = [side.processes() for side in self.sides]
-        others = [state for side in sides[:-1] for state, _ in side.values()]
-        return "R" in [*others, last.get(PROCESS, "X")[0]]
+        """Whether a thread of the process, or the page server, runs or waits for a processor."""
+        *sources, target = [side.processes() for side in self.sides]
+        states = [states for side in sources for states, _ in side.values()]
+        return any("R" in it for it in [*states, target.get(PROCESS, "X")[0]])
 
     def ticks_of_pager(self):
         """The processor time of what runs beside the process, on the side where that runs."""
@@ -198,7 +206,7 @@ class Migration:
         if self.outcome.restore != 0:
             raise GaveUp("the process was not restored")
         self.say("restored: the process runs at the target")
-        self.wait_for_accesses(float("inf"), plan.limit, lambda: lazy.poll() is not None)
+        self.wait_for_accesses(float("inf"), plan.limit, lambda: lazy.poll() is not None or self.repeats_itself())
         self.outcome.lazy_pages = self.has_become(lazy)
         self.outcome.dump = "waits" if lazy.poll() is None else ended(dump, plan.limit)
         if lazy.poll() == 0 and not self.wait_for_accesses(plan.after, plan.limit):

@@ -1,4 +1,5 @@
 """The two sides of a migration on this machine: namespaces of their own for processes and mounts, with CRIU's root."""
+import glob
 import os
 import signal
 import subprocess
@@ -6,6 +7,7 @@ import time
 
 import roots
 
+PR_SET_PDEATHSIG = 1
 PROCESS = 1000  # the number of the process that is moved, at both sides
 
 
@@ -13,18 +15,23 @@ class Failed(Exception):
     """What did not start, in words."""
 
 
+def die_with_parent():
+    """From here on this process is killed when the thread ends that started it."""
+    roots.libc("prctl", PR_SET_PDEATHSIG, signal.SIGKILL)
+
+
 class Side:
-    """A root with a namespace of its own for processes. Whatever runs in it ends with it."""
+    """A root with a namespace of its own for processes. Whatever runs in it ends with it, and it with who made it."""
 
     def __init__(self, name, root, folders, errors):
         self.name, self.errors = name, errors
         keeper = ["unshare", "--pid", "--fork", "--kill-child", "--mount-proc", "sleep", "infinity"]
-        self.keeper = self.started(roots.inside(root, keeper, folders))
+        self.keeper = self.started(roots.inside(root, keeper, folders), begin=die_with_parent)
         self.first = self.child_of_keeper()
 
-    def started(self, words, environment=(), descriptors=()):
+    def started(self, words, environment=(), descriptors=(), begin=None):
         return subprocess.Popen(words, stdin=subprocess.DEVNULL, stdout=self.errors, stderr=self.errors, pass_fds=descriptors,
-                                env={"PATH": "/usr/sbin:/usr/bin:/sbin:/bin", "LC_ALL": "C", **dict(environment)}, start_new_session=True)
+                                env={"PATH": "/usr/sbin:/usr/bin:/sbin:/bin", "LC_ALL": "C", **dict(environment)}, start_new_session=True, preexec_fn=begin)
 
     def child_of_keeper(self):
         """The first process of the namespace, once it is there with mounts of its own."""
@@ -51,19 +58,20 @@ class Side:
             return memory.read(length)
 
     def processes(self):
-        """The state of each process of the side and its ticks of processor time, by its number there."""
-        found, processes = {}, f"/proc/{self.first}/root/proc"
-        for number in filter(str.isdigit, os.listdir(processes)):
+        """By the number of each process of the side: the states of its threads, and its ticks of processor time."""
+        found = {}
+        for path in glob.glob(f"/proc/{self.first}/root/proc/[0-9]*/task/*/stat"):
             try:
-                with open(f"{processes}/{number}/stat", encoding="ascii", errors="replace") as status:
+                with open(path, encoding="ascii", errors="replace") as status:
                     fields = status.read().rpartition(")")[2].split()
             except OSError:
                 continue  # it has ended meanwhile
-            found[int(number)] = fields[0], int(fields[11]) + int(fields[12])
+            states, ticks = found.get(number := int(path.split("/")[-4]), ("", 0))
+            found[number] = states + fields[0], ticks + int(fields[11]) + int(fields[12])
         return found
 
     def has_process(self):
-        return self.processes().get(PROCESS, "X")[0] not in "ZX"
+        return bool(set(self.processes().get(PROCESS, "X")[0]) - set("ZX"))
 
     def end(self):
         """Ends all that runs in the side: its first process ends behind all others, and the keeper behind it."""
