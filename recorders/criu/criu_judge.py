@@ -1,7 +1,9 @@
-"""What the program says of a recording, whether it tells of a whole migration too, and what is seen of a hang without it."""
+"""What the program says of a recording, whether it tells of a whole migration too, and what is seen of it without the program."""
 import judge
 from criu_session import recording_in, whole_lines
 from records import Hole
+
+ZERO = "0" * 16
 
 
 def session_of(folder, is_whole):
@@ -37,6 +39,23 @@ def explain_and_draw(folder):
     judge.write(f"{folder}/explained", words)
     judge.write(f"{folder}/picture.svg", judge.ask(folder, "draw", "session")[0])
     return words
+
+
+def wrong_reads(folder):
+    """How often the process read what it had not written, by what it told alone: its accesses stand in the file in their order."""
+    memory, wrong = {}, 0
+    with open(f"{folder}/log", "rb") as log:
+        for words in map(str.split, whole_lines(log.read())):
+            if words[0] != "g":
+                continue
+            page = memory.setdefault(words[3], {})
+            if words[2] == "z":
+                page.clear()
+            elif words[2] == "w":
+                page[words[4]] = words[5]
+            elif words[2] == "r":
+                wrong += page.get(words[4], ZERO) != words[5]
+    return wrong
 
 
 def waited_for(folder):

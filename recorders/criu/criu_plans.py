@@ -24,6 +24,7 @@ FAULTS = {
     "swap": "two pages of an answer come with each other's contents",
     "short": "the last page of an answer does not come: CRIU asks for it again",
     "lose": "an answer never comes: CRIU waits for it for ever",
+    "cut": "the connection ends, as when the source's machine fails: CRIU lets the process go on, with zeros",
     "early": "a page is open to the process 0.2 s before its contents are there",
 }
 IN_LIBRARY = ("early",)

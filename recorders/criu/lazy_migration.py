@@ -206,10 +206,10 @@ class Migration:
         if self.outcome.restore != 0:
             raise GaveUp("the process was not restored")
         self.say("restored: the process runs at the target")
-        self.wait_for_accesses(float("inf"), plan.limit, lambda: lazy.poll() is not None or self.repeats_itself())
+        self.wait_for_accesses(float("inf"), 5 * plan.limit, lambda: lazy.poll() is not None or self.repeats_itself())
         self.outcome.lazy_pages = self.has_become(lazy)
         self.outcome.dump = "waits" if lazy.poll() is None else ended(dump, plan.limit)
-        if lazy.poll() == 0 and not self.wait_for_accesses(plan.after, plan.limit):
+        if lazy.poll() is not None and not self.wait_for_accesses(plan.after, plan.limit):
             self.outcome.remarks.append("the process told nothing more")
         self.say(str(self.outcome))
 

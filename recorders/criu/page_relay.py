@@ -17,6 +17,13 @@ from relay_faults import fault_of
 PIECE = 1 << 20
 
 
+def shut(end, how):
+    try:
+        end.shutdown(how)
+    except OSError:
+        pass  # it is
+
+
 class Relay:
     """`pager` and `server` are ends of the two connections; the other ends are CRIU's."""
 
@@ -27,6 +34,7 @@ class Relay:
         self.fault = fault_of(plan, before, self.tell)
         self.requests, self.answers = Requests(header), Answers(header)
         self.lock, self.stored, self.complaint, self.is_delaying = threading.Lock(), 0, None, False
+        self.is_cut = False
         self.last, self.repeats = None, 0  # what was asked last, and how often in a row before
         self.threads = [threading.Thread(target=self.guarded, args=(work, *ends), daemon=True)
                         for work, ends in ((self.up, (pager, server)), (self.down, (server, pager)))]
@@ -39,17 +47,15 @@ class Relay:
     def guarded(self, work, source, sink):
         """Forwards until the connection ends, and then ends the other one in this direction."""
         try:
-            while data := source.recv(PIECE):
+            while not self.is_cut and (data := source.recv(PIECE)):
                 work(data, sink)
         except OSError:
             pass  # one end is closed
         except Strange as fault:
             self.complaint = str(fault)
-        for end in (source, sink) if self.complaint else (sink,):
-            try:
-                end.shutdown(socket.SHUT_RDWR if self.complaint else socket.SHUT_WR)
-            except OSError:
-                pass
+        is_over = self.complaint or self.is_cut
+        for end in (source, sink) if is_over else (sink,):
+            shut(end, socket.SHUT_RDWR if is_over else socket.SHUT_WR)
 
     def is_waited_for(self):
         """Whether an answer is still to come, or to be handed over."""
@@ -76,6 +82,9 @@ class Relay:
                 given = self.told(answer)
                 if given is not None:
                     sink.sendall(given.to_bytes(self.header))
+                self.is_cut = self.fault.ends_connections and self.fault.is_done
+            if self.is_cut:
+                break
         self.is_delaying = False
 
     def told(self, answer):
@@ -92,10 +101,7 @@ class Relay:
 
     def end(self):
         for one in (self.pager, self.server):
-            try:
-                one.shutdown(socket.SHUT_RDWR)
-            except OSError:
-                pass
+            shut(one, socket.SHUT_RDWR)
         for thread in self.threads:
             thread.join(5)
         self.pager.close()

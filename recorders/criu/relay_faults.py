@@ -11,6 +11,7 @@ from page_server import PAGE_BYTES
 
 class Fault:
     """None: all is handed over as it came."""
+    ends_connections = False
 
     def __init__(self, plan, before, tell):
         self.kind, self.skip, self.pages, self.before, self.tell = plan.fault, plan.skip, plan.pages, before, tell
@@ -92,7 +93,12 @@ class Lose(Fault):
         return None if self.page_of(answer.address) is not None and self.is_taken(answer.address) else answer
 
 
-IN_RELAY = {"flip": Flip, "flip-end": FlipEnd, "zero": Zero, "stale": Stale, "swap": Swap, "short": Short, "lose": Lose}
+class Cut(Lose):
+    """Nothing comes any more: the relay ends both connections where this is put in."""
+    ends_connections = True
+
+
+IN_RELAY = {"flip": Flip, "flip-end": FlipEnd, "zero": Zero, "stale": Stale, "swap": Swap, "short": Short, "lose": Lose, "cut": Cut}
 
 
 def fault_of(plan, before, tell):

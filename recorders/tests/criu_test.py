@@ -43,6 +43,15 @@ def of_kept(tests):
     tests.wants("both forms of the protocol", versions, {"4.1.1", "4.2.1"})
 
 
+def of_cut(tests):
+    """Where the connection ends the process goes on with zeros: that is seen in what it told too."""
+    with tempfile.TemporaryDirectory() as room:
+        judge.write(f"{room}/log", kept.files_of("cut")["log"].decode())
+        tests.wants("cut: reads of what was not written", criu_judge.wrong_reads(room) > 0, True)
+        judge.write(f"{room}/log", kept.files_of("live")["log"].decode())
+        tests.wants("live: reads of what was not written", criu_judge.wrong_reads(room), 0)
+
+
 def of_hang(tests):
     """A hang is seen in what the process told too, and `audit` alone says that nothing is wrong."""
     for name in ("hang", "split"):
@@ -60,6 +69,9 @@ def of_hang(tests):
             with open(f"{room}/verdict", encoding="ascii") as line:
                 tests.wants(f"{name}: the verdict is left", line.read(), f"{verdict.line}\n")
     with tempfile.TemporaryDirectory() as room:
+        judge.write(f"{room}/log", "g 0 w 1 0 0000000000000005\ng 0 r 1 0 0000000000000005\ng 0 r 2 0 0000000000000000\n"
+                    "p fault 3\ng 0 r 1 0 0000000000000000\ng 0 z 1\ng 0 r 1 0 0000000000000000\ng 0 r 1 0 0000000000000005\n")
+        tests.wants("reads of what was not written", criu_judge.wrong_reads(room), 2)
         judge.write(f"{room}/log", "g 0 m 7\ng 1 m 3\ng 0 r 7 0 0000000000000000\ng 1 m 3\np fault 3\ng 2 m 9")
         tests.wants("the last word of each thread, and no line that is not whole", criu_judge.waited_for(room), [3])
 
@@ -176,4 +188,5 @@ def of_facts(tests):
 def run(tests):
     of_kept(tests)
     of_hang(tests)
+    of_cut(tests)
     of_facts(tests)
