@@ -107,6 +107,12 @@ def wait_for(path, seconds, is_there):
         time.sleep(0.01)
 
 
+def tail_of(path, size):
+    with open(path, encoding="ascii") as file:
+        file.seek(size)
+        return file.read()
+
+
 def of_walk(tests, walk, room):
     log, gate = f"{room}/log", f"{room}/gate"
     for name in (log, gate):
@@ -118,10 +124,18 @@ def of_walk(tests, walk, room):
             size = os.path.getsize(log)
             time.sleep(0.2)
             tests.wants("who holds the gate stops all threads", os.path.getsize(log), size)
+            with open(log, "rb") as told:
+                fcntl.flock(told, fcntl.LOCK_EX)
+                fcntl.flock(held, fcntl.LOCK_UN)
+                time.sleep(0.2)
+                tests.wants("who holds the log stops all accesses", re.search("[rwm]", tail_of(log, size)), None)
+                fcntl.flock(told, fcntl.LOCK_UN)
+            fcntl.flock(held, fcntl.LOCK_EX)
             with open(f"/proc/{process.pid}/smaps", encoding="ascii") as maps:
                 parts = re.findall(r"^([0-9a-f]+)-\S+ \S+ \S+ \S+ \S+ *(.*)\n(?:\w+: .*\n)*?VmFlags:(.*)", maps.read(), re.MULTILINE)
             unlocked = [(int(start, 16), name) for start, name, flags in parts if "lo" not in flags.split() and not name.startswith("[v")]
             tests.wants("all memory but the window is locked", unlocked, [(BASE, "")])
+            size = os.path.getsize(log)
             held.truncate(1)
             fcntl.flock(held, fcntl.LOCK_UN)
             wait_for(log, 20, lambda text: len(text) > size + 10000)
