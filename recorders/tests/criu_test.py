@@ -6,9 +6,10 @@ import tempfile
 import criu_judge
 import judge
 import kept
+from criu_plans import BASE, plan_of
 from criu_session import Recording, Sides, Wire
 from lazy_migration import RECORDED
-from page_server import Strange
+from page_server import NARROW, PAGE_BYTES, Message, Strange
 from records import Hole
 
 
@@ -70,10 +71,30 @@ def of_hang(tests):
                 tests.wants(f"{name}: the verdict is left", line.read(), f"{verdict.line}\n")
     with tempfile.TemporaryDirectory() as room:
         judge.write(f"{room}/log", "g 0 w 1 0 0000000000000005\ng 0 r 1 0 0000000000000005\ng 0 r 2 0 0000000000000000\n"
-                    "p fault 3\ng 0 r 1 0 0000000000000000\ng 0 z 1\ng 0 r 1 0 0000000000000000\ng 0 r 1 0 0000000000000005\n")
-        tests.wants("reads of what was not written", criu_judge.wrong_reads(room), 2)
+                    "p fault 3\ng 0 r 1 0 0000000000000000\ng 0 z 1\ng 0 r 1 0 0000000000000000\n")
+        tests.wants("reads of what was not written", criu_judge.wrong_reads(room), 1)
         judge.write(f"{room}/log", "g 0 m 7\ng 1 m 3\ng 0 r 7 0 0000000000000000\ng 1 m 3\np fault 3\ng 2 m 9")
         tests.wants("the last word of each thread, and no line that is not whole", criu_judge.waited_for(room), [3])
+
+
+def released_under_way(placed_after):
+    """A page that is given up while it is on its way, and is put in place before or after lazy-pages takes the message of it."""
+    plan = plan_of("releases", pages=2, words=1, criu="4.1.1")
+    first, second = f"{BASE:x}", f"{BASE + PAGE_BYTES:x}"
+    request, end = Message("get", 2, BASE, 1), Message("force-close", 0, 0, 0)
+    places = [f"p down {NARROW.size + 2 * PAGE_BYTES}", f"p place {first} 0", f"p place {second} 1"]
+    remove = f"p remove {first} {second}"
+    log = ["g 0 w 0 0 0000000000000001", "g 0 w 1 0 0000000000000002", "s halted", f"p up {request.to_bytes(NARROW).hex()}", "t resume",
+           "g 0 z 0", *([remove, *places] if placed_after else [*places, remove]),
+           "g 0 r 1 0 0000000000000002", "g 0 r 0 0 0000000000000000", f"p up {end.to_bytes(NARROW).hex()}"]
+    pages = b"".join(value.to_bytes(8, "little").ljust(PAGE_BYTES, b"\0") for value in (1, 2))
+    return {"plan.json": plan.to_text().encode(), "log": "".join(f"{line}\n" for line in log).encode(), "target.pages": pages,
+            "relay.log": f"up get 2 {BASE:x}\ndown pages 2 {BASE:x} 0 2\nup force-close 0 0\ndown status 0\n".encode(), "relay.pages": pages}
+
+
+def of_releases(tests):
+    tests.wants("a page that came before it was given up", verdict_of(session_of(released_under_way(False))), "clean, yes")
+    tests.wants("one that is put in place after that", reason_of(session_of(released_under_way(True))), "faulty line over")
 
 
 # A fact that is told wrong in the files of a recording
@@ -189,4 +210,5 @@ def run(tests):
     of_kept(tests)
     of_hang(tests)
     of_cut(tests)
+    of_releases(tests)
     of_facts(tests)

@@ -92,10 +92,11 @@ def of_waiting(tests, room):
             log.write(text)
 
     tell("g 0 r 0 0 0\n" * 5)
-    teller = threading.Thread(target=lambda: [tell("p fault 5\ng 0 m 1\n", 0.05) for _ in range(3)])
-    teller.start()
-    tests.wants("accesses that are told from now on", migration.wait_for_accesses(3, 10), True)
-    teller.join()
+    for count, seconds, is_enough in ((3, 10, True), (4, 0.5, False)):
+        teller = threading.Thread(target=lambda: [tell("p fault 5\ng 0 m 1\n", 0.05) for _ in range(3)])
+        teller.start()
+        tests.wants(f"{count} accesses that are told from now on, of 3", migration.wait_for_accesses(count, seconds), is_enough)
+        teller.join()
     tests.wants("not so many", migration.wait_for_accesses(1, 0.1), False)
     tests.wants("it is over", migration.wait_for_accesses(float("inf"), 10, lambda: True), False)
     before, lazy_migration.QUIET = lazy_migration.QUIET, 0.1
