@@ -92,6 +92,15 @@ def released_under_way(placed_after):
             "relay.log": f"up get 2 {BASE:x}\ndown pages 2 {BASE:x} 0 2\nup force-close 0 0\ndown status 0\n".encode(), "relay.pages": pages}
 
 
+def of_repeats(tests):
+    """A page that the process gave up is asked for over and over: each answer is the same page once more, and each is dropped."""
+    session = session_of(kept.files_of("split-two"))
+    session.cut()
+    again = [record for record in session.logs["source"] if record[0] == "again"]
+    tests.wants("one page is sent again and again", (len(again) > 1, len({record[1] for record in again})), (True, 1))
+    tests.wants("what is missing is the end", verdict_of(session), "incomplete all")
+
+
 def of_releases(tests):
     tests.wants("a page that came before it was given up", verdict_of(session_of(released_under_way(False))), "clean, yes")
     tests.wants("one that is put in place after that", reason_of(session_of(released_under_way(True))), "faulty line over")
@@ -210,5 +219,6 @@ def run(tests):
     of_kept(tests)
     of_hang(tests)
     of_cut(tests)
+    of_repeats(tests)
     of_releases(tests)
     of_facts(tests)
