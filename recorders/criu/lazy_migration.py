@@ -73,6 +73,7 @@ class Migration:
     def __init__(self, plan, folder, say):
         self.plan, self.folder, self.say, self.outcome = plan, folder, say, Outcome()
         self.relay = None
+        self.rest = None  # since when lazy-pages tells nothing, and its processor time at that moment
 
     def run(self):
         """Makes the migration; answers the outcome."""
@@ -127,6 +128,8 @@ class Migration:
                 log.seek(at)
                 more = log.read()
             accesses, at = more.count(b"\ng ") + more.startswith(b"g "), at + len(more)
+            if b"\np " in more or more.startswith(b"p "):
+                self.rest = None
             if accesses:
                 found, last = found + accesses, time.monotonic()
             elif time.monotonic() > last + QUIET:
@@ -139,11 +142,23 @@ class Migration:
         """Whether lazy-pages asks for the same pages over and over."""
         return self.relay is not None and self.relay.repeats >= REPEATS
 
+    def does_nothing(self):
+        """Whether lazy-pages has told nothing for some time in which it looked for messages, while no answer was on its way."""
+        if self.rest is None:
+            self.rest = time.monotonic(), self.ticks_of_pager()
+        since, ticks = self.rest
+        return (time.monotonic() > since + QUIET and not self.relay.is_waited_for() and self.ticks_of_pager() - ticks >= LEAST_TICKS)
+
+    def is_stuck(self):
+        return self.repeats_itself() or self.does_nothing()
+
     def has_become(self, lazy):
         """What has become of lazy-pages: its status, or what it does in place of ending."""
         if lazy.poll() is not None:
             return lazy.poll()
-        return "asks for the same pages over and over" if self.repeats_itself() else "hangs" if self.is_at_rest() else "has not ended"
+        if self.repeats_itself():
+            return "asks for the same pages over and over"
+        return "hangs" if self.is_at_rest() else "does nothing more" if self.does_nothing() else "has not ended"
 
     def is_at_rest(self):
         """Whether nothing goes on: nothing is told, no answer is on its way, and neither the process nor the page server runs or waits
@@ -206,7 +221,7 @@ class Migration:
         if self.outcome.restore != 0:
             raise GaveUp("the process was not restored")
         self.say("restored: the process runs at the target")
-        self.wait_for_accesses(float("inf"), 5 * plan.limit, lambda: lazy.poll() is not None or self.repeats_itself())
+        self.wait_for_accesses(float("inf"), 5 * plan.limit, lambda: lazy.poll() is not None or not plan.plain and self.is_stuck())
         self.outcome.lazy_pages = self.has_become(lazy)
         self.outcome.dump = "waits" if lazy.poll() is None else ended(dump, plan.limit)
         if lazy.poll() is not None and not self.wait_for_accesses(plan.after, plan.limit):

@@ -81,6 +81,20 @@ def of_ends(tests, room):
     tests.wants("it hangs", has_become(Lazy()), "hangs")
     tests.wants("it repeats itself", has_become(Lazy(), relay=Relay(repeats=50)), "asks for the same pages over and over")
     tests.wants("it is slow", has_become(Lazy(), relay=Relay(is_waiting=True, repeats=49)), "has not ended")
+    running = {**SPINNING, f"p{PROCESS}": ("RS", 7)}
+    for what, target, since, wanted in (("it does nothing more, and a thread of the process goes on", running, 60, "does nothing more"),
+                                        ("it told something just before", running, 1, "has not ended"),
+                                        ("it had no processor since", {**running, "p2": ("R", -100)}, 60, "has not ended")):
+        migration = migration_in(room, target=target)
+        migration.rest = time.monotonic() - since, -100
+        tests.wants(what, migration.has_become(Lazy()), wanted)
+    migration = migration_in(room)
+    migration.rest = 0.0, 0
+    with open(migration.log, "w", encoding="ascii") as log:
+        log.write("p fault 5\n")
+    migration.told = lambda: 0
+    migration.wait_for_accesses(1, 0.1)
+    tests.wants("what lazy-pages tells ends its rest", migration.rest, None)
 
 
 def of_waiting(tests, room):
