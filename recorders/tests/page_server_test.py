@@ -123,7 +123,8 @@ def of_faults(tests):
 
 def of_relay(tests):
     """What went through the relay, and what it wrote down."""
-    for fault, written in (("", "pages 3 100000000000 0 3"), ("short", "pages 3 100000000000 0 2"), ("lose", "pages 3 100000000000 0 0"), ("cut", "pages 3 100000000000 0 0")):
+    shorter = Message("add", 2, BASE, OF, 4, page_of(1) + page_of(2)).to_bytes(WIDE)
+    for fault, given, wanted in (("", 3, add(0, 3).to_bytes(WIDE)), ("short", 2, shorter), ("lose", 0, b""), ("cut", 0, b"")):
         with tempfile.TemporaryDirectory() as folder:
             (pager, ours), (server, theirs) = socket.socketpair(), socket.socketpair()
             relay = Relay(folder, WIDE, ours, theirs, plan_of("live", pages=16, delay=0, fault=fault, skip=0), b"")
@@ -133,7 +134,6 @@ def of_relay(tests):
             tests.wants("it waits for an answer", relay.is_waited_for(), True)
             server.sendall(add(0, 3).to_bytes(WIDE) + Status(0).to_bytes(WIDE))
             server.close()
-            wanted = {"": add(0, 3).to_bytes(WIDE), "short": Message("add", 2, BASE, OF, 4, page_of(1) + page_of(2)).to_bytes(WIDE), "lose": b"", "cut": b""}[fault]
             last = b"" if fault == "cut" else Status(0).to_bytes(WIDE)
             got = bytearray()
             while data := pager.recv(1 << 16):
@@ -146,7 +146,7 @@ def of_relay(tests):
             with open(f"{folder}/relay.log", encoding="ascii") as log:
                 told = log.read().splitlines()
             put_in = [f"fault {fault} {BASE:x}"] if fault else []
-            tests.wants("what it wrote down", told, ["up get 3 100000000000", "up force-close 0 0", *put_in, f"down {written}", *([] if fault == "cut" else ["down status 0"])])
+            tests.wants("what it wrote down", told, ["up get 3 100000000000", "up force-close 0 0", *put_in, f"down pages 3 100000000000 0 {given}", *([] if fault == "cut" else ["down status 0"])])
             tests.wants("and the contents as they came", os.path.getsize(f"{folder}/relay.pages"), 3 * PAGE_BYTES)
             tests.wants("nothing was strange", relay.complaint, None)
 
