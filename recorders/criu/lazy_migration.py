@@ -199,8 +199,8 @@ class Migration:
     def move(self, walk, library, pipe_size):
         plan, source = self.plan, self.side("source")
         # What has the number that comes next in the namespace is the process itself: at the target nothing else has it.
-        # Its descriptors are opened within the side, where CRIU finds what they are of.
-        start = f'echo {PROCESS - 1} > /proc/sys/kernel/ns_last_pid && exec setsid --fork "$@" < /dev/null >> "$0" 2>&1'
+        # Its descriptors are opened within the side, where CRIU finds what they are of, and none is of a device.
+        start = f'echo {PROCESS - 1} > /proc/sys/kernel/ns_last_pid && exec setsid --fork "$@" 0<&- >> "$0" 2>&1'
         words = [walk, self.log, self.room.name("gate"), plan.pages, plan.words, plan.threads, plan.pace, plan.writes, plan.releases, plan.ahead]
         source.run("sh", "-c", start, f"{self.folder}/errors", *map(str, words)).wait()
         if not self.wait_for_accesses(plan.pages + plan.warm // 2, plan.limit) or not source.has_process():
