@@ -1,0 +1,65 @@
+"""What the program says of a recording, whether it tells of a whole migration too, and what is seen of it without the program."""
+import judge
+from criu_session import recording_in, whole_lines
+from records import Hole
+
+ZERO = "0" * 16
+
+
+def session_of(folder, is_whole):
+    """The recording's session. Where CRIU did not come to its end the logs are cut to a whole."""
+    session = recording_in(folder).session()
+    left_out = 0 if is_whole else session.cut()
+    return session, left_out
+
+
+def verdict_line(folder):
+    """The verdict in a line; `incomplete ..` where the session is clean, and tells of no whole migration."""
+    whole = judge.ask(folder, "audit", "--complete", "--quiet", "session")[0].strip()
+    line = judge.verdict_line(folder)
+    return whole if whole.startswith("incomplete ") else line
+
+
+def judged(folder, is_whole=True):
+    """Judges a recording, and leaves what was found in its folder."""
+    try:
+        session, left_out = session_of(folder, is_whole)
+        judge.write(f"{folder}/session", session.text())
+    except (Hole, OSError) as fault:
+        verdict = judge.Verdict(f"not judged: {fault}")
+    else:
+        verdict = judge.Verdict(verdict_line(folder), session, left_out)
+    judge.write(f"{folder}/verdict", verdict.line + "\n")
+    return verdict
+
+
+def explain_and_draw(folder):
+    """The words; the picture is left in the folder."""
+    words, _ = judge.ask(folder, "explain", "--complete", "session")
+    judge.write(f"{folder}/explained", words)
+    judge.write(f"{folder}/picture.svg", judge.ask(folder, "draw", "session")[0])
+    return words
+
+
+def wrong_reads(folder):
+    """How often the process read what it had not written, by what it told alone: its accesses stand in the file in their order."""
+    memory, wrong = {}, 0
+    with open(f"{folder}/log", "rb") as log:
+        for words in map(str.split, whole_lines(log.read())):
+            if words[0] != "g":
+                continue
+            page = memory.setdefault(words[3], {})
+            if words[2] == "z":
+                page.clear()
+            elif words[2] == "w":
+                page[words[4]] = words[5]
+            elif words[2] == "r":
+                wrong += page.get(words[4], ZERO) != words[5]
+    return wrong
+
+
+def waited_for(folder):
+    """The pages that threads wait for at the end, by what the process told alone."""
+    with open(f"{folder}/log", "rb") as log:
+        last = {words[1]: words for words in map(str.split, whole_lines(log.read())) if words[0] == "g"}
+    return sorted({int(words[3]) for words in last.values() if words[2] == "m"})

@@ -1,0 +1,287 @@
+"""Makes one lazy migration and records it."""
+import fcntl
+import json
+import os
+import socket
+import subprocess
+import time
+from dataclasses import dataclass, field
+
+import build
+import criu_build
+import folders
+from criu_plans import BASE
+from page_relay import Relay
+from page_server import PAGE_BYTES, header_of
+from roots import Missing
+from sides import PROCESS, Failed, Side
+
+FILES = ("plan.json", "log", "relay.log", "relay.pages", "target.pages", "outcome.json", "errors", "dump.log", "lazy-pages.log",
+         "restore.log", "session", "report", "certificate", "explained", "picture.svg", "verdict")
+RECORDED = ("log", "relay.log", "relay.pages", "target.pages")  # and the plan, which is there at once: what a session is made from
+ON_MARK = "This folder was made by recorders/criu, which replaces its own files in it when it records into it again.\n"
+QUIET = 3.0  # seconds in which nothing is told, once the process hangs
+REPEATS = 50  # of a request in a row, once lazy-pages does nothing else
+SAMPLES, LEAST_SAMPLES, LEAST_TICKS = 200, 10, 20  # looks whether it does, 0.05 s apart; ticks are of 0.01 s
+
+
+@dataclass
+class Outcome:
+    """What became of CRIU's three programs: a status, `hangs`, or nothing where it was never started."""
+    dump: object = None
+    lazy_pages: object = None
+    restore: object = None
+    remarks: list = field(default_factory=list)
+
+    @property
+    def is_whole(self):
+        return (self.dump, self.lazy_pages, self.restore) == (0, 0, 0) and not self.remarks
+
+    def __str__(self):
+        ends = [f"{name} {'not started' if end is None else 'ended' if end == 0 else end if isinstance(end, str) else f'failed ({end})'}"
+                for name, end in (("dump", self.dump), ("lazy-pages", self.lazy_pages), ("restore", self.restore))]
+        return "; ".join([", ".join(ends), *self.remarks])
+
+
+class GaveUp(Exception):
+    """A part of the migration did not come to its end, in words."""
+
+
+def ended(process, seconds):
+    """The status of a process, or `hangs`, once it was waited for."""
+    try:
+        return process.wait(max(seconds, 0))
+    except subprocess.TimeoutExpired:
+        return "hangs"
+
+
+def signalled(descriptor, process, seconds):
+    """Whether a program wrote to a descriptor that it is ready, before it ended and in time."""
+    until = time.monotonic() + seconds
+    os.set_blocking(descriptor, False)
+    while time.monotonic() < until:
+        try:
+            return os.read(descriptor, 1) == b"\0"
+        except BlockingIOError:
+            if process.poll() is not None:
+                return False
+            time.sleep(0.005)
+    return False
+
+
+class Migration:
+    def __init__(self, plan, folder, say):
+        self.plan, self.folder, self.say, self.outcome = plan, folder, say, Outcome()
+        self.relay = None
+        self.rest = None  # since when lazy-pages tells nothing, and its processor time at that moment
+
+    def run(self):
+        """Makes the migration; answers the outcome."""
+        criu_build.require_rights()
+        self.root, self.plan.criu = criu_build.root_and_version(self.plan.criu)
+        built = criu_build.build()
+        folders.take(self.folder, FILES)
+        self.write(folders.MARK, ON_MARK)
+        for name in RECORDED:
+            self.write(name, "")
+        self.write("plan.json", self.plan.to_text())
+        try:
+            self.room = folders.Room()
+        except build.Missing as fault:
+            raise Missing(str(fault)) from None
+        self.log, self.sides = f"{self.folder}/log", []
+        try:
+            with open(f"{self.folder}/errors", "wb") as self.errors, open(self.room.name("gate"), "wb") as self.gate:
+                os.mkdir(self.room.name("images"))
+                try:
+                    self.move(*built)
+                except (GaveUp, Failed) as fault:
+                    self.outcome.remarks.append(str(fault))
+                finally:
+                    self.stop()
+        finally:
+            self.room.end()
+        self.write("outcome.json", json.dumps(vars(self.outcome), indent=1))
+        return self.outcome
+
+    def write(self, name, text):
+        with open(f"{self.folder}/{name}", "w", encoding="utf-8") as file:
+            file.write(text)
+
+    def side(self, name):
+        side = Side(name, self.root, [self.folder, self.room.path, criu_build.HERE], self.errors)
+        self.sides.append(side)
+        return side
+
+    # The log
+
+    def told(self):
+        """How many bytes the log has."""
+        return os.stat(self.log).st_size
+
+    def wait_for_accesses(self, count, seconds, is_over=lambda: False):
+        """Waits until the process has told so many accesses more, or hangs. Answers whether it did."""
+        found, at, until, last = 0, self.told(), time.monotonic() + seconds, time.monotonic()
+        while found < count and time.monotonic() < until and not is_over():
+            time.sleep(0.01)
+            with open(self.log, "rb") as log:
+                log.seek(at)
+                more = log.read()
+            accesses, at = more.count(b"\ng ") + more.startswith(b"g "), at + len(more)
+            if b"\np " in more or more.startswith(b"p "):
+                self.rest = None
+            if accesses:
+                found, last = found + accesses, time.monotonic()
+            elif time.monotonic() > last + QUIET:
+                if self.is_at_rest():
+                    break
+                last = time.monotonic()
+        return found >= count
+
+    def repeats_itself(self):
+        """Whether lazy-pages asks for the same pages over and over."""
+        return self.relay is not None and self.relay.repeats >= REPEATS
+
+    def does_nothing(self):
+        """Whether lazy-pages has told nothing for some time in which it looked for messages, while no answer was on its way."""
+        if self.rest is None:
+            self.rest = time.monotonic(), self.ticks_of_pager()
+        since, ticks = self.rest
+        return (time.monotonic() > since + QUIET and not self.relay.is_waited_for() and self.ticks_of_pager() - ticks >= LEAST_TICKS)
+
+    def is_stuck(self):
+        return self.repeats_itself() or self.does_nothing()
+
+    def has_become(self, lazy):
+        """What has become of lazy-pages: its status, or what it does in place of ending."""
+        if lazy.poll() is not None:
+            return lazy.poll()
+        if self.repeats_itself():
+            return "asks for the same pages over and over"
+        return "hangs" if self.is_at_rest() else "does nothing more" if self.does_nothing() else "has not ended"
+
+    def is_at_rest(self):
+        """Whether nothing goes on: nothing is told, no answer is on its way, and neither the process nor the page server runs or waits
+        for a processor. lazy-pages may run: it looks for messages over and over, so it has had its time where it finds none."""
+        told, used, samples = self.told(), self.ticks_of_pager(), 0
+        for _ in range(SAMPLES):
+            time.sleep(0.05)
+            samples += 1
+            if self.told() != told or self.relay is not None and self.relay.is_waited_for() or self.is_running():
+                return False
+            if samples >= LEAST_SAMPLES and self.ticks_of_pager() - used >= LEAST_TICKS:
+                return True
+        return self.ticks_of_pager() == used
+
+    def is_running(self):
+        """Whether a thread of the process, or the page server, runs or waits for a processor."""
+        *sources, target = [side.processes() for side in self.sides]
+        states = [states for side in sources for states, _ in side.values()]
+        return any("R" in it for it in [*states, target.get(PROCESS, "X")[0]])
+
+    def ticks_of_pager(self):
+        """The processor time of what runs beside the process, on the side where that runs."""
+        return sum(ticks for number, (_, ticks) in self.sides[-1].processes().items() if number != PROCESS)
+
+    def lock_gate(self, seconds):
+        """Stops the process between accesses; answers whether it could be."""
+        until = time.monotonic() + seconds
+        while time.monotonic() < until:
+            try:
+                fcntl.flock(self.gate, fcntl.LOCK_EX | fcntl.LOCK_NB)
+                return True
+            except BlockingIOError:
+                time.sleep(0.001)
+        return False
+
+    # The migration
+
+    def move(self, walk, library, pipe_size):
+        plan, source = self.plan, self.side("source")
+        # What has the number that comes next in the namespace is the process itself: at the target nothing else has it.
+        # Its descriptors are opened within the side, where CRIU finds what they are of, and none is of a device.
+        start = f'echo {PROCESS - 1} > /proc/sys/kernel/ns_last_pid && exec setsid --fork "$@" 0<&- >> "$0" 2>&1'
+        words = [walk, self.log, self.room.name("gate"), plan.pages, plan.words, plan.threads, plan.pace, plan.writes, plan.releases, plan.ahead]
+        source.run("sh", "-c", start, f"{self.folder}/errors", *map(str, words)).wait()
+        if not self.wait_for_accesses(plan.pages + plan.warm // 2, plan.limit) or not source.has_process():
+            raise GaveUp("the process did not run")
+        before = source.memory(BASE, plan.pages * PAGE_BYTES)
+        if not self.wait_for_accesses(plan.warm // 2, plan.limit):
+            raise GaveUp("the process did not run")
+        self.say(f"process: {plan.pages} pages of {plan.words} words, {plan.threads} thread{'s' * (plan.threads > 1)}; CRIU {plan.criu}")
+        (server, to_server), (pager, to_pager) = socket.socketpair(), socket.socketpair()
+        self.relay = Relay(self.folder, header_of(plan.criu), to_pager, to_server, plan, before)
+        dump = self.dump(source, server, pipe_size)
+        self.say("frozen, and the page server is ready")
+        target = self.side("target")
+        lazy = self.lazy_pages(target, pager, library)
+        restore = target.run("criu", "restore", "--lazy-pages", "--restore-detached", *self.common("restore"), *self.scripted(),
+                             environment=self.telling())
+        self.outcome.restore = ended(restore, plan.limit)
+        if self.outcome.restore != 0:
+            raise GaveUp("the process was not restored")
+        self.say("restored: the process runs at the target")
+        self.wait_for_accesses(float("inf"), 5 * plan.limit, lambda: lazy.poll() is not None or not plan.plain and self.is_stuck())
+        self.outcome.lazy_pages = self.has_become(lazy)
+        self.outcome.dump = "waits" if lazy.poll() is None else ended(dump, plan.limit)
+        if lazy.poll() is not None and not self.wait_for_accesses(plan.after, plan.limit):
+            self.outcome.remarks.append("the process told nothing more")
+        self.say(str(self.outcome))
+
+    def common(self, name):
+        return ["--images-dir", self.room.name("images"), "--work-dir", self.room.path, "-v4", "--log-file", f"{self.folder}/{name}.log"]
+
+    def scripted(self):
+        return ["--action-script", f"{criu_build.HERE}/action.sh"]
+
+    def telling(self):
+        return {"RECORD_LOG": self.log}
+
+    def dump(self, source, connection, pipe_size):
+        """Freezes the process between accesses, and has its pages served."""
+        if not self.lock_gate(self.plan.limit):
+            raise GaveUp("the process could not be stopped between accesses")
+        if self.plan.keep_at_target:
+            os.ftruncate(self.gate.fileno(), 1)  # from here on it gives no page up
+        ready, written = os.pipe()
+        with connection as theirs:
+            dump = source.run(
+                "criu", "dump", "--lazy-pages", "--tree", str(PROCESS), "--ps-socket", str(theirs.fileno()), "--status-fd", str(written),
+                *self.common("dump"), *self.scripted(), environment={**self.telling(), "LD_PRELOAD": pipe_size},
+                descriptors=(theirs.fileno(), written))
+        os.close(written)
+        is_ready = signalled(ready, dump, self.plan.limit)
+        os.close(ready)
+        if not is_ready:
+            self.outcome.dump = ended(dump, 0)
+            raise GaveUp("the process was not dumped")
+        fcntl.flock(self.gate, fcntl.LOCK_UN)  # it is frozen
+        return dump
+
+    def lazy_pages(self, target, connection, library):
+        plan = self.plan
+        ready, written = os.pipe()
+        with connection as theirs:
+            telling = {} if plan.plain else {
+                **self.telling(), "LD_PRELOAD": library, "RECORD_PAGES": f"{self.folder}/target.pages",
+                "RECORD_SOCKET": str(theirs.fileno()), "RECORD_PROCESS": str(PROCESS),
+                "RECORD_EARLY": str(plan.skip + 1 if plan.fault == "early" else 0)}
+            lazy = target.run("criu", "lazy-pages", "--page-server", "--ps-socket", str(theirs.fileno()), "--status-fd", str(written),
+                              *self.common("lazy-pages"), environment=telling, descriptors=(theirs.fileno(), written))
+        os.close(written)
+        is_ready = signalled(ready, lazy, plan.limit)
+        os.close(ready)
+        if not is_ready:
+            self.outcome.lazy_pages = ended(lazy, 0)
+            raise GaveUp("lazy-pages did not start")
+        return lazy
+
+    def stop(self):
+        """Ends both sides, with the process between accesses where it can be stopped there."""
+        self.lock_gate(2)  # until nothing of the sides is left
+        for side in reversed(self.sides):
+            side.end()
+        if self.relay:
+            self.relay.end()
+            if self.relay.complaint:
+                self.outcome.remarks.append(self.relay.complaint)

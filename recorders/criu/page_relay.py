@@ -1,0 +1,111 @@
+"""Stands between `criu lazy-pages` and the page server, forwards both directions, and writes down what it hands over.
+
+Each message is handed over whole, once it is written down, under one lock. The lines of the log are
+
+    up COMMAND PAGES ADDRESS
+    down pages PAGES ADDRESS FIRST GIVEN   contents as they came, places in the file of contents from FIRST on; the first GIVEN went on
+    down status VALUE
+    fault KIND ADDRESS                     what was put in
+"""
+import socket
+import threading
+import time
+
+from page_server import Answers, Requests, Status, Strange
+from relay_faults import fault_of
+
+PIECE = 1 << 20
+
+
+def shut(end, how):
+    try:
+        end.shutdown(how)
+    except OSError:
+        pass  # it is
+
+
+class Relay:
+    """`pager` and `server` are ends of the two connections; the other ends are CRIU's."""
+
+    def __init__(self, folder, header, pager, server, plan, before):
+        self.log = open(f"{folder}/relay.log", "w", encoding="ascii")
+        self.contents = open(f"{folder}/relay.pages", "wb")
+        self.header, self.pager, self.server, self.delay = header, pager, server, plan.delay / 1000
+        self.fault = fault_of(plan, before, self.tell)
+        self.requests, self.answers = Requests(header), Answers(header)
+        self.lock, self.stored, self.complaint, self.is_delaying = threading.Lock(), 0, None, False
+        self.is_cut = False
+        self.last, self.repeats = None, 0  # what was asked last, and how often in a row before
+        self.threads = [threading.Thread(target=self.guarded, args=(work, *ends), daemon=True)
+                        for work, ends in ((self.up, (pager, server)), (self.down, (server, pager)))]
+        for thread in self.threads:
+            thread.start()
+
+    def tell(self, *fields):
+        print(*fields, file=self.log, flush=True)
+
+    def guarded(self, work, source, sink):
+        """Forwards until the connection ends, and then ends the other one in this direction."""
+        try:
+            while not self.is_cut and (data := source.recv(PIECE)):
+                work(data, sink)
+        except OSError:
+            pass  # one end is closed
+        except Strange as fault:
+            self.complaint = str(fault)
+        is_over = self.complaint or self.is_cut
+        for end in (source, sink) if is_over else (sink,):
+            shut(end, socket.SHUT_RDWR if is_over else socket.SHUT_WR)
+
+    def is_waited_for(self):
+        """Whether an answer is still to come, or to be handed over."""
+        with self.lock:
+            return bool(self.answers.waiting) or self.is_delaying
+
+    def up(self, data, sink):
+        for message in self.requests.feed(data):
+            with self.lock:
+                self.answers.asked(message)
+                self.repeats = self.repeats + 1 if message == self.last else 0
+                self.last = message
+                self.tell("up", message.command, message.pages, f"{message.address:x}")
+                sink.sendall(message.to_bytes(self.header))
+
+    def down(self, data, sink):
+        with self.lock:
+            answers = self.answers.feed(data)
+            self.is_delaying = bool(answers)
+        for answer in answers:
+            if self.delay:
+                time.sleep(self.delay)
+            with self.lock:
+                given = self.told(answer)
+                if given is not None:
+                    sink.sendall(given.to_bytes(self.header))
+                self.is_cut = self.fault.ends_connections and self.fault.is_done
+            if self.is_cut:
+                break
+        self.is_delaying = False
+
+    def told(self, answer):
+        """Writes an answer down, and answers what is handed over in its place, or None."""
+        if isinstance(answer, Status):
+            self.tell("down", "status", answer.value)
+            return answer
+        given = self.fault.of(answer)
+        self.contents.write(answer.contents)
+        self.contents.flush()
+        self.tell("down", "pages", answer.pages, f"{answer.address:x}", self.stored, given.pages if given else 0)
+        self.stored += answer.pages
+        return given
+
+    def end(self):
+        for one in (self.pager, self.server):
+            shut(one, socket.SHUT_RDWR)
+        for thread in self.threads:
+            thread.join(5)
+        self.pager.close()
+        self.server.close()
+        with self.lock:
+            self.contents.close()
+            self.log.close()

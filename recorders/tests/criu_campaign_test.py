@@ -1,0 +1,104 @@
+"""Plans of lazy migrations, the table of what became of them, and what the recorder of CRIU says where it cannot record."""
+import os
+import random
+import subprocess
+import sys
+import tempfile
+from dataclasses import replace
+
+import criu_build
+import roots
+from criu_campaign import DRAWN, Result, random_plan, table
+from criu_plans import FAULTS, IN_LIBRARY, KINDS, plan_from_text, plan_of
+from lazy_migration import Outcome
+from relay_faults import IN_RELAY
+
+SUITES = {"trixie": "4.1.1", "sid": "4.2.1"}
+CRIU = os.path.dirname(os.path.abspath(criu_build.__file__))
+
+
+def plans(seed, count=300, **options):
+    drawn = random.Random(seed)
+    return [random_plan(drawn, SUITES, **options) for _ in range(count)]
+
+
+def of_plans(tests):
+    drawn = plans(1, with_faults=True)
+    tests.wants("the same seed gives the same plans", plans(1, with_faults=True), drawn)
+    tests.wants("another gives others", plans(2, with_faults=True) == drawn, False)
+    tests.wants("all kinds are drawn, but those that hang", {plan.kind for plan in drawn}, set(KINDS) - {"split", "split-two"})
+    tests.wants("or those that are asked for", {plan.kind for plan in plans(1, kinds=["split"])}, {"split"})
+    tests.wants("all faults are", {plan.fault for plan in drawn}, {"", *FAULTS})
+    tests.wants("none that is not asked for", {plan.fault for plan in plans(1)}, {""})
+    tests.wants("each fault is somebody's", {*IN_RELAY, *IN_LIBRARY}, set(FAULTS))
+    tests.wants("both versions are drawn", {plan.criu for plan in drawn}, set(SUITES))
+    tests.wants("windows fit a session", [plan for plan in drawn if plan.pages * plan.words > 1 << 20 or plan.words > 512], [])
+    tests.wants("visits are of 64", [plan for plan in drawn if plan.writes + plan.releases + plan.ahead > 64], [])
+    tests.wants("a plan's text and back", [plan_from_text(plan.to_text()) for plan in drawn], drawn)
+    tests.wants("which sessions are of the second version", {plan.kind for plan in map(plan_of, KINDS) if plan.has_releases_at_target},
+                {"releases", "split", "split-two"})
+    tests.wants("those that are drawn are kinds", set(DRAWN) <= set(KINDS), True)
+
+
+def of_results(tests):
+    whole, hung = Outcome(0, 0, 0), Outcome("waits", "hangs", 0)
+    tests.wants("CRIU came to its end", (whole.is_whole, str(whole)), (True, "dump ended, lazy-pages ended, restore ended"))
+    tests.wants("it did not", (hung.is_whole, str(hung)), (False, "dump waits, lazy-pages hangs, restore ended"))
+    tests.wants("it did, and something is to be said of it", Outcome(0, 0, 0, ["a remark"]).is_whole, False)
+    failed = Outcome(1, remarks=["the process was not dumped"])
+    tests.wants("it failed", str(failed), "dump failed (1), lazy-pages not started, restore not started; the process was not dumped")
+    clean = Result(plan_of("live"), "4.1.1", "clean, yes", "completed")
+    tests.wants("clean", (clean.is_clean, clean.is_settled), (True, True))
+    tests.wants("clean, and CRIU hangs", replace(clean, end=str(hung)).is_clean, False)
+    flipped = replace(clean, plan=plan_of("live", fault="flip"), was_put_in=True)
+    tests.wants("clean, and a fault was put in", (flipped.is_clean, flipped.is_settled), (True, False))
+    tests.wants("a fault that was not reached", replace(flipped, was_put_in=False).fault, "flip, not reached")
+    found = replace(flipped, verdict="faulty line 7 read")
+    missing = replace(clean, verdict="incomplete page 7", end=str(hung))
+    tests.wants("the table", table([clean, found, clean, missing, replace(missing, verdict="incomplete page 8")], 9.6).split("\n"), [
+        "5 migrations in 10 s, 2 clean",
+        "",
+        "kind  CRIU   fault  verdict          CRIU says                                    how often",
+        "live  4.1.1  -      clean, yes       completed                                    2",
+        "live  4.1.1  -      incomplete page  dump waits, lazy-pages hangs, restore ended  2",
+        "live  4.1.1  flip   faulty read      completed                                    1",
+    ])
+
+
+def of_words(tests, room):
+    """What the commands say of wrong words, of a folder with somebody's files, and where there is no CRIU."""
+    def said(command, *words, **environment):
+        done = subprocess.run([sys.executable, "-B", f"{CRIU}/{command}", *words], capture_output=True, text=True,
+                              env={**os.environ, "POSTCOPY_ROOTS": f"{room}/roots", **environment})
+        return done.returncode, done.stdout, done.stderr.rstrip().split("\n")[-1].strip()
+
+    for words, wrong in ((["live", f"{room}/x", "--pages", "1"], "2 to 65536 pages"), (["live", f"{room}/x", "--writes", "60", "--releases", "5"], "64 at most"),
+                         (["live", f"{room}/x", "--plain", "--fault", "early"], "--plain leaves out"), (["none", f"{room}/x"], "invalid choice")):
+        status, out, line = said("migrate", *words)
+        tests.wants(f"migrate {' '.join(words)}", (status, out, wrong in line), (2, "", True))
+    if os.geteuid() != 0:
+        print("left out: what the recorder of CRIU says to root")
+        return
+    for command, words in (("migrate", ["live", f"{room}/x"]), ("campaign", ["1", "--folder", f"{room}/x"]), ("versions", [])):
+        status, _, line = said(command, *words)
+        tests.wants(f"{command} without a CRIU", (status, line), (3, "recorders/criu/versions trixie"))
+    tests.wants("nothing was left", os.path.exists(f"{room}/x"), False)
+    os.makedirs(f"{room}/mine/table")
+    tests.wants("a folder with somebody's files", said("campaign", "1", "--folder", f"{room}/mine")[0], 2)
+    tests.wants("they are still there", os.listdir(f"{room}/mine"), ["table"])
+    before = os.environ.get("POSTCOPY_ROOTS")
+    os.environ["POSTCOPY_ROOTS"] = f"{room}/roots"
+    try:
+        line = tests.refuses("a root that is not there", roots.Missing, criu_build.root_and_version)
+        tests.wants("how one is made", "recorders/criu/versions" in line, True)
+    finally:
+        os.environ.pop("POSTCOPY_ROOTS")
+        if before is not None:
+            os.environ["POSTCOPY_ROOTS"] = before
+
+
+def run(tests):
+    of_plans(tests)
+    of_results(tests)
+    with tempfile.TemporaryDirectory() as room:
+        of_words(tests, room)

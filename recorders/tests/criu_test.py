@@ -1,0 +1,224 @@
+"""Kept recordings of CRIU 4.1.1 and 4.2.1, and each fact that their conversion rests on, told wrong in one of them."""
+import os
+import re
+import tempfile
+
+import criu_judge
+import judge
+import kept
+from criu_plans import BASE, plan_of
+from criu_session import Recording, Sides, Wire
+from lazy_migration import RECORDED
+from page_server import NARROW, PAGE_BYTES, Message, Strange
+from records import Hole
+
+
+def session_of(files, **others):
+    """The session of a recording's files. `others` are classes in the place of those of the conversion."""
+    recording = Recording(files.__getitem__)
+    vars(recording).update(others)
+    return recording.session()
+
+
+def verdict_of(session):
+    with tempfile.TemporaryDirectory() as room:
+        judge.write(f"{room}/session", session.text())
+        return criu_judge.verdict_line(room)
+
+
+def reason_of(session):
+    """The verdict without its number."""
+    return re.sub(r" \d+", "", verdict_of(session))
+
+
+def of_kept(tests):
+    tests.wants("the files of a recording", set(kept.FILES), {"plan.json", *RECORDED})
+    versions = set()
+    for name, (digest, verdict) in kept.expected().items():
+        recording = Recording(kept.files_of(name).__getitem__)
+        versions.add(recording.plan.criu)
+        session = recording.session()
+        session.cut()
+        tests.wants(f"{name}: its session, byte for byte", kept.hash_of(session.text()), digest)
+        tests.wants(f"{name}: its verdict", verdict_of(session), verdict)
+    tests.wants("both forms of the protocol", versions, {"4.1.1", "4.2.1"})
+
+
+def of_cut(tests):
+    """Where the connection ends the process goes on with zeros: that is seen in what it told too."""
+    with tempfile.TemporaryDirectory() as room:
+        judge.write(f"{room}/log", kept.files_of("cut")["log"].decode())
+        tests.wants("cut: reads of what was not written", criu_judge.wrong_reads(room) > 0, True)
+        judge.write(f"{room}/log", kept.files_of("live")["log"].decode())
+        tests.wants("live: reads of what was not written", criu_judge.wrong_reads(room), 0)
+
+
+def of_hang(tests):
+    """A hang is seen in what the process told too, and `audit` alone says that nothing is wrong."""
+    for name in ("hang", "split"):
+        with tempfile.TemporaryDirectory() as room:
+            for file, data in kept.files_of(name).items():
+                with open(f"{room}/{file}", "wb") as out:
+                    out.write(data)
+            verdict = criu_judge.judged(room, is_whole=False)
+            waited, missing = criu_judge.waited_for(room), int(verdict.line.split()[-1])
+            tests.wants(f"{name}: the process waits for a page", len(waited), 1)
+            tests.wants(f"{name}: of all that is absent this is not the first", missing <= waited[0], True)
+            tests.wants(f"{name}: as far as it goes nothing is wrong", judge.verdict_line(room), "clean, yes")
+            tests.wants(f"{name}: it is explained", f"Page {missing} was owed" in criu_judge.explain_and_draw(room), True)
+            tests.wants(f"{name}: and drawn", os.path.getsize(f"{room}/picture.svg") > 1000, True)
+            with open(f"{room}/verdict", encoding="ascii") as line:
+                tests.wants(f"{name}: the verdict is left", line.read(), f"{verdict.line}\n")
+    with tempfile.TemporaryDirectory() as room:
+        judge.write(f"{room}/log", "g 0 w 1 0 0000000000000005\ng 0 r 1 0 0000000000000005\ng 0 r 2 0 0000000000000000\n"
+                    "p fault 3\ng 0 r 1 0 0000000000000000\ng 0 z 1\ng 0 r 1 0 0000000000000000\n")
+        tests.wants("reads of what was not written", criu_judge.wrong_reads(room), 1)
+        judge.write(f"{room}/log", "g 0 m 7\ng 1 m 3\ng 0 r 7 0 0000000000000000\ng 1 m 3\np fault 3\ng 2 m 9")
+        tests.wants("the last word of each thread, and no line that is not whole", criu_judge.waited_for(room), [3])
+
+
+def released_under_way(placed_after):
+    """A page that is given up while it is on its way, and is put in place before or after lazy-pages takes the message of it."""
+    plan = plan_of("releases", pages=2, words=1, criu="4.1.1")
+    first, second = f"{BASE:x}", f"{BASE + PAGE_BYTES:x}"
+    request, end = Message("get", 2, BASE, 1), Message("force-close", 0, 0, 0)
+    places = [f"p down {NARROW.size + 2 * PAGE_BYTES}", f"p place {first} 0", f"p place {second} 1"]
+    remove = f"p remove {first} {second}"
+    log = ["g 0 w 0 0 0000000000000001", "g 0 w 1 0 0000000000000002", "s halted", f"p up {request.to_bytes(NARROW).hex()}", "t resume",
+           "g 0 z 0", *([remove, *places] if placed_after else [*places, remove]),
+           "g 0 r 1 0 0000000000000002", "g 0 r 0 0 0000000000000000", f"p up {end.to_bytes(NARROW).hex()}"]
+    pages = b"".join(value.to_bytes(8, "little").ljust(PAGE_BYTES, b"\0") for value in (1, 2))
+    return {"plan.json": plan.to_text().encode(), "log": "".join(f"{line}\n" for line in log).encode(), "target.pages": pages,
+            "relay.log": f"up get 2 {BASE:x}\ndown pages 2 {BASE:x} 0 2\nup force-close 0 0\ndown status 0\n".encode(), "relay.pages": pages}
+
+
+def of_repeats(tests):
+    """A page that the process gave up is asked for over and over: each answer is the same page once more, and each is dropped."""
+    session = session_of(kept.files_of("split-two"))
+    session.cut()
+    again = [record for record in session.logs["source"] if record[0] == "again"]
+    tests.wants("one page is sent again and again", (len(again) > 1, len({record[1] for record in again})), (True, 1))
+    tests.wants("what is missing is the end", verdict_of(session), "incomplete all")
+
+
+def of_releases(tests):
+    tests.wants("a page that came before it was given up", verdict_of(session_of(released_under_way(False))), "clean, yes")
+    tests.wants("one that is put in place after that", reason_of(session_of(released_under_way(True))), "faulty line over")
+
+
+# A fact that is told wrong in the files of a recording
+
+def lines_of(files):
+    return files["log"].decode().split("\n")[:-1]
+
+
+def with_log(files, lines):
+    return {**files, "log": "".join(f"{line}\n" for line in lines).encode()}
+
+
+def placed_behind_the_wake(files):
+    """Placements are told behind the access that comes next, as what is told after the wake may be."""
+    text = "".join(f"{line}\n" for line in lines_of(files))
+    return {**files, "log": re.sub(r"((?:p place .*\n)+)(g \d+ [rw] .*\n)", r"\2\1", text).encode()}
+
+
+def halted_too_early(files):
+    """The halt is told before the process stands still."""
+    lines = lines_of(files)
+    at = lines.index("s halted")
+    lines[at - 5:at + 1] = [lines[at], *lines[at - 5:at]]
+    return with_log(files, lines)
+
+
+def without(what):
+    def changed(files):
+        lines = [line for line in lines_of(files) if not line.startswith(what)]
+        if len(lines) == len(lines_of(files)):
+            raise AssertionError(f"the recording has no line '{what}'")
+        return with_log(files, lines)
+    return changed
+
+
+def without_an_answer(files):
+    """An answer is not told, as if the relay wrote it down behind handing it over and was stopped between."""
+    lines = files["relay.log"].decode().split("\n")
+    del lines[next(at for at, line in enumerate(lines) if line.startswith("down pages"))]
+    return {**files, "relay.log": "\n".join(lines).encode()}
+
+
+def of_other_headers(files):
+    version = {b'"4.1.1"': b'"4.2.1"', b'"4.2.1"': b'"4.1.1"'}
+    old = next(it for it in version if it in files["plan.json"])
+    return {**files, "plan.json": files["plan.json"].replace(old, version[old])}
+
+
+TOLD_WRONG = [
+    ("placements behind the wake", "live", placed_behind_the_wake, "faulty line early"),
+    ("no end of the guard", "released", without("p end"), "faulty line early"),
+    ("no message of what was taken", "live", without("p down"), Hole),
+    ("a halt before the process stands still", "live", halted_too_early, Hole),
+    ("no halt", "live", without("s halted"), Hole),
+    ("no resume", "live", without("t resume"), Hole),
+    ("an answer that is missing", "live", without_an_answer, Hole),
+    ("headers of 4.2 read as of 4.1", "threads", of_other_headers, Strange),
+    ("headers of 4.1 read as of 4.2", "live", of_other_headers, (Hole, Strange)),
+]
+
+
+# A fact that the conversion overlooks
+
+class NothingDropped(Sides):
+    """What arrived and was not put in place is not said to be dropped."""
+
+    def drop_arrived(self):
+        self.arrived.clear()
+
+
+class NoLook(Sides):
+    """What a look shows is not told."""
+
+    def look(self, page):
+        pass
+
+
+class ZerosOfAll(Sides):
+    """Zeros of a page that was released at the halt are nobody's."""
+
+    def zero(self, page):
+        pass
+
+
+class AnswersByPage(Wire):
+    """A page that is answered a second time is told as sent anew."""
+
+    def pages(self, count, address, first, given):
+        self.sent.clear()
+        super().pages(count, address, first, given)
+
+
+OVERLOOKED = [
+    ("what CRIU drops", "releases", {"sides": NothingDropped}, "incomplete line"),
+    ("that a look shows placements", "live", {"sides": NoLook}, "faulty line early"),
+    ("zeros for what was released", "released", {"sides": ZerosOfAll}, "faulty line early"),
+    ("that a page comes again", "short", {"wire": AnswersByPage}, "shape line second-send"),
+]
+
+
+def of_facts(tests):
+    for what, name, change, wanted in TOLD_WRONG:
+        files = change(kept.files_of(name))
+        if isinstance(wanted, str):
+            tests.wants(what, reason_of(session_of(files)), wanted)
+        else:
+            tests.refuses(what, wanted, lambda: session_of(files).text())
+    for what, name, others, wanted in OVERLOOKED:
+        tests.wants(f"without {what}", reason_of(session_of(kept.files_of(name), **others)), wanted)
+
+
+def run(tests):
+    of_kept(tests)
+    of_hang(tests)
+    of_cut(tests)
+    of_repeats(tests)
+    of_releases(tests)
+    of_facts(tests)
