@@ -34,7 +34,7 @@ class Relay:
         self.fault = fault_of(plan, before, self.tell)
         self.requests, self.answers = Requests(header), Answers(header)
         self.lock, self.stored, self.complaint, self.is_delaying = threading.Lock(), 0, None, False
-        self.is_cut = self.is_ending = False
+        self.is_cut = False
         self.last, self.repeats = None, 0  # what was asked last, and how often in a row before
         self.threads = [threading.Thread(target=self.guarded, args=(work, *ends), daemon=True)
                         for work, ends in ((self.up, (pager, server)), (self.down, (server, pager)))]
@@ -83,7 +83,7 @@ class Relay:
                 if given is not None:
                     sink.sendall(given.to_bytes(self.header))
                 self.is_cut = self.fault.ends_connections and self.fault.is_done
-            if self.is_cut or self.is_ending:
+            if self.is_cut:
                 break
         self.is_delaying = False
 
@@ -101,7 +101,6 @@ class Relay:
 
     def end(self):
         """Ends both connections; behind this nothing is told."""
-        self.is_ending = True
         for one in (self.pager, self.server):
             shut(one, socket.SHUT_RDWR)
         for thread in self.threads:
