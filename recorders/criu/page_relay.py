@@ -100,10 +100,11 @@ class Relay:
         return given
 
     def end(self):
+        """Ends both connections; behind this nothing is told."""
         for one in (self.pager, self.server):
             shut(one, socket.SHUT_RDWR)
         for thread in self.threads:
-            thread.join(5)
+            thread.join()
         self.pager.close()
         self.server.close()
         with self.lock:

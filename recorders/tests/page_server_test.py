@@ -3,6 +3,7 @@ import os
 import random
 import socket
 import tempfile
+import time
 
 from criu_plans import BASE, plan_of
 from page_relay import Relay
@@ -151,6 +152,23 @@ def of_relay(tests):
             tests.wants("nothing was strange", relay.complaint, None)
 
 
+def of_ended_relay(tests):
+    """A relay that is ended hands no more answers over, however many have come."""
+    with tempfile.TemporaryDirectory() as folder:
+        (pager, ours), (server, theirs) = socket.socketpair(), socket.socketpair()
+        relay = Relay(folder, WIDE, ours, theirs, plan_of("live", pages=64, delay=50), b"")
+        pager.sendall(b"".join(get(page, 1).to_bytes(WIDE) for page in range(40)))
+        server.recv(WIDE.size * 40, socket.MSG_WAITALL)
+        server.sendall(b"".join(add(page, 1).to_bytes(WIDE) for page in range(40)))
+        pager.recv(1)
+        began = time.monotonic()
+        relay.end()
+        tests.wants("it ends at once", time.monotonic() - began < 1.5, True)
+        tests.wants("and all its threads", [thread.is_alive() for thread in relay.threads], [False, False])
+        pager.close()
+        server.close()
+
+
 def of_strange_relay(tests):
     """What is not understood is told, and not handed on."""
     with tempfile.TemporaryDirectory() as folder:
@@ -170,4 +188,5 @@ def run(tests):
     of_strange_bytes(tests)
     of_faults(tests)
     of_relay(tests)
+    of_ended_relay(tests)
     of_strange_relay(tests)
