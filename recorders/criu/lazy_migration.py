@@ -7,19 +7,16 @@ import subprocess
 import time
 from dataclasses import dataclass, field
 
-import build
 import criu_build
 import folders
 from criu_plans import BASE
 from page_relay import Relay
 from page_server import PAGE_BYTES, header_of
-from roots import Missing
 from sides import PROCESS, Failed, Side
 
 FILES = ("plan.json", "log", "relay.log", "relay.pages", "target.pages", "outcome.json", "errors", "dump.log", "lazy-pages.log",
          "restore.log", "session", "report", "certificate", "explained", "picture.svg", "verdict")
 RECORDED = ("log", "relay.log", "relay.pages", "target.pages")  # and the plan, which is there at once: what a session is made from
-ON_MARK = "This folder was made by recorders/criu, which replaces its own files in it when it records into it again.\n"
 QUIET = 3.0  # seconds in which nothing is told, once the process hangs
 REPEATS = 50  # of a request in a row, once lazy-pages does nothing else
 SAMPLES, LEAST_SAMPLES, LEAST_TICKS = 200, 10, 20  # looks whether it does, 0.05 s apart; ticks are of 0.01 s
@@ -80,16 +77,11 @@ class Migration:
         criu_build.require_rights()
         self.root, self.plan.criu = criu_build.root_and_version(self.plan.criu)
         built = criu_build.build()
-        folders.take(self.folder, FILES)
-        self.write(folders.MARK, ON_MARK)
+        folders.take(self.folder, FILES, "criu")
         for name in RECORDED:
             self.write(name, "")
         self.write("plan.json", self.plan.to_text())
-        try:
-            self.room = folders.Room()
-        except build.Missing as fault:
-            raise Missing(str(fault)) from None
-        self.log, self.sides = f"{self.folder}/log", []
+        self.room, self.log, self.sides = folders.Room(), f"{self.folder}/log", []
         try:
             with open(f"{self.folder}/errors", "wb") as self.errors, open(self.room.name("gate"), "wb") as self.gate:
                 os.mkdir(self.room.name("images"))

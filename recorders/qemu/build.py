@@ -7,6 +7,8 @@ import shutil
 import struct
 import subprocess
 
+from roots import Missing
+
 HERE = os.path.dirname(os.path.abspath(__file__))
 OUT = f"{HERE}/out"
 ROM_LENGTH = 65536
@@ -16,10 +18,6 @@ TOOLS = ("gcc", "ld", "objcopy")
 
 GUEST_FLAGS = ("-m32", "-O2", "-Wall", "-Wextra", "-ffreestanding", "-Wno-array-bounds", "-fno-pic", "-fno-pie",
                "-fno-stack-protector", "-mgeneral-regs-only", "-fno-asynchronous-unwind-tables", "-fcf-protection=none")
-
-
-class Missing(Exception):
-    """What this machine lacks, in words."""
 
 
 def can_guard_memory():

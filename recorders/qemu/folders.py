@@ -12,7 +12,7 @@ import tempfile
 import build
 
 MARK = ".postcopy-recording"
-ON_MARK = "This folder was made by recorders/qemu, which replaces its own files in it when it records into it again.\n"
+ON_MARK = "This folder was made by recorders/%s, which replaces its own files in it when it records into it again.\n"
 FILES = ("plan.json", "guest.bin", "outcome.json", "halt.mem", "relay.log", "relay.pages", "session", "report", "certificate",
          "explained", "picture.svg", "verdict", "restart", "witness",
          *(f"{machine}.{what}" for machine in ("source", "target") for what in ("raw", "pages", "errors", "command")))
@@ -49,13 +49,13 @@ def look_at(folder, files=FILES):
             raise NotOurs(f"{folder}/{name} is a folder, and a file of the recording would have its name")
 
 
-def take(folder, files=FILES):
-    """Makes a folder, or takes one that `look_at` lets pass, without what an earlier run left in it."""
+def take(folder, files=FILES, recorder="qemu"):
+    """Makes a folder, or takes one that `look_at` lets pass, without what an earlier run left in it. `recorder` is who does."""
     look_at(folder, files)
     try:
         os.makedirs(folder, exist_ok=True)
         with open(f"{folder}/{MARK}", "w", encoding="ascii") as mark:
-            mark.write(ON_MARK)
+            mark.write(ON_MARK % recorder)
         clear(folder, files)
     except OSError as fault:
         raise NotOurs(f"{folder} cannot be recorded into: {fault.strerror}") from None
