@@ -92,7 +92,8 @@ class Relay:
         self.listener = socket.socket(socket.AF_UNIX)
         self.listener.bind(self.path)
         self.listener.listen()
-        threading.Thread(target=self.accept, daemon=True).start()
+        self.accepting = threading.Thread(target=self.accept, daemon=True)
+        self.accepting.start()
 
     def tell(self, *fields):
         print(*fields, file=self.log, flush=True)
@@ -107,6 +108,7 @@ class Relay:
     def end(self):
         self.listener.shutdown(socket.SHUT_RDWR)  # which wakes who waits for the next one
         self.listener.close()
+        self.accepting.join(5)  # so none comes that would not be shut
         for connection in self.connections:
             connection.shut()
         self.shut_unread()
