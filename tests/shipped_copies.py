@@ -15,10 +15,10 @@ LIBRARIES = ("libpostcopy.so", "libpostcopy.a")
 NAMES = ("postcopy", *LIBRARIES)
 SHIPPED_PAGE = "shipped/web"
 PAGE = "crates/postcopy_c/out/postcopy.html"
-SOURCE = "crates/session_text/src/lib.rt"
+SOURCE = "crates/session_log/src/lib.rt"
 
 # The crates that a copy has: some of those that the program is built from, and one that it is not.
-CRATES = ("plain_audit", "cert_check", "postcopy", "postcopy_c", "session_text")
+CRATES = ("plain_audit", "cert_check", "postcopy", "postcopy_c", "session_log")
 
 # The commands that a machine has to have: those of coreutils and findutils, awk, and what the tools take besides.
 COMMANDS = """awk cat chmod cksum cp cut date dirname find install ln mkdir mktemp mv readlink rm sed sh sha256sum sort tail
@@ -259,7 +259,7 @@ def put_back(room, copy):
     """Makes the sources of a copy those of the tree again."""
     for it in ("crates", "crates.txt", "HANDLES"):
         if os.path.isdir(f"{copy}/{it}"):
-            shutil.rmtree(f"{copy}/{it}/session_text")
+            shutil.rmtree(f"{copy}/{it}/session_log")
             shutil.copytree(f"{room.tree}/{it}", f"{copy}/{it}", dirs_exist_ok=True)
         else:
             shutil.copyfile(f"{room.tree}/{it}", f"{copy}/{it}")

@@ -128,7 +128,7 @@ def tests_of_forty(room):
 def changes(copy):
     """Changes of the sources: what each is, and how it is made."""
     lib = f"{copy}/{SOURCE}"
-    proofs = glob.glob(f"{copy}/crates/session_text/proofs/**/*.antt", recursive=True)
+    proofs = glob.glob(f"{copy}/crates/session_log/proofs/**/*.antt", recursive=True)
     specs = glob.glob(f"{copy}/crates/*/specs/**/*.antt", recursive=True)
     specs = [it for it in specs if it[len(f"{copy}/crates/"):].split("/")[0] in crates_below()]
     yield "a source", lambda: append(lib, b"// x\n")
